@@ -1,0 +1,199 @@
+-- Values that stay from 0 to 2 ^ -i through rounded products, sums and differences, since rounding keeps an order.
+-- So a polynomial whose terms halve is shown to lie from 0 to 1 without a word on its error.
+use mathlib.Core.Path.{_≡_, refl, sym, ap, _∙_, subst}
+use mathlib.Core.Bool.{Bool, true, false, not, _&&_, _||_, Bool·beq, cond, true≢false}
+use Prim.Native.Nat.{ℕ, zero, suc, _+_, _-_, _*_, _/_, _%_, _^_, _≤_, _<_, compare}
+use native.Mathlib.Nat.{le-trans, le-of-eq, le-of-lt, mul-pos, mul-one, one-mul, mul-comm, mul-assoc, mul-right-comm, mul-le-mul-left, mul-le-mul-right, zero-lt-suc, pow-suc}
+use native.Mathlib.Omega.{arith}
+use lib.IntN.{pos}
+use lib.Dec.{T, ltb, ltb→lt, lit<, lit≤}
+use lib.Pow.{pow-pos}
+use lib.Ieee.{Float, nan, inf, fin, binary64, up, down, unlike, round, units, odd, sum, add, sub, mul, neg, lt, le, eq, size, nearest, ofBits}
+use lib.Ieee.Fits.{down-pos}
+use lib.Ieee.Exact.{HasValue}
+use lib.Ieee.Order.{round-mono, le-of-values}
+use Rattle.laws.specs.Float.{one, InUnit}
+use Rattle.laws.proofs.Tests.{of-true}
+use Rattle.laws.proofs.Order.{values-le, neg-lt-nonneg, le-neg, neg-neg}
+use Rattle.laws.proofs.Values.{mul-round, add-round, sub-round, sum-pos-neg, exact-at, neg-round, neg-value}
+
+-- ---- a rounded fraction keeps its sign
+abbrev Plus : Float → Type 0
+Plus nan = ⊥
+Plus (inf s) = s ≡ false
+Plus (fin s m e) = s ≡ false
+
+odd-plus : (d q k l : ℕ) → Plus (odd d false q k l)
+unfolding odd
+odd-plus d zero k l = refl
+odd-plus d (suc q) k l = refl
+
+units-plus : (q k : ℕ) → Plus (units binary64 false q k)
+unfolding units
+units-plus q k = go (ltb (q * 2 ^ k) (2 ^ 2098)) (odd 54 false q k 1074) (odd-plus 54 q k 1074)
+  where
+    go : (t : Bool) (x : Float) → Plus x → Plus (cond t x (inf false))
+    go true x h = h
+    go false x h = refl
+
+round-plus : (a b : ℕ) → Plus (round binary64 false a b)
+unfolding round
+round-plus a b =
+    let n = a * 2 ^ 1074 in
+    let k = size (n / b) - 53 in
+    let u = b * 2 ^ k in
+    units-plus (nearest (n / u) (compare (n % u * 2) u)) k
+
+-- what is not above a number is a number
+under : (x y : Float) (b d : ℕ) → Plus x → 0 < d → HasValue y false b d → T (le x y) → (a : ℕ) × (c : ℕ) × (0 < c) × (a * d ≤ b * c) × HasValue x false a c
+unfolding le lt eq
+under nan y b d p D v h = absurd p
+under (inf true) y b d p D v h = absurd (true≢false p)
+under (inf false) nan b d p D v h = absurd v
+under (inf false) (inf t) b d p D v h = absurd v
+under (inf false) (fin t n g) b d p D v h = absurd h
+under (fin true m e) y b d p D v h = absurd (true≢false p)
+under (fin false m e) y b d p D v h = (m * up e, down e, down-pos e, values-le (fin false m e) y (m * up e) (down e) b d (down-pos e) D (refl, refl) v h, (refl, refl))
+
+-- ---- x is from 0 to 2 ^ -i
+abbrev pub Part : ℕ → Float → Type 0
+Part i x = (a : ℕ) × (c : ℕ) × (0 < c) × (a * 2 ^ i ≤ c) × HasValue x false a c
+
+-- x is from 2 ^ -j to 2 ^ -i
+abbrev pub Between : ℕ → ℕ → Float → Type 0
+Between j i x = (a : ℕ) × (c : ℕ) × (0 < c) × (c ≤ a * 2 ^ j) × (a * 2 ^ i ≤ c) × HasValue x false a c
+
+pub part-round : (i a c : ℕ) → i ≤ 1074 → 0 < c → a * 2 ^ i ≤ c → Part i (round binary64 false a c)
+part-round i a c I C h =
+    let r = under (round binary64 false a c) (round binary64 false 1 (2 ^ i)) 1 (2 ^ i) (round-plus a c) (pow-pos i) (exact-at false 1 i (lit< tt) I) (round-mono binary64 a c 1 (2 ^ i) C (pow-pos i) (le-trans h (le-of-eq (sym (one-mul c))))) in
+    (r .0, r .1, r .2, le-trans (r .3) (le-of-eq (one-mul (r .1))), r .4)
+
+pub part-mul : (i : ℕ) (x y : Float) → i ≤ 1074 → Part i x → Part 0 y → Part i (mul binary64 x y)
+part-mul i x y I p q =
+    subst (Part i) (sym (mul-round x y false false (p .0) (p .1) (q .0) (q .1) (p .2) (q .2) (p .4) (q .4)))
+    (part-round i (p .0 * q .0) (p .1 * q .1) I (mul-pos (p .2) (q .2)) (le-trans (le-of-eq (mul-right-comm (p .0) (q .0) (2 ^ i))) (le-trans (mul-le-mul-right (q .0) (p .3)) (mul-le-mul-left (p .1) (le-trans (le-of-eq (sym (mul-one (q .0)))) (q .3))))))
+
+pub part-mul' : (i : ℕ) (x y : Float) → i ≤ 1074 → Part 0 x → Part i y → Part i (mul binary64 x y)
+part-mul' i x y I p q =
+    subst (Part i) (sym (mul-round x y false false (p .0) (p .1) (q .0) (q .1) (p .2) (q .2) (p .4) (q .4)))
+    (part-round i (p .0 * q .0) (p .1 * q .1) I (mul-pos (p .2) (q .2)) (le-trans (le-of-eq (mul-assoc (p .0) (q .0) (2 ^ i))) (le-trans (mul-le-mul-left (p .0) (q .3)) (mul-le-mul-right (q .1) (le-trans (le-of-eq (sym (mul-one (p .0)))) (p .3))))))
+
+-- two halves are at most a whole
+pub part-add : (i : ℕ) (x y : Float) → i ≤ 1074 → Part (suc i) x → Part (suc i) y → Part i (add binary64 x y)
+unfolding sum
+part-add i x y I p q =
+    subst (Part i) (sym (add-round x y false false (p .0) (p .1) (q .0) (q .1) (p .2) (q .2) (p .4) (q .4)))
+    (part-round i (p .0 * q .1 + q .0 * p .1) (p .1 * q .1) I (mul-pos (p .2) (q .2))
+    (both (p .0 * q .1 * 2 ^ i) (q .0 * p .1 * 2 ^ i) (p .1 * q .1) (side (p .0) (p .1) (q .1) (p .3)) (le-trans (side (q .0) (q .1) (p .1) (q .3)) (le-of-eq (mul-comm (q .1) (p .1)))) (spread (p .0 * q .1) (q .0 * p .1) (2 ^ i))))
+  where
+    side : (a c d : ℕ) → a * 2 ^ suc i ≤ c → a * d * 2 ^ i * 2 ≤ c * d
+    side a c d h = le-trans (le-of-eq (turn a d (2 ^ i) ∙ ap (λ (z : ℕ). a * z * d) (sym (pow-suc 2 i)))) (mul-le-mul-right d h)
+      where
+        turn : (a d u : ℕ) → a * d * u * 2 ≡ a * (u * 2) * d
+        turn a d u = omega arith
+
+    spread : (m n u : ℕ) → (m + n) * u ≡ m * u + n * u
+    spread m n u = omega arith
+
+    both : (m n t : ℕ) {w : ℕ} → m * 2 ≤ t → n * 2 ≤ t → w ≡ m + n → w ≤ t
+    both m n t h k e = omega arith
+
+-- what is at least 2 ^ -j less what is at most that
+pub part-sub : (j i : ℕ) (x y : Float) → i ≤ 1074 → Between j i x → Part j y → Part i (sub binary64 x y)
+part-sub j i x y I p q =
+    subst (Part i) (sym (sub-round x y false false (p .0) (p .1) (q .0) (q .1) (p .2) (q .2) (p .5) (q .4) ∙ sum-pos-neg (p .0 * q .1) (q .0 * p .1) (p .1 * q .1) above))
+    (part-round i (p .0 * q .1 - q .0 * p .1) (p .1 * q .1) I (mul-pos (p .2) (q .2))
+    (le-trans (mul-le-mul-right (2 ^ i) (less (p .0 * q .1) (q .0 * p .1))) (le-trans (le-of-eq (mul-right-comm (p .0) (q .1) (2 ^ i))) (mul-le-mul-right (q .1) (p .4)))))
+  where
+    above : q .0 * p .1 ≤ p .0 * q .1
+    above = le-trans (mul-le-mul-left (q .0) (p .3)) (le-trans (le-of-eq (turn (q .0) (p .0) (2 ^ j))) (mul-le-mul-left (p .0) (q .3)))
+      where
+        turn : (b a u : ℕ) → b * (a * u) ≡ a * (b * u)
+        turn b a u = omega arith
+
+    less : (m n : ℕ) → m - n ≤ m
+    less m n = omega arith
+
+-- the square of what lies from -1 to 1
+pub part-square : (x : Float) (s : Bool) (a c : ℕ) → 0 < c → a ≤ c → HasValue x s a c → Part 0 (mul binary64 x x)
+part-square x s a c C h v =
+    subst (Part 0) (sym (mul-round x x s s a c a c C C v v ∙ ap (λ (t : Bool). round binary64 t (a * a) (c * c)) (like s)))
+    (part-round 0 (a * a) (c * c) (lit≤ tt) (mul-pos C C) (le-trans (le-of-eq (mul-one (a * a))) (le-trans (mul-le-mul-left a h) (mul-le-mul-right c h))))
+  where
+    like : (s : Bool) → unlike s s ≡ false
+    like true = refl
+    like false = refl
+
+-- ---- from -1 to 1
+sized : (s : Bool) (a c : ℕ) → 0 < c → a ≤ c → (b : ℕ) × (d : ℕ) × (0 < d) × (b ≤ d) × HasValue (round binary64 s a c) s b d
+sized s a c C h = go s
+  where
+    p : Part 0 (round binary64 false a c)
+    p = part-round 0 a c (lit≤ tt) C (le-trans (le-of-eq (mul-one a)) h)
+
+    go : (s : Bool) → (b : ℕ) × (d : ℕ) × (0 < d) × (b ≤ d) × HasValue (round binary64 s a c) s b d
+    go false = (p .0, p .1, p .2, le-trans (le-of-eq (sym (mul-one (p .0)))) (p .3), p .4)
+    go true = (
+      p .0,
+      p .1,
+      p .2,
+      le-trans (le-of-eq (sym (mul-one (p .0)))) (p .3),
+      subst (λ (z : Float). HasValue z true (p .0) (p .1)) (sym (sym (neg-neg (round binary64 true a c)) ∙ ap neg (neg-round a c))) (neg-value (round binary64 false a c) false (p .0) (p .1) (p .4)),
+    )
+
+or-left : (a b : Bool) → T a → T (a || b)
+or-left true b t = tt
+or-left false b t = absurd t
+
+nonneg-unit : (x : Float) (a c : ℕ) → 0 < c → a ≤ c → HasValue x false a c → InUnit x
+unfolding le ofBits neg
+nonneg-unit x a c C h v = (
+  or-left (lt (fin true 1 (pos 0)) x) (eq (fin true 1 (pos 0)) x) (of-true (lt (fin true 1 (pos 0)) x) (neg-lt-nonneg 1 (pos 0) x a c (zero-lt-suc 0) v)),
+  le-of-values x (fin false 1 (pos 0)) a c 1 1 C (zero-lt-suc 0) v (refl, refl) (le-trans (le-of-eq (mul-one a)) (le-trans h (le-of-eq (sym (one-mul c))))),
+)
+
+pub neg-unit : (v : Float) → InUnit v → InUnit (neg v)
+neg-unit v h = (le-neg v one (h .1), subst (λ (z : Float). T (le (neg v) z)) (neg-neg one) (le-neg (neg one) v (h .0)))
+
+round-unit : (s : Bool) (a c : ℕ) → 0 < c → a ≤ c → InUnit (round binary64 s a c)
+round-unit s a c C h = go s
+  where
+    plain : InUnit (round binary64 false a c)
+    plain = let r = sized false a c C h in nonneg-unit (round binary64 false a c) (r .0) (r .1) (r .2) (r .3) (r .4)
+
+    go : (s : Bool) → InUnit (round binary64 s a c)
+    go false = plain
+    go true = subst InUnit (sym (sym (neg-neg (round binary64 true a c)) ∙ ap neg (neg-round a c))) (neg-unit (round binary64 false a c) plain)
+
+-- the difference of two values of one sign from -1 to 1
+pub sub-unit : (s : Bool) (x y : Float) (a c b d : ℕ) → 0 < c → 0 < d → a ≤ c → b ≤ d → HasValue x s a c → HasValue y s b d → InUnit (sub binary64 x y)
+unfolding sum
+sub-unit s x y a c b d C D h k v w = subst InUnit (sym (sub-round x y s s a c b d C D v w)) (go s (ltb (a * d) (b * c)))
+  where
+    left : a * d - b * c ≤ c * d
+    left = le-trans (less (a * d) (b * c)) (mul-le-mul-right d h)
+      where
+        less : (m n : ℕ) → m - n ≤ m
+        less m n = omega arith
+
+    right : b * c - a * d ≤ c * d
+    right = le-trans (less (b * c) (a * d)) (le-trans (mul-le-mul-right c k) (le-of-eq (mul-comm d c)))
+      where
+        less : (m n : ℕ) → m - n ≤ m
+        less m n = omega arith
+
+    go : (s t : Bool) → InUnit (cond (Bool·beq s (not s)) (round binary64 s (a * d + b * c) (c * d)) (cond t (round binary64 (not s) (b * c - a * d) (c * d)) (round binary64 (s && ltb (b * c) (a * d)) (a * d - b * c) (c * d))))
+    go true true = round-unit false (b * c - a * d) (c * d) (mul-pos C D) right
+    go true false = round-unit (ltb (b * c) (a * d)) (a * d - b * c) (c * d) (mul-pos C D) left
+    go false true = round-unit true (b * c - a * d) (c * d) (mul-pos C D) right
+    go false false = round-unit false (a * d - b * c) (c * d) (mul-pos C D) left
+
+-- a product with what lies from 0 to 1 keeps the sign and stays from -1 to 1
+pub mul-sized : (s : Bool) (x y : Float) (a c : ℕ) → 0 < c → a ≤ c → HasValue x s a c → Part 0 y → (b : ℕ) × (d : ℕ) × (0 < d) × (b ≤ d) × HasValue (mul binary64 x y) s b d
+mul-sized s x y a c C h v q =
+    subst (λ (z : Float). (b : ℕ) × (d : ℕ) × (0 < d) × (b ≤ d) × HasValue z s b d) (sym (mul-round x y s false a c (q .0) (q .1) C (q .2) v (q .4) ∙ ap (λ (t : Bool). round binary64 t (a * q .0) (c * q .1)) (like s)))
+    (sized s (a * q .0) (c * q .1) (mul-pos C (q .2)) (le-trans (mul-le-mul-right (q .0) h) (mul-le-mul-left c (le-trans (le-of-eq (sym (mul-one (q .0)))) (q .3)))))
+  where
+    like : (s : Bool) → unlike s false ≡ s
+    like true = refl
+    like false = refl

@@ -1,0 +1,9 @@
+pub mod Tests
+pub mod Order
+pub mod Values
+pub mod Unique
+pub mod Number
+pub mod Near
+pub mod Interval
+pub mod Over
+pub mod Always

@@ -1,0 +1,54 @@
+-- Tests on Bools and whole numbers, and what they say.
+use mathlib.Core.Bool.{Bool, true, false, cond, not, _&&_, true≢false, false≢true}
+use mathlib.Core.Path.{_≡_, refl, sym}
+use Prim.Native.Nat.{ℕ, _≤_, _<_}
+use native.Mathlib.Nat.{lt-of-not-le, not-le-of-lt}
+use lib.Dec.{eqb, leb, T, ltb, ltb→lt, lt→ltb, leb→le, eqb→eq, le→leb, not-T}
+use lib.Ieee.Bits.{is-true, is-false}
+use lib.Ieee.Fits.{eq→eqb}
+
+pub bool-iff : (a b : Bool) → (T a → T b) → (T b → T a) → a ≡ b
+bool-iff true true h k = refl
+bool-iff true false h k = absurd (h tt)
+bool-iff false true h k = absurd (k tt)
+bool-iff false false h k = refl
+
+pub and-true : (a : Bool) → (a && true) ≡ a
+and-true true = refl
+and-true false = refl
+
+pub of-true : (b : Bool) → b ≡ true → T b
+of-true true e = tt
+of-true false e = absurd (false≢true e)
+
+pub of-false : (b : Bool) → b ≡ false → T (not b)
+of-false true e = absurd (true≢false e)
+of-false false e = tt
+
+pub cond-yes : {X : Type 0} (b : Bool) (x y : X) → T b → cond b x y ≡ x
+cond-yes true x y t = refl
+cond-yes false x y t = absurd t
+
+pub eqb-iff : (a b c d : ℕ) → (a ≡ b → c ≡ d) → (c ≡ d → a ≡ b) → eqb a b ≡ eqb c d
+eqb-iff a b c d h k = bool-iff (eqb a b) (eqb c d) (λ t. eq→eqb (h (eqb→eq a b t))) (λ t. eq→eqb (k (eqb→eq c d t)))
+
+pub eqb-sym : (a b : ℕ) → eqb a b ≡ eqb b a
+eqb-sym a b = eqb-iff a b b a (λ h. sym h) (λ h. sym h)
+
+pub ltb-iff : (a b c d : ℕ) → (b ≤ a → d ≤ c) → (d ≤ c → b ≤ a) → ltb a b ≡ ltb c d
+ltb-iff a b c d h k = bool-iff (ltb a b) (ltb c d) (go a b c d k) (go c d a b h)
+  where
+    go : (a b c d : ℕ) → (d ≤ c → b ≤ a) → T (ltb a b) → T (ltb c d)
+    go a b c d k t = lt→ltb c d (lt-of-not-le (λ (g : d ≤ c). not-le-of-lt (ltb→lt a b t) (k g)))
+
+pub leb-yes : (a b : ℕ) → a ≤ b → leb a b ≡ true
+leb-yes a b h = is-true (leb a b) (le→leb a b h)
+
+pub leb-no : (a b : ℕ) → b < a → leb a b ≡ false
+leb-no a b h = is-false (leb a b) (not-T (leb a b) (λ (t : T (leb a b)). not-le-of-lt h (leb→le a b t)))
+
+pub eqb-yes : (a b : ℕ) → a ≡ b → eqb a b ≡ true
+eqb-yes a b h = is-true (eqb a b) (eq→eqb h)
+
+pub eqb-no : (a b : ℕ) → (a ≡ b → ⊥) → eqb a b ≡ false
+eqb-no a b h = is-false (eqb a b) (not-T (eqb a b) (λ (t : T (eqb a b)). h (eqb→eq a b t)))

@@ -1,0 +1,220 @@
+-- The value of a sum, a difference and a product is one rounding of the exact one; where it is held, nothing is rounded.
+use mathlib.Core.Bool.{Bool, true, false, cond, not, _&&_, Bool·beq}
+use mathlib.Core.Path.{_≡_, refl, sym, ap, _∙_, subst}
+use Prim.Native.Nat.{ℕ, zero, suc, _+_, _-_, _*_, _≤_, _<_, _/_, _%_, _^_}
+use native.Mathlib.Nat.{le-refl, le-trans, le-of-eq, mul-comm, mul-assoc, mul-left-comm, mul-le-mul-right, zero-mul, mul-pos, zero-lt-suc, lt-of-lt-of-le, not-le-of-lt, mul-right-comm, le-of-mul-le-mul-right, add-mul, eq-of-mul-eq-mul-right, le-of-lt, mul-mod-left, mul-sub, mul-mul-mul-comm}
+use native.Mathlib.Omega.{arith}
+use lib.Dec.{eqb, leb, T, ltb, ltb→lt, nltb→le, lit<, lt→ltb}
+use lib.Ieee.{Float, nan, inf, fin, binary64, up, down, le, neg, sub, ofInt, unlike, mul, round, sum, fits, add, low, odd, nanBits, units}
+use lib.Ieee.Back.{round-whole}
+use lib.Ieee.Exact.{HasValue, round-exact}
+use lib.Ieee.Fits.{down-pos, and-l, and-r, round-is}
+use lib.Ieee.Order.{round-mono}
+use lib.Ieee.Scale.{round-same}
+use lib.IntN.{ℤ, pos}
+use lib.Pow.{pow-pos, pow-mono, pow-add, shl-lt}
+use Rattle.laws.proofs.Tests.{ltb-iff}
+
+-- what fits has fewer than 53 digits
+pub fits-small : (s : Bool) (m : ℕ) (e : ℤ) → T (fits binary64 (fin s m e)) → m < 2 ^ 53
+unfolding fits
+fits-small s zero e t = lit< tt
+fits-small s (suc m) e t =
+    ltb→lt (suc m) (2 ^ 53)
+    (and-r (eqb (suc m % 2) 1) (ltb (suc m) (2 ^ 53))
+    (and-l (eqb (suc m % 2) 1 && ltb (suc m) (2 ^ 53)) (leb (down e) (2 ^ 1074))
+    (and-l (eqb (suc m % 2) 1 && ltb (suc m) (2 ^ 53) && leb (down e) (2 ^ 1074)) (ltb (suc m * up e) (2 ^ 1024 * down e)) t)))
+
+-- ---- zero
+at-zero : (s : Bool) → round binary64 s 0 1 ≡ fin s 0 (pos 0)
+unfolding round
+at-zero s = refl
+
+at-one : round binary64 false 1 1 ≡ fin false 1 (pos 0)
+unfolding round
+at-one = refl
+
+pub round-zero : (s : Bool) (c : ℕ) → 0 < c → round binary64 s 0 c ≡ fin s 0 (pos 0)
+round-zero s c C = round-same binary64 s 0 c 0 1 C (zero-lt-suc 0) (zero-mul 1 ∙ sym (zero-mul c)) ∙ at-zero s
+
+-- ---- a fraction from 0 to 1, rounded, lies from 0 to 1
+pub unit-law : (a c : ℕ) → 0 < c → a ≤ c → T (le (fin false 0 (pos 0)) (round binary64 false a c)) × T (le (round binary64 false a c) (fin false 1 (pos 0)))
+unit-law a c C h = (
+  subst (λ (z : Float). T (le z (round binary64 false a c))) (round-zero false 1 (zero-lt-suc 0)) (round-mono binary64 0 1 a c (zero-lt-suc 0) C (low a c)),
+  subst (λ (z : Float). T (le (round binary64 false a c) z)) at-one (round-mono binary64 a c 1 1 C (zero-lt-suc 0) (high a c h)),
+)
+  where
+    low : (a c : ℕ) → 0 * c ≤ a * 1
+    low a c = omega arith
+
+    high : (a c : ℕ) → a ≤ c → a * 1 ≤ 1 * c
+    high a c h = omega arith
+
+-- ---- the sign of a rounded fraction
+neg-units : (q k : ℕ) → neg (units binary64 true q k) ≡ units binary64 false q k
+unfolding units neg
+neg-units q k = go (ltb (q * 2 ^ k) (2 ^ 2098)) q
+  where
+    go : (b : Bool) (q : ℕ) → neg (cond b (odd 54 true q k 1074) (inf true)) ≡ cond b (odd 54 false q k 1074) (inf false)
+    go true zero = refl
+    go true (suc q) = refl
+    go false q = refl
+
+pub neg-round : (a c : ℕ) → neg (round binary64 true a c) ≡ round binary64 false a c
+neg-round a c = ap neg (round-is binary64 true a c) ∙ neg-units _ _ ∙ sym (round-is binary64 false a c)
+
+pub mul-round : (x y : Float) (s t : Bool) (a c b d : ℕ) → 0 < c → 0 < d → HasValue x s a c → HasValue y t b d → mul binary64 x y ≡ round binary64 (unlike s t) (a * b) (c * d)
+unfolding mul
+mul-round nan y s t a c b d C D p q = absurd p
+mul-round (inf u) y s t a c b d C D p q = absurd p
+mul-round (fin u m e) nan s t a c b d C D p q = absurd q
+mul-round (fin u m e) (inf v) s t a c b d C D p q = absurd q
+mul-round (fin u m e) (fin v n g) s t a c b d C D p q =
+    ap (λ (z : Bool). round binary64 (unlike z v) (m * up e * (n * up g)) (down e * down g)) (p .0)
+    ∙ ap (λ (z : Bool). round binary64 (unlike s z) (m * up e * (n * up g)) (down e * down g)) (q .0)
+    ∙ round-same binary64 (unlike s t) (m * up e * (n * up g)) (down e * down g) (a * b) (c * d) (mul-pos (down-pos e) (down-pos g)) (mul-pos C D)
+    (mul-mul-mul-comm (m * up e) (n * up g) c d ∙ ap (λ (z : ℕ). z * (n * up g * d)) (p .1) ∙ ap (λ (z : ℕ). a * down e * z) (q .1) ∙ mul-mul-mul-comm a (down e) b (down g))
+
+scale-le : (A B C A' B' C' : ℕ) → 0 < C → A * C' ≡ A' * C → B * C' ≡ B' * C → A ≤ B → A' ≤ B'
+scale-le A B C A' B' C' H p q h = le-of-mul-le-mul-right (le-trans (le-of-eq (sym p)) (le-trans (mul-le-mul-right C' h) (le-of-eq q))) H
+
+sub-mul' : (a b c : ℕ) → (a - b) * c ≡ a * c - b * c
+sub-mul' a b c = mul-comm (a - b) c ∙ mul-sub c a b ∙ ap (λ (z : ℕ). z - c * b) (mul-comm c a) ∙ ap (λ (z : ℕ). a * c - z) (mul-comm c b)
+
+cross-sub : (A B C A' B' C' : ℕ) → A * C' ≡ A' * C → B * C' ≡ B' * C → (A - B) * C' ≡ (A' - B') * C
+cross-sub A B C A' B' C' p q = sub-mul' A B C' ∙ ap (λ (z : ℕ). z - B * C') p ∙ ap (λ (z : ℕ). A' * C - z) q ∙ sym (sub-mul' A' B' C)
+
+cross-add : (A B C A' B' C' : ℕ) → A * C' ≡ A' * C → B * C' ≡ B' * C → (A + B) * C' ≡ (A' + B') * C
+cross-add A B C A' B' C' p q = add-mul A B C' ∙ ap (λ (z : ℕ). z + B * C') p ∙ ap (λ (z : ℕ). A' * C + z) q ∙ sym (add-mul A' B' C)
+
+pub sum-same : (s t : Bool) (A B C A' B' C' : ℕ) → 0 < C → 0 < C' → A * C' ≡ A' * C → B * C' ≡ B' * C → sum binary64 s A t B C ≡ sum binary64 s A' t B' C'
+unfolding sum
+sum-same s t A B C A' B' C' H H' p q =
+    let l1 : ltb A B ≡ ltb A' B' = ltb-iff A B A' B' (scale-le B A C B' A' C' H q p) (scale-le B' A' C' B A C H' (sym q) (sym p)) in
+    let l2 : ltb B A ≡ ltb B' A' = ltb-iff B A B' A' (scale-le A B C A' B' C' H p q) (scale-le A' B' C' A B C H' (sym p) (sym q)) in
+    ap (λ (z : Float). cond (Bool·beq s t) z (cond (ltb A B) (round binary64 t (B - A) C) (round binary64 (s && ltb B A) (A - B) C))) (round-same binary64 s (A + B) C (A' + B') C' H H' (cross-add A B C A' B' C' p q))
+    ∙ ap (λ (z : Float). cond (Bool·beq s t) (round binary64 s (A' + B') C') (cond (ltb A B) z (round binary64 (s && ltb B A) (A - B) C))) (round-same binary64 t (B - A) C (B' - A') C' H H' (cross-sub B A C B' A' C' q p))
+    ∙ ap (λ (z : Bool). cond (Bool·beq s t) (round binary64 s (A' + B') C') (cond z (round binary64 t (B' - A') C') (round binary64 (s && ltb B A) (A - B) C))) l1
+    ∙ ap (λ (z : Bool). cond (Bool·beq s t) (round binary64 s (A' + B') C') (cond (ltb A' B') (round binary64 t (B' - A') C') (round binary64 (s && z) (A - B) C))) l2
+    ∙ ap (λ (z : Float). cond (Bool·beq s t) (round binary64 s (A' + B') C') (cond (ltb A' B') (round binary64 t (B' - A') C') z)) (round-same binary64 (s && ltb B' A') (A - B) C (A' - B') C' H H' (cross-sub A B C A' B' C' p q))
+
+pub add-round : (x y : Float) (s t : Bool) (a c b d : ℕ) → 0 < c → 0 < d → HasValue x s a c → HasValue y t b d → add binary64 x y ≡ sum binary64 s (a * d) t (b * c) (c * d)
+unfolding add
+add-round nan y s t a c b d C D p q = absurd p
+add-round (inf u) y s t a c b d C D p q = absurd p
+add-round (fin u m e) nan s t a c b d C D p q = absurd q
+add-round (fin u m e) (inf v) s t a c b d C D p q = absurd q
+add-round (fin u m e) (fin v n g) s t a c b d C D p q =
+    ap (λ (z : Bool). sum binary64 z (m * up e * down g) v (n * up g * down e) (down e * down g)) (p .0)
+    ∙ ap (λ (z : Bool). sum binary64 s (m * up e * down g) z (n * up g * down e) (down e * down g)) (q .0)
+    ∙ sum-same s t (m * up e * down g) (n * up g * down e) (down e * down g) (a * d) (b * c) (c * d) (mul-pos (down-pos e) (down-pos g)) (mul-pos C D)
+    (mul-mul-mul-comm (m * up e) (down g) c d ∙ ap (λ (z : ℕ). z * (down g * d)) (p .1) ∙ swap a (down e) (down g) d)
+    (turn (n * up g) (down e) c d ∙ ap (λ (z : ℕ). z * (down e * c)) (q .1) ∙ swap' b (down g) (down e) c)
+  where
+    swap : (a e g d : ℕ) → a * e * (g * d) ≡ a * d * (e * g)
+    swap a e g d = simp (mul-assoc, mul-comm, mul-left-comm)
+
+    turn : (n e c d : ℕ) → n * e * (c * d) ≡ n * d * (e * c)
+    turn n e c d = simp (mul-assoc, mul-comm, mul-left-comm)
+
+    swap' : (b g e c : ℕ) → b * g * (e * c) ≡ b * c * (e * g)
+    swap' b g e c = simp (mul-assoc, mul-comm, mul-left-comm)
+
+pub neg-value : (x : Float) (s : Bool) (a c : ℕ) → HasValue x s a c → HasValue (neg x) (not s) a c
+unfolding neg
+neg-value nan s a c p = absurd p
+neg-value (inf u) s a c p = absurd p
+neg-value (fin u m e) s a c p = (ap not (p .0), p .1)
+
+pub sub-round : (x y : Float) (s t : Bool) (a c b d : ℕ) → 0 < c → 0 < d → HasValue x s a c → HasValue y t b d → sub binary64 x y ≡ sum binary64 s (a * d) (not t) (b * c) (c * d)
+unfolding sub
+sub-round x y s t a c b d C D p q = add-round x (neg y) s (not t) a c b d C D p (neg-value y t b d q)
+
+-- ---- a sum of two signs
+pub sum-pos-neg : (a b c : ℕ) → b ≤ a → sum binary64 false a true b c ≡ round binary64 false (a - b) c
+unfolding sum
+sum-pos-neg a b c h = go (ltb a b) (ltb→lt a b)
+  where
+    go : (t : Bool) → (T t → a < b) → cond t (round binary64 true (b - a) c) (round binary64 false (a - b) c) ≡ round binary64 false (a - b) c
+    go true k = absurd (not-le-of-lt (k tt) h)
+    go false k = refl
+
+pub sum-neg-pos : (a b c : ℕ) → a ≤ b → sum binary64 true a false b c ≡ round binary64 false (b - a) c
+unfolding sum
+sum-neg-pos a b c h = go (ltb a b) (ltb b a) (nltb→le a b) (ltb→lt b a)
+  where
+    same : (a b : ℕ) → a ≤ b → b ≤ a → a - b ≡ b - a
+    same a b h k = omega arith
+
+    go : (t u : Bool) → (T (not t) → b ≤ a) → (T u → b < a) → cond t (round binary64 false (b - a) c) (round binary64 u (a - b) c) ≡ round binary64 false (b - a) c
+    go true u k l = refl
+    go false true k l = absurd (not-le-of-lt (l tt) h)
+    go false false k l = ap (λ (z : ℕ). round binary64 false z c) (same a b h (k tt))
+
+pub sum-neg : (a b c : ℕ) → a < b → sum binary64 false a true b c ≡ round binary64 true (b - a) c
+unfolding sum
+sum-neg a b c h = go (ltb a b) (lt→ltb a b h)
+  where
+    go : (t : Bool) → T t → cond t (round binary64 true (b - a) c) (round binary64 false (a - b) c) ≡ round binary64 true (b - a) c
+    go true t = refl
+    go false t = absurd t
+
+pub sum-neg-neg : (a b c : ℕ) → b < a → sum binary64 true a false b c ≡ round binary64 true (a - b) c
+unfolding sum
+sum-neg-neg a b c h = go (ltb a b) (ltb b a) (ltb→lt a b) (lt→ltb b a h)
+  where
+    go : (t u : Bool) → (T t → a < b) → T u → cond t (round binary64 false (b - a) c) (round binary64 u (a - b) c) ≡ round binary64 true (a - b) c
+    go true u f g = absurd (not-le-of-lt (f tt) (le-of-lt h))
+    go false true f g = refl
+    go false false f g = absurd g
+
+-- from one fraction to another of the same size
+pub rescale : (x : Float) (s : Bool) (w l a c : ℕ) → 0 < l → a * l ≡ w * c → HasValue x s w l → HasValue x s a c
+rescale nan s w l a c p h v = v
+rescale (inf t) s w l a c p h v = v
+rescale (fin t m e) s w l a c p h v = (
+  v .0,
+  eq-of-mul-eq-mul-right l p (m * up e * c) (a * down e)
+      (mul-right-comm (m * up e) c l
+      ∙ ap (λ (x : ℕ). x * c) (v .1)
+      ∙ mul-right-comm w (down e) c
+      ∙ ap (λ (x : ℕ). x * down e) (sym h)
+      ∙ mul-right-comm a l (down e)),
+)
+
+-- q / 2 ^ i for a q below 2 ^ 53 and an i up to 1074 is held, so a fraction of that size is not rounded
+pub exact-at : (s : Bool) (q i : ℕ) → q < 2 ^ 53 → i ≤ 1074 → HasValue (round binary64 s q (2 ^ i)) s q (2 ^ i)
+exact-at s q i h k =
+    round-exact binary64 s q (2 ^ i) q (1074 - i) (pow-pos i) h
+    (lt-of-lt-of-le (shl-lt 53 (1074 - i) h) (pow-mono {j = 2098} (room i)))
+    (ap (λ (z : ℕ). q * z) (ap (λ (z : ℕ). 2 ^ z) (back i k) ∙ pow-add 2 (1074 - i) i) ∙ sym (mul-assoc q (2 ^ (1074 - i)) (2 ^ i)))
+  where
+    room : (i : ℕ) → 53 + (1074 - i) ≤ 2098
+    room i = omega arith
+
+    back : (i : ℕ) → i ≤ 1074 → 1074 ≡ 1074 - i + i
+    back i k = omega arith
+
+pub ofInt-val : (n : ℕ) → n ≤ 2 ^ 53 → HasValue (ofInt binary64 (pos n)) false n 1
+unfolding ofInt
+ofInt-val n h = round-whole binary64 false n h
+
+pub sub-self : (s : Bool) (m : ℕ) (e : ℤ) → sub binary64 (fin s m e) (fin s m e) ≡ round binary64 false (m * up e * down e - m * up e * down e) (down e * down e)
+unfolding sub
+sub-self true m e = sum-neg-pos (m * up e * down e) (m * up e * down e) (down e * down e) (le-refl (m * up e * down e))
+sub-self false m e = sum-pos-neg (m * up e * down e) (m * up e * down e) (down e * down e) (le-refl (m * up e * down e))
+
+pub sub-self-zero : (s : Bool) (m : ℕ) (e : ℤ) → sub binary64 (fin s m e) (fin s m e) ≡ fin false 0 (pos 0)
+sub-self-zero s m e = sub-self s m e ∙ ap (λ (z : ℕ). round binary64 false z (down e * down e)) (nil (m * up e * down e)) ∙ round-zero false (down e * down e) (mul-pos (down-pos e) (down-pos e))
+  where
+    nil : (a : ℕ) → a - a ≡ 0
+    nil a = omega arith
+
+-- ---- the bits of a multiple of 2 ^ 52 are no NaN's
+pub no-nan-bits : (n : ℕ) → T (not (nanBits binary64 (n * 4503599627370496)))
+unfolding nanBits
+no-nan-bits n = subst (λ (z : ℕ). T (not (eqb (n * 4503599627370496 % 9223372036854775808 / 4503599627370496) 2047 && not (eqb z 0)))) (sym (mul-mod-left n 4503599627370496)) (none (eqb (n * 4503599627370496 % 9223372036854775808 / 4503599627370496) 2047))
+  where
+    none : (b : Bool) → T (not (b && false))
+    none true = tt
+    none false = tt

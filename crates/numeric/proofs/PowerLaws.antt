@@ -1,0 +1,410 @@
+-- Laws of 2^x and 3000^r: exact at whole x, and the cases outside.
+use mathlib.Core.Bool.{Bool, _&&_, true, false, not, cond, _||_}
+use mathlib.Core.Path.{_≡_, refl, sym, ap, _∙_, subst}
+use Prim.Native.Nat.{ℕ, _+_, _≤_, _-_, suc, _%_, _<_, _^_, _/_, _*_}
+use native.Mathlib.Nat.{le-trans, mul-one, mul-pos, lt-of-le-of-lt, lt-of-lt-of-le, zero-lt-suc, one-mul, le-mul-of-pos-right, mul-mod-left, mul-div-cancel, mod-eq-of-lt}
+use native.Mathlib.Omega.{arith}
+use lib.Dec.{T, leb, ltb, eqb, le→leb, eqb→eq, lt→ltb, leb→le, lit<, lit≤, nleb→lt}
+use lib.Ieee.{Float, binary64, lt, le, mul, ofBits, isNan, round, size, odd, nan, inf, fin, eq, fits, toBits, sub, add, neg, up, down, sum, ofInt, low, minus, ofFields}
+use lib.Ieee.Back.{round-whole}
+use lib.Ieee.Bits.{is-true, ofBits-fits, toBits-ofBits}
+use lib.Ieee.Exact.{HasValue, round-exact, odd-sign}
+use lib.Ieee.Fits.{down-pos, and-r, add-fits, and-i, round-fits}
+use lib.Ieee.Order.{le-of-values}
+use lib.IntN.{pos, ℤ, negsuc}
+use lib.Pow.{pow-pos, pow-mono, pow-lt, pow-add}
+use Rattle.laws.proofs.Order.{lt-by-values, neg-lt-nonneg, neg-lt-pos, neg-neg, lt-false, le-false, le-neg, values-le}
+use Rattle.laws.proofs.Tests.{leb-yes, leb-no, eqb-no}
+use Rattle.laws.proofs.Unique.{value-unique}
+use Rattle.laws.proofs.Values.{neg-round, add-round, sub-round, sum-pos-neg, sum-neg-pos, sum-neg, rescale, ofInt-val, sub-self-zero}
+use Rattle.laws.specs.Float.{zer, one}
+use Rattle.laws.specs.Machine.{more}
+use denote.Signature.{plain}
+use Rattle.numeric.proofs.MagicFloor.{big}
+use Rattle.numeric.specs.Power.{expPart, biased, scaleOf, scaledOf, midOf, exp2Of, pow3000Of}
+use Rattle.numeric.specs.Promises.{Exp2-whole, Exp2-above, Exp2-below, Exp2-nan, Pow3000-zero, Pow3000-one, Pow3000-nan}
+
+-- ---- the bits of a power of two
+fields-pow : (x : ℕ) → suc x < 2047 → ofFields binary64 false (suc x) 0 ≡ fin false 1 (minus (x + 52) 1074)
+unfolding ofFields
+fields-pow x h = ap (λ (b : Bool). cond b (inf false) (fin false 1 (minus (x + 52) 1074))) (eqb-no (suc x) 2047 (apart x h))
+  where
+    apart : (x : ℕ) → suc x < 2047 → suc x ≡ 2047 → ⊥
+    apart x h e = omega arith
+
+bits-lt : (x : ℕ) → suc x < 2047 → suc x * 4503599627370496 < 9223372036854775808
+bits-lt x h = omega arith
+
+pub bits-pow : (x : ℕ) → suc x < 2047 → ofBits binary64 (suc x * 4503599627370496) ≡ fin false 1 (minus (x + 52) 1074)
+unfolding ofBits
+bits-pow x h =
+    let b = suc x * 4503599627370496 in
+    let l : b < 9223372036854775808 = bits-lt x h in
+    ap (λ (z : Bool). ofFields binary64 z (b % 9223372036854775808 / 4503599627370496) (b % 4503599627370496)) (leb-no 9223372036854775808 b l)
+    ∙ ap (λ (z : ℕ). ofFields binary64 false (z / 4503599627370496) (b % 4503599627370496)) (mod-eq-of-lt l)
+    ∙ ap (λ (z : ℕ). ofFields binary64 false z (b % 4503599627370496)) (mul-div-cancel (suc x) (lit< tt))
+    ∙ ap (λ (z : ℕ). ofFields binary64 false (suc x) z) (mul-mod-left (suc x) 4503599627370496)
+    ∙ fields-pow x h
+
+minus-up : (n : ℕ) → minus (1022 + n + 52) 1074 ≡ pos n
+minus-up n = ap (λ (b : Bool). cond b (pos (1022 + n + 52 - 1074)) (negsuc (1074 - suc (1022 + n + 52)))) (leb-yes 1074 (1022 + n + 52) (ok n)) ∙ ap pos (at n)
+  where
+    ok : (n : ℕ) → 1074 ≤ 1022 + n + 52
+    ok n = omega arith
+
+    at : (n : ℕ) → 1022 + n + 52 - 1074 ≡ n
+    at n = omega arith
+
+minus-down : (k : ℕ) → k ≤ 1021 → minus (1021 - k + 52) 1074 ≡ negsuc k
+minus-down k h = ap (λ (b : Bool). cond b (pos (1021 - k + 52 - 1074)) (negsuc (1074 - suc (1021 - k + 52)))) (leb-no 1074 (1021 - k + 52) (ok k h)) ∙ ap negsuc (at k h)
+  where
+    ok : (k : ℕ) → k ≤ 1021 → 1021 - k + 52 < 1074
+    ok k h = omega arith
+
+    at : (k : ℕ) → k ≤ 1021 → 1074 - suc (1021 - k + 52) ≡ k
+    at k h = omega arith
+
+pub bits-up : (n : ℕ) → n ≤ 1023 → ofBits binary64 ((1023 + n) * 4503599627370496) ≡ fin false 1 (pos n)
+bits-up n h = ap (λ (z : ℕ). ofBits binary64 (z * 4503599627370496)) (eq n) ∙ bits-pow (1022 + n) (lt' n h) ∙ ap (λ (z : ℤ). fin false 1 z) (minus-up n)
+  where
+    eq : (n : ℕ) → 1023 + n ≡ suc (1022 + n)
+    eq n = omega arith
+
+    lt' : (n : ℕ) → n ≤ 1023 → suc (1022 + n) < 2047
+    lt' n h = omega arith
+
+pub bits-down : (k : ℕ) → suc k ≤ 1022 → ofBits binary64 ((1023 - suc k) * 4503599627370496) ≡ fin false 1 (negsuc k)
+bits-down k h = ap (λ (z : ℕ). ofBits binary64 (z * 4503599627370496)) (eq k h) ∙ bits-pow (1021 - k) (lt' k h) ∙ ap (λ (z : ℤ). fin false 1 z) (minus-down k (le' k h))
+  where
+    eq : (k : ℕ) → suc k ≤ 1022 → 1023 - suc k ≡ suc (1021 - k)
+    eq k h = omega arith
+
+    lt' : (k : ℕ) → suc k ≤ 1022 → suc (1021 - k) < 2047
+    lt' k h = omega arith
+
+    le' : (k : ℕ) → suc k ≤ 1022 → k ≤ 1021
+    le' k h = omega arith
+
+self-zero : (w : Float) (s : Bool) (a c : ℕ) → HasValue w s a c → sub binary64 w w ≡ zer
+unfolding ofBits
+self-zero nan s a c v = absurd v
+self-zero (inf t) s a c v = absurd v
+self-zero (fin t m e) s a c v = sub-self-zero t m e
+
+exp-zero : expPart zer ≡ one
+unfolding expPart ofBits add mul
+exp-zero = refl
+
+-- ---- 1 * 2 ^ z
+fits-pow-up : (n : ℕ) → n ≤ 1023 → T (fits binary64 (fin false 1 (pos n)))
+unfolding fits
+fits-pow-up n h = lt→ltb (1 * 2 ^ n) (2 ^ 1024 * 1) (subst (λ (z : ℕ). z < 2 ^ 1024) (sym (one-mul (2 ^ n))) (pow-lt {j = 1024} (lt-of-le-of-lt h (lit< tt))))
+
+fits-pow-down : (k : ℕ) → suc k ≤ 1022 → T (fits binary64 (fin false 1 (negsuc k)))
+unfolding fits
+fits-pow-down k h = and-i (leb (2 ^ suc k) (2 ^ 1074)) (ltb 1 (2 ^ 1024 * 2 ^ suc k)) (le→leb (2 ^ suc k) (2 ^ 1074) (pow-mono {j = 1074} (le-trans h (lit≤ tt)))) (lt→ltb 1 (2 ^ 1024 * 2 ^ suc k) (big (2 ^ suc k) (pow-pos (suc k))))
+  where
+    big : (p : ℕ) → 0 < p → 1 < 2 ^ 1024 * p
+    big p h = lt-of-lt-of-le (lit< {m = 1} {n = 2 ^ 1024} tt) (le-mul-of-pos-right (2 ^ 1024) h)
+
+mul-one-up : (n : ℕ) → n ≤ 1023 → mul binary64 one (fin false 1 (pos n)) ≡ fin false 1 (pos n)
+unfolding mul ofBits
+mul-one-up n h =
+    value-unique (round binary64 false (1 * (1 * 2 ^ n)) 1) (fin false 1 (pos n)) false (1 * (1 * 2 ^ n)) 1 (zero-lt-suc 0)
+    (round-fits binary64 false (1 * (1 * 2 ^ n)) 1) (fits-pow-up n h)
+    (round-exact binary64 false (1 * (1 * 2 ^ n)) 1 1 (n + 1074) (zero-lt-suc 0) (lit< tt)
+    (subst (λ (z : ℕ). z < 2 ^ 2098) (sym (one-mul (2 ^ (n + 1074)))) (pow-lt {j = 2098} (room n h)))
+    (ap (λ (z : ℕ). z * 2 ^ 1074) (one-mul (1 * 2 ^ n) ∙ one-mul (2 ^ n)) ∙ sym (pow-add 2 n 1074) ∙ sym (one-mul (2 ^ (n + 1074))) ∙ sym (mul-one (1 * 2 ^ (n + 1074)))))
+    (refl, ap (λ (z : ℕ). z * 1) (sym (one-mul (1 * 2 ^ n))))
+  where
+    room : (n : ℕ) → n ≤ 1023 → n + 1074 < 2098
+    room n h = omega arith
+
+mul-one-down : (k : ℕ) → suc k ≤ 1022 → mul binary64 one (fin false 1 (negsuc k)) ≡ fin false 1 (negsuc k)
+unfolding mul ofBits
+mul-one-down k h =
+    value-unique (round binary64 false 1 (1 * 2 ^ suc k)) (fin false 1 (negsuc k)) false 1 (1 * 2 ^ suc k) (mul-pos (zero-lt-suc 0) (pow-pos (suc k)))
+    (round-fits binary64 false 1 (1 * 2 ^ suc k)) (fits-pow-down k h)
+    (round-exact binary64 false 1 (1 * 2 ^ suc k) 1 (1074 - suc k) (mul-pos (zero-lt-suc 0) (pow-pos (suc k))) (lit< tt)
+    (subst (λ (z : ℕ). z < 2 ^ 2098) (sym (one-mul (2 ^ (1074 - suc k)))) (pow-lt {j = 2098} (room k)))
+    (one-mul (2 ^ 1074) ∙ ap (λ (z : ℕ). 2 ^ z) (back k h) ∙ pow-add 2 (1074 - suc k) (suc k) ∙ both (2 ^ (1074 - suc k)) (2 ^ suc k)))
+    (refl, one-mul (1 * 2 ^ suc k))
+  where
+    room : (k : ℕ) → 1074 - suc k < 2098
+    room k = omega arith
+
+    back : (k : ℕ) → suc k ≤ 1022 → 1074 ≡ 1074 - suc k + suc k
+    back k h = omega arith
+
+    both : (a b : ℕ) → a * b ≡ 1 * a * (1 * b)
+    both a b = omega arith
+
+-- ---- the bits of a whole number from 2 ^ 52 to below 2 ^ 53
+whole-pattern : (j : ℕ) → j < 4503599627370496 → HasValue (ofBits binary64 (4841369599423283200 + j)) false (4503599627370496 + j) 1
+unfolding ofBits ofFields
+whole-pattern j h =
+    let b = 4841369599423283200 + j in
+    subst (λ (z : Bool). HasValue (ofFields binary64 z (b % 9223372036854775808 / 4503599627370496) (b % 4503599627370496)) false (4503599627370496 + j) 1) (sym (leb-no 9223372036854775808 b (low j h)))
+    (subst (λ (z : ℕ). HasValue (ofFields binary64 false z (b % 4503599627370496)) false (4503599627370496 + j) 1) (sym (field j h))
+    (subst (λ (z : ℕ). HasValue (ofFields binary64 false 1075 z) false (4503599627370496 + j) 1) (sym (digits j h))
+    (rescale (odd 53 false (4503599627370496 + j) 1074 1074) false ((4503599627370496 + j) * 2 ^ 1074) (2 ^ 1074) (4503599627370496 + j) 1 (pow-pos 1074) (sym (mul-one ((4503599627370496 + j) * 2 ^ 1074))) (odd-sign 53 false (4503599627370496 + j) 1074 1074))))
+  where
+    low : (j : ℕ) → j < 4503599627370496 → 4841369599423283200 + j < 9223372036854775808
+    low j h = omega arith
+
+    field : (j : ℕ) → j < 4503599627370496 → (4841369599423283200 + j) % 9223372036854775808 / 4503599627370496 ≡ 1075
+    field j h = omega arith
+
+    digits : (j : ℕ) → j < 4503599627370496 → (4841369599423283200 + j) % 4503599627370496 ≡ j
+    digits j h = omega arith
+
+number : (x : Float) (s : Bool) (a c : ℕ) → HasValue x s a c → T (not (isNan x))
+unfolding isNan
+number nan s a c v = absurd v
+number (inf t) s a c v = tt
+number (fin t m e) s a c v = tt
+
+pub whole-bits : (t : Float) (j : ℕ) → j < 4503599627370496 → T (fits binary64 t) → HasValue t false (4503599627370496 + j) 1 → toBits binary64 t ≡ 4841369599423283200 + j
+whole-bits t j h f v =
+    ap (toBits binary64) (value-unique t (ofBits binary64 (4841369599423283200 + j)) false (4503599627370496 + j) 1 (zero-lt-suc 0) f (ofBits-fits binary64 (4841369599423283200 + j)) v (whole-pattern j h))
+    ∙ toBits-ofBits binary64 (4841369599423283200 + j) (low j h) (number (ofBits binary64 (4841369599423283200 + j)) false (4503599627370496 + j) 1 (whole-pattern j h))
+  where
+    low : (j : ℕ) → j < 4503599627370496 → 4841369599423283200 + j < 18446744073709551616
+    low j h = omega arith
+
+-- ---- 2 ^ w
+val-up : (n : ℕ) → n ≤ 1023 → HasValue (ofInt binary64 (pos n)) false n 1
+val-up n h = ofInt-val n (le-trans h (lit≤ tt))
+
+val-down : (k : ℕ) → suc k ≤ 1022 → HasValue (ofInt binary64 (negsuc k)) true (suc k) 1
+unfolding ofInt
+val-down k h = round-whole binary64 true (suc k) (le-trans h (lit≤ tt))
+
+neg-int : (k : ℕ) → neg (ofInt binary64 (negsuc k)) ≡ ofInt binary64 (pos (suc k))
+unfolding ofInt
+neg-int k = neg-round (suc k) 1
+
+-- the sum with 1.5 * 2 ^ 52 + 1023
+sum-up : (n : ℕ) → n ≤ 1023 → HasValue (add binary64 (ofInt binary64 (pos n)) biased) false (n + 6755399441056767) 1
+unfolding ofBits
+sum-up n h =
+    subst (λ (z : Float). HasValue z false (n + 6755399441056767) 1)
+    (sym (add-round (ofInt binary64 (pos n)) (fin false 6755399441056767 (pos 0)) false false n 1 6755399441056767 1 (zero-lt-suc 0) (zero-lt-suc 0) (val-up n h) (refl, refl) ∙ plain n ∙ ap (λ (z : ℕ). round binary64 false (z + 6755399441056767) 1) (mul-one n)))
+    (round-whole binary64 false (n + 6755399441056767) (room n h))
+  where
+    plain : (n : ℕ) → sum binary64 false (n * 1) false 6755399441056767 1 ≡ round binary64 false (n * 1 + 6755399441056767) 1
+    plain n = unfold sum in refl
+
+    room : (n : ℕ) → n ≤ 1023 → n + 6755399441056767 ≤ 9007199254740992
+    room n h = omega arith
+
+sum-down : (k : ℕ) → suc k ≤ 1022 → HasValue (add binary64 (ofInt binary64 (negsuc k)) biased) false (6755399441056767 - suc k) 1
+unfolding ofBits
+sum-down k h =
+    subst (λ (z : Float). HasValue z false (6755399441056767 - suc k) 1)
+    (sym (add-round (ofInt binary64 (negsuc k)) (fin false 6755399441056767 (pos 0)) true false (suc k) 1 6755399441056767 1 (zero-lt-suc 0) (zero-lt-suc 0) (val-down k h) (refl, refl) ∙ sum-neg-pos (suc k * 1) 6755399441056767 1 (least k h) ∙ ap (λ (z : ℕ). round binary64 false (6755399441056767 - z) 1) (mul-one (suc k))))
+    (round-whole binary64 false (6755399441056767 - suc k) (room k))
+  where
+    least : (k : ℕ) → suc k ≤ 1022 → suc k * 1 ≤ 6755399441056767
+    least k h = omega arith
+
+    room : (k : ℕ) → 6755399441056767 - suc k ≤ 9007199254740992
+    room k = omega arith
+
+-- less it again is x
+back-up : (n : ℕ) → n ≤ 1023 → sub binary64 (add binary64 (ofInt binary64 (pos n)) biased) biased ≡ ofInt binary64 (pos n)
+unfolding ofBits ofInt
+back-up n h =
+    sub-round (add binary64 (ofInt binary64 (pos n)) (fin false 6755399441056767 (pos 0))) (fin false 6755399441056767 (pos 0)) false false (n + 6755399441056767) 1 6755399441056767 1 (zero-lt-suc 0) (zero-lt-suc 0) (sum-up n h) (refl, refl)
+    ∙ sum-pos-neg ((n + 6755399441056767) * 1) 6755399441056767 1 (least n)
+    ∙ ap (λ (z : ℕ). round binary64 false z 1) (at n)
+  where
+    least : (n : ℕ) → 6755399441056767 ≤ (n + 6755399441056767) * 1
+    least n = omega arith
+
+    at : (n : ℕ) → (n + 6755399441056767) * 1 - 6755399441056767 ≡ n
+    at n = omega arith
+
+back-down : (k : ℕ) → suc k ≤ 1022 → sub binary64 (add binary64 (ofInt binary64 (negsuc k)) biased) biased ≡ ofInt binary64 (negsuc k)
+unfolding ofBits ofInt
+back-down k h =
+    sub-round (add binary64 (ofInt binary64 (negsuc k)) (fin false 6755399441056767 (pos 0))) (fin false 6755399441056767 (pos 0)) false false (6755399441056767 - suc k) 1 6755399441056767 1 (zero-lt-suc 0) (zero-lt-suc 0) (sum-down k h) (refl, refl)
+    ∙ sum-neg ((6755399441056767 - suc k) * 1) 6755399441056767 1 (least k)
+    ∙ ap (λ (z : ℕ). round binary64 true z 1) (at k h)
+  where
+    least : (k : ℕ) → (6755399441056767 - suc k) * 1 < 6755399441056767
+    least k = omega arith
+
+    at : (k : ℕ) → suc k ≤ 1022 → 6755399441056767 - (6755399441056767 - suc k) * 1 ≡ suc k
+    at k h = omega arith
+
+scale-up : (n : ℕ) → n ≤ 1023 → scaleOf (add binary64 (ofInt binary64 (pos n)) biased) ≡ fin false 1 (pos n)
+unfolding scaleOf
+scale-up n h =
+    ap (λ (z : ℕ). ofBits binary64 (z % 4096 * 4503599627370496))
+    (whole-bits (add binary64 (ofInt binary64 (pos n)) biased) (n + 2251799813686271) (room n h) (add-fits binary64 (ofInt binary64 (pos n)) biased) (subst (λ (z : ℕ). HasValue (add binary64 (ofInt binary64 (pos n)) biased) false z 1) (same n) (sum-up n h)))
+    ∙ ap (λ (z : ℕ). ofBits binary64 (z * 4503599627370496)) (field n h) ∙ bits-up n h
+  where
+    room : (n : ℕ) → n ≤ 1023 → n + 2251799813686271 < 4503599627370496
+    room n h = omega arith
+
+    same : (n : ℕ) → n + 6755399441056767 ≡ 4503599627370496 + (n + 2251799813686271)
+    same n = omega arith
+
+    field : (n : ℕ) → n ≤ 1023 → (4841369599423283200 + (n + 2251799813686271)) % 4096 ≡ 1023 + n
+    field n h = omega arith
+
+scale-down : (k : ℕ) → suc k ≤ 1022 → scaleOf (add binary64 (ofInt binary64 (negsuc k)) biased) ≡ fin false 1 (negsuc k)
+unfolding scaleOf
+scale-down k h =
+    ap (λ (z : ℕ). ofBits binary64 (z % 4096 * 4503599627370496))
+    (whole-bits (add binary64 (ofInt binary64 (negsuc k)) biased) (2251799813686271 - suc k) (room k) (add-fits binary64 (ofInt binary64 (negsuc k)) biased) (subst (λ (z : ℕ). HasValue (add binary64 (ofInt binary64 (negsuc k)) biased) false z 1) (same k h) (sum-down k h)))
+    ∙ ap (λ (z : ℕ). ofBits binary64 (z * 4503599627370496)) (field k h) ∙ bits-down k h
+  where
+    room : (k : ℕ) → 2251799813686271 - suc k < 4503599627370496
+    room k = omega arith
+
+    same : (k : ℕ) → suc k ≤ 1022 → 6755399441056767 - suc k ≡ 4503599627370496 + (2251799813686271 - suc k)
+    same k h = omega arith
+
+    field : (k : ℕ) → suc k ≤ 1022 → (4841369599423283200 + (2251799813686271 - suc k)) % 4096 ≡ 1023 - suc k
+    field k h = omega arith
+
+mid-up : (n : ℕ) → n ≤ 1023 → midOf (ofInt binary64 (pos n)) ≡ fin false 1 (pos n)
+unfolding midOf scaledOf
+mid-up n h = simp (back-up n h, self-zero (ofInt binary64 (pos n)) false n 1 (val-up n h), exp-zero, scale-up n h, mul-one-up n h)
+
+mid-down : (k : ℕ) → suc k ≤ 1022 → midOf (ofInt binary64 (negsuc k)) ≡ fin false 1 (negsuc k)
+unfolding midOf scaledOf
+mid-down k h = simp (back-down k h, self-zero (ofInt binary64 (negsuc k)) true (suc k) 1 (val-down k h), exp-zero, scale-down k h, mul-one-down k h)
+
+-- ---- 2 ^ x at whole x
+abbrev c1024 : Float
+c1024 = ofBits binary64 0x4090000000000000
+
+abbrev c1023 : Float
+c1023 = ofBits binary64 0x408ff80000000000
+
+abbrev c1022 : Float
+c1022 = ofBits binary64 0x408ff00000000000
+
+below-top : (n : ℕ) → n ≤ 1022 → lt (ofInt binary64 (pos n)) c1023 ≡ true
+unfolding ofBits
+below-top n h = lt-by-values (ofInt binary64 (pos n)) (fin false 1023 (pos 0)) n 1 1023 1 (zero-lt-suc 0) (zero-lt-suc 0) (val-up n (wide n h)) (refl, refl) ∙ leb-yes (suc (n * 1)) 1023 (ok n h)
+  where
+    ok : (n : ℕ) → n ≤ 1022 → suc (n * 1) ≤ 1023
+    ok n h = omega arith
+
+    wide : (n : ℕ) → n ≤ 1022 → n ≤ 1023
+    wide n h = omega arith
+
+above-low : (n : ℕ) → n ≤ 1023 → le (neg c1022) (ofInt binary64 (pos n)) ≡ true
+unfolding ofBits neg le
+above-low n h = ap (λ (b : Bool). b || eq (fin true 511 (pos 1)) (ofInt binary64 (pos n))) (neg-lt-nonneg 511 (pos 1) (ofInt binary64 (pos n)) n 1 (lit< tt) (val-up n h))
+
+exp2-most : (n : ℕ) → n ≤ 1022 → exp2Of (ofInt binary64 (pos n)) ≡ fin false 1 (pos n)
+unfolding exp2Of
+exp2-most n h = simp (below-top n h, above-low n (wide n h), mid-up n (wide n h))
+  where
+    wide : (n : ℕ) → n ≤ 1022 → n ≤ 1023
+    wide n h = omega arith
+
+less-one : sub binary64 (ofInt binary64 (pos 1023)) one ≡ ofInt binary64 (pos 1022)
+unfolding sub ofInt ofBits
+less-one = refl
+
+exp2-top : exp2Of (ofInt binary64 (pos 1023)) ≡ fin false 1 (pos 1023)
+unfolding exp2Of
+exp2-top = simp (not-less, is-less, less-one, mid-up 1022 (lit≤ tt), twice)
+  where
+    not-less : lt (ofInt binary64 (pos 1023)) c1023 ≡ false
+    not-less = unfold lt ofInt ofBits in refl
+
+    is-less : lt (ofInt binary64 (pos 1023)) c1024 ≡ true
+    is-less = unfold lt ofInt ofBits in refl
+
+    twice : mul binary64 (fin false 1 (pos 1022)) (ofBits binary64 0x4000000000000000) ≡ fin false 1 (pos 1023)
+    twice = unfold mul ofBits in refl
+
+exp2-up : (n : ℕ) → n ≤ 1023 → exp2Of (ofInt binary64 (pos n)) ≡ fin false 1 (pos n)
+exp2-up n h = go (leb n 1022) (leb→le n 1022) (nleb→lt n 1022)
+  where
+    last : (n : ℕ) → n ≤ 1023 → 1022 < n → n ≡ 1023
+    last n h k = omega arith
+
+    go : (b : Bool) → (T b → n ≤ 1022) → (T (not b) → 1022 < n) → exp2Of (ofInt binary64 (pos n)) ≡ fin false 1 (pos n)
+    go true f g = exp2-most n (f tt)
+    go false f g = subst (λ (z : ℕ). exp2Of (ofInt binary64 (pos z)) ≡ fin false 1 (pos z)) (sym (last n h (g tt))) exp2-top
+
+low-enough : (k : ℕ) → suc k ≤ 1022 → le (neg c1022) (ofInt binary64 (negsuc k)) ≡ true
+low-enough k h = is-true (le (neg c1022) (ofInt binary64 (negsuc k)))
+    (subst (λ (z : Float). T (le (neg c1022) z)) (ap neg (sym (neg-int k)) ∙ neg-neg (ofInt binary64 (negsuc k)))
+    (le-neg (ofInt binary64 (pos (suc k))) c1022 (unfold ofBits in le-of-values (ofInt binary64 (pos (suc k))) (fin false 511 (pos 1)) (suc k) 1 1022 1 (zero-lt-suc 0) (zero-lt-suc 0) (val-up (suc k) (le-trans h (lit≤ tt))) (refl, refl) (ok k h))))
+  where
+    ok : (k : ℕ) → suc k ≤ 1022 → suc k * 1 ≤ 1022
+    ok k h = omega arith
+
+exp2-down : (k : ℕ) → suc k ≤ 1022 → exp2Of (ofInt binary64 (negsuc k)) ≡ fin false 1 (negsuc k)
+unfolding exp2Of
+exp2-down k h = simp (below-t, low-enough k h, mid-down k h)
+  where
+    below-t : lt (ofInt binary64 (negsuc k)) c1023 ≡ true
+    below-t = unfold ofBits in neg-lt-pos (ofInt binary64 (negsuc k)) (suc k) 1 1023 (pos 0) (lit< tt) (val-down k h)
+
+pub exp2-whole : Exp2-whole
+exp2-whole (pos n) h = exp2-up n h
+exp2-whole (negsuc k) h = exp2-down k h
+
+-- ---- outside
+wider : (n d : ℕ) → 1024 * d ≤ n * 1 → 1023 * d ≤ n * 1
+wider n d h = omega arith
+
+none : (a b : ℕ) → 0 < b → T (eqb b a && eqb b 0) → ⊥
+none a b p h = bad b p (eqb→eq b 0 (and-r (eqb b a) (eqb b 0) h))
+  where
+    bad : (b : ℕ) → 0 < b → b ≡ 0 → ⊥
+    bad b p e = omega arith
+
+above-less : (x : Float) → T (le c1024 x) → T (le c1023 x)
+unfolding le lt eq ofBits
+above-less nan h = absurd h
+above-less (inf true) h = absurd h
+above-less (inf false) h = tt
+above-less (fin true m e) h = absurd (none (m * up e * 1) (1024 * down e) (mul-pos {m = 1024} (lit< tt) (down-pos e)) h)
+above-less (fin false m e) h = le-of-values (fin false 1023 (pos 0)) (fin false m e) 1023 1 (m * up e) (down e) (zero-lt-suc 0) (down-pos e) (refl, refl) (refl, refl) (wider (m * up e) (down e) (values-le (fin false 1 (pos 10)) (fin false m e) 1024 1 (m * up e) (down e) (zero-lt-suc 0) (down-pos e) (refl, refl) (refl, refl) h))
+
+pub exp2-above : Exp2-above
+unfolding exp2Of
+exp2-above x h = simp (lt-false x c1023 (above-less x h), lt-false x c1024 h, is-true (le c1024 x) h)
+
+neg-below-top : (x : Float) → T (lt x (neg c1022)) → lt x c1023 ≡ true
+unfolding lt neg ofBits
+neg-below-top nan h = absurd h
+neg-below-top (inf true) h = refl
+neg-below-top (inf false) h = absurd h
+neg-below-top (fin false m e) h = absurd h
+neg-below-top (fin true m e) h = is-true (ltb 0 (m * up e * 1 + 1023 * down e)) (lt→ltb 0 (m * up e * 1 + 1023 * down e) (more (m * up e) (down e) (down-pos e)))
+  where
+    more : (a d : ℕ) → 0 < d → 0 < a * 1 + 1023 * d
+    more a d h = omega arith
+
+pub exp2-below : Exp2-below
+unfolding exp2Of
+exp2-below x h = simp (neg-below-top x h, le-false x (neg c1022) h)
+
+pub exp2-nan : Exp2-nan
+unfolding exp2Of lt le ofBits
+exp2-nan = refl
+
+-- ---- 3000 ^ r
+pub pow3000-one : Pow3000-one
+unfolding pow3000Of eq ofBits
+pow3000-one = refl
+
+pub pow3000-zero : Pow3000-zero
+unfolding pow3000Of exp2Of midOf scaledOf scaleOf expPart eq lt le neg add sub mul ofBits toBits size
+pow3000-zero = refl
+
+pub pow3000-nan : Pow3000-nan
+unfolding pow3000Of exp2Of eq lt le mul ofBits
+pow3000-nan = refl

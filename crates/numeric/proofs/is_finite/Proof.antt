@@ -1,0 +1,11 @@
+use lib.Ieee.{ofBits}
+use Rattle.numeric.proofs.BasicLaws.{finite-test}
+use Rattle.numeric.proofs.is_finite.Statement.{statement}
+use Rattle.numeric.proofs.is_finite.Tie as tie
+
+returns : tie.Need-returns
+unfolding ofBits
+returns c = finite-test (c .args .x)
+
+pub is-finite-spec : {M : Type 1} → statement M
+is-finite-spec = tie.close (tie.spec returns)

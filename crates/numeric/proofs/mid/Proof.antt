@@ -1,0 +1,22 @@
+use mathlib.Core.Bool.{false}
+use lib.Ieee.{ofBits}
+use lib.IntN.{pos}
+use borrow.Author.Needs.{needs}
+use Rattle.laws.proofs.Number.{add-number}
+use Rattle.numeric.specs.Power.{scaledOf, midOf}
+use Rattle.numeric.proofs.mid.Statement.{statement}
+use Rattle.numeric.proofs.mid.Tie as tie
+
+exp-part-requires : tie.Need-exp-part-requires
+exp-part-requires c κs = search needs
+
+scale-requires : tie.Need-scale-requires
+unfolding ofBits
+scale-requires c κs = add-number (c .before .args .x) false 6755399441056767 (pos 0) (c .before .pre)
+
+returns : tie.Need-returns
+unfolding midOf scaledOf
+returns c = simp (c .scale .ensures, c .before .exp-part .ensures)
+
+pub mid-spec : {M : Type 1} → statement M
+mid-spec = tie.close (tie.spec exp-part-requires scale-requires returns)

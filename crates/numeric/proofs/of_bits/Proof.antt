@@ -1,0 +1,18 @@
+use mathlib.Core.Path.{refl}
+use lib.Ieee.{ofBits, div}
+use Rattle.numeric.proofs.BasicLaws.{quiet-bits, nan-bits}
+use Rattle.numeric.proofs.of_bits.Statement.{statement}
+use Rattle.numeric.proofs.of_bits.Tie as tie
+
+float-from-bits-result : tie.Need-float-from-bits-result
+float-from-bits-result c = quiet-bits (c .before .args .b) (c .if1 .taken)
+
+returns : tie.Need-returns
+returns c = refl
+
+returns-2 : tie.Need-returns-2
+unfolding div ofBits
+returns-2 c = nan-bits (c .before .args .b) (c .if1 .left)
+
+pub of-bits-spec : {M : Type 1} → statement M
+of-bits-spec = tie.close (tie.spec float-from-bits-result returns returns-2)

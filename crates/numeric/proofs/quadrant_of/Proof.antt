@@ -1,0 +1,46 @@
+use borrow.Author.Needs.{needs}
+use Rattle.laws.proofs.Tests.{eqb-yes, eqb-no}
+use Rattle.numeric.specs.Trig.{quadrant}
+use Rattle.numeric.proofs.quadrant_of.Statement.{statement}
+use Rattle.numeric.proofs.quadrant_of.Tie as tie
+
+kernel-sin-requires : tie.Need-kernel-sin-requires
+kernel-sin-requires c κs = search needs
+
+kernel-cos-requires : tie.Need-kernel-cos-requires
+kernel-cos-requires c κs = search needs
+
+kernel-sin-requires-2 : tie.Need-kernel-sin-requires-2
+kernel-sin-requires-2 c κs = search needs
+
+kernel-cos-requires-2 : tie.Need-kernel-cos-requires-2
+kernel-cos-requires-2 c κs = search needs
+
+returns : tie.Need-returns
+unfolding quadrant
+returns c = simp (eqb-yes (c .before .before .args .q) 0 (c .before .if1 .taken), c .kernel-sin .ensures)
+
+returns-2 : tie.Need-returns-2
+unfolding quadrant
+returns-2 c = simp (eqb-no (c .before .before .before .args .q) 0 (c .before .before .if1 .left), eqb-yes (c .before .before .before .args .q) 1 (c .before .if2 .taken), c .kernel-cos .ensures)
+
+returns-3 : tie.Need-returns-3
+unfolding quadrant
+returns-3 c = let q = c .before .before .before .before .args .q in simp (eqb-no q 0 (c .before .before .before .if1 .left), eqb-no q 1 (c .before .before .if2 .left), eqb-yes q 2 (c .before .if3 .taken), c .kernel-sin2 .ensures)
+
+returns-4 : tie.Need-returns-4
+unfolding quadrant
+returns-4 c = let q = c .before .before .before .before .args .q in simp (eqb-no q 0 (c .before .before .before .if1 .left), eqb-no q 1 (c .before .before .if2 .left), eqb-no q 2 (c .before .if3 .left), c .kernel-cos2 .ensures)
+
+pub quadrant-of-spec : {M : Type 1} → statement M
+quadrant-of-spec =
+    tie.close
+    (tie.spec
+    kernel-sin-requires
+    kernel-cos-requires
+    kernel-sin-requires-2
+    kernel-cos-requires-2
+    returns
+    returns-2
+    returns-3
+    returns-4)

@@ -1,0 +1,22 @@
+use mathlib.Core.Path.{refl}
+use borrow.Author.Needs.{needs}
+use Rattle.laws.proofs.Values.{no-nan-bits}
+use Rattle.numeric.specs.Power.{scaleOf}
+use Rattle.numeric.proofs.scale.Statement.{statement}
+use Rattle.numeric.proofs.scale.Tie as tie
+
+float-to-bits-result : tie.Need-float-to-bits-result
+float-to-bits-result c = search needs
+
+mul-result : tie.Need-mul-result
+mul-result c = search needs
+
+float-from-bits-result : tie.Need-float-from-bits-result
+float-from-bits-result c = no-nan-bits _
+
+returns : tie.Need-returns
+unfolding scaleOf
+returns c = refl
+
+pub scale-spec : {M : Type 1} → statement M
+scale-spec = tie.close (tie.spec float-to-bits-result mul-result float-from-bits-result returns)
