@@ -3,7 +3,7 @@ use mathlib.Core.Bool.{Bool, true, false, cond, not, _&&_, false≢true, Bool·b
 use mathlib.Core.Path.{_≡_, sym, subst}
 use Prim.Native.Nat.{ℕ, zero, suc, _+_, _-_, _*_, _/_, _%_, _^_, compare}
 use lib.Dec.{eqb, T, ltb}
-use lib.Ieee.{Float, nan, inf, fin, binary64, up, down, lt, le, neg, sub, unlike, mul, round, sum, add, nearest, size, odd, isNan, units}
+use lib.Ieee.{Float, nan, inf, fin, binary64, up, down, lt, le, eq, neg, sub, unlike, mul, round, sum, add, nearest, size, odd, isNan, units}
 use lib.IntN.{ℤ}
 
 odd-number : (d : ℕ) (s : Bool) (q k l : ℕ) → T (not (isNan (odd d s q k l)))
@@ -64,3 +64,14 @@ unfolding le isNan
 le-number nan y h = absurd (false≢true h)
 le-number (inf s) y h = tt
 le-number (fin s m e) y h = tt
+
+-- both sides of an order
+pub le-numbers : (x y : Float) → T (le x y) → T (not (isNan x)) × T (not (isNan y))
+unfolding le lt eq isNan
+le-numbers nan y h = absurd h
+le-numbers (inf s) nan h = absurd h
+le-numbers (inf s) (inf t) h = (tt, tt)
+le-numbers (inf s) (fin t n d) h = (tt, tt)
+le-numbers (fin s m e) nan h = absurd h
+le-numbers (fin s m e) (inf t) h = (tt, tt)
+le-numbers (fin s m e) (fin t n d) h = (tt, tt)

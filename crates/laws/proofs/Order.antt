@@ -11,7 +11,7 @@ use lib.Ieee.Exact.{HasValue}
 use lib.Ieee.Fits.{up-pos, down-pos, and-l, and-r, and-i, eq→eqb}
 use lib.Ieee.Order.{transfer}
 use lib.IntN.{pos, ℤ}
-use Rattle.laws.proofs.Tests.{bool-iff, and-true, of-true, eqb-iff, eqb-sym, ltb-iff}
+use Rattle.laws.proofs.Tests.{bool-iff, and-true, of-true, of-false, eqb-iff, eqb-sym, ltb-iff}
 use Rattle.laws.specs.Float.{one, two}
 use Rattle.laws.specs.Machine.{more}
 
@@ -254,7 +254,7 @@ nan-test (fin s m e) = ap not (is-true (eqb (m * up e * down e) (m * up e * down
 
 -- ---- an order goes on: x ≤ y and y ≤ z give x ≤ z
 -- ±A ≤ ±B
-abbrev Below : Bool → ℕ → Bool → ℕ → Type 0
+abbrev pub Below : Bool → ℕ → Bool → ℕ → Type 0
 Below false A false B = A ≤ B
 Below false A true B = (A ≡ 0) × (B ≡ 0)
 Below true A false B = Unit
@@ -352,3 +352,59 @@ float-le-trans (fin s m e) (fin t n g) (fin u p f) h k =
     (below-trans s t u (m * up e) (down e) (n * up g) (down g) (p * up f) (down f) (down-pos e) (down-pos g) (down-pos f)
     (below-of s (m * up e * down g) t (n * up g * down e) h)
     (below-of t (n * up g * down f) u (p * up f * down g) k))
+
+-- ---- a number is at most itself, and of two numbers one is at most the other
+pub float-le-refl : (x : Float) → T (not (isNan x)) → T (le x x)
+unfolding le lt eq isNan
+float-le-refl nan h = absurd h
+float-le-refl (inf true) h = tt
+float-le-refl (inf false) h = tt
+float-le-refl (fin s m e) h = le-refl-fin s m e
+
+not-below : (s t : Bool) (A B : ℕ) → below s A t B ≡ false → Below t B s A
+not-below false false A B h = nltb→le A B (of-false (ltb A B) h)
+not-below false true A B h = tt
+not-below true false A B h = none (nltb→le 0 (A + B) (of-false (ltb 0 (A + B)) h))
+  where
+    none : A + B ≤ 0 → (B ≡ 0) × (A ≡ 0)
+    none k = (omega arith, omega arith)
+not-below true true A B h = nltb→le B A (of-false (ltb B A) h)
+
+pub le-of-lt-false : (x y : Float) → T (not (isNan x)) → T (not (isNan y)) → lt x y ≡ false → T (le y x)
+unfolding le lt eq isNan
+le-of-lt-false nan y p q h = absurd p
+le-of-lt-false (inf s) nan p q h = absurd q
+le-of-lt-false (inf true) (inf true) p q h = tt
+le-of-lt-false (inf true) (inf false) p q h = absurd (true≢false h)
+le-of-lt-false (inf true) (fin t n d) p q h = absurd (true≢false h)
+le-of-lt-false (inf false) (inf true) p q h = tt
+le-of-lt-false (inf false) (inf false) p q h = tt
+le-of-lt-false (inf false) (fin t n d) p q h = tt
+le-of-lt-false (fin s m e) nan p q h = absurd q
+le-of-lt-false (fin s m e) (inf true) p q h = tt
+le-of-lt-false (fin s m e) (inf false) p q h = absurd (true≢false h)
+le-of-lt-false (fin s m e) (fin t n d) p q h = of-below t (n * up d * down e) s (m * up e * down d) (not-below s t (m * up e * down d) (n * up d * down e) h)
+
+-- the order of two finite numbers is that of their fractions
+pub le-below : (s t : Bool) (m n : ℕ) (e d : ℤ) → T (le (fin s m e) (fin t n d)) → Below s (m * up e * down d) t (n * up d * down e)
+unfolding le lt eq
+le-below s t m n e d h = below-of s (m * up e * down d) t (n * up d * down e) h
+
+pub below-le : (s t : Bool) (m n : ℕ) (e d : ℤ) → Below s (m * up e * down d) t (n * up d * down e) → T (le (fin s m e) (fin t n d))
+unfolding le lt eq
+below-le s t m n e d h = of-below s (m * up e * down d) t (n * up d * down e) h
+
+pub le-of-lt-true : (x y : Float) → T (lt x y) → T (le x y)
+unfolding le
+le-of-lt-true x y h = or-left (lt x y) (eq x y) h
+
+-- no order holds of a NaN
+pub nan-lt : (x : Float) → lt nan x ≡ false
+unfolding lt
+nan-lt x = refl
+
+pub lt-nan : (x : Float) → lt x nan ≡ false
+unfolding lt
+lt-nan nan = refl
+lt-nan (inf s) = refl
+lt-nan (fin s m e) = refl

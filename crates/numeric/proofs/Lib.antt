@@ -5,3 +5,5 @@ pub mod MagicFloor
 pub mod DrawLaws
 pub mod PowerLaws
 pub mod TrigLaws
+pub mod RangeLaws
+pub mod Laws

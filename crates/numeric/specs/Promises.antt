@@ -1,6 +1,7 @@
 -- What document 01 promises of these functions, for all x: the statements. proofs/Laws.antt proves each under the same name in small letters.
 use mathlib.Core.Path.{_≡_}
 use mathlib.Core.Bool.{Bool, true, false, not, cond}
+use mathlib.Core.Logic.{_⊎_}
 use Prim.Native.Nat.{ℕ, suc, _+_, _-_, _*_, _^_, _≤_, _<_}
 use lib.IntN.{ℤ, pos, negsuc}
 use lib.Dec.{T, ltb}
@@ -103,13 +104,21 @@ Clamp-range = (x lo hi : Float) → T (le lo hi) → T (not (isNan x)) → T (le
 abbrev pub Clamp-nan : Type 0
 Clamp-nan = (lo hi : Float) → clampOf nan lo hi ≡ nan
 
--- min and max are one of their arguments, below or above both unless one is NaN, and with one NaN the other
+-- min and max are one of their arguments
+abbrev pub Min-either : Type 0
+Min-either = (a b : Float) → (minOf a b ≡ a) ⊎ (minOf a b ≡ b)
+
+abbrev pub Max-either : Type 0
+Max-either = (a b : Float) → (maxOf a b ≡ a) ⊎ (maxOf a b ≡ b)
+
+-- not above, not below, each of them that is a number
 abbrev pub Min-range : Type 0
-Min-range = (a b : Float) → T (not (isNan a)) → T (not (isNan b)) → T (le (minOf a b) a) × T (le (minOf a b) b)
+Min-range = (a b : Float) → (T (not (isNan a)) → T (le (minOf a b) a)) × (T (not (isNan b)) → T (le (minOf a b) b))
 
 abbrev pub Max-range : Type 0
-Max-range = (a b : Float) → T (not (isNan a)) → T (not (isNan b)) → T (le a (maxOf a b)) × T (le b (maxOf a b))
+Max-range = (a b : Float) → (T (not (isNan a)) → T (le a (maxOf a b))) × (T (not (isNan b)) → T (le b (maxOf a b)))
 
+-- with one NaN, the other
 abbrev pub Min-nan : Type 0
 Min-nan = (x : Float) → (minOf nan x ≡ x) × (minOf x nan ≡ x)
 
