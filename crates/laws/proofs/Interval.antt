@@ -3,19 +3,19 @@
 use mathlib.Core.Path.{_≡_, refl, sym, ap, _∙_, subst}
 use mathlib.Core.Bool.{Bool, true, false, not, _&&_, _||_, Bool·beq, cond, true≢false}
 use Prim.Native.Nat.{ℕ, zero, suc, _+_, _-_, _*_, _/_, _%_, _^_, _≤_, _<_, compare}
-use native.Mathlib.Nat.{le-trans, le-of-eq, le-of-lt, mul-pos, mul-one, one-mul, mul-comm, mul-assoc, mul-right-comm, mul-le-mul-left, mul-le-mul-right, zero-lt-suc, pow-suc}
+use native.Mathlib.Nat.{le-trans, le-of-eq, le-of-lt, mul-pos, mul-one, one-mul, mul-comm, mul-assoc, mul-right-comm, mul-le-mul-left, mul-le-mul-right, zero-lt-suc, pow-suc, not-le-of-lt}
 use native.Mathlib.Omega.{arith}
-use lib.IntN.{pos}
-use lib.Dec.{T, ltb, ltb→lt, lit<, lit≤}
+use lib.IntN.{ℤ, pos, negsuc}
+use lib.Dec.{T, ltb, ltb→lt, leb, leb→le, nleb→lt, lit<, lit≤}
 use lib.Pow.{pow-pos}
-use lib.Ieee.{Float, nan, inf, fin, binary64, up, down, unlike, round, units, odd, sum, add, sub, mul, neg, lt, le, eq, size, nearest, ofBits}
+use lib.Ieee.{Float, nan, inf, fin, binary64, up, down, unlike, round, units, odd, sum, add, sub, mul, neg, lt, le, eq, size, nearest, ofBits, fits}
 use lib.Ieee.Fits.{down-pos}
 use lib.Ieee.Exact.{HasValue}
 use lib.Ieee.Order.{round-mono, le-of-values}
-use Rattle.laws.specs.Float.{one, InUnit}
+use Rattle.laws.specs.Float.{one, F64, InUnit}
 use Rattle.laws.proofs.Tests.{of-true}
-use Rattle.laws.proofs.Order.{values-le, neg-lt-nonneg, le-neg, neg-neg}
-use Rattle.laws.proofs.Values.{mul-round, add-round, sub-round, sum-pos-neg, exact-at, neg-round, neg-value}
+use Rattle.laws.proofs.Order.{values-le, neg-lt-nonneg, le-neg, neg-neg, below-le}
+use Rattle.laws.proofs.Values.{fits-small, mul-round, add-round, sub-round, sum-pos-neg, exact-at, neg-round, neg-value}
 
 -- ---- a rounded fraction keeps its sign
 abbrev Plus : Float → Type 0
@@ -197,3 +197,34 @@ mul-sized s x y a c C h v q =
     like : (s : Bool) → unlike s false ≡ s
     like true = refl
     like false = refl
+
+-- ---- the float before 1: what is below 1 is at most 1 - 2 ^ -53
+before : (n d : ℕ) → n < d → (9007199254740992 ≤ d → n < 9007199254740992) → n * 9007199254740992 ≤ 9007199254740991 * d
+before n d h k = go (leb 9007199254740992 d) (leb→le 9007199254740992 d) (nleb→lt 9007199254740992 d)
+  where
+    large : 9007199254740992 ≤ d → n < 9007199254740992 → n * 9007199254740992 ≤ 9007199254740991 * d
+    large l m = omega arith
+
+    small : d < 9007199254740992 → n * 9007199254740992 ≤ 9007199254740991 * d
+    small l = omega arith
+
+    go : (b : Bool) → (T b → 9007199254740992 ≤ d) → (T (not b) → d < 9007199254740992) → n * 9007199254740992 ≤ 9007199254740991 * d
+    go true f g = large (f tt) (k (f tt))
+    go false f g = small (g tt)
+
+few : (s : Bool) (m : ℕ) (e : ℤ) → T (fits binary64 (fin s m e)) → 9007199254740992 ≤ down e → m * up e < 9007199254740992
+few s m (pos k) t h = absurd (not-le-of-lt (lit< {m = 1} {n = 9007199254740992} tt) h)
+few s m (negsuc k) t h = subst (λ (z : ℕ). z < 9007199254740992) (sym (mul-one m)) (fits-small s m (negsuc k) t)
+
+pub below-one : (x : Float) → F64 x → T (lt x one) → T (le x (ofBits binary64 0x3fefffffffffffff))
+unfolding ofBits
+below-one nan t h = absurd (unfold lt in h)
+below-one (inf true) t h = unfold le lt eq in tt
+below-one (inf false) t h = absurd (unfold lt in h)
+below-one (fin true m e) t h = below-le true false m 9007199254740991 e (negsuc 52) tt
+below-one (fin false m e) t h =
+    below-le false false m 9007199254740991 e (negsuc 52)
+    (le-trans (before (m * up e) (down e) (strict (m * up e) (down e) (ltb→lt (m * up e * 1) (1 * down e) (unfold lt in h))) (few false m e t)) (le-of-eq (ap (λ (z : ℕ). z * down e) (sym (mul-one 9007199254740991)))))
+  where
+    strict : (n d : ℕ) → n * 1 < 1 * d → n < d
+    strict n d h = omega arith

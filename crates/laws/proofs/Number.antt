@@ -1,10 +1,11 @@
 -- Values that are no NaN.
-use mathlib.Core.Bool.{Bool, true, false, cond, not, _&&_, false≢true, Bool·beq}
-use mathlib.Core.Path.{_≡_, sym, subst}
+use mathlib.Core.Bool.{Bool, true, false, cond, not, _&&_, false≢true, true≢false, Bool·beq}
+use mathlib.Core.Path.{_≡_, refl, sym, subst}
 use Prim.Native.Nat.{ℕ, zero, suc, _+_, _-_, _*_, _/_, _%_, _^_, compare}
-use lib.Dec.{eqb, T, ltb}
-use lib.Ieee.{Float, nan, inf, fin, binary64, up, down, lt, le, eq, neg, sub, unlike, mul, round, sum, add, nearest, size, odd, isNan, units}
-use lib.IntN.{ℤ}
+use lib.Dec.{eqb, T, ltb, eqb·suc-zero}
+use lib.Ieee.{Float, nan, inf, fin, binary64, up, down, lt, le, eq, neg, sub, unlike, mul, div, round, sum, add, nearest, size, odd, isNan, units}
+use lib.Ieee.Positive.{positive}
+use Rattle.laws.specs.Float.{isFin}
 
 odd-number : (d : ℕ) (s : Bool) (q k l : ℕ) → T (not (isNan (odd d s q k l)))
 unfolding odd isNan
@@ -18,6 +19,10 @@ units-number s q k = go (ltb (q * 2 ^ k) (2 ^ 2098)) (odd 54 s q k 1074) (odd-nu
     go : (t : Bool) (x : Float) → T (not (isNan x)) → T (not (isNan (cond t x (inf s))))
     go true x h = h
     go false x h = tt
+
+pub pos-eqb : (n : ℕ) → T (ltb 0 n) → eqb n 0 ≡ false
+pos-eqb zero h = absurd h
+pos-eqb (suc n) h = eqb·suc-zero n
 
 pub round-number : (s : Bool) (a b : ℕ) → T (not (isNan (round binary64 s a b)))
 unfolding round
@@ -36,21 +41,53 @@ sum-number s a t b c = go (Bool·beq s t) (ltb a b)
     go false true = round-number t (b - a) c
     go false false = round-number (s && ltb b a) (a - b) c
 
-pub add-number : (x : Float) (t : Bool) (n : ℕ) (d : ℤ) → T (not (isNan x)) → T (not (isNan (add binary64 x (fin t n d))))
+-- a sum and a difference with a finite number, a product with one above 0, a quotient of one above 0
+pub add-number : (x y : Float) → T (isFin y) → T (not (isNan x)) → T (not (isNan (add binary64 x y)))
 unfolding add isNan
-add-number nan t n d h = absurd h
-add-number (inf s) t n d h = tt
-add-number (fin s m e) t n d h = sum-number s (m * up e * down d) t (n * up d * down e) (down e * down d)
+add-number nan y f h = absurd h
+add-number (inf s) nan f h = absurd f
+add-number (inf s) (inf t) f h = absurd f
+add-number (inf s) (fin t n d) f h = tt
+add-number (fin s m e) nan f h = absurd f
+add-number (fin s m e) (inf t) f h = absurd f
+add-number (fin s m e) (fin t n d) f h = sum-number s (m * up e * down d) t (n * up d * down e) (down e * down d)
 
-pub sub-number : (x : Float) (t : Bool) (n : ℕ) (d : ℤ) → T (not (isNan x)) → T (not (isNan (sub binary64 x (fin t n d))))
+pub sub-number : (x y : Float) → T (isFin y) → T (not (isNan x)) → T (not (isNan (sub binary64 x y)))
 unfolding sub neg
-sub-number x t n d h = add-number x (not t) n d h
+sub-number x nan f h = absurd f
+sub-number x (inf t) f h = absurd f
+sub-number x (fin t n d) f h = add-number x (fin (not t) n d) tt h
 
-pub mul-number : (x : Float) (t : Bool) (n : ℕ) (d : ℤ) → eqb n 0 ≡ false → T (not (isNan x)) → T (not (isNan (mul binary64 x (fin t n d))))
+pub mul-number : (x y : Float) → T (positive y) → T (not (isNan x)) → T (not (isNan (mul binary64 x y)))
 unfolding mul isNan
-mul-number nan t n d z h = absurd h
-mul-number (inf s) t n d z h = subst (λ (b : Bool). T (not (isNan (cond b nan (inf (unlike s t)))))) (sym z) tt
-mul-number (fin s m e) t n d z h = round-number (unlike s t) (m * up e * (n * up d)) (down e * down d)
+mul-number nan y p h = absurd h
+mul-number (inf s) nan p h = absurd p
+mul-number (inf s) (inf t) p h = absurd p
+mul-number (inf s) (fin true n d) p h = absurd p
+mul-number (inf s) (fin false n d) p h = subst (λ (b : Bool). T (not (isNan (cond b nan (inf (unlike s false)))))) (sym (pos-eqb n p)) tt
+mul-number (fin s m e) nan p h = absurd p
+mul-number (fin s m e) (inf t) p h = absurd p
+mul-number (fin s m e) (fin t n d) p h = round-number (unlike s t) (m * up e * (n * up d)) (down e * down d)
+
+pub div-number : (x y : Float) → T (positive x) → T (not (isNan y)) → T (not (isNan (div binary64 x y)))
+unfolding div isNan
+div-number nan y p h = absurd p
+div-number (inf s) y p h = absurd p
+div-number (fin true m e) y p h = absurd p
+div-number (fin false m e) nan p h = absurd h
+div-number (fin false m e) (inf t) p h = tt
+div-number (fin false m e) (fin t n d) p h = go (eqb n 0) (eqb m 0) (pos-eqb m p)
+  where
+    go : (a b : Bool) → b ≡ false → T (not (isNan (cond a (cond b nan (inf (unlike false t))) (round binary64 (unlike false t) (m * up e * down d) (n * up d * down e)))))
+    go true true k = absurd (true≢false k)
+    go true false k = tt
+    go false b k = round-number (unlike false t) (m * up e * down d) (n * up d * down e)
+
+pub is-nan : (x : Float) → isNan x ≡ true → x ≡ nan
+unfolding isNan
+is-nan nan e = refl
+is-nan (inf s) e = absurd (false≢true e)
+is-nan (fin s m d) e = absurd (false≢true e)
 
 -- what passes a test is none
 pub lt-number : (x y : Float) → lt x y ≡ true → T (not (isNan x))
@@ -75,3 +112,9 @@ le-numbers (inf s) (fin t n d) h = (tt, tt)
 le-numbers (fin s m e) nan h = absurd h
 le-numbers (fin s m e) (inf t) h = (tt, tt)
 le-numbers (fin s m e) (fin t n d) h = (tt, tt)
+
+pub fin-number : (x : Float) → T (isFin x) → T (not (isNan x))
+unfolding isNan
+fin-number nan h = absurd h
+fin-number (inf s) h = absurd h
+fin-number (fin s m e) h = tt

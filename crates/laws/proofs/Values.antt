@@ -1,19 +1,21 @@
 -- The value of a sum, a difference and a product is one rounding of the exact one; where it is held, nothing is rounded.
-use mathlib.Core.Bool.{Bool, true, false, cond, not, _&&_, Bool·beq}
+use mathlib.Core.Bool.{Bool, true, false, cond, not, _&&_, Bool·beq, true≢false}
 use mathlib.Core.Path.{_≡_, refl, sym, ap, _∙_, subst}
 use Prim.Native.Nat.{ℕ, zero, suc, _+_, _-_, _*_, _≤_, _<_, _/_, _%_, _^_}
-use native.Mathlib.Nat.{le-refl, le-trans, le-of-eq, mul-comm, mul-assoc, mul-left-comm, mul-le-mul-right, zero-mul, mul-pos, zero-lt-suc, lt-of-lt-of-le, not-le-of-lt, mul-right-comm, le-of-mul-le-mul-right, add-mul, eq-of-mul-eq-mul-right, le-of-lt, mul-mod-left, mul-sub, mul-mul-mul-comm}
+use native.Mathlib.Nat.{le-refl, le-trans, le-of-eq, mul-comm, mul-assoc, mul-left-comm, mul-le-mul-right, zero-mul, mul-pos, zero-lt-suc, lt-of-lt-of-le, not-le-of-lt, mul-right-comm, le-of-mul-le-mul-right, add-mul, eq-of-mul-eq-mul-right, le-of-lt, mul-mod-left, mul-sub, mul-mul-mul-comm, lt-irrefl}
 use native.Mathlib.Omega.{arith}
 use lib.Dec.{eqb, leb, T, ltb, ltb→lt, nltb→le, lit<, lt→ltb}
-use lib.Ieee.{Float, nan, inf, fin, binary64, up, down, le, neg, sub, ofInt, unlike, mul, round, sum, fits, add, low, odd, nanBits, units}
+use lib.Ieee.{Float, nan, inf, fin, binary64, up, down, le, neg, sub, ofInt, unlike, mul, div, round, sum, fits, add, low, odd, nanBits, units}
 use lib.Ieee.Back.{round-whole}
 use lib.Ieee.Exact.{HasValue, round-exact}
-use lib.Ieee.Fits.{down-pos, and-l, and-r, round-is}
+use lib.Ieee.Fits.{up-pos, down-pos, and-l, and-r, round-is}
 use lib.Ieee.Order.{round-mono}
+use lib.Ieee.Positive.{first-pos}
 use lib.Ieee.Scale.{round-same}
 use lib.IntN.{ℤ, pos}
 use lib.Pow.{pow-pos, pow-mono, pow-add, shl-lt}
-use Rattle.laws.proofs.Tests.{ltb-iff}
+use Rattle.laws.proofs.Tests.{ltb-iff, eqb-no}
+use Rattle.laws.proofs.Order.{neg-neg}
 
 -- what fits has fewer than 53 digits
 pub fits-small : (s : Bool) (m : ℕ) (e : ℤ) → T (fits binary64 (fin s m e)) → m < 2 ^ 53
@@ -63,6 +65,13 @@ neg-units q k = go (ltb (q * 2 ^ k) (2 ^ 2098)) q
 pub neg-round : (a c : ℕ) → neg (round binary64 true a c) ≡ round binary64 false a c
 neg-round a c = ap neg (round-is binary64 true a c) ∙ neg-units _ _ ∙ sym (round-is binary64 false a c)
 
+pub round-neg : (a c : ℕ) → round binary64 true a c ≡ neg (round binary64 false a c)
+round-neg a c = sym (neg-neg (round binary64 true a c)) ∙ ap neg (neg-round a c)
+
+pub unlike-plus : (s : Bool) → unlike s false ≡ s
+unlike-plus true = refl
+unlike-plus false = refl
+
 pub mul-round : (x y : Float) (s t : Bool) (a c b d : ℕ) → 0 < c → 0 < d → HasValue x s a c → HasValue y t b d → mul binary64 x y ≡ round binary64 (unlike s t) (a * b) (c * d)
 unfolding mul
 mul-round nan y s t a c b d C D p q = absurd p
@@ -74,6 +83,52 @@ mul-round (fin u m e) (fin v n g) s t a c b d C D p q =
     ∙ ap (λ (z : Bool). round binary64 (unlike s z) (m * up e * (n * up g)) (down e * down g)) (q .0)
     ∙ round-same binary64 (unlike s t) (m * up e * (n * up g)) (down e * down g) (a * b) (c * d) (mul-pos (down-pos e) (down-pos g)) (mul-pos C D)
     (mul-mul-mul-comm (m * up e) (n * up g) c d ∙ ap (λ (z : ℕ). z * (n * up g * d)) (p .1) ∙ ap (λ (z : ℕ). a * down e * z) (q .1) ∙ mul-mul-mul-comm a (down e) b (down g))
+
+unlike-sym : (s t : Bool) → unlike s t ≡ unlike t s
+unlike-sym true true = refl
+unlike-sym true false = refl
+unlike-sym false true = refl
+unlike-sym false false = refl
+
+pub div-round : (x y : Float) (s : Bool) (a c b d : ℕ) → 0 < c → 0 < d → 0 < b → HasValue x s a c → HasValue y false b d → div binary64 x y ≡ round binary64 s (a * d) (c * b)
+unfolding div
+div-round nan y s a c b d C D B p q = absurd p
+div-round (inf u) y s a c b d C D B p q = absurd p
+div-round (fin u m e) nan s a c b d C D B p q = absurd q
+div-round (fin u m e) (inf v) s a c b d C D B p q = absurd q
+div-round (fin u m e) (fin true n g) s a c b d C D B p q = absurd (true≢false (q .0))
+div-round (fin u m e) (fin false n g) s a c b d C D B p q =
+    ap (λ (z : Bool). cond z (cond (eqb m 0) nan (inf (unlike u false))) (round binary64 (unlike u false) (m * up e * down g) (n * up g * down e))) (eqb-no n 0 some)
+    ∙ ap (λ (z : Bool). round binary64 z (m * up e * down g) (n * up g * down e)) (unlike-plus u ∙ p .0)
+    ∙ round-same binary64 s (m * up e * down g) (n * up g * down e) (a * d) (c * b) (mul-pos (mul-pos N (up-pos g)) (down-pos e)) (mul-pos C B)
+    (swap (m * up e) (down g) c b ∙ ap (λ (z : ℕ). z * (b * down g)) (p .1) ∙ ap (λ (z : ℕ). a * down e * z) (sym (q .1)) ∙ swap' a (down e) (n * up g) d)
+  where
+    N : 0 < n
+    N = first-pos n (up g) (first-pos (n * up g) d (subst (λ (z : ℕ). 0 < z) (sym (q .1)) (mul-pos B (down-pos g))))
+
+    some : n ≡ 0 → ⊥
+    some z = lt-irrefl 0 (subst (λ (k : ℕ). 0 < k) z N)
+
+    swap : (n g c b : ℕ) → n * g * (c * b) ≡ n * c * (b * g)
+    swap n g c b = simp (mul-assoc, mul-comm, mul-left-comm)
+
+    swap' : (a e n d : ℕ) → a * e * (n * d) ≡ a * d * (n * e)
+    swap' a e n d = simp (mul-assoc, mul-comm, mul-left-comm)
+
+pub float-mul-comm : (x y : Float) → mul binary64 x y ≡ mul binary64 y x
+unfolding mul
+float-mul-comm nan nan = refl
+float-mul-comm nan (inf t) = refl
+float-mul-comm nan (fin t n d) = refl
+float-mul-comm (inf s) nan = refl
+float-mul-comm (inf s) (inf t) = ap inf (unlike-sym s t)
+float-mul-comm (inf s) (fin t n d) = ap (λ (z : Bool). cond (eqb n 0) nan (inf z)) (unlike-sym s t)
+float-mul-comm (fin s m e) nan = refl
+float-mul-comm (fin s m e) (inf t) = ap (λ (z : Bool). cond (eqb m 0) nan (inf z)) (unlike-sym s t)
+float-mul-comm (fin s m e) (fin t n d) =
+    ap (λ (z : Bool). round binary64 z (m * up e * (n * up d)) (down e * down d)) (unlike-sym s t)
+    ∙ ap (λ (z : ℕ). round binary64 (unlike t s) z (down e * down d)) (mul-comm (m * up e) (n * up d))
+    ∙ ap (λ (z : ℕ). round binary64 (unlike t s) (n * up d * (m * up e)) z) (mul-comm (down e) (down d))
 
 scale-le : (A B C A' B' C' : ℕ) → 0 < C → A * C' ≡ A' * C → B * C' ≡ B' * C → A ≤ B → A' ≤ B'
 scale-le A B C A' B' C' H p q h = le-of-mul-le-mul-right (le-trans (le-of-eq (sym p)) (le-trans (mul-le-mul-right C' h) (le-of-eq q))) H

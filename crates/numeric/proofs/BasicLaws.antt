@@ -5,13 +5,14 @@ use Prim.Native.Nat.{ℕ, _+_, _≤_, _%_, _<_, min, _/_, _*_}
 use native.Mathlib.Nat.{le-div-iff-mul-le, mul-one, zero-mul, zero-lt-suc, one-mul}
 use native.Mathlib.Omega.{arith}
 use lib.Dec.{T, ltb, nltb→le}
-use lib.Ieee.{Float, binary64, lt, ofBits, isNan, toUnsigned, round, nan, inf, fin, eq, fits, sub, add, neg, up, down, sum, nanBits}
+use lib.Ieee.{Float, binary64, lt, ofBits, toUnsigned, round, nan, inf, fin, eq, fits, sub, add, neg, up, down, sum, nanBits}
 use lib.Ieee.Back.{whole-unique}
 use lib.Ieee.Bits.{nanBits-is, nanBits-above}
 use lib.Ieee.Exact.{HasValue}
 use lib.Ieee.Fits.{down-pos, neg-fits}
 use lib.IntN.{pos, ℤ}
 use borrow.Author.Tests.{lt-ltb, le-ltb}
+use Rattle.laws.proofs.Number.{is-nan}
 use Rattle.laws.proofs.Tests.{of-false}
 use Rattle.laws.proofs.Unique.{round-own}
 use Rattle.laws.proofs.Values.{sub-round, sub-self-zero}
@@ -64,14 +65,8 @@ fabs-turned (fin true m e) t h =
 pub quiet-bits : (b : ℕ) → b % 9223372036854775808 ≤ 9218868437227405312 → T (not (nanBits binary64 b))
 quiet-bits b h = subst (λ (z : Bool). T (not z)) (sym (nanBits-above binary64 b ∙ le-ltb 9218868437227405312 (b % 9223372036854775808) h)) tt
 
-the-nan : (x : Float) → isNan x ≡ true → nan ≡ x
-unfolding isNan
-the-nan nan e = refl
-the-nan (inf s) e = absurd (false≢true e)
-the-nan (fin s m d) e = absurd (false≢true e)
-
 pub nan-bits : (b : ℕ) → 9218868437227405312 < b % 9223372036854775808 → nan ≡ ofBits binary64 b
-nan-bits b h = the-nan (ofBits binary64 b) (sym (nanBits-is binary64 b) ∙ nanBits-above binary64 b ∙ lt-ltb 9218868437227405312 (b % 9223372036854775808) h)
+nan-bits b h = sym (is-nan (ofBits binary64 b) (sym (nanBits-is binary64 b) ∙ nanBits-above binary64 b ∙ lt-ltb 9218868437227405312 (b % 9223372036854775808) h))
 
 -- ---- to_u64
 pub low-is : (x : Float) → lt (fin true 1 (pos 0)) x ≡ false → 0 ≡ toUnsigned 64 x

@@ -1,24 +1,30 @@
 -- Where clamp, min, max and the casts land.
-use mathlib.Core.Bool.{Bool, true, false, not, cond, _&&_, _||_, true≢false}
+use mathlib.Core.Bool.{Bool, cond, false, not, true, true≢false}
 use mathlib.Core.Logic.{_⊎_, inl, inr}
-use mathlib.Core.Path.{_≡_, refl, sym, subst}
-use Prim.Native.Nat.{ℕ, zero, suc, _+_, _*_, _/_, _≤_, _<_, _^_, min, zero-le}
-use native.Mathlib.Nat.{le-refl, le-trans, le-of-eq, min-le-left, min-le-right, div-lt-iff-lt-mul, lt-of-le-of-lt, not-le-of-lt, mul-pos, mul-one, zero-lt-suc}
+use mathlib.Core.Path.{_∙_, _≡_, ap, refl, subst, sym}
+use Prim.Native.Nat.{_%_, _*_, _+_, _-_, _/_, _<_, _^_, _≤_, min, suc, zero, zero-le, ℕ}
+use native.Mathlib.Nat.{div-add-mod', div-lt-iff-lt-mul, div-one, le-of-eq, le-refl, le-trans, lt-of-le-of-lt, min-le-left, min-le-right, mul-le-mul-right, mul-one, mul-pos, not-le-of-lt, one-mul, suc-le-suc-iff, zero-lt-suc}
 use native.Mathlib.Omega.{arith}
-use lib.Dec.{T, ltb, le→leb, ltb→lt, lit<, lit≤}
-use lib.IntN.{pos}
-use lib.Ieee.{Float, nan, inf, fin, binary64, up, down, lt, le, eq, isNan, inFloat, toUnsigned, ofInt}
-use lib.Ieee.Back.{unsigned-back}
-use lib.Ieee.Bits.{is-true, is-false}
+use lib.Dec.{T, eqb, eqb→eq, le→leb, lit<, lit≤, ltb→lt}
+use lib.Ieee.{Float, binary64, div, down, eq, fin, inFloat, inf, isNan, le, lt, mul, nan, ofBits, ofInt, round, sub, toUnsigned, up}
+use lib.Ieee.Back.{unsigned-back, whole-unique}
 use lib.Ieee.Casts.{toUnsigned-lt}
-use lib.Ieee.Fits.{down-pos, and-l, and-r}
+use lib.Ieee.Exact.{HasValue}
+use lib.Ieee.Fits.{down-pos, ofInt-fits}
 use lib.Ieee.Nearest.{div-mono}
-use Rattle.laws.proofs.Number.{le-numbers}
-use Rattle.laws.proofs.Order.{float-le-refl, le-of-lt-false, le-of-lt-true, le-below, lt-by-values, nan-lt, lt-nan}
-use Rattle.laws.proofs.Tests.{of-true, of-false}
-use Rattle.laws.proofs.Values.{ofInt-val}
-use Rattle.numeric.specs.Basic.{clampOf, minOf, maxOf, wholeOf, realOf}
-use Rattle.numeric.specs.Promises.{Clamp-range, Clamp-nan, Min-either, Max-either, Min-range, Max-range, Min-nan, Max-nan, Whole-monotone, Whole-top, Whole-below, Whole-real}
+use lib.Ieee.Order.{le-of-values}
+use lib.Ieee.Positive.{between, positive-of-value}
+use lib.IntN.{pos}
+use Rattle.laws.proofs.Interval.{below-one}
+use Rattle.laws.proofs.Monotone.{div-le, mul-le}
+use Rattle.laws.proofs.Number.{div-number, is-nan, le-numbers}
+use Rattle.laws.proofs.Order.{float-le-refl, le-below, le-of-lt-false, le-of-lt-true, lt-by-values, lt-nan, nan-lt}
+use Rattle.laws.proofs.Tests.{of-false, of-true}
+use Rattle.laws.proofs.Values.{mul-round, ofInt-val, sub-round, sum-pos-neg}
+use Rattle.laws.specs.Float.{F64, one, two, zer}
+use Rattle.numeric.specs.Basic.{clampOf, maxOf, minOf, realOf, wholeOf}
+use Rattle.numeric.specs.Floor.{floorOf}
+use Rattle.numeric.specs.Promises.{Clamp-nan, Clamp-range, Max-either, Max-nan, Max-range, Min-either, Min-nan, Min-range, Whole-below, Whole-monotone, Whole-real, Whole-top}
 
 -- ---- clamp
 pub clamp-range : Clamp-range
@@ -140,3 +146,130 @@ whole-below (fin false m e) n h p l =
     lt-of-le-of-lt (min-le-left (m * up e / down e) 18446744073709551615)
     (div-lt-iff-lt-mul (down-pos e) .1 (subst (λ (z : ℕ). z < n * down e) (mul-one (m * up e))
     (ltb→lt (m * up e * 1) (n * down e) (subst T (lt-by-values (fin false m e) (realOf n) (m * up e) (down e) n 1 (down-pos e) (lit< tt) (refl, refl) (ofInt-val n h)) l))))
+
+-- ---- casts of what is clamped, divided and scaled
+real-le : (a b : ℕ) → a ≤ b → b ≤ 2 ^ 53 → T (le (realOf a) (realOf b))
+real-le a b h k = le-of-values (realOf a) (realOf b) a 1 b 1 (lit< tt) (lit< tt) (ofInt-val a (le-trans h k)) (ofInt-val b k) (mul-le-mul-right 1 h)
+
+-- clamped from a to b, so is the whole part
+pub clamp-whole : (x : Float) (a b : ℕ) → a ≤ b → b ≤ 2 ^ 53 → T (not (isNan x)) → (a ≤ wholeOf (clampOf x (realOf a) (realOf b))) × (wholeOf (clampOf x (realOf a) (realOf b)) ≤ b)
+clamp-whole x a b h k q =
+    let r = clamp-range x (realOf a) (realOf b) (real-le a b h k) q in (
+      le-trans (le-of-eq (sym (whole-real a (le-trans h k)))) (whole-monotone (realOf a) (clampOf x (realOf a) (realOf b)) (r .0)),
+      le-trans (whole-monotone (clampOf x (realOf a) (realOf b)) (realOf b) (r .1)) (le-of-eq (whole-real b k)),
+    )
+
+-- 1 off a whole number
+pub real-less : (n : ℕ) → 1 ≤ n → n ≤ 2 ^ 53 → sub binary64 (realOf n) one ≡ realOf (n - 1)
+unfolding ofInt
+real-less n h k =
+    sub-round (realOf n) one false false n 1 1 1 (lit< tt) (lit< tt) (ofInt-val n k) (unfold ofBits in (refl, refl))
+    ∙ sum-pos-neg (n * 1) 1 1 (le-trans h (le-of-eq (sym (mul-one n))))
+    ∙ ap (λ (z : ℕ). round binary64 false (z - 1) 1) (mul-one n)
+
+-- a period from 2 to n - 1
+pub period-whole : (x : Float) (n : ℕ) → 3 ≤ n → n ≤ 2 ^ 53 → T (not (isNan x))
+    → (2 ≤ wholeOf (clampOf x two (sub binary64 (realOf n) one))) × (wholeOf (clampOf x two (sub binary64 (realOf n) one)) ≤ n - 1)
+period-whole x n h k q = simp (real-less n (le-trans (lit≤ tt) h) k, two-real) (clamp-whole x 2 (n - 1) (low n h) (le-trans (less n) k) q)
+  where
+    two-real : two ≡ realOf 2
+    two-real = unfold ofBits ofInt in refl
+
+    low : (n : ℕ) → 3 ≤ n → 2 ≤ n - 1
+    low n h = omega arith
+
+    less : (n : ℕ) → n - 1 ≤ n
+    less n = omega arith
+
+-- a rate from 1000 to 192000 over 20
+abbrev pub lowest : Float
+lowest = ofBits binary64 0x408f400000000000
+
+abbrev pub highest : Float
+highest = ofBits binary64 0x4107700000000000
+
+abbrev pub twenty : Float
+twenty = ofBits binary64 0x4034000000000000
+
+pub rate-whole : (x : Float) → T (le lowest x) → T (le x highest) → (50 ≤ wholeOf (div binary64 x twenty)) × (wholeOf (div binary64 x twenty) ≤ 9600)
+rate-whole x l h = (
+  le-trans (le-of-eq least) (whole-monotone (div binary64 lowest twenty) (div binary64 x twenty) (divided lowest x l)),
+  le-trans (whole-monotone (div binary64 x twenty) (div binary64 highest twenty) (divided x highest h)) (le-of-eq most),
+)
+  where
+    divided : (x y : Float) → T (le x y) → T (le (div binary64 x twenty) (div binary64 y twenty))
+    divided = div-le twenty (unfold ofBits in tt)
+
+    least : 50 ≡ wholeOf (div binary64 lowest twenty)
+    least = unfold div ofBits toUnsigned in refl
+
+    most : wholeOf (div binary64 highest twenty) ≡ 9600
+    most = unfold div ofBits toUnsigned in refl
+
+-- and what it is divided by a number is a number
+pub rate-number : (x y : Float) → T (le lowest x) → T (le x highest) → T (not (isNan y)) → T (not (isNan (div binary64 x y)))
+rate-number x y l h q = div-number x y (between lowest x highest (unfold ofBits in tt) (unfold ofBits in tt) l h) q
+
+-- a phase below 1, over 256 cells
+pub turn-whole : (x : Float) → F64 x → T (lt x one) → wholeOf (mul binary64 x (ofBits binary64 0x4070000000000000)) < 256
+turn-whole x t h =
+    le-trans (suc-le-suc-iff .1 (whole-monotone (mul binary64 x cells) (mul binary64 last cells) (mul-le cells (unfold ofBits in tt) x last (below-one x t h)))) (le-of-eq (ap suc most))
+  where
+    cells : Float
+    cells = ofBits binary64 0x4070000000000000
+
+    last : Float
+    last = ofBits binary64 0x3fefffffffffffff
+
+    most : wholeOf (mul binary64 last cells) ≡ 255
+    most = unfold mul ofBits toUnsigned in refl
+
+-- x clamped to [0, 1], times n; of a NaN 0
+pub unit-whole : (x : Float) (n : ℕ) → 0 < n → n ≤ 2 ^ 53 → wholeOf (mul binary64 (clampOf x zer one) (realOf n)) ≤ n
+unit-whole x n p h = go (isNan x) refl
+  where
+    times : mul binary64 one (realOf n) ≡ realOf n
+    times = mul-round one (realOf n) false false 1 1 n 1 (lit< tt) (lit< tt) (unfold ofBits in (refl, refl)) (ofInt-val n h) ∙ unfold ofInt in ap (λ (z : ℕ). round binary64 false z 1) (one-mul n)
+
+    unit : T (le zer one)
+    unit = unfold le lt eq ofBits in tt
+
+    go : (b : Bool) → isNan x ≡ b → wholeOf (mul binary64 (clampOf x zer one) (realOf n)) ≤ n
+    go true e = simp (is-nan x e, clamp-nan zer one) (unfold mul toUnsigned in zero-le)
+    go false e =
+        le-trans (whole-monotone (mul binary64 (clampOf x zer one) (realOf n)) (mul binary64 one (realOf n))
+        (mul-le (realOf n) (positive-of-value (realOf n) n 1 (ofInt-val n h) p) (clampOf x zer one) one (clamp-range x zer one unit (of-false (isNan x) e) .1)))
+        (le-of-eq (ap wholeOf times ∙ whole-real n h))
+
+-- ---- the floor of a number from 0 up is its whole part
+pub floor-cast : (x : Float) (a c : ℕ) → 0 < c → F64 x → HasValue x false a c → a ≤ 2 ^ 53 * c → floorOf x ≡ realOf (wholeOf x)
+unfolding floorOf toUnsigned
+floor-cast nan a c C t v h = absurd v
+floor-cast (inf s) a c C t v h = absurd v
+floor-cast (fin true m e) a c C t v h = absurd (true≢false (v .0))
+floor-cast (fin false m e) a c C t v h = go (eqb N 0) (eqb→eq N 0) ∙ ap realOf (sym cut)
+  where
+    N : ℕ
+    N = m * up e % down e
+
+    q : ℕ
+    q = m * up e / down e
+
+    small : q ≤ 2 ^ 53
+    small = le-trans (div-mono (m * up e) (down e) a c (down-pos e) C (le-of-eq (v .1))) (le-trans (div-mono a c (2 ^ 53) 1 C (lit< tt) (le-trans (le-of-eq (mul-one a)) h)) (le-of-eq (div-one (2 ^ 53))))
+
+    cut : min q 18446744073709551615 ≡ q
+    cut = fits-in q small
+      where
+        fits-in : (q : ℕ) → q ≤ 9007199254740992 → min q 18446744073709551615 ≡ q
+        fits-in q h = omega arith
+
+    exact : N ≡ 0 → m * up e * 1 ≡ q * down e
+    exact z = mul-one (m * up e) ∙ sym (div-add-mod' (m * up e) (down e)) ∙ whole (q * down e) N z
+      where
+        whole : (a r : ℕ) → r ≡ 0 → a + r ≡ a
+        whole a r z = omega arith
+
+    go : (b : Bool) → (T b → N ≡ 0) → cond b (fin false m e) (realOf q) ≡ realOf q
+    go true f = whole-unique binary64 (fin false m e) (realOf q) false q t (ofInt-fits binary64 (pos q)) (refl, exact (f tt)) (ofInt-val q small)
+    go false f = refl
