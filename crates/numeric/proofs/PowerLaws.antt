@@ -21,7 +21,7 @@ use Rattle.laws.specs.Float.{zer, one}
 use Rattle.laws.specs.Machine.{more}
 use denote.Signature.{plain}
 use Rattle.numeric.proofs.MagicFloor.{big}
-use Rattle.numeric.specs.Power.{expPart, biased, scaleOf, scaledOf, midOf, exp2Of, pow3000Of}
+use Rattle.numeric.specs.Power.{sixOf, expPart, biased, scaleOf, scaledOf, midOf, exp2Of, pow3000Of}
 use Rattle.numeric.specs.Promises.{Exp2-whole, Exp2-above, Exp2-below, Exp2-nan, Pow3000-zero, Pow3000-one, Pow3000-nan}
 
 -- ---- the bits of a power of two
@@ -92,7 +92,7 @@ self-zero (inf t) s a c v = absurd v
 self-zero (fin t m e) s a c v = sub-self-zero t m e
 
 exp-zero : expPart zer ≡ one
-unfolding expPart ofBits add mul
+unfolding expPart sixOf ofBits add mul
 exp-zero = refl
 
 -- ---- 1 * 2 ^ z
@@ -402,7 +402,7 @@ unfolding pow3000Of eq ofBits
 pow3000-one = refl
 
 pub pow3000-zero : Pow3000-zero
-unfolding pow3000Of exp2Of midOf scaledOf scaleOf expPart eq lt le neg add sub mul ofBits toBits size
+unfolding pow3000Of exp2Of midOf scaledOf scaleOf expPart sixOf eq lt le neg add sub mul ofBits toBits size
 pow3000-zero = refl
 
 pub pow3000-nan : Pow3000-nan
