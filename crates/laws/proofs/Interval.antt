@@ -1,21 +1,21 @@
 -- Values that stay from 0 to 2 ^ -i through rounded products, sums and differences, since rounding keeps an order.
 -- So a polynomial whose terms halve is shown to lie from 0 to 1 without a word on its error.
-use mathlib.Core.Path.{_≡_, refl, sym, ap, _∙_, subst}
-use mathlib.Core.Bool.{Bool, true, false, not, _&&_, _||_, Bool·beq, cond, true≢false}
-use Prim.Native.Nat.{ℕ, zero, suc, _+_, _-_, _*_, _/_, _%_, _^_, _≤_, _<_, compare}
-use native.Mathlib.Nat.{le-trans, le-of-eq, le-of-lt, mul-pos, mul-one, one-mul, mul-comm, mul-assoc, mul-right-comm, mul-le-mul-left, mul-le-mul-right, zero-lt-suc, pow-suc, not-le-of-lt}
+use mathlib.Core.Bool.{Bool, Bool·beq, _&&_, _||_, cond, false, not, true, true≢false}
+use mathlib.Core.Path.{_∙_, _≡_, ap, refl, subst, sym}
+use Prim.Native.Nat.{_%_, _*_, _+_, _-_, _/_, _<_, _^_, _≤_, compare, suc, zero, ℕ}
+use native.Mathlib.Nat.{add-le-add, le-of-eq, le-trans, mul-assoc, mul-comm, mul-le-mul, mul-le-mul-left, mul-le-mul-right, mul-mul-mul-comm, mul-one, mul-pos, mul-right-comm, not-le-of-lt, one-mul, pow-suc, zero-lt-suc}
 use native.Mathlib.Omega.{arith}
-use lib.IntN.{ℤ, pos, negsuc}
-use lib.Dec.{T, ltb, ltb→lt, leb, leb→le, nleb→lt, lit<, lit≤}
-use lib.Pow.{pow-pos}
-use lib.Ieee.{Float, nan, inf, fin, binary64, up, down, unlike, round, units, odd, sum, add, sub, mul, neg, lt, le, eq, size, nearest, ofBits, fits}
+use lib.Dec.{T, leb, leb→le, lit<, lit≤, ltb, ltb→lt, nleb→lt}
+use lib.Ieee.{Float, add, binary64, down, eq, fin, fits, inf, le, lt, mul, nan, nearest, neg, odd, ofBits, round, size, sub, sum, units, unlike, up}
+use lib.Ieee.Exact.{HasValue, round-exact}
 use lib.Ieee.Fits.{down-pos}
-use lib.Ieee.Exact.{HasValue}
-use lib.Ieee.Order.{round-mono, le-of-values}
-use Rattle.laws.specs.Float.{one, F64, InUnit}
+use lib.Ieee.Order.{le-of-values, round-mono}
+use lib.IntN.{negsuc, pos, ℤ}
+use lib.Pow.{pow-add, pow-lt, pow-pos}
+use Rattle.laws.proofs.Order.{below-le, le-below, le-neg, neg-lt-nonneg, neg-neg, values-le}
 use Rattle.laws.proofs.Tests.{of-true}
-use Rattle.laws.proofs.Order.{values-le, neg-lt-nonneg, le-neg, neg-neg, below-le}
-use Rattle.laws.proofs.Values.{fits-small, mul-round, add-round, sub-round, sum-pos-neg, exact-at, neg-round, neg-value}
+use Rattle.laws.proofs.Values.{add-round, exact-at, fits-small, mul-round, neg-round, neg-value, round-neg, sub-round, sum-pos-neg}
+use Rattle.laws.specs.Float.{F64, InUnit, isFin, one}
 
 -- ---- a rounded fraction keeps its sign
 abbrev Plus : Float → Type 0
@@ -228,3 +228,92 @@ below-one (fin false m e) t h =
   where
     strict : (n d : ℕ) → n * 1 < 1 * d → n < d
     strict n d h = omega arith
+
+-- ---- |x| is at most 2 ^ i: so x is finite
+abbrev pub Within : ℕ → Float → Type 0
+Within i x = (s : Bool) × (a : ℕ) × (c : ℕ) × (0 < c) × (a ≤ 2 ^ i * c) × HasValue x s a c
+
+pub within-finite : (i : ℕ) (x : Float) → Within i x → T (isFin x)
+within-finite i nan h = absurd (h .5)
+within-finite i (inf s) h = absurd (h .5)
+within-finite i (fin s m e) h = tt
+
+pub within-wider : (i : ℕ) (x : Float) → Within i x → Within (suc i) x
+within-wider i x h = (h .0, h .1, h .2, h .3, le-trans (h .4) (le-trans (double (2 ^ i * h .2)) (le-of-eq (twice i (h .2)))), h .5)
+  where
+    double : (n : ℕ) → n ≤ n * 2
+    double n = omega arith
+
+    twice : (i c : ℕ) → 2 ^ i * c * 2 ≡ 2 ^ suc i * c
+    twice i c = mul-right-comm (2 ^ i) c 2 ∙ ap (λ (z : ℕ). z * c) (sym (pow-suc 2 i))
+
+pub within-round : (i : ℕ) (s : Bool) (a c : ℕ) → i ≤ 1023 → 0 < c → a ≤ 2 ^ i * c → Within i (round binary64 s a c)
+within-round i s a c I C h = go s
+  where
+    top : HasValue (round binary64 false (2 ^ i) 1) false (2 ^ i) 1
+    top = round-exact binary64 false (2 ^ i) 1 1 (i + 1074) (zero-lt-suc 0) (lit< tt) (subst (λ (z : ℕ). z < 2 ^ 2098) (sym (one-mul (2 ^ (i + 1074)))) (pow-lt {j = 2098} (room i I))) (sym (pow-add 2 i 1074) ∙ sym (one-mul (2 ^ (i + 1074))) ∙ sym (mul-one (1 * 2 ^ (i + 1074))))
+      where
+        room : (i : ℕ) → i ≤ 1023 → i + 1074 < 2098
+        room i h = omega arith
+
+    r : (b : ℕ) × (d : ℕ) × (0 < d) × (b * 1 ≤ 2 ^ i * d) × HasValue (round binary64 false a c) false b d
+    r = under (round binary64 false a c) (round binary64 false (2 ^ i) 1) (2 ^ i) 1 (round-plus a c) (zero-lt-suc 0) top (round-mono binary64 a c (2 ^ i) 1 C (zero-lt-suc 0) (le-trans (le-of-eq (mul-one a)) h))
+
+    go : (s : Bool) → Within i (round binary64 s a c)
+    go false = (false, r .0, r .1, r .2, le-trans (le-of-eq (sym (mul-one (r .0)))) (r .3), r .4)
+    go true = (true, r .0, r .1, r .2, le-trans (le-of-eq (sym (mul-one (r .0)))) (r .3), subst (λ (z : Float). HasValue z true (r .0) (r .1)) (sym (round-neg a c)) (neg-value (round binary64 false a c) false (r .0) (r .1) (r .4)))
+
+pub within-mul : (i j : ℕ) (x y : Float) → i + j ≤ 1023 → Within i x → Within j y → Within (i + j) (mul binary64 x y)
+within-mul i j x y I p q =
+    subst (Within (i + j)) (sym (mul-round x y (p .0) (q .0) (p .1) (p .2) (q .1) (q .2) (p .3) (q .3) (p .5) (q .5)))
+    (within-round (i + j) (unlike (p .0) (q .0)) (p .1 * q .1) (p .2 * q .2) I (mul-pos (p .3) (q .3))
+    (le-trans (mul-le-mul (p .4) (q .4)) (le-of-eq (mul-mul-mul-comm (2 ^ i) (p .2) (2 ^ j) (q .2) ∙ ap (λ (z : ℕ). z * (p .2 * q .2)) (sym (pow-add 2 i j))))))
+
+-- the size of a sum is at most that of both
+pub within-sum : (i : ℕ) (s t : Bool) (a b c : ℕ) → i ≤ 1023 → 0 < c → a + b ≤ 2 ^ i * c → Within i (sum binary64 s a t b c)
+unfolding sum
+within-sum i s t a b c I C h = go (Bool·beq s t) (ltb a b)
+  where
+    less : (m n k : ℕ) → m + n ≤ k → m - n ≤ k
+    less m n k h = omega arith
+
+    more : (m n k : ℕ) → m + n ≤ k → n - m ≤ k
+    more m n k h = omega arith
+
+    go : (x y : Bool) → Within i (cond x (round binary64 s (a + b) c) (cond y (round binary64 t (b - a) c) (round binary64 (s && ltb b a) (a - b) c)))
+    go true y = within-round i s (a + b) c I C h
+    go false true = within-round i t (b - a) c I C (more a b (2 ^ i * c) h)
+    go false false = within-round i (s && ltb b a) (a - b) c I C (less a b (2 ^ i * c) h)
+
+pub within-add : (i : ℕ) (x y : Float) → suc i ≤ 1023 → Within i x → Within i y → Within (suc i) (add binary64 x y)
+within-add i x y I p q =
+    subst (Within (suc i)) (sym (add-round x y (p .0) (q .0) (p .1) (p .2) (q .1) (q .2) (p .3) (q .3) (p .5) (q .5)))
+    (within-sum (suc i) (p .0) (q .0) (p .1 * q .2) (q .1 * p .2) (p .2 * q .2) I (mul-pos (p .3) (q .3))
+    (le-trans (add-le-add (le-trans (mul-le-mul-right (q .2) (p .4)) (le-of-eq (mul-assoc (2 ^ i) (p .2) (q .2)))) (le-trans (mul-le-mul-right (p .2) (q .4)) (le-of-eq (mul-assoc (2 ^ i) (q .2) (p .2) ∙ ap (λ (z : ℕ). 2 ^ i * z) (mul-comm (q .2) (p .2))))))
+    (le-of-eq (twice (2 ^ i) (p .2 * q .2) ∙ ap (λ (z : ℕ). z * (p .2 * q .2)) (sym (pow-suc 2 i))))))
+  where
+    twice : (u n : ℕ) → u * n + u * n ≡ u * 2 * n
+    twice u n = omega arith
+
+-- two values of one sign that differ by 1 at most
+pub within-sub : (s : Bool) (x y : Float) (a c b d : ℕ) → 0 < c → 0 < d → HasValue x s a c → HasValue y s b d → a * d ≤ b * c + c * d → b * c ≤ a * d + c * d → Within 0 (sub binary64 x y)
+unfolding sum
+within-sub s x y a c b d C D v w h k = subst (Within 0) (sym (sub-round x y s s a c b d C D v w)) (go s (ltb (a * d) (b * c)))
+  where
+    less : (m n u : ℕ) → m ≤ n + u → m - n ≤ 1 * u
+    less m n u h = omega arith
+
+    go : (s t : Bool) → Within 0 (cond (Bool·beq s (not s)) (round binary64 s (a * d + b * c) (c * d)) (cond t (round binary64 (not s) (b * c - a * d) (c * d)) (round binary64 (s && ltb (b * c) (a * d)) (a * d - b * c) (c * d))))
+    go true true = within-round 0 false (b * c - a * d) (c * d) (lit≤ tt) (mul-pos C D) (less (b * c) (a * d) (c * d) k)
+    go true false = within-round 0 (ltb (b * c) (a * d)) (a * d - b * c) (c * d) (lit≤ tt) (mul-pos C D) (less (a * d) (b * c) (c * d) h)
+    go false true = within-round 0 true (b * c - a * d) (c * d) (lit≤ tt) (mul-pos C D) (less (b * c) (a * d) (c * d) k)
+    go false false = within-round 0 false (a * d - b * c) (c * d) (lit≤ tt) (mul-pos C D) (less (a * d) (b * c) (c * d) h)
+
+-- a number from -1 to 1
+pub unit-within : (x : Float) → InUnit x → Within 0 x
+unfolding ofBits
+unit-within nan h = absurd (unfold le lt eq in h .1)
+unit-within (inf true) h = absurd (unfold le lt eq neg in h .0)
+unit-within (inf false) h = absurd (unfold le lt eq in h .1)
+unit-within (fin false m e) h = (false, m * up e, down e, down-pos e, le-trans (le-of-eq (sym (mul-one (m * up e)))) (le-below false false m 1 e (pos 0) (h .1)), (refl, refl))
+unit-within (fin true m e) h = (true, m * up e, down e, down-pos e, le-trans (le-of-eq (sym (mul-one (m * up e)))) (le-below true true 1 m (pos 0) e (unfold neg in h .0)), (refl, refl))

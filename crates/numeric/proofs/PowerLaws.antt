@@ -1,28 +1,25 @@
 -- Laws of 2^x and 3000^r: exact at whole x, and the cases outside.
-use mathlib.Core.Bool.{Bool, _&&_, true, false, not, cond, _||_}
-use mathlib.Core.Path.{_≡_, refl, sym, ap, _∙_, subst}
-use Prim.Native.Nat.{ℕ, _+_, _≤_, _-_, suc, _%_, _<_, _^_, _/_, _*_}
-use native.Mathlib.Nat.{le-trans, mul-one, mul-pos, lt-of-le-of-lt, lt-of-lt-of-le, zero-lt-suc, one-mul, le-mul-of-pos-right, mul-mod-left, mul-div-cancel, mod-eq-of-lt}
+use mathlib.Core.Bool.{Bool, _&&_, _||_, cond, false, not, true}
+use mathlib.Core.Path.{_∙_, _≡_, ap, refl, subst, sym}
+use Prim.Native.Nat.{_%_, _*_, _+_, _-_, _/_, _<_, _^_, _≤_, suc, ℕ}
+use native.Mathlib.Nat.{le-mul-of-pos-right, le-trans, lt-of-le-of-lt, lt-of-lt-of-le, mod-eq-of-lt, mul-div-cancel, mul-mod-left, mul-one, mul-pos, one-mul, zero-lt-suc}
 use native.Mathlib.Omega.{arith}
-use lib.Dec.{T, leb, ltb, eqb, le→leb, eqb→eq, lt→ltb, leb→le, lit<, lit≤, nleb→lt}
-use lib.Ieee.{Float, binary64, lt, le, mul, ofBits, isNan, round, size, odd, nan, inf, fin, eq, fits, toBits, sub, add, neg, up, down, sum, ofInt, low, minus, ofFields}
+use lib.Dec.{T, eqb, eqb→eq, leb, leb→le, le→leb, lit<, lit≤, ltb, lt→ltb, nleb→lt}
+use lib.Ieee.{Float, add, binary64, down, eq, fin, fits, inf, isNan, le, lt, minus, mul, nan, neg, odd, ofBits, ofFields, ofInt, round, size, sub, sum, toBits, up}
 use lib.Ieee.Back.{round-whole}
 use lib.Ieee.Bits.{is-true, ofBits-fits, toBits-ofBits}
-use lib.Ieee.Exact.{HasValue, round-exact, odd-sign}
-use lib.Ieee.Fits.{down-pos, and-r, add-fits, and-i, round-fits}
+use lib.Ieee.Exact.{HasValue, odd-sign, round-exact}
+use lib.Ieee.Fits.{add-fits, and-i, and-r, down-pos, round-fits}
 use lib.Ieee.Order.{le-of-values}
-use lib.IntN.{pos, ℤ, negsuc}
-use lib.Pow.{pow-pos, pow-mono, pow-lt, pow-add}
-use Rattle.laws.proofs.Order.{lt-by-values, neg-lt-nonneg, neg-lt-pos, neg-neg, lt-false, le-false, le-neg, values-le}
-use Rattle.laws.proofs.Tests.{leb-yes, leb-no, eqb-no}
+use lib.IntN.{negsuc, pos, ℤ}
+use lib.Pow.{pow-add, pow-lt, pow-mono, pow-pos}
+use Rattle.laws.proofs.Order.{le-false, le-neg, lt-by-values, lt-false, neg-lt-nonneg, neg-lt-pos, neg-neg, values-le}
+use Rattle.laws.proofs.Tests.{eqb-no, leb-no, leb-yes}
 use Rattle.laws.proofs.Unique.{value-unique}
-use Rattle.laws.proofs.Values.{neg-round, add-round, sub-round, sum-pos-neg, sum-neg-pos, sum-neg, rescale, ofInt-val, sub-self-zero}
-use Rattle.laws.specs.Float.{zer, one}
-use Rattle.laws.specs.Machine.{more}
-use denote.Signature.{plain}
-use Rattle.numeric.proofs.MagicFloor.{big}
-use Rattle.numeric.specs.Power.{sixOf, expPart, biased, scaleOf, scaledOf, midOf, exp2Of, pow3000Of}
-use Rattle.numeric.specs.Promises.{Exp2-whole, Exp2-above, Exp2-below, Exp2-nan, Pow3000-zero, Pow3000-one, Pow3000-nan}
+use Rattle.laws.proofs.Values.{add-round, neg-round, ofInt-val, rescale, sub-round, sub-self-zero, sum-neg, sum-neg-pos, sum-pos-neg}
+use Rattle.laws.specs.Float.{F64, one, zer}
+use Rattle.numeric.specs.Power.{biased, exp2Of, expPart, midOf, pow3000Of, scaleOf, scaledOf, sixOf}
+use Rattle.numeric.specs.Promises.{Exp2-above, Exp2-below, Exp2-nan, Exp2-whole, Pow3000-nan, Pow3000-one, Pow3000-zero}
 
 -- ---- the bits of a power of two
 fields-pow : (x : ℕ) → suc x < 2047 → ofFields binary64 false (suc x) 0 ≡ fin false 1 (minus (x + 52) 1074)
@@ -65,25 +62,25 @@ minus-down k h = ap (λ (b : Bool). cond b (pos (1021 - k + 52 - 1074)) (negsuc 
     at k h = omega arith
 
 pub bits-up : (n : ℕ) → n ≤ 1023 → ofBits binary64 ((1023 + n) * 4503599627370496) ≡ fin false 1 (pos n)
-bits-up n h = ap (λ (z : ℕ). ofBits binary64 (z * 4503599627370496)) (eq n) ∙ bits-pow (1022 + n) (lt' n h) ∙ ap (λ (z : ℤ). fin false 1 z) (minus-up n)
+bits-up n h = ap (λ (z : ℕ). ofBits binary64 (z * 4503599627370496)) (same n) ∙ bits-pow (1022 + n) (room n h) ∙ ap (λ (z : ℤ). fin false 1 z) (minus-up n)
   where
-    eq : (n : ℕ) → 1023 + n ≡ suc (1022 + n)
-    eq n = omega arith
+    same : (n : ℕ) → 1023 + n ≡ suc (1022 + n)
+    same n = omega arith
 
-    lt' : (n : ℕ) → n ≤ 1023 → suc (1022 + n) < 2047
-    lt' n h = omega arith
+    room : (n : ℕ) → n ≤ 1023 → suc (1022 + n) < 2047
+    room n h = omega arith
 
 pub bits-down : (k : ℕ) → suc k ≤ 1022 → ofBits binary64 ((1023 - suc k) * 4503599627370496) ≡ fin false 1 (negsuc k)
-bits-down k h = ap (λ (z : ℕ). ofBits binary64 (z * 4503599627370496)) (eq k h) ∙ bits-pow (1021 - k) (lt' k h) ∙ ap (λ (z : ℤ). fin false 1 z) (minus-down k (le' k h))
+bits-down k h = ap (λ (z : ℕ). ofBits binary64 (z * 4503599627370496)) (same k h) ∙ bits-pow (1021 - k) (room k) ∙ ap (λ (z : ℤ). fin false 1 z) (minus-down k (less k h))
   where
-    eq : (k : ℕ) → suc k ≤ 1022 → 1023 - suc k ≡ suc (1021 - k)
-    eq k h = omega arith
+    same : (k : ℕ) → suc k ≤ 1022 → 1023 - suc k ≡ suc (1021 - k)
+    same k h = omega arith
 
-    lt' : (k : ℕ) → suc k ≤ 1022 → suc (1021 - k) < 2047
-    lt' k h = omega arith
+    room : (k : ℕ) → suc (1021 - k) < 2047
+    room k = omega arith
 
-    le' : (k : ℕ) → suc k ≤ 1022 → k ≤ 1021
-    le' k h = omega arith
+    less : (k : ℕ) → suc k ≤ 1022 → k ≤ 1021
+    less k h = omega arith
 
 self-zero : (w : Float) (s : Bool) (a c : ℕ) → HasValue w s a c → sub binary64 w w ≡ zer
 unfolding ofBits
@@ -238,37 +235,39 @@ back-down k h =
     at : (k : ℕ) → suc k ≤ 1022 → 6755399441056767 - (6755399441056767 - suc k) * 1 ≡ suc k
     at k h = omega arith
 
-scale-up : (n : ℕ) → n ≤ 1023 → scaleOf (add binary64 (ofInt binary64 (pos n)) biased) ≡ fin false 1 (pos n)
+-- t is the whole number 1.5 * 2 ^ 52 + F
+pub scale-at : (t : Float) (F : ℕ) → F ≤ 2046 → F64 t → HasValue t false (6755399441055744 + F) 1 → scaleOf t ≡ ofBits binary64 (F * 4503599627370496)
 unfolding scaleOf
-scale-up n h =
-    ap (λ (z : ℕ). ofBits binary64 (z % 4096 * 4503599627370496))
-    (whole-bits (add binary64 (ofInt binary64 (pos n)) biased) (n + 2251799813686271) (room n h) (add-fits binary64 (ofInt binary64 (pos n)) biased) (subst (λ (z : ℕ). HasValue (add binary64 (ofInt binary64 (pos n)) biased) false z 1) (same n) (sum-up n h)))
-    ∙ ap (λ (z : ℕ). ofBits binary64 (z * 4503599627370496)) (field n h) ∙ bits-up n h
+scale-at t F h f v =
+    ap (λ (z : ℕ). ofBits binary64 (z % 4096 * 4503599627370496)) (whole-bits t (2251799813685248 + F) (room F h) f (subst (λ (z : ℕ). HasValue t false z 1) (same F) v))
+    ∙ ap (λ (z : ℕ). ofBits binary64 (z * 4503599627370496)) (lowest-bits F h)
   where
-    room : (n : ℕ) → n ≤ 1023 → n + 2251799813686271 < 4503599627370496
+    room : (F : ℕ) → F ≤ 2046 → 2251799813685248 + F < 4503599627370496
+    room F h = omega arith
+
+    same : (F : ℕ) → 6755399441055744 + F ≡ 4503599627370496 + (2251799813685248 + F)
+    same F = omega arith
+
+    lowest-bits : (F : ℕ) → F ≤ 2046 → (4841369599423283200 + (2251799813685248 + F)) % 4096 ≡ F
+    lowest-bits F h = omega arith
+
+scale-up : (n : ℕ) → n ≤ 1023 → scaleOf (add binary64 (ofInt binary64 (pos n)) biased) ≡ fin false 1 (pos n)
+scale-up n h = scale-at (add binary64 (ofInt binary64 (pos n)) biased) (1023 + n) (room n h) (add-fits binary64 (ofInt binary64 (pos n)) biased) (subst (λ (z : ℕ). HasValue (add binary64 (ofInt binary64 (pos n)) biased) false z 1) (same n) (sum-up n h)) ∙ bits-up n h
+  where
+    room : (n : ℕ) → n ≤ 1023 → 1023 + n ≤ 2046
     room n h = omega arith
 
-    same : (n : ℕ) → n + 6755399441056767 ≡ 4503599627370496 + (n + 2251799813686271)
+    same : (n : ℕ) → n + 6755399441056767 ≡ 6755399441055744 + (1023 + n)
     same n = omega arith
 
-    field : (n : ℕ) → n ≤ 1023 → (4841369599423283200 + (n + 2251799813686271)) % 4096 ≡ 1023 + n
-    field n h = omega arith
-
 scale-down : (k : ℕ) → suc k ≤ 1022 → scaleOf (add binary64 (ofInt binary64 (negsuc k)) biased) ≡ fin false 1 (negsuc k)
-unfolding scaleOf
-scale-down k h =
-    ap (λ (z : ℕ). ofBits binary64 (z % 4096 * 4503599627370496))
-    (whole-bits (add binary64 (ofInt binary64 (negsuc k)) biased) (2251799813686271 - suc k) (room k) (add-fits binary64 (ofInt binary64 (negsuc k)) biased) (subst (λ (z : ℕ). HasValue (add binary64 (ofInt binary64 (negsuc k)) biased) false z 1) (same k h) (sum-down k h)))
-    ∙ ap (λ (z : ℕ). ofBits binary64 (z * 4503599627370496)) (field k h) ∙ bits-down k h
+scale-down k h = scale-at (add binary64 (ofInt binary64 (negsuc k)) biased) (1023 - suc k) (room k) (add-fits binary64 (ofInt binary64 (negsuc k)) biased) (subst (λ (z : ℕ). HasValue (add binary64 (ofInt binary64 (negsuc k)) biased) false z 1) (same k h) (sum-down k h)) ∙ bits-down k h
   where
-    room : (k : ℕ) → 2251799813686271 - suc k < 4503599627370496
+    room : (k : ℕ) → 1023 - suc k ≤ 2046
     room k = omega arith
 
-    same : (k : ℕ) → suc k ≤ 1022 → 6755399441056767 - suc k ≡ 4503599627370496 + (2251799813686271 - suc k)
+    same : (k : ℕ) → suc k ≤ 1022 → 6755399441056767 - suc k ≡ 6755399441055744 + (1023 - suc k)
     same k h = omega arith
-
-    field : (k : ℕ) → suc k ≤ 1022 → (4841369599423283200 + (2251799813686271 - suc k)) % 4096 ≡ 1023 - suc k
-    field k h = omega arith
 
 mid-up : (n : ℕ) → n ≤ 1023 → midOf (ofInt binary64 (pos n)) ≡ fin false 1 (pos n)
 unfolding midOf scaledOf

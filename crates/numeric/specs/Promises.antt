@@ -58,6 +58,10 @@ Exp2-below = (x : Float) → T (lt x (neg (ofBits binary64 0x408ff00000000000)))
 abbrev pub Exp2-nan : Type 0
 Exp2-nan = exp2Of nan ≡ nan
 
+-- and of no number
+abbrev pub Exp2-number : Type 0
+Exp2-number = (x : Float) → T (not (isNan x)) → T (not (isNan (exp2Of x)))
+
 -- ---- 3000 ^ r
 abbrev pub Pow3000-zero : Type 0
 Pow3000-zero = pow3000Of zer ≡ one
@@ -67,6 +71,9 @@ Pow3000-one = pow3000Of one ≡ ofBits binary64 0x40a7700000000000
 
 abbrev pub Pow3000-nan : Type 0
 Pow3000-nan = pow3000Of nan ≡ nan
+
+abbrev pub Pow3000-number : Type 0
+Pow3000-number = (r : Float) → T (not (isNan r)) → T (not (isNan (pow3000Of r)))
 
 -- ---- the draw
 -- k * 2 ^ -53, nothing lost
