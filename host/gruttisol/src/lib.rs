@@ -4,4 +4,7 @@
 //! this crate's declarations and the compiler that made the archive; the tests hold both to Rust's own functions.
 //!
 //! A build proves the crates and makes the archive by the kit's `rt`; GRUTTISOL_ARCHIVE names an archive made before.
+#[macro_use]
+mod exported;
+pub mod common;
 pub mod numeric;
