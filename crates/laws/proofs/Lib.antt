@@ -8,3 +8,4 @@ pub mod Near
 pub mod Interval
 pub mod Over
 pub mod Always
+pub mod Settled

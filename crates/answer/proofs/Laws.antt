@@ -1,0 +1,121 @@
+-- A mark keeps its volts; and from new a tally counts what it took.
+use mathlib.Core.Bool.{Bool, _&&_, true, false, cond, true≢false}
+use mathlib.Core.List.{List, [], _∷_}
+use mathlib.Core.Path.{_≡_, refl, sym, ap, _∙_, subst}
+use Prim.Native.Nat.{ℕ, _+_, _≤_}
+use native.Mathlib.Nat.{add-zero}
+use native.Mathlib.Numerals.{add-one}
+use native.Mathlib.Omega.{arith}
+use lib.Arith.{lt-of-le-ne}
+use lib.Dec.{eqb, lit≤}
+use borrow.Author.Tests.{eqb-true, eq-eqb, eqb-false}
+use Rattle.laws.specs.Machine.{begun}
+use Rattle.answer.specs.Answer.{markNumber, voltsOf, accepted, answerOf}
+use Rattle.answer.specs.Mark.{allFinite, ruleOf, markOf}
+use Rattle.answer.specs.Promises.{Mark-says, Counts, Tally-counts, Refused-nowhere}
+use Rattle.answer.specs.Tally.{sumOf, addsUp, oneIf, counted, tallyOf, Run, settle, run, newRun, many}
+use Rattle.answer.specs.declared.Volts.{Volts}
+use Rattle.answer.specs.declared.Answer.{Answer}
+use Rattle.answer.specs.declared.Answer.the-variants as answer
+use Rattle.answer.specs.declared.Tally.{Tally}
+use Rattle.answer.specs.declared.Tallied.{Tallied}
+use Rattle.answer.specs.declared.Tallied.the-variants as tallied
+
+pub adds : (t : Tally) → addsUp t ≡ true → t .begun ≡ sumOf t
+unfolding addsUp
+adds t h = eqb-true (t .begun) (sumOf t) h
+
+one-most : (n k : ℕ) → oneIf n k ≤ 1
+unfolding oneIf
+one-most n k = go (eqb n k)
+  where
+    go : (b : Bool) → cond b 1 0 ≤ 1
+    go true = lit≤ tt
+    go false = lit≤ tt
+
+pub at-most-one : (r n k : ℕ) → r ≡ oneIf n k → r ≤ 1
+at-most-one r n k e = subst (λ (z : ℕ). z ≤ 1) (sym e) (one-most n k)
+
+-- ---- marks
+rule-says : (v : Volts) (a b c : Bool) → (accepted (answerOf (ruleOf a b c) v) ≡ true) × (voltsOf (answerOf (ruleOf a b c) v) ≡ v) × (markNumber (answerOf (ruleOf a b c) v) ≡ ruleOf a b c)
+unfolding ruleOf answerOf accepted voltsOf markNumber
+rule-says v true b c = (refl, refl, refl)
+rule-says v false true true = (refl, refl, refl)
+rule-says v false true false = (refl, refl, refl)
+rule-says v false false c = (refl, refl, refl)
+
+pub mark-says : Mark-says
+unfolding markOf
+mark-says v cleared sums phases = let r = rule-says v cleared (sums && allFinite v) phases in record { is-accepted = r .0; volts = r .1; number = r .2 }
+
+-- ---- the tally
+-- the four marks of an accepted answer: one of the counts grows by one
+mark-one : (a : Answer) → (markNumber a ≡ 0 → ⊥) → oneIf (markNumber a) 4 + oneIf (markNumber a) 1 + oneIf (markNumber a) 2 + oneIf (markNumber a) 3 ≡ 1
+unfolding markNumber oneIf
+mark-one (answer.Clean v) h = refl
+mark-one (answer.Cleared v) h = refl
+mark-one (answer.NotFinite v) h = refl
+mark-one (answer.Lost v) h = refl
+mark-one (answer.Refused n) h = absurd (h refl)
+
+counted-sum : (t : Tally) (a : Answer) → (markNumber a ≡ 0 → ⊥) → t .begun ≡ sumOf t → counted t (markNumber a) .begun ≡ sumOf (counted t (markNumber a))
+unfolding counted
+counted-sum t a n h = let o = mark-one a n in omega arith
+
+counts-refused : (r : Run) (a : Answer) → markNumber a ≡ 0 → Counts r → Counts (record { tally = r .tally; took = a ∷ r .took })
+unfolding many oneIf
+counts-refused r a z h =
+    record {
+      cleared = h .cleared ∙ plus (many 1 (r .took)) 1 refl;
+      notfinite = h .notfinite ∙ plus (many 2 (r .took)) 2 refl;
+      lost = h .lost ∙ plus (many 3 (r .took)) 3 refl;
+      finished = h .finished ∙ plus (many 4 (r .took)) 4 refl;
+      begun = h .begun;
+      top = h .top;
+    }
+  where
+    plus : (m k : ℕ) → eqb 0 k ≡ false → m ≡ m + cond (eqb (markNumber a) k) 1 0
+    plus m k e = sym (ap (λ (n : ℕ). m + cond (eqb n k) 1 0) z ∙ ap (λ (b : Bool). m + cond b 1 0) e ∙ add-zero m)
+
+counts-more : (r : Run) (a : Answer) → (markNumber a ≡ 0 → ⊥) → (r .tally .begun ≡ 4294967295 → ⊥) → Counts r → Counts (record { tally = counted (r .tally) (markNumber a); took = a ∷ r .took })
+unfolding counted many
+counts-more r a n t h =
+    record {
+      cleared = ap (λ (m : ℕ). m + oneIf (markNumber a) 1) (h .cleared);
+      notfinite = ap (λ (m : ℕ). m + oneIf (markNumber a) 2) (h .notfinite);
+      lost = ap (λ (m : ℕ). m + oneIf (markNumber a) 3) (h .lost);
+      finished = ap (λ (m : ℕ). m + oneIf (markNumber a) 4) (h .finished);
+      begun = unfold counted in counted-sum (r .tally) a n (h .begun);
+      top = room (r .tally .begun) (h .top) t;
+    }
+  where
+    room : (b : ℕ) → b ≤ 4294967295 → (b ≡ 4294967295 → ⊥) → b + 1 ≤ 4294967295
+    room b h n = subst (λ (z : ℕ). z ≤ 4294967295) (sym (add-one b)) (lt-of-le-ne h n)
+
+counts-step : (r : Run) (a : Answer) → Counts r → Counts (settle r a (tallyOf (r .tally) a))
+unfolding tallyOf settle
+counts-step r a h = go (addsUp (r .tally)) (eqb (markNumber a) 0) (eqb (r .tally .begun) 4294967295) (eqb-true (markNumber a) 0) (eqb-false (markNumber a) 0) (eqb-false (r .tally .begun) 4294967295) refl refl
+  where
+    go : (b c d : Bool) → (eqb (markNumber a) 0 ≡ true → markNumber a ≡ 0) → (eqb (markNumber a) 0 ≡ false → markNumber a ≡ 0 → ⊥) → (eqb (r .tally .begun) 4294967295 ≡ false → r .tally .begun ≡ 4294967295 → ⊥) → eqb (markNumber a) 0 ≡ c → eqb (r .tally .begun) 4294967295 ≡ d
+        → Counts (settle r a (cond b (cond c (tallied.Taken (r .tally)) (cond d (tallied.Refused 7) (tallied.Taken (counted (r .tally) (markNumber a))))) (tallied.Refused 7)))
+    go true true d f g k e q = counts-refused r a (f e) h
+    go true false true f g k e q = h
+    go true false false f g k e q = counts-more r a (g e) (k q) h
+    go false c d f g k e q = h
+
+counts-run : (r : Run) (xs : List Answer) → Counts r → Counts (run r xs)
+unfolding run
+counts-run r [] h = h
+counts-run r (a ∷ xs) h = counts-run (settle r a (tallyOf (r .tally) a)) xs (counts-step r a h)
+
+pub tally-counts : Tally-counts
+unfolding many
+tally-counts xs = counts-run newRun xs (record { cleared = refl; notfinite = refl; lost = refl; finished = refl; begun = refl; top = lit≤ tt })
+
+pub refused-nowhere : Refused-nowhere
+unfolding tallyOf addsUp markNumber accepted
+refused-nowhere t (answer.Clean v) r h = absurd (true≢false r)
+refused-nowhere t (answer.Cleared v) r h = absurd (true≢false r)
+refused-nowhere t (answer.NotFinite v) r h = absurd (true≢false r)
+refused-nowhere t (answer.Lost v) r h = absurd (true≢false r)
+refused-nowhere t (answer.Refused n) r h = simp (eq-eqb (t .begun) (sumOf t) h)

@@ -1,0 +1,54 @@
+use Rattle.answer.specs.Mark.{allFinite}
+use borrow.Author.Needs.{needs}
+use Rattle.answer.proofs.all_finite.Statement.{statement}
+use Rattle.answer.proofs.all_finite.Tie as tie
+
+is-finite-requires : tie.Need-is-finite-requires
+is-finite-requires c κs = search needs
+
+is-finite-requires-2 : tie.Need-is-finite-requires-2
+is-finite-requires-2 c κs = search needs
+
+is-finite-requires-3 : tie.Need-is-finite-requires-3
+is-finite-requires-3 c κs = search needs
+
+is-finite-requires-4 : tie.Need-is-finite-requires-4
+is-finite-requires-4 c κs = search needs
+
+is-finite-requires-5 : tie.Need-is-finite-requires-5
+is-finite-requires-5 c κs = search needs
+
+returns : tie.Need-returns
+unfolding allFinite
+returns c = simp (c .is-finite5 .ensures, c .before .if4 .taken, ← c .before .before .is-finite4 .ensures, c .before .before .before .if3 .taken, ← c .before .before .before .before .is-finite3 .ensures, c .before .before .before .before .before .if2 .taken, ← c .before .before .before .before .before .before .is-finite2 .ensures, c .before .before .before .before .before .before .before .if1 .taken, ← c .before .before .before .before .before .before .before .before .is-finite .ensures)
+
+returns-2 : tie.Need-returns-2
+unfolding allFinite
+returns-2 c = simp (c .if4 .left, ← c .before .is-finite4 .ensures, c .before .before .if3 .taken, ← c .before .before .before .is-finite3 .ensures, c .before .before .before .before .if2 .taken, ← c .before .before .before .before .before .is-finite2 .ensures, c .before .before .before .before .before .before .if1 .taken, ← c .before .before .before .before .before .before .before .is-finite .ensures)
+
+returns-3 : tie.Need-returns-3
+unfolding allFinite
+returns-3 c = simp (c .if3 .left, ← c .before .is-finite3 .ensures, c .before .before .if2 .taken, ← c .before .before .before .is-finite2 .ensures, c .before .before .before .before .if1 .taken, ← c .before .before .before .before .before .is-finite .ensures)
+
+returns-4 : tie.Need-returns-4
+unfolding allFinite
+returns-4 c = simp (c .if2 .left, ← c .before .is-finite2 .ensures, c .before .before .if1 .taken, ← c .before .before .before .is-finite .ensures)
+
+returns-5 : tie.Need-returns-5
+unfolding allFinite
+returns-5 c = simp (c .if1 .left, ← c .before .is-finite .ensures)
+
+pub all-finite-spec : {M : Type 1} → statement M
+all-finite-spec =
+    tie.close
+    (tie.spec
+    is-finite-requires
+    is-finite-requires-2
+    is-finite-requires-3
+    is-finite-requires-4
+    is-finite-requires-5
+    returns
+    returns-2
+    returns-3
+    returns-4
+    returns-5)

@@ -1,0 +1,38 @@
+-- Theorems about answers, marks and the tally: the statements. proofs/Laws.antt proves each under the same name in small letters.
+use mathlib.Core.Path.{_≡_}
+use mathlib.Core.Bool.{Bool, true, false, not, _&&_}
+use mathlib.Core.List.{List, [], _∷_}
+use Prim.Native.Nat.{ℕ, _+_, _≤_}
+use Rattle.answer.specs.Answer.{markNumber, voltsOf, accepted}
+use Rattle.answer.specs.Mark.{allFinite, markOf, ruleOf}
+use Rattle.answer.specs.Tally.{Run, run, newRun, sumOf, many, tallyOf}
+use Rattle.answer.specs.declared.Volts.{Volts}
+use Rattle.answer.specs.declared.Answer.{Answer}
+use Rattle.answer.specs.declared.Tally.{Tally}
+use Rattle.answer.specs.declared.Tallied.the-variants as tallied
+
+-- a marked tick is an accepted one, keeps its volts, and has the number of the first rule that applies
+pub record Marked (v : Volts) (cleared sums phases : Bool) : Type 0 where
+  pub is-accepted : accepted (markOf v cleared sums phases) ≡ true
+  pub volts : voltsOf (markOf v cleared sums phases) ≡ v
+  pub number : markNumber (markOf v cleared sums phases) ≡ ruleOf cleared (sums && allFinite v) phases
+
+abbrev pub Mark-says : Type 0
+Mark-says = (v : Volts) (cleared sums phases : Bool) → Marked v cleared sums phases
+
+-- each count is the number of answers with that mark that the tally took, and begun is their sum
+pub record Counts (r : Run) : Type 0 where
+  pub cleared : r .tally .cleared ≡ many 1 (r .took)
+  pub notfinite : r .tally .notfinite ≡ many 2 (r .took)
+  pub lost : r .tally .lost ≡ many 3 (r .took)
+  pub finished : r .tally .finished ≡ many 4 (r .took)
+  pub begun : r .tally .begun ≡ sumOf (r .tally)
+  pub top : r .tally .begun ≤ 4294967295
+
+-- from new, after any list of answers
+abbrev pub Tally-counts : Type 0
+Tally-counts = (xs : List Answer) → Counts (run newRun xs)
+
+-- a refused tick leaves a tally that adds up as it stood
+abbrev pub Refused-nowhere : Type 0
+Refused-nowhere = (t : Tally) (a : Answer) → accepted a ≡ false → t .begun ≡ sumOf t → tallyOf t a ≡ tallied.Taken t

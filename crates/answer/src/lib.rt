@@ -1,0 +1,166 @@
+// Added by document 01: what a tick answers, how it is marked, and the tally of the answers. One text for all oscillators.
+ghost use mathlib.Core.Path.{_≡_};
+ghost use Prim.Native.Nat.{_<_};
+ghost use Rattle.answer.specs.Answer.{markNumber};
+ghost use Rattle.answer.specs.Mark.{allFinite, markOf};
+ghost use Rattle.answer.specs.Tally.{newTally, sumOf, addsUp, oneIf, counted, tallyOf};
+
+// Sample volts: a field for each output port number of the Rust. An output that an oscillator doesn't have, or that isn't
+// wanted, reads 0.0.
+pub struct Volts {
+    pub p10: f64,
+    pub p11: f64,
+    pub p12: f64,
+    pub p13: f64,
+    pub p14: f64,
+}
+
+// What a tick answers: its mark with its samples, or the number that refused it.
+pub enum Answer {
+    Clean(Volts),
+    Cleared(Volts),
+    NotFinite(Volts),
+    Lost(Volts),
+    Refused(u32),
+}
+
+// What a call without samples says of itself, beside a state that an enum can't hold.
+pub enum Outcome {
+    Done,
+    Refused(u32),
+}
+
+// Document 01's number of a mark: 1 cleared, 2 notfinite, 3 lost, 4 clean; 0 of a refused tick.
+pub fn mark_number(a: Answer) -> u32
+    ensures { λ r. ⌜ r ≡ markNumber a ⌝ }
+{
+    match a {
+        Answer::Clean(_) => 4,
+        Answer::Cleared(_) => 1,
+        Answer::NotFinite(_) => 2,
+        Answer::Lost(_) => 3,
+        Answer::Refused(_) => 0,
+    }
+}
+
+fn all_finite(v: Volts) -> bool
+    ensures { λ r. ⌜ r ≡ allFinite v ⌝ }
+{
+    if numeric::is_finite(v.p10) {
+        if numeric::is_finite(v.p11) {
+            if numeric::is_finite(v.p12) {
+                if numeric::is_finite(v.p13) {
+                    numeric::is_finite(v.p14)
+                } else {
+                    false
+                }
+            } else {
+                false
+            }
+        } else {
+            false
+        }
+    } else {
+        false
+    }
+}
+
+// The mark of an accepted tick, the first that applies. `cleared`: the string zeroed its line. `sums`: what stands before
+// an output's clamp is finite. `phases`: each phase plus its increment is finite.
+pub fn mark(v: Volts, cleared: bool, sums: bool, phases: bool) -> Answer
+    ensures { λ r. ⌜ r ≡ markOf v cleared sums phases ⌝ }
+{
+    if cleared {
+        Answer::Cleared(v)
+    } else if sums {
+        if all_finite(v) {
+            if phases {
+                Answer::Clean(v)
+            } else {
+                Answer::Lost(v)
+            }
+        } else {
+            Answer::NotFinite(v)
+        }
+    } else {
+        Answer::NotFinite(v)
+    }
+}
+
+// The counts of the answers that it took: begun is their sum.
+pub struct Tally {
+    pub begun: u32,
+    pub finished: u32,
+    pub cleared: u32,
+    pub notfinite: u32,
+    pub lost: u32,
+}
+
+// The tally after an answer, or the number that refused it.
+pub enum Tallied {
+    Taken(Tally),
+    Refused(u32),
+}
+
+fn one_if(n: u32, k: u32) -> u32
+    ensures { λ r. ⌜ r ≡ oneIf n k ⌝ }
+{
+    if n == k { 1 } else { 0 }
+}
+
+impl Tally {
+    pub fn new() -> Self
+        ensures { λ r. ⌜ r ≡ newTally ⌝ }
+    {
+        Tally {
+            begun: 0,
+            finished: 0,
+            cleared: 0,
+            notfinite: 0,
+            lost: 0,
+        }
+    }
+
+    // The sum in 64 bits, so that it can't wrap.
+    fn adds_up(self) -> bool
+        ensures { λ r. ⌜ r ≡ addsUp self ⌝ }
+    {
+        let sum = (self.finished as u64)
+            + (self.cleared as u64)
+            + (self.notfinite as u64)
+            + (self.lost as u64);
+        self.begun as u64 == sum
+    }
+
+    // One more answer with the mark n.
+    fn count(self, n: u32) -> Self
+        requires { ⌜ (self .begun < 4294967295) × (self .begun ≡ sumOf self) ⌝ }
+        ensures { λ r. ⌜ r ≡ counted self n ⌝ }
+    {
+        Tally {
+            begun: self.begun + 1,
+            finished: self.finished + one_if(n, 4),
+            cleared: self.cleared + one_if(n, 1),
+            notfinite: self.notfinite + one_if(n, 2),
+            lost: self.lost + one_if(n, 3),
+        }
+    }
+
+    // The tally given a tick's answer. A refused tick counts nowhere.
+    pub fn take(self, a: Answer) -> Tallied
+        ensures { λ r. ⌜ r ≡ tallyOf self a ⌝ }
+    {
+        if self.adds_up() {
+            let n = mark_number(a);
+            if n == 0 {
+                Tallied::Taken(self)
+            } else if self.begun == 4294967295 {
+                Tallied::Refused(7)
+            } else {
+                Tallied::Taken(self.count(n))
+            }
+        } else {
+            Tallied::Refused(7)
+        }
+    }
+}

@@ -1,0 +1,14 @@
+use Rattle.common.specs.Edge.{risingOf}
+use borrow.Author.Needs.{needs}
+use Rattle.common.proofs.EdgeDetector.rising.Statement.{statement}
+use Rattle.common.proofs.EdgeDetector.rising.Tie as tie
+
+rising-above-requires : tie.Need-rising-above-requires
+rising-above-requires c κs = search needs
+
+returns : tie.Need-returns
+unfolding risingOf
+returns c = simp (c .rising-above .ensures)
+
+pub rising-spec : {M : Type 1} → statement M
+rising-spec = tie.close (tie.spec rising-above-requires returns)

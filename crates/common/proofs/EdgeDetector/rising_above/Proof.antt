@@ -1,0 +1,14 @@
+use Rattle.common.specs.Edge.{risingAboveOf, risesAbove}
+use Rattle.common.proofs.EdgeDetector.rising_above.Statement.{statement}
+use Rattle.common.proofs.EdgeDetector.rising_above.Tie as tie
+
+returns : tie.Need-returns
+unfolding risingAboveOf risesAbove
+returns c = simp (c .if1 .taken)
+
+returns-2 : tie.Need-returns-2
+unfolding risingAboveOf risesAbove
+returns-2 c = simp (c .if1 .left)
+
+pub rising-above-spec : {M : Type 1} → statement M
+rising-above-spec = tie.close (tie.spec returns returns-2)

@@ -1,0 +1,26 @@
+use Rattle.common.specs.Edge.{crossedAboveOf, risesAbove, fracAbove}
+use borrow.Author.Needs.{needs}
+use Rattle.common.proofs.EdgeDetector.rising_frac_above.Statement.{statement}
+use Rattle.common.proofs.EdgeDetector.rising_frac_above.Tie as tie
+
+clamp-requires : tie.Need-clamp-requires
+clamp-requires c κs = search needs
+
+returns : tie.Need-returns
+unfolding crossedAboveOf risesAbove fracAbove
+returns c = simp (c .clamp .ensures, c .before .if3 .taken, c .before .before .if2 .taken, c .before .before .before .if1 .taken)
+
+returns-2 : tie.Need-returns-2
+unfolding crossedAboveOf risesAbove fracAbove
+returns-2 c = simp (c .if3 .left, c .before .if2 .taken, c .before .before .if1 .taken)
+
+returns-3 : tie.Need-returns-3
+unfolding crossedAboveOf risesAbove fracAbove
+returns-3 c = simp (c .if2 .left, c .before .if1 .taken)
+
+returns-4 : tie.Need-returns-4
+unfolding crossedAboveOf risesAbove fracAbove
+returns-4 c = simp (c .if1 .left)
+
+pub rising-frac-above-spec : {M : Type 1} → statement M
+rising-frac-above-spec = tie.close (tie.spec clamp-requires returns returns-2 returns-3 returns-4)

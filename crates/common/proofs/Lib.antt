@@ -1,0 +1,3 @@
+pub mod PhaseLaws
+pub mod MemoLaws
+pub mod EdgeLaws

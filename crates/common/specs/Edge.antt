@@ -1,0 +1,37 @@
+-- EdgeDetector, written from common.rs.
+use mathlib.Core.Bool.{Bool, true, false, cond, _&&_}
+use lib.Ieee.{Float, binary64, sub, div, lt, le}
+use Rattle.laws.specs.Float.{zer, one}
+use Rattle.numeric.specs.Basic.{clampOf}
+use Rattle.common.specs.Consts.{gateThreshold}
+use Rattle.common.specs.declared.EdgeDetector.{EdgeDetector}
+use Rattle.common.specs.declared.Risen.{Risen}
+use Rattle.common.specs.declared.Crossed.{Crossed}
+use Rattle.common.specs.declared.Crossing.{Crossing}
+use Rattle.common.specs.declared.Crossing.the-variants.{Nowhere, At}
+
+abbrev pub newEdge : EdgeDetector
+newEdge = record { prev = zer }
+
+-- v > threshold and previous ≤ threshold: a NaN on either side is no edge
+unfoldable pub risesAbove : Float → Float → Float → Bool
+risesAbove threshold prev v = lt threshold v && le prev threshold
+
+unfoldable pub risingAboveOf : EdgeDetector → Float → Float → Risen
+risingAboveOf e v threshold = record { edge = record { prev = v }; rising = risesAbove threshold (e .prev) v }
+
+unfoldable pub risingOf : EdgeDetector → Float → Risen
+risingOf e v = risingAboveOf e v gateThreshold
+
+-- ((threshold - prev) / denom).clamp(0.0, 1.0) with denom = v - prev, and 1.0 where denom isn't above 0
+unfoldable pub fracAbove : Float → Float → Float → Float
+fracAbove threshold prev v =
+    let denom = sub binary64 v prev in
+    cond (lt zer denom) (clampOf (div binary64 (sub binary64 threshold prev) denom) zer one) one
+
+unfoldable pub crossedAboveOf : EdgeDetector → Float → Float → Crossed
+crossedAboveOf e v threshold =
+    record { edge = record { prev = v }; at = cond (risesAbove threshold (e .prev) v) (At (fracAbove threshold (e .prev) v)) Nowhere }
+
+unfoldable pub crossedOf : EdgeDetector → Float → Crossed
+crossedOf e v = crossedAboveOf e v gateThreshold

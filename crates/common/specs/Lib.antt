@@ -1,0 +1,7 @@
+pub mod Consts
+pub mod Pitch
+pub mod Phase
+pub mod Memo
+pub mod Edge
+pub mod Tests
+pub mod Promises

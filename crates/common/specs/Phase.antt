@@ -1,0 +1,34 @@
+-- wrap_phase, polyblep and polyblamp, written from common.rs.
+use mathlib.Core.Bool.{Bool, true, false, cond}
+use lib.Ieee.{Float, binary64, add, sub, mul, div, neg, lt, le}
+use Rattle.laws.specs.Float.{zer, one, two, isFin}
+use Rattle.numeric.specs.Floor.{floorOf}
+use Rattle.common.specs.Consts.{three}
+use Rattle.common.specs.declared.Turns.{Turns}
+
+abbrev pub turns : Float → Turns
+turns x = record { 0 = x }
+
+-- not finite: 0; else x - floor(x), and 0 where that rounds to 1.0
+unfoldable pub wrapOf : Float → Float
+wrapOf x =
+    let wrapped = sub binary64 x (floorOf x) in
+    cond (isFin x) (cond (le one wrapped) zer wrapped) zer
+
+-- t < dt: with t / dt, 2.0 * t - t * t - 1.0. t > 1.0 - dt: with (t - 1.0) / dt, t * t + 2.0 * t + 1.0. Else 0.0.
+unfoldable pub polyblepOf : Float → Float → Float
+polyblepOf t dt =
+    let u = div binary64 t dt in
+    let v = div binary64 (sub binary64 t one) dt in
+    cond (lt t dt) (sub binary64 (sub binary64 (mul binary64 two u) (mul binary64 u u)) one)
+    (cond (lt (sub binary64 one dt) t) (add binary64 (add binary64 (mul binary64 v v) (mul binary64 two v)) one)
+    zer)
+
+-- t < dt: with t / dt - 1.0, -1.0 / 3.0 * t * t * t. t > 1.0 - dt: with (t - 1.0) / dt + 1.0, 1.0 / 3.0 * t * t * t. Else 0.0.
+unfoldable pub polyblampOf : Float → Float → Float
+polyblampOf t dt =
+    let u = sub binary64 (div binary64 t dt) one in
+    let v = add binary64 (div binary64 (sub binary64 t one) dt) one in
+    cond (lt t dt) (mul binary64 (mul binary64 (mul binary64 (div binary64 (neg one) three) u) u) u)
+    (cond (lt (sub binary64 one dt) t) (mul binary64 (mul binary64 (mul binary64 (div binary64 one three) v) v) v)
+    zer)

@@ -1,0 +1,339 @@
+// common.rs of the Rust, item by item: what the oscillators share. After it the tests behind refusals 1 and 2.
+// Volts per octave, hertz and turns are three kinds of quantity; each helper takes only its own.
+ghost use mathlib.Core.Path.{_≡_};
+ghost use mathlib.Core.Bool.{cond};
+ghost use lib.Ieee.{binary64, lt, sub};
+ghost use Rattle.laws.specs.Float.{one};
+ghost use Rattle.common.specs.Pitch.{voctToHz};
+ghost use Rattle.common.specs.Phase.{turns, wrapOf, polyblepOf, polyblampOf};
+ghost use Rattle.common.specs.Memo.{newMemo1, hits1, filled1, newMemo3, hits3, filled3, recall1, voctToHzAt};
+ghost use Rattle.common.specs.Edge.{newEdge, risingAboveOf, risingOf, crossedAboveOf, crossedOf};
+ghost use Rattle.common.specs.Tests.{rateOk, phaseOk};
+
+// A pitch: 0 is middle C, one more is an octave up.
+pub struct VoltsPerOctave(pub f64);
+
+// A frequency, or a sample rate.
+pub struct Hertz(pub f64);
+
+// A phase, or what it grows by in a tick: hertz over hertz.
+pub struct Turns(pub f64);
+
+// Frequency of middle C, the 0 V of a pitch.
+const C4_HZ: f64 = 261.6255653005986;
+
+// Where a gate counts as high.
+const GATE_THRESHOLD_V: f64 = 2.5;
+
+// The widest pitch that voct_to_hz takes.
+const MAX_ABS_VOCT: f64 = 32.0;
+
+// A pitch as a frequency. The clamp lets a NaN pass.
+pub fn voct_to_hz(voct: VoltsPerOctave) -> Hertz
+    ensures { λ r. ⌜ r ≡ voctToHz voct ⌝ }
+{
+    Hertz(C4_HZ * numeric::exp2(numeric::clamp(voct.0, -MAX_ABS_VOCT, MAX_ABS_VOCT)))
+}
+
+// Any number brought into [0, 1), as the Rust has it.
+fn wrapped(x: f64) -> f64
+    ensures { λ r. ⌜ r ≡ wrapOf x ⌝ }
+{
+    if numeric::is_finite(x) {
+        let w = x - numeric::floor(x);
+        if w >= 1.0 { 0.0 } else { w }
+    } else {
+        0.0
+    }
+}
+
+// One turn taken off from 1 on: a choice of two values and no branch, since a phase comes by here at any time.
+fn folded(x: f64) -> f64
+    ensures { λ r. ⌜ r ≡ cond (lt x one) x (sub binary64 x one) ⌝ }
+{
+    if x < 1.0 { x } else { x - 1.0 }
+}
+
+// The same without a floor where x is above -1 and below 2, as a phase and an increment nearly always are.
+fn wrapped_near(x: f64) -> f64
+    ensures { λ r. ⌜ r ≡ wrapOf x ⌝ }
+{
+    if x > 0.0 {
+        if x < 2.0 { folded(x) } else { wrapped(x) }
+    } else if x < 0.0 {
+        if x > -1.0 {
+            let w = x + 1.0;
+            if w >= 1.0 { 0.0 } else { w }
+        } else {
+            wrapped(x)
+        }
+    } else {
+        wrapped(x)
+    }
+}
+
+// A phase brought back into [0, 1); one that isn't finite starts again at 0.
+pub fn wrap_phase(x: Turns) -> Turns
+    ensures { λ r. ⌜ r ≡ turns (wrapOf (x .0)) ⌝ }
+{
+    Turns(wrapped_near(x.0))
+}
+
+// The residual over plain numbers.
+fn blep(t: f64, dt: f64) -> f64
+    ensures { λ r. ⌜ r ≡ polyblepOf t dt ⌝ }
+{
+    if t < dt {
+        let u = t / dt;
+        2.0 * u - u * u - 1.0
+    } else if t > 1.0 - dt {
+        let u = (t - 1.0) / dt;
+        u * u + 2.0 * u + 1.0
+    } else {
+        0.0
+    }
+}
+
+// What smooths a step at phase t, dt being a tick's increment.
+pub fn polyblep(t: Turns, dt: Turns) -> f64
+    ensures { λ r. ⌜ r ≡ polyblepOf (t .0) (dt .0) ⌝ }
+{
+    blep(t.0, dt.0)
+}
+
+fn blamp(t: f64, dt: f64) -> f64
+    ensures { λ r. ⌜ r ≡ polyblampOf t dt ⌝ }
+{
+    if t < dt {
+        let u = t / dt - 1.0;
+        -1.0 / 3.0 * u * u * u
+    } else if t > 1.0 - dt {
+        let u = (t - 1.0) / dt + 1.0;
+        1.0 / 3.0 * u * u * u
+    } else {
+        0.0
+    }
+}
+
+// What smooths a corner.
+pub fn polyblamp(t: Turns, dt: Turns) -> f64
+    ensures { λ r. ⌜ r ≡ polyblampOf (t .0) (dt .0) ⌝ }
+{
+    blamp(t.0, dt.0)
+}
+
+// The Rust's Memo<1, f64> of a frequency. The key is kept as bits, so 0.0 and -0.0 differ.
+pub struct Memo1 {
+    pub key: u64,
+    pub val: Hertz,
+    pub valid: bool,
+}
+
+impl Memo1 {
+    pub fn new() -> Self
+        ensures { λ r. ⌜ r ≡ newMemo1 ⌝ }
+    {
+        Memo1 {
+            key: 0,
+            val: Hertz(0.0),
+            valid: false,
+        }
+    }
+
+    // Whether the memo holds the value for x.
+    pub fn hits(self, x: f64) -> bool
+        ensures { λ r. ⌜ r ≡ hits1 self x ⌝ }
+    {
+        if self.valid {
+            self.key == numeric::bits(x)
+        } else {
+            false
+        }
+    }
+
+    // A memo that holds this value for x.
+    pub fn filled(x: f64, val: Hertz) -> Self
+        ensures { λ r. ⌜ r ≡ filled1 x val ⌝ }
+    {
+        Memo1 {
+            key: numeric::bits(x),
+            val,
+            valid: true,
+        }
+    }
+
+    // The Rust's get_or_compute([voct], || voct_to_hz(voct)); its answer is the new memo's val.
+    pub fn voct_to_hz(self, voct: VoltsPerOctave) -> Self
+        ensures { λ r. ⌜ r ≡ recall1 voctToHzAt self (voct .0) ⌝ }
+    {
+        if self.hits(voct.0) {
+            self
+        } else {
+            let val = voct_to_hz(voct);
+            Memo1::filled(voct.0, val)
+        }
+    }
+}
+
+// The Rust's Memo<3, f64> of a frequency.
+pub struct Memo3 {
+    pub key0: u64,
+    pub key1: u64,
+    pub key2: u64,
+    pub val: Hertz,
+    pub valid: bool,
+}
+
+impl Memo3 {
+    pub fn new() -> Self
+        ensures { λ r. ⌜ r ≡ newMemo3 ⌝ }
+    {
+        Memo3 {
+            key0: 0,
+            key1: 0,
+            key2: 0,
+            val: Hertz(0.0),
+            valid: false,
+        }
+    }
+
+    // Whether the memo holds the value for x, y and z.
+    pub fn hits(self, x: f64, y: f64, z: f64) -> bool
+        ensures { λ r. ⌜ r ≡ hits3 self x y z ⌝ }
+    {
+        if self.valid {
+            if self.key0 == numeric::bits(x) {
+                if self.key1 == numeric::bits(y) {
+                    self.key2 == numeric::bits(z)
+                } else {
+                    false
+                }
+            } else {
+                false
+            }
+        } else {
+            false
+        }
+    }
+
+    // A memo that holds this value for x, y and z.
+    pub fn filled(x: f64, y: f64, z: f64, val: Hertz) -> Self
+        ensures { λ r. ⌜ r ≡ filled3 x y z val ⌝ }
+    {
+        Memo3 {
+            key0: numeric::bits(x),
+            key1: numeric::bits(y),
+            key2: numeric::bits(z),
+            val,
+            valid: true,
+        }
+    }
+}
+
+// Tells when a gate rises: from not above a threshold to above it.
+pub struct EdgeDetector {
+    pub prev: f64,
+}
+
+// What the Rust's `rising` says, with the detector after it.
+pub struct Risen {
+    pub edge: EdgeDetector,
+    pub rising: bool,
+}
+
+// The Rust's Option<f64>: no edge, or where between the two samples it was crossed.
+pub enum Crossing {
+    Nowhere,
+    At(f64),
+}
+
+// What the Rust's `rising_frac` says, with the detector after it.
+pub struct Crossed {
+    pub edge: EdgeDetector,
+    pub at: Crossing,
+}
+
+impl EdgeDetector {
+    pub fn new() -> Self
+        ensures { λ r. ⌜ r ≡ newEdge ⌝ }
+    {
+        EdgeDetector { prev: 0.0 }
+    }
+
+    pub fn rising(self, v: f64) -> Risen
+        ensures { λ r. ⌜ r ≡ risingOf self v ⌝ }
+    {
+        self.rising_above(v, GATE_THRESHOLD_V)
+    }
+
+    pub fn rising_above(self, v: f64, threshold: f64) -> Risen
+        ensures { λ r. ⌜ r ≡ risingAboveOf self v threshold ⌝ }
+    {
+        let next = EdgeDetector { prev: v };
+        Risen {
+            edge: next,
+            rising: v > threshold && self.prev <= threshold,
+        }
+    }
+
+    pub fn rising_frac(self, v: f64) -> Crossed
+        ensures { λ r. ⌜ r ≡ crossedOf self v ⌝ }
+    {
+        self.rising_frac_above(v, GATE_THRESHOLD_V)
+    }
+
+    // Where the straight line from the previous sample to v meets the threshold. The clamp lets a NaN pass.
+    pub fn rising_frac_above(self, v: f64, threshold: f64) -> Crossed
+        ensures { λ r. ⌜ r ≡ crossedAboveOf self v threshold ⌝ }
+    {
+        let prev = self.prev;
+        let next = EdgeDetector { prev: v };
+        if v > threshold {
+            if prev <= threshold {
+                let denom = v - prev;
+                if denom > 0.0 {
+                    let frac = numeric::clamp((threshold - prev) / denom, 0.0, 1.0);
+                    Crossed {
+                        edge: next,
+                        at: Crossing::At(frac),
+                    }
+                } else {
+                    Crossed {
+                        edge: next,
+                        at: Crossing::At(1.0),
+                    }
+                }
+            } else {
+                Crossed {
+                    edge: next,
+                    at: Crossing::Nowhere,
+                }
+            }
+        } else {
+            Crossed {
+                edge: next,
+                at: Crossing::Nowhere,
+            }
+        }
+    }
+
+    pub fn reset(self) -> Self
+        ensures { λ r. ⌜ r ≡ newEdge ⌝ }
+    {
+        EdgeDetector { prev: 0.0 }
+    }
+}
+
+// Refusal 1 asks this: from 1,000 to 192,000, which a NaN and the infinities aren't.
+pub fn rate_ok(rate: Hertz) -> bool
+    ensures { λ r. ⌜ r ≡ rateOk rate ⌝ }
+{
+    rate.0 >= 1000.0 && rate.0 <= 192000.0
+}
+
+// Refusal 2 asks this: in [0, 1), which a NaN isn't.
+pub fn phase_ok(phase: Turns) -> bool
+    ensures { λ r. ⌜ r ≡ phaseOk phase ⌝ }
+{
+    phase.0 >= 0.0 && phase.0 < 1.0
+}
