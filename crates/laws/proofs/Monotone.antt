@@ -1,18 +1,17 @@
 -- Rounding keeps an order, and so do a product and a quotient with a number that is finite and above 0.
-use mathlib.Core.Bool.{Bool, true, false, not, cond}
-use mathlib.Core.Path.{_≡_, refl, sym, ap, _∙_, subst}
-use Prim.Native.Nat.{ℕ, zero, suc, _*_, _≤_, _<_, zero-le}
-use native.Mathlib.Nat.{le-trans, le-of-eq, mul-pos, mul-le-mul-right, mul-mul-mul-comm, zero-mul, zero-lt-suc, not-le-of-lt}
+use mathlib.Core.Bool.{Bool, cond, false, not, true}
+use mathlib.Core.Path.{_∙_, _≡_, ap, refl, subst, sym}
+use Prim.Native.Nat.{_*_, _<_, _≤_, suc, zero, zero-le, ℕ}
+use native.Mathlib.Nat.{le-of-eq, le-trans, mul-le-mul-right, mul-mul-mul-comm, mul-one, mul-pos, not-le-of-lt, one-mul, zero-lt-suc, zero-mul}
 use lib.Dec.{T, lit<}
-use lib.IntN.{ℤ, pos}
-use lib.Ieee.{Float, nan, inf, fin, binary64, up, down, unlike, round, mul, div, neg, lt, le, eq, isNan}
-use lib.Ieee.Exact.{HasValue}
+use lib.Ieee.{Float, binary64, div, down, eq, fin, inf, isNan, le, lt, mul, nan, neg, round, unlike, up}
 use lib.Ieee.Fits.{down-pos}
 use lib.Ieee.Order.{round-mono}
-use lib.Ieee.Positive.{positive, num, den, den-pos, own-value, value-pos}
-use Rattle.laws.proofs.Number.{pos-eqb, round-number, le-numbers}
-use Rattle.laws.proofs.Order.{Below, le-below, le-neg, float-le-refl, float-le-trans}
-use Rattle.laws.proofs.Values.{round-zero, round-neg, unlike-plus, mul-round, div-round, unit-law}
+use lib.Ieee.Positive.{den, den-pos, num, own-value, positive, value-pos}
+use lib.IntN.{pos, ℤ}
+use Rattle.laws.proofs.Number.{le-numbers, pos-eqb, round-number}
+use Rattle.laws.proofs.Order.{Below, float-le-trans, le-below, le-neg}
+use Rattle.laws.proofs.Values.{div-round, mul-round, round-neg, round-zero, unlike-plus}
 
 -- ---- rounding
 none : (a d : ℕ) → 0 < d → a * d ≡ 0 → a ≡ 0
@@ -32,6 +31,16 @@ round-le true false a c b d C D h =
     (float-le-trans (neg (round binary64 false a c)) (neg (fin false 0 (pos 0))) (fin false 0 (pos 0)) (le-neg (fin false 0 (pos 0)) (round binary64 false a c) (nonneg a c C)) (unfold le lt eq neg in tt))
     (nonneg b d D))
 round-le true true a c b d C D h = simp (round-neg a c, round-neg b d) (le-neg (round binary64 false b d) (round binary64 false a c) (round-mono binary64 b d a c D C h))
+
+-- a fraction from 0 to 1 lies from 0 to 1
+pub unit-law : (a c : ℕ) → 0 < c → a ≤ c → T (le (fin false 0 (pos 0)) (round binary64 false a c)) × T (le (round binary64 false a c) (fin false 1 (pos 0)))
+unit-law a c C h = (
+  nonneg a c C,
+  subst (λ (z : Float). T (le (round binary64 false a c) z)) at-one (round-le false false a c 1 1 C (lit< tt) (le-trans (le-of-eq (mul-one a)) (le-trans h (le-of-eq (sym (one-mul c)))))),
+)
+  where
+    at-one : round binary64 false 1 1 ≡ fin false 1 (pos 0)
+    at-one = unfold round in refl
 
 -- ---- a number times p / q
 inf-least : (x : Float) → T (not (isNan x)) → T (le (inf true) x)

@@ -62,7 +62,7 @@ whole-near w r b Ordering·gt h l = (one, two)
     two = omega arith
 
 -- the nearest whole number to a / b is within a half
-pub closest-near : (a b : ℕ) → 0 < b → Near (closest a b * b * 2) (a * 2) b
+closest-near : (a b : ℕ) → 0 < b → Near (closest a b * b * 2) (a * 2) b
 closest-near a b B =
     subst (λ (z : ℕ). Near (closest a b * b * 2) (z * 2) b) (div-add-mod' a b)
     (whole-near (a / b) (a % b) b (compare (a % b * 2) b) (cmp (a % b * 2) b) (mod-lt a B))

@@ -1,36 +1,48 @@
--- Values that are no NaN.
-use mathlib.Core.Bool.{Bool, true, false, cond, not, _&&_, false≢true, true≢false, Bool·beq}
-use mathlib.Core.Path.{_≡_, refl, sym, subst}
-use Prim.Native.Nat.{ℕ, zero, suc, _+_, _-_, _*_, _/_, _%_, _^_, compare}
-use lib.Dec.{eqb, T, ltb, eqb·suc-zero}
-use lib.Ieee.{Float, nan, inf, fin, binary64, up, down, lt, le, eq, neg, sub, unlike, mul, div, round, sum, add, nearest, size, odd, isNan, units}
+-- Which values are numbers, that is no NaN.
+use mathlib.Core.Bool.{Bool, Bool·beq, _&&_, cond, false, false≢true, not, true, true≢false}
+use mathlib.Core.Path.{_≡_, refl, subst, sym}
+use Prim.Native.Nat.{_*_, _+_, _-_, _^_, suc, zero, ℕ}
+use lib.Dec.{T, eqb, eqb·suc-zero, ltb}
+use lib.Ieee.{Float, add, binary64, div, down, eq, fin, inf, isNan, le, lt, mul, nan, neg, odd, round, sub, sum, units, unlike, up}
+use lib.Ieee.Exact.{HasValue}
+use lib.Ieee.Fits.{round-is}
 use lib.Ieee.Positive.{positive}
 use Rattle.laws.specs.Float.{isFin}
 
-odd-number : (d : ℕ) (s : Bool) (q k l : ℕ) → T (not (isNan (odd d s q k l)))
-unfolding odd isNan
-odd-number d s zero k l = tt
-odd-number d s (suc q) k l = tt
+-- ---- a rounded fraction has the sign it is given
+abbrev pub Signed : Bool → Float → Type 0
+Signed s nan = ⊥
+Signed s (inf t) = t ≡ s
+Signed s (fin t m e) = t ≡ s
 
-units-number : (s : Bool) (q k : ℕ) → T (not (isNan (units binary64 s q k)))
-unfolding units isNan
-units-number s q k = go (ltb (q * 2 ^ k) (2 ^ 2098)) (odd 54 s q k 1074) (odd-number 54 s q k 1074)
+odd-signed : (d : ℕ) (s : Bool) (q k l : ℕ) → Signed s (odd d s q k l)
+unfolding odd
+odd-signed d s zero k l = refl
+odd-signed d s (suc q) k l = refl
+
+pub round-signed : (s : Bool) (a b : ℕ) → Signed s (round binary64 s a b)
+round-signed s a b = subst (Signed s) (sym (round-is binary64 s a b)) (units-signed _ _)
   where
-    go : (t : Bool) (x : Float) → T (not (isNan x)) → T (not (isNan (cond t x (inf s))))
-    go true x h = h
-    go false x h = tt
+    units-signed : (q k : ℕ) → Signed s (units binary64 s q k)
+    units-signed q k = unfold units in go (ltb (q * 2 ^ k) (2 ^ 2098)) (odd 54 s q k 1074) (odd-signed 54 s q k 1074)
+      where
+        go : (t : Bool) (x : Float) → Signed s x → Signed s (cond t x (inf s))
+        go true x h = h
+        go false x h = refl
+
+signed-number : (s : Bool) (x : Float) → Signed s x → T (not (isNan x))
+unfolding isNan
+signed-number s nan h = absurd h
+signed-number s (inf t) h = tt
+signed-number s (fin t m e) h = tt
+
+-- ---- so it is a number, and so is what comes of finite ones
+pub round-number : (s : Bool) (a b : ℕ) → T (not (isNan (round binary64 s a b)))
+round-number s a b = signed-number s (round binary64 s a b) (round-signed s a b)
 
 pub pos-eqb : (n : ℕ) → T (ltb 0 n) → eqb n 0 ≡ false
 pos-eqb zero h = absurd h
 pos-eqb (suc n) h = eqb·suc-zero n
-
-pub round-number : (s : Bool) (a b : ℕ) → T (not (isNan (round binary64 s a b)))
-unfolding round
-round-number s a b =
-    let n = a * 2 ^ 1074 in
-    let k = size (n / b) - 53 in
-    let u = b * 2 ^ k in
-    units-number s (nearest (n / u) (compare (n % u * 2) u)) k
 
 sum-number : (s : Bool) (a : ℕ) (t : Bool) (b c : ℕ) → T (not (isNan (sum binary64 s a t b c)))
 unfolding sum
@@ -112,6 +124,12 @@ le-numbers (inf s) (fin t n d) h = (tt, tt)
 le-numbers (fin s m e) nan h = absurd h
 le-numbers (fin s m e) (inf t) h = (tt, tt)
 le-numbers (fin s m e) (fin t n d) h = (tt, tt)
+
+-- what has a value is finite, and what is finite is a number
+pub value-finite : (x : Float) (s : Bool) (a c : ℕ) → HasValue x s a c → T (isFin x)
+value-finite nan s a c v = absurd v
+value-finite (inf t) s a c v = absurd v
+value-finite (fin t m e) s a c v = tt
 
 pub fin-number : (x : Float) → T (isFin x) → T (not (isNan x))
 unfolding isNan

@@ -1,24 +1,25 @@
 -- The value of a sum, a difference and a product is one rounding of the exact one; where it is held, nothing is rounded.
-use mathlib.Core.Bool.{Bool, true, false, cond, not, _&&_, Bool·beq, true≢false}
-use mathlib.Core.Path.{_≡_, refl, sym, ap, _∙_, subst}
-use Prim.Native.Nat.{ℕ, zero, suc, _+_, _-_, _*_, _≤_, _<_, _/_, _%_, _^_}
-use native.Mathlib.Nat.{le-refl, le-trans, le-of-eq, mul-comm, mul-assoc, mul-left-comm, mul-le-mul-right, zero-mul, mul-pos, zero-lt-suc, lt-of-lt-of-le, not-le-of-lt, mul-right-comm, le-of-mul-le-mul-right, add-mul, eq-of-mul-eq-mul-right, le-of-lt, mul-mod-left, mul-sub, mul-mul-mul-comm, lt-irrefl}
+use mathlib.Core.Bool.{Bool, Bool·beq, _&&_, cond, false, not, true, true≢false}
+use mathlib.Core.Path.{_∙_, _≡_, ap, refl, subst, sym}
+use Prim.Native.Nat.{_%_, _*_, _+_, _-_, _/_, _<_, _^_, _≤_, suc, zero, ℕ}
+use native.Mathlib.Nat.{add-mul, eq-of-mul-eq-mul-right, le-of-eq, le-of-lt, le-of-mul-le-mul-right, le-refl, le-trans, lt-irrefl, lt-of-lt-of-le, mul-assoc, mul-comm, mul-le-mul-right, mul-left-comm, mul-mod-left, mul-mul-mul-comm, mul-pos, mul-right-comm, mul-sub, not-le-of-lt, zero-lt-suc, zero-mul}
 use native.Mathlib.Omega.{arith}
-use lib.Dec.{eqb, leb, T, ltb, ltb→lt, nltb→le, lit<, lt→ltb}
-use lib.Ieee.{Float, nan, inf, fin, binary64, up, down, le, neg, sub, ofInt, unlike, mul, div, round, sum, fits, add, low, odd, nanBits, units}
+use lib.Dec.{T, eqb, leb, lit<, ltb, ltb→lt, lt→ltb, nltb→le}
+use lib.Ieee.{Float, add, binary64, div, down, fin, fits, inf, le, lt, mul, nan, nanBits, neg, odd, ofBits, ofInt, round, sub, sum, units, unlike, up}
 use lib.Ieee.Back.{round-whole}
 use lib.Ieee.Exact.{HasValue, round-exact}
-use lib.Ieee.Fits.{up-pos, down-pos, and-l, and-r, round-is}
-use lib.Ieee.Order.{round-mono}
+use lib.Ieee.Fits.{and-l, and-r, down-pos, round-is, up-pos}
+use lib.Ieee.Order.{le-of-values}
 use lib.Ieee.Positive.{first-pos}
 use lib.Ieee.Scale.{round-same}
-use lib.IntN.{ℤ, pos}
-use lib.Pow.{pow-pos, pow-mono, pow-add, shl-lt}
-use Rattle.laws.proofs.Tests.{ltb-iff, eqb-no}
-use Rattle.laws.proofs.Order.{neg-neg}
+use lib.IntN.{pos, ℤ}
+use lib.Pow.{pow-add, pow-mono, pow-pos, shl-lt}
+use Rattle.laws.proofs.Order.{le-neg, lt-by-values, lt-neg, neg-neg}
+use Rattle.laws.proofs.Tests.{eqb-no, ltb-iff}
+use Rattle.laws.specs.Float.{F64, isFin, zer}
 
 -- what fits has fewer than 53 digits
-pub fits-small : (s : Bool) (m : ℕ) (e : ℤ) → T (fits binary64 (fin s m e)) → m < 2 ^ 53
+pub fits-small : (s : Bool) (m : ℕ) (e : ℤ) → F64 (fin s m e) → m < 2 ^ 53
 unfolding fits
 fits-small s zero e t = lit< tt
 fits-small s (suc m) e t =
@@ -32,25 +33,8 @@ at-zero : (s : Bool) → round binary64 s 0 1 ≡ fin s 0 (pos 0)
 unfolding round
 at-zero s = refl
 
-at-one : round binary64 false 1 1 ≡ fin false 1 (pos 0)
-unfolding round
-at-one = refl
-
 pub round-zero : (s : Bool) (c : ℕ) → 0 < c → round binary64 s 0 c ≡ fin s 0 (pos 0)
 round-zero s c C = round-same binary64 s 0 c 0 1 C (zero-lt-suc 0) (zero-mul 1 ∙ sym (zero-mul c)) ∙ at-zero s
-
--- ---- a fraction from 0 to 1, rounded, lies from 0 to 1
-pub unit-law : (a c : ℕ) → 0 < c → a ≤ c → T (le (fin false 0 (pos 0)) (round binary64 false a c)) × T (le (round binary64 false a c) (fin false 1 (pos 0)))
-unit-law a c C h = (
-  subst (λ (z : Float). T (le z (round binary64 false a c))) (round-zero false 1 (zero-lt-suc 0)) (round-mono binary64 0 1 a c (zero-lt-suc 0) C (low a c)),
-  subst (λ (z : Float). T (le (round binary64 false a c) z)) at-one (round-mono binary64 a c 1 1 C (zero-lt-suc 0) (high a c h)),
-)
-  where
-    low : (a c : ℕ) → 0 * c ≤ a * 1
-    low a c = omega arith
-
-    high : (a c : ℕ) → a ≤ c → a * 1 ≤ 1 * c
-    high a c h = omega arith
 
 -- ---- the sign of a rounded fraction
 neg-units : (q k : ℕ) → neg (units binary64 true q k) ≡ units binary64 false q k
@@ -142,7 +126,7 @@ cross-sub A B C A' B' C' p q = sub-mul' A B C' ∙ ap (λ (z : ℕ). z - B * C')
 cross-add : (A B C A' B' C' : ℕ) → A * C' ≡ A' * C → B * C' ≡ B' * C → (A + B) * C' ≡ (A' + B') * C
 cross-add A B C A' B' C' p q = add-mul A B C' ∙ ap (λ (z : ℕ). z + B * C') p ∙ ap (λ (z : ℕ). A' * C + z) q ∙ sym (add-mul A' B' C)
 
-pub sum-same : (s t : Bool) (A B C A' B' C' : ℕ) → 0 < C → 0 < C' → A * C' ≡ A' * C → B * C' ≡ B' * C → sum binary64 s A t B C ≡ sum binary64 s A' t B' C'
+sum-same : (s t : Bool) (A B C A' B' C' : ℕ) → 0 < C → 0 < C' → A * C' ≡ A' * C → B * C' ≡ B' * C → sum binary64 s A t B C ≡ sum binary64 s A' t B' C'
 unfolding sum
 sum-same s t A B C A' B' C' H H' p q =
     let l1 : ltb A B ≡ ltb A' B' = ltb-iff A B A' B' (scale-le B A C B' A' C' H q p) (scale-le B' A' C' B A C H' (sym q) (sym p)) in
@@ -180,6 +164,14 @@ unfolding neg
 neg-value nan s a c p = absurd p
 neg-value (inf u) s a c p = absurd p
 neg-value (fin u m e) s a c p = (ap not (p .0), p .1)
+
+-- the order of two negative values
+pub lt-by-minus : (x y : Float) (a c b d : ℕ) → 0 < c → 0 < d → HasValue x true a c → HasValue y true b d → lt x y ≡ ltb (b * c) (a * d)
+lt-by-minus x y a c b d C D p q = sym (lt-neg x y) ∙ lt-by-values (neg y) (neg x) b d a c D C (neg-value y true b d q) (neg-value x true a c p)
+
+pub le-by-minus : (x y : Float) (a c b d : ℕ) → 0 < c → 0 < d → HasValue x true a c → HasValue y true b d → b * c ≤ a * d → T (le x y)
+le-by-minus x y a c b d C D p q h =
+    simp (neg-neg) at (le-neg (neg y) (neg x) (le-of-values (neg y) (neg x) b d a c D C (neg-value y true b d q) (neg-value x true a c p) h))
 
 pub sub-round : (x y : Float) (s t : Bool) (a c b d : ℕ) → 0 < c → 0 < d → HasValue x s a c → HasValue y t b d → sub binary64 x y ≡ sum binary64 s (a * d) (not t) (b * c) (c * d)
 unfolding sub
@@ -254,16 +246,19 @@ pub ofInt-val : (n : ℕ) → n ≤ 2 ^ 53 → HasValue (ofInt binary64 (pos n))
 unfolding ofInt
 ofInt-val n h = round-whole binary64 false n h
 
-pub sub-self : (s : Bool) (m : ℕ) (e : ℤ) → sub binary64 (fin s m e) (fin s m e) ≡ round binary64 false (m * up e * down e - m * up e * down e) (down e * down e)
-unfolding sub
-sub-self true m e = sum-neg-pos (m * up e * down e) (m * up e * down e) (down e * down e) (le-refl (m * up e * down e))
-sub-self false m e = sum-pos-neg (m * up e * down e) (m * up e * down e) (down e * down e) (le-refl (m * up e * down e))
-
-pub sub-self-zero : (s : Bool) (m : ℕ) (e : ℤ) → sub binary64 (fin s m e) (fin s m e) ≡ fin false 0 (pos 0)
-sub-self-zero s m e = sub-self s m e ∙ ap (λ (z : ℕ). round binary64 false z (down e * down e)) (nil (m * up e * down e)) ∙ round-zero false (down e * down e) (mul-pos (down-pos e) (down-pos e))
+-- a finite number less itself is +0
+pub sub-self-zero : (x : Float) → T (isFin x) → sub binary64 x x ≡ zer
+unfolding ofBits
+sub-self-zero nan f = absurd f
+sub-self-zero (inf s) f = absurd f
+sub-self-zero (fin s m e) f = unfold sub in go s ∙ ap (λ (z : ℕ). round binary64 false z (down e * down e)) (nil (m * up e * down e)) ∙ round-zero false (down e * down e) (mul-pos (down-pos e) (down-pos e))
   where
     nil : (a : ℕ) → a - a ≡ 0
     nil a = omega arith
+
+    go : (s : Bool) → sum binary64 s (m * up e * down e) (not s) (m * up e * down e) (down e * down e) ≡ round binary64 false (m * up e * down e - m * up e * down e) (down e * down e)
+    go true = sum-neg-pos (m * up e * down e) (m * up e * down e) (down e * down e) (le-refl (m * up e * down e))
+    go false = sum-pos-neg (m * up e * down e) (m * up e * down e) (down e * down e) (le-refl (m * up e * down e))
 
 -- ---- the bits of a multiple of 2 ^ 52 are no NaN's
 pub no-nan-bits : (n : ℕ) → T (not (nanBits binary64 (n * 4503599627370496)))

@@ -1,19 +1,18 @@
 -- The draw is exact, and twice it less 1 too.
-use mathlib.Core.Bool.{Bool, true, false, not, cond}
-use mathlib.Core.Path.{_≡_, refl, sym, ap, _∙_, subst}
-use Prim.Native.Nat.{ℕ, _≤_, _-_, _<_, _^_, _*_}
-use native.Mathlib.Nat.{mul-one, le-of-lt, zero-lt-suc}
+use mathlib.Core.Bool.{Bool, cond, false, not, true}
+use mathlib.Core.Path.{_∙_, _≡_, ap, refl, subst, sym}
+use Prim.Native.Nat.{_*_, _-_, _<_, _^_, _≤_, ℕ}
+use native.Mathlib.Nat.{le-of-lt, mul-one, zero-lt-suc}
 use native.Mathlib.Omega.{arith}
-use lib.Dec.{T, ltb, ltb→lt, lit<, nltb→le, lit≤}
-use lib.Ieee.{Float, binary64, mul, ofBits, round, fin, eq, sum, ofInt, low}
+use lib.Dec.{T, lit<, lit≤, ltb, ltb→lt, nltb→le}
+use lib.Ieee.{Float, binary64, fin, mul, ofBits, ofInt, round, sum}
 use lib.Ieee.Exact.{HasValue}
 use lib.Ieee.Scale.{round-same}
-use lib.IntN.{pos, negsuc}
-use Rattle.laws.proofs.Values.{mul-round, sub-round, sum-pos-neg, sum-neg, rescale, exact-at, ofInt-val}
+use lib.IntN.{negsuc, pos}
+use Rattle.laws.proofs.Values.{exact-at, mul-round, ofInt-val, rescale, sub-round, sum-neg, sum-pos-neg}
 use Rattle.laws.specs.Float.{two}
-use Rattle.laws.specs.Machine.{more}
-use Rattle.numeric.specs.Draw.{drawOf, bipolarOf}
-use Rattle.numeric.specs.Promises.{Draw-exact, Bipolar-exact}
+use Rattle.numeric.specs.Draw.{bipolarOf, drawOf}
+use Rattle.numeric.specs.Promises.{Bipolar-exact, Draw-exact}
 
 -- k * 2 ^ -53, exactly
 pub draw-exact : Draw-exact

@@ -3,11 +3,12 @@ use mathlib.Core.Bool.{Bool, cond, false, not, true, true≢false}
 use mathlib.Core.Logic.{_⊎_, inl, inr}
 use mathlib.Core.Path.{_∙_, _≡_, ap, refl, subst, sym}
 use Prim.Native.Nat.{_%_, _*_, _+_, _-_, _/_, _<_, _^_, _≤_, min, suc, zero, zero-le, ℕ}
-use native.Mathlib.Nat.{div-add-mod', div-lt-iff-lt-mul, div-one, le-of-eq, le-refl, le-trans, lt-of-le-of-lt, min-le-left, min-le-right, mul-le-mul-right, mul-one, mul-pos, not-le-of-lt, one-mul, suc-le-suc-iff, zero-lt-suc}
+use native.Mathlib.Nat.{div-add-mod', div-lt-iff-lt-mul, div-one, le-of-eq, le-refl, le-trans, lt-of-le-of-lt, min-le-left, min-le-right, mul-le-mul-right, mul-one, mul-pos, not-le-of-lt, not-suc-le-zero, one-mul, suc-le-suc-iff, zero-lt-suc}
 use native.Mathlib.Omega.{arith}
 use lib.Dec.{T, eqb, eqb→eq, le→leb, lit<, lit≤, ltb→lt}
 use lib.Ieee.{Float, binary64, div, down, eq, fin, inFloat, inf, isNan, le, lt, mul, nan, ofBits, ofInt, round, sub, toUnsigned, up}
 use lib.Ieee.Back.{unsigned-back, whole-unique}
+use lib.Ieee.Bits.{is-false}
 use lib.Ieee.Casts.{toUnsigned-lt}
 use lib.Ieee.Exact.{HasValue}
 use lib.Ieee.Fits.{down-pos, ofInt-fits}
@@ -19,7 +20,7 @@ use Rattle.laws.proofs.Interval.{below-one}
 use Rattle.laws.proofs.Monotone.{div-le, mul-le}
 use Rattle.laws.proofs.Number.{div-number, is-nan, le-numbers}
 use Rattle.laws.proofs.Order.{float-le-refl, le-below, le-of-lt-false, le-of-lt-true, lt-by-values, lt-nan, nan-lt}
-use Rattle.laws.proofs.Tests.{of-false, of-true}
+use Rattle.laws.proofs.Tests.{of-false}
 use Rattle.laws.proofs.Values.{mul-round, ofInt-val, sub-round, sum-pos-neg}
 use Rattle.laws.specs.Float.{F64, one, two, zer}
 use Rattle.numeric.specs.Basic.{clampOf, maxOf, minOf, realOf, wholeOf}
@@ -43,60 +44,51 @@ pub clamp-nan : Clamp-nan
 unfolding clampOf
 clamp-nan lo hi = simp (nan-lt lo, lt-nan hi)
 
--- ---- min and max
+-- ---- min and max: a where p holds or b is a NaN, else b
+abbrev chosen : Bool → Bool → Float → Float → Float
+chosen p q a b = cond p a (cond q a b)
+
+chosen-either : (p q : Bool) (a b : Float) → (chosen p q a b ≡ a) ⊎ (chosen p q a b ≡ b)
+chosen-either true q a b = inl refl
+chosen-either false true a b = inl refl
+chosen-either false false a b = inr refl
+
+-- R is at most, or at least
+chosen-range : (R : Float → Float → Type 0) (p q : Bool) (a b : Float) → ((x : Float) → T (not (isNan x)) → R x x) → isNan b ≡ q → (T p → R a b) → (T (not p) → T (not (isNan a)) → T (not (isNan b)) → R b a)
+    → (T (not (isNan a)) → R (chosen p q a b) a) × (T (not (isNan b)) → R (chosen p q a b) b)
+chosen-range R true q a b r e f g = (r a, λ _. f tt)
+chosen-range R false true a b r e f g = (r a, λ h. absurd (subst (λ (z : Bool). T (not z)) e h))
+chosen-range R false false a b r e f g = (λ h. g tt h (of-false (isNan b) e), r b)
+
+chosen-nan : (p : Bool) (x : Float) → p ≡ false → chosen p (isNan x) nan x ≡ x
+unfolding isNan
+chosen-nan p nan e = simp (e)
+chosen-nan p (inf s) e = simp (e)
+chosen-nan p (fin s m d) e = simp (e)
+
 pub min-either : Min-either
 unfolding minOf
-min-either a b = go (lt a b) (isNan b)
-  where
-    go : (p q : Bool) → (cond p a (cond q a b) ≡ a) ⊎ (cond p a (cond q a b) ≡ b)
-    go true q = inl refl
-    go false true = inl refl
-    go false false = inr refl
+min-either a b = chosen-either (lt a b) (isNan b) a b
 
 pub max-either : Max-either
 unfolding maxOf
-max-either a b = go (lt b a) (isNan b)
-  where
-    go : (p q : Bool) → (cond p a (cond q a b) ≡ a) ⊎ (cond p a (cond q a b) ≡ b)
-    go true q = inl refl
-    go false true = inl refl
-    go false false = inr refl
+max-either a b = chosen-either (lt b a) (isNan b) a b
 
 pub min-range : Min-range
 unfolding minOf
-min-range a b = go (lt a b) (isNan b) refl refl
-  where
-    go : (p q : Bool) → lt a b ≡ p → isNan b ≡ q → (T (not (isNan a)) → T (le (cond p a (cond q a b)) a)) × (T (not q) → T (le (cond p a (cond q a b)) b))
-    go true q e f = (float-le-refl a, λ _. le-of-lt-true a b (of-true (lt a b) e))
-    go false true e f = (float-le-refl a, λ h. absurd h)
-    go false false e f = let n = of-false (isNan b) f in (λ h. le-of-lt-false a b h n e, λ _. float-le-refl b n)
+min-range a b = chosen-range (λ x y. T (le x y)) (lt a b) (isNan b) a b float-le-refl refl (le-of-lt-true a b) (λ n p q. le-of-lt-false a b p q (is-false (lt a b) n))
 
 pub max-range : Max-range
 unfolding maxOf
-max-range a b = go (lt b a) (isNan b) refl refl
-  where
-    go : (p q : Bool) → lt b a ≡ p → isNan b ≡ q → (T (not (isNan a)) → T (le a (cond p a (cond q a b)))) × (T (not q) → T (le b (cond p a (cond q a b))))
-    go true q e f = (float-le-refl a, λ _. le-of-lt-true b a (of-true (lt b a) e))
-    go false true e f = (float-le-refl a, λ h. absurd h)
-    go false false e f = let n = of-false (isNan b) f in (λ h. le-of-lt-false b a n h e, λ _. float-le-refl b n)
+max-range a b = chosen-range (λ x y. T (le y x)) (lt b a) (isNan b) a b float-le-refl refl (le-of-lt-true b a) (λ n p q. le-of-lt-false b a q p (is-false (lt b a) n))
 
 pub min-nan : Min-nan
 unfolding minOf isNan
-min-nan x = (go x, simp (lt-nan x))
-  where
-    go : (x : Float) → cond (lt nan x) nan (cond (isNan x) nan x) ≡ x
-    go nan = simp (nan-lt nan)
-    go (inf s) = simp (nan-lt (inf s))
-    go (fin s m e) = simp (nan-lt (fin s m e))
+min-nan x = (chosen-nan (lt nan x) x (nan-lt x), simp (lt-nan x))
 
 pub max-nan : Max-nan
 unfolding maxOf isNan
-max-nan x = (go x, simp (nan-lt x))
-  where
-    go : (x : Float) → cond (lt x nan) nan (cond (isNan x) nan x) ≡ x
-    go nan = simp (lt-nan nan)
-    go (inf s) = simp (lt-nan (inf s))
-    go (fin s m e) = simp (lt-nan (fin s m e))
+max-nan x = (chosen-nan (lt x nan) x (lt-nan x), simp (nan-lt x))
 
 -- ---- casts
 min-mono : (a b k : ℕ) → a ≤ b → min a k ≤ min b k
@@ -160,12 +152,25 @@ clamp-whole x a b h k q =
     )
 
 -- 1 off a whole number
-pub real-less : (n : ℕ) → 1 ≤ n → n ≤ 2 ^ 53 → sub binary64 (realOf n) one ≡ realOf (n - 1)
+pub suc-less : (n : ℕ) → suc n ≤ 2 ^ 53 → sub binary64 (realOf (suc n)) one ≡ realOf n
 unfolding ofInt
-real-less n h k =
-    sub-round (realOf n) one false false n 1 1 1 (lit< tt) (lit< tt) (ofInt-val n k) (unfold ofBits in (refl, refl))
-    ∙ sum-pos-neg (n * 1) 1 1 (le-trans h (le-of-eq (sym (mul-one n))))
-    ∙ ap (λ (z : ℕ). round binary64 false (z - 1) 1) (mul-one n)
+suc-less n h =
+    sub-round (realOf (suc n)) one false false (suc n) 1 1 1 (lit< tt) (lit< tt) (ofInt-val (suc n) h) (unfold ofBits in (refl, refl))
+    ∙ sum-pos-neg (suc n * 1) 1 1 (least n)
+    ∙ ap (λ (z : ℕ). round binary64 false z 1) (rest n)
+  where
+    least : (n : ℕ) → 1 ≤ suc n * 1
+    least n = omega arith
+
+    rest : (n : ℕ) → suc n * 1 - 1 ≡ n
+    rest n = omega arith
+
+pub real-less : (n : ℕ) → 1 ≤ n → n ≤ 2 ^ 53 → sub binary64 (realOf n) one ≡ realOf (n - 1)
+real-less zero h k = absurd (not-suc-le-zero h)
+real-less (suc n) h k = suc-less n k ∙ ap realOf (rest n)
+  where
+    rest : (n : ℕ) → n ≡ suc n - 1
+    rest n = omega arith
 
 -- a period from 2 to n - 1
 pub period-whole : (x : Float) (n : ℕ) → 3 ≤ n → n ≤ 2 ^ 53 → T (not (isNan x))

@@ -1,4 +1,5 @@
--- What document 01 promises of these functions, for all x: the statements. proofs/Laws.antt proves each under the same name in small letters.
+-- What document 01 promises of these functions, for all x, and what the crates above need of them: the statements.
+-- proofs/Laws.antt has the proof of each under the same name in small letters.
 use mathlib.Core.Path.{_≡_}
 use mathlib.Core.Bool.{Bool, true, false, not, cond}
 use mathlib.Core.Logic.{_⊎_}
@@ -37,6 +38,13 @@ Sin-zero = sinOf zer ≡ zer
 abbrev pub Cos-zero : Type 0
 Cos-zero = cosOf zer ≡ one
 
+-- -0.0 is a 0 too
+abbrev pub Sin-minus-zero : Type 0
+Sin-minus-zero = sinOf (neg zer) ≡ zer
+
+abbrev pub Cos-minus-zero : Type 0
+Cos-minus-zero = cosOf (neg zer) ≡ one
+
 -- ---- 2 ^ x
 -- z is from -1022 to 1023
 abbrev pub InRange : ℤ → Type 0
@@ -46,6 +54,10 @@ InRange (negsuc k) = suc k ≤ 1022
 -- exact for whole x: `fin false 1 z` is 2 ^ z
 abbrev pub Exp2-whole : Type 0
 Exp2-whole = (z : ℤ) → InRange z → exp2Of (ofInt binary64 z) ≡ fin false 1 z
+
+-- and -0.0 is whole
+abbrev pub Exp2-minus-zero : Type 0
+Exp2-minus-zero = exp2Of (neg zer) ≡ one
 
 -- +infinity from 1024 on
 abbrev pub Exp2-above : Type 0
@@ -65,6 +77,9 @@ Exp2-number = (x : Float) → T (not (isNan x)) → T (not (isNan (exp2Of x)))
 -- ---- 3000 ^ r
 abbrev pub Pow3000-zero : Type 0
 Pow3000-zero = pow3000Of zer ≡ one
+
+abbrev pub Pow3000-minus-zero : Type 0
+Pow3000-minus-zero = pow3000Of (neg zer) ≡ one
 
 abbrev pub Pow3000-one : Type 0
 Pow3000-one = pow3000Of one ≡ ofBits binary64 0x40a7700000000000

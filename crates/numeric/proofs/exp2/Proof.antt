@@ -1,5 +1,6 @@
-use lib.Ieee.{binary64, ofBits, div}
-use Rattle.laws.proofs.Number.{sub-number, lt-number}
+-- exp2: each branch is a case of exp2Of; what is compared is a number, as mid asks.
+use lib.Ieee.{binary64, div, ofBits}
+use Rattle.laws.proofs.Number.{lt-number, sub-number}
 use Rattle.laws.specs.Float.{one}
 use Rattle.numeric.specs.Power.{exp2Of}
 use Rattle.numeric.proofs.exp2.Statement.{statement}

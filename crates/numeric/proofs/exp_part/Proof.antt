@@ -1,3 +1,4 @@
+-- exp_part: what six ensures of the even powers and of the odd ones.
 use borrow.Author.Needs.{needs}
 use Rattle.numeric.specs.Power.{expPart}
 use Rattle.numeric.proofs.exp_part.Statement.{statement}

@@ -1,7 +1,8 @@
+-- mid: what exp_part and scale ensure; x plus the bias is a number, as scale asks.
 use lib.Ieee.{ofBits}
 use borrow.Author.Needs.{needs}
 use Rattle.laws.proofs.Number.{add-number}
-use Rattle.numeric.specs.Power.{biased, scaledOf, midOf}
+use Rattle.numeric.specs.Power.{biased, midOf, scaledOf}
 use Rattle.numeric.proofs.mid.Statement.{statement}
 use Rattle.numeric.proofs.mid.Tie as tie
 

@@ -1,3 +1,4 @@
+-- six: the same operations in the same order.
 use mathlib.Core.Path.{refl}
 use Rattle.numeric.specs.Power.{sixOf}
 use Rattle.numeric.proofs.six.Statement.{statement}

@@ -1,3 +1,4 @@
+-- turned: what rest and bound ensure; the sum with the shift is a number, whose bits are taken.
 use lib.Ieee.{binary64, mul, ofBits}
 use borrow.Author.Needs.{needs}
 use Rattle.laws.proofs.Number.{add-number, mul-number}
