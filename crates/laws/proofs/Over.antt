@@ -14,7 +14,7 @@ use Rattle.laws.specs.Lists.{over, tab}
 pub length-tab : {A : Type 0} (f : ℕ → A) (n : ℕ) → length (tab f n) ≡ n
 unfolding tab
 length-tab f zero = refl
-length-tab f (suc n) = length-append (tab f n) (f n ∷ []) ∙ ap (λ (k : ℕ). k + 1) (length-tab f n) ∙ add-one n
+length-tab f (suc n) = simp (length-append, length-tab f n, add-one)
 
 pub length-over : {A : Type 0} (f : ℕ → A) (n : ℕ) (l : List A) → n ≤ length l → length (over f n l) ≡ length l
 unfolding over

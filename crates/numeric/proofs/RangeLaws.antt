@@ -40,6 +40,9 @@ clamp-range x lo hi h q = go (lt x lo) (lt hi x) refl refl
     go false true e f = (h, float-le-refl hi (n .1))
     go false false e f = (le-of-lt-false x lo q (n .0) e, le-of-lt-false hi x (n .1) q f)
 
+pub clamp-number : (x lo hi : Float) → T (le lo hi) → T (not (isNan x)) → T (not (isNan (clampOf x lo hi)))
+clamp-number x lo hi h q = le-numbers lo (clampOf x lo hi) (clamp-range x lo hi h q .0) .1
+
 pub clamp-nan : Clamp-nan
 unfolding clampOf
 clamp-nan lo hi = simp (nan-lt lo, lt-nan hi)
