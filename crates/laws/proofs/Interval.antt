@@ -1,5 +1,5 @@
--- Values that stay from 0 to 2 ^ -i through rounded products, sums and differences, since rounding keeps an order.
--- So a polynomial whose terms halve is shown to lie from 0 to 1 without a word on its error.
+-- Bounds that rounded products, sums and differences keep, since rounding keeps an order: from 0 to 2 ^ -i, a size of at most 2 ^ i, from -1 to 1.
+-- So a polynomial whose terms halve is shown to lie from 0 to 1, and any polynomial to be finite, without a word on errors.
 use mathlib.Core.Bool.{Bool, Bool·beq, _&&_, cond, false, not, true, true≢false}
 use mathlib.Core.Path.{_∙_, _≡_, ap, refl, subst, sym}
 use Prim.Native.Nat.{_*_, _+_, _-_, _<_, _^_, _≤_, suc, ℕ}
@@ -19,7 +19,7 @@ use Rattle.laws.proofs.Order.{Below, below-le, le-below, le-neg, neg-ne
 use Rattle.laws.proofs.Values.{add-round, exact-at, fits-small, float-mul-comm, mul-round, neg-value, round-neg, sub-round, sum-pos-neg, unlike-plus}
 use Rattle.laws.specs.Float.{F64, InUnit, isFin, one}
 
--- what is not above a number is a number
+-- a value that is not above a finite one is finite
 under : (x y : Float) (b d : ℕ) → Signed false x → 0 < d → HasValue y false b d → T (le x y) → (a : ℕ) × (c : ℕ) × (0 < c) × (a * d ≤ b * c) × HasValue x false a c
 unfolding le lt eq
 under nan y b d p D v h = absurd p

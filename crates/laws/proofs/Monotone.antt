@@ -1,8 +1,8 @@
 -- Rounding keeps an order, and so do a product and a quotient with a number that is finite and above 0.
 use mathlib.Core.Bool.{Bool, cond, false, not, true}
 use mathlib.Core.Path.{_∙_, _≡_, ap, refl, subst, sym}
-use Prim.Native.Nat.{_*_, _<_, _≤_, suc, zero, zero-le, ℕ}
-use native.Mathlib.Nat.{le-of-eq, le-trans, mul-le-mul-right, mul-mul-mul-comm, mul-one, mul-pos, not-le-of-lt, one-mul, zero-lt-suc, zero-mul}
+use Prim.Native.Nat.{_*_, _<_, _≤_, zero-le, ℕ}
+use native.Mathlib.Nat.{le-of-eq, le-trans, mul-le-mul-right, mul-mul-mul-comm, mul-one, mul-pos, one-mul, zero-mul}
 use lib.Dec.{T, lit<}
 use lib.Ieee.{Float, binary64, div, down, eq, fin, inf, isNan, le, lt, mul, nan, neg, round, unlike, up}
 use lib.Ieee.Fits.{down-pos}
@@ -11,20 +11,17 @@ use lib.Ieee.Positive.{den, den-pos, num, own-value, positive, value-pos}
 use lib.IntN.{pos, ℤ}
 use Rattle.laws.proofs.Number.{le-numbers, pos-eqb, round-number}
 use Rattle.laws.proofs.Order.{Below, float-le-trans, le-below, le-neg}
+use Rattle.laws.proofs.Tests.{zero-of}
 use Rattle.laws.proofs.Values.{div-round, mul-round, round-neg, round-zero, unlike-plus}
 
 -- ---- rounding
-none : (a d : ℕ) → 0 < d → a * d ≡ 0 → a ≡ 0
-none zero d D h = refl
-none (suc a) d D h = absurd (not-le-of-lt (mul-pos {m = suc a} (zero-lt-suc a) D) (le-of-eq h))
-
 nonneg : (a c : ℕ) → 0 < c → T (le (fin false 0 (pos 0)) (round binary64 false a c))
 nonneg a c C = subst (λ (z : Float). T (le z (round binary64 false a c))) (round-zero false 1 (lit< tt)) (round-mono binary64 0 1 a c (lit< tt) C (le-trans (le-of-eq (zero-mul c)) zero-le))
 
 pub round-le : (s t : Bool) (a c b d : ℕ) → 0 < c → 0 < d → Below s (a * d) t (b * c) → T (le (round binary64 s a c) (round binary64 t b d))
 round-le false false a c b d C D h = round-mono binary64 a c b d C D h
 round-le false true a c b d C D h =
-    simp (none a d D (h .0), none b c C (h .1), round-zero false c C, round-zero true d D) (unfold le lt eq in tt)
+    simp (zero-of a d D (le-of-eq (h .0)), zero-of b c C (le-of-eq (h .1)), round-zero false c C, round-zero true d D) (unfold le lt eq in tt)
 round-le true false a c b d C D h =
     simp (round-neg a c)
     (float-le-trans (neg (round binary64 false a c)) (fin false 0 (pos 0)) (round binary64 false b d)

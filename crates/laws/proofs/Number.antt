@@ -101,7 +101,7 @@ is-nan nan e = refl
 is-nan (inf s) e = absurd (false≢true e)
 is-nan (fin s m d) e = absurd (false≢true e)
 
--- what passes a test is none
+-- what passes a test is a number
 pub lt-number : (x y : Float) → lt x y ≡ true → T (not (isNan x))
 unfolding lt isNan
 lt-number nan y h = absurd (false≢true h)
@@ -114,7 +114,7 @@ le-number nan y h = absurd (false≢true h)
 le-number (inf s) y h = tt
 le-number (fin s m e) y h = tt
 
--- both sides of an order
+-- and so are both sides of an order
 pub le-numbers : (x y : Float) → T (le x y) → T (not (isNan x)) × T (not (isNan y))
 unfolding le lt eq isNan
 le-numbers nan y h = absurd h

@@ -1,8 +1,8 @@
 -- The order of floats: what it says of their values; that it is an order of the numbers; a sign turns it round, and a NaN has no place in it.
 use mathlib.Core.Bool.{Bool, Bool·beq, _&&_, _||_, false, false≢true, not, true, true≢false}
 use mathlib.Core.Path.{_∙_, _≡_, ap, refl, sym}
-use Prim.Native.Nat.{_*_, _+_, _<_, _≤_, suc, zero, zero-le, ℕ}
-use native.Mathlib.Nat.{add-comm, le-antisymm, le-of-eq, le-of-lt, le-refl, le-trans, mul-pos, not-le-of-lt, zero-lt-suc, zero-mul}
+use Prim.Native.Nat.{_*_, _+_, _<_, _≤_, zero-le, ℕ}
+use native.Mathlib.Nat.{add-comm, le-antisymm, le-of-eq, le-of-lt, le-refl, le-trans, mul-pos, not-le-of-lt, zero-mul}
 use native.Mathlib.Omega.{arith}
 use lib.Dec.{T, T-not, eqb, eqb-refl, eqb→eq, ltb, ltb→lt, nltb→le, not-T}
 use lib.Ieee.{Float, below, down, eq, fin, inf, isNan, le, level, lt, nan, ne, neg, up}
@@ -14,7 +14,7 @@ use lib.Ieee.Positive.{through}
 use lib.IntN.{ℤ}
 use borrow.Author.Tests.{lt-ltb, ltb-false}
 use Rattle.laws.proofs.Number.{le-numbers}
-use Rattle.laws.proofs.Tests.{and-true, eqb-iff, ltb-iff, or-case, or-left}
+use Rattle.laws.proofs.Tests.{and-true, eqb-iff, ltb-iff, or-case, or-left, zero-of}
 
 -- ---- values of one sign compare as their fractions do
 pub eq-by-values : (s : Bool) (x y : Float) (a c b d : ℕ) → 0 < c → 0 < d → HasValue x s a c → HasValue y s b d → eq x y ≡ eqb (a * d) (b * c)
@@ -201,25 +201,21 @@ float-le-refl (fin s m e) h = of-below s (m * up e * down e) s (m * up e * down 
     self true A = le-refl A
     self false A = le-refl A
 
-none-of : (a d : ℕ) → 0 < d → a * d ≤ 0 → a ≡ 0
-none-of zero d D h = refl
-none-of (suc a) d D h = absurd (not-le-of-lt (mul-pos {m = suc a} (zero-lt-suc a) D) h)
-
 -- ±a / c ≤ ±b / d ≤ ±p / q
 below-trans : (s t u : Bool) (a c b d p q : ℕ) → 0 < c → 0 < d → 0 < q → Below s (a * d) t (b * c) → Below t (b * q) u (p * d) → Below s (a * q) u (p * c)
 below-trans false false false a c b d p q C D Q h k = through a b p c d q D h k
 below-trans false false true a c b d p q C D Q h k =
-    let b0 : b ≡ 0 = none-of b q Q (le-of-eq (k .0)) in
-    let p0 : p ≡ 0 = none-of p d D (le-of-eq (k .1)) in
-    let a0 : a ≡ 0 = none-of a d D (le-trans h (le-of-eq (ap (λ (z : ℕ). z * c) b0 ∙ zero-mul c))) in
+    let b0 : b ≡ 0 = zero-of b q Q (le-of-eq (k .0)) in
+    let p0 : p ≡ 0 = zero-of p d D (le-of-eq (k .1)) in
+    let a0 : a ≡ 0 = zero-of a d D (le-trans h (le-of-eq (ap (λ (z : ℕ). z * c) b0 ∙ zero-mul c))) in
     (ap (λ (z : ℕ). z * q) a0 ∙ zero-mul q, ap (λ (z : ℕ). z * c) p0 ∙ zero-mul c)
-below-trans false true false a c b d p q C D Q h k = le-trans (le-of-eq (ap (λ (z : ℕ). z * q) (none-of a d D (le-of-eq (h .0))) ∙ zero-mul q)) zero-le
+below-trans false true false a c b d p q C D Q h k = le-trans (le-of-eq (ap (λ (z : ℕ). z * q) (zero-of a d D (le-of-eq (h .0))) ∙ zero-mul q)) zero-le
 below-trans false true true a c b d p q C D Q h k =
-    let p0 : p ≡ 0 = none-of p d D (le-trans k (le-of-eq (ap (λ (z : ℕ). z * q) (none-of b c C (le-of-eq (h .1))) ∙ zero-mul q))) in
-    (ap (λ (z : ℕ). z * q) (none-of a d D (le-of-eq (h .0))) ∙ zero-mul q, ap (λ (z : ℕ). z * c) p0 ∙ zero-mul c)
+    let p0 : p ≡ 0 = zero-of p d D (le-trans k (le-of-eq (ap (λ (z : ℕ). z * q) (zero-of b c C (le-of-eq (h .1))) ∙ zero-mul q))) in
+    (ap (λ (z : ℕ). z * q) (zero-of a d D (le-of-eq (h .0))) ∙ zero-mul q, ap (λ (z : ℕ). z * c) p0 ∙ zero-mul c)
 below-trans true false false a c b d p q C D Q h k = tt
 below-trans true true false a c b d p q C D Q h k = tt
-below-trans true false true a c b d p q C D Q h k = le-trans (le-of-eq (ap (λ (z : ℕ). z * c) (none-of p d D (le-of-eq (k .1))) ∙ zero-mul c)) zero-le
+below-trans true false true a c b d p q C D Q h k = le-trans (le-of-eq (ap (λ (z : ℕ). z * c) (zero-of p d D (le-of-eq (k .1))) ∙ zero-mul c)) zero-le
 below-trans true true true a c b d p q C D Q h k = through p b a q d c D k h
 
 pub float-le-trans : (x y z : Float) → T (le x y) → T (le y z) → T (le x z)

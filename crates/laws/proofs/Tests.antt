@@ -1,8 +1,8 @@
 -- Tests on Bools and whole numbers, and what they say.
 use mathlib.Core.Bool.{Bool, _&&_, _||_, false, false≢true, not, true, true≢false}
 use mathlib.Core.Path.{_≡_, refl}
-use Prim.Native.Nat.{_<_, _≤_, ℕ}
-use native.Mathlib.Nat.{lt-of-not-le, not-le-of-lt}
+use Prim.Native.Nat.{_*_, _<_, _≤_, suc, zero, ℕ}
+use native.Mathlib.Nat.{lt-of-not-le, mul-pos, not-le-of-lt, zero-lt-suc}
 use lib.Dec.{T, eqb, eqb→eq, leb, leb→le, le→leb, ltb, ltb→lt, lt→ltb, not-T}
 use lib.Ieee.Bits.{is-false, is-true}
 use lib.Ieee.Fits.{eq→eqb}
@@ -53,3 +53,8 @@ eqb-yes a b h = is-true (eqb a b) (eq→eqb h)
 
 pub eqb-no : (a b : ℕ) → (a ≡ b → ⊥) → eqb a b ≡ false
 eqb-no a b h = is-false (eqb a b) (not-T (eqb a b) (λ (t : T (eqb a b)). h (eqb→eq a b t)))
+
+-- a product with a number above 0 is 0 only where the other factor is
+pub zero-of : (a d : ℕ) → 0 < d → a * d ≤ 0 → a ≡ 0
+zero-of zero d D h = refl
+zero-of (suc a) d D h = absurd (not-le-of-lt (mul-pos {m = suc a} (zero-lt-suc a) D) h)

@@ -1,4 +1,4 @@
--- A value is written in one way: two floats that fit, with the same sign and the same size, are the same.
+-- A value is written in one way: two floats that fit, with the same sign and the same size, are the same. So a float is the rounding of its own value.
 use mathlib.Core.Bool.{Bool, _&&_, false, true}
 use mathlib.Core.Path.{_∙_, _≡_, ap, refl, subst, sym}
 use Prim.Native.Nat.{_%_, _*_, _+_, _-_, _<_, _^_, _≤_, suc, zero, ℕ}

@@ -1,4 +1,4 @@
--- The value of a sum, a difference and a product is one rounding of the exact one; where it is held, nothing is rounded.
+-- A product, a quotient, a sum and a difference is one rounding of the exact value; where the format holds that, nothing is rounded.
 use mathlib.Core.Bool.{Bool, Bool·beq, _&&_, cond, false, not, true, true≢false}
 use mathlib.Core.Path.{_∙_, _≡_, ap, refl, subst, sym}
 use Prim.Native.Nat.{_%_, _*_, _+_, _-_, _/_, _<_, _^_, _≤_, suc, zero, ℕ}
@@ -18,7 +18,7 @@ use Rattle.laws.proofs.Order.{le-neg, lt-by-values, lt-neg, neg-neg}
 use Rattle.laws.proofs.Tests.{eqb-no, ltb-iff}
 use Rattle.laws.specs.Float.{F64, isFin, zer}
 
--- what fits has fewer than 53 digits
+-- what fits has at most 53 binary digits
 pub fits-small : (s : Bool) (m : ℕ) (e : ℤ) → F64 (fin s m e) → m < 2 ^ 53
 unfolding fits
 fits-small s zero e t = lit< tt
@@ -28,7 +28,7 @@ fits-small s (suc m) e t =
     (and-l (eqb (suc m % 2) 1 && ltb (suc m) (2 ^ 53)) (leb (down e) (2 ^ 1074))
     (and-l (eqb (suc m % 2) 1 && ltb (suc m) (2 ^ 53) && leb (down e) (2 ^ 1074)) (ltb (suc m * up e) (2 ^ 1024 * down e)) t)))
 
--- ---- zero
+-- ---- a rounded fraction: zero, and the sign
 at-zero : (s : Bool) → round binary64 s 0 1 ≡ fin s 0 (pos 0)
 unfolding round
 at-zero s = refl
@@ -36,7 +36,6 @@ at-zero s = refl
 pub round-zero : (s : Bool) (c : ℕ) → 0 < c → round binary64 s 0 c ≡ fin s 0 (pos 0)
 round-zero s c C = round-same binary64 s 0 c 0 1 C (zero-lt-suc 0) (zero-mul 1 ∙ sym (zero-mul c)) ∙ at-zero s
 
--- ---- the sign of a rounded fraction
 neg-units : (q k : ℕ) → neg (units binary64 true q k) ≡ units binary64 false q k
 unfolding units neg
 neg-units q k = go (ltb (q * 2 ^ k) (2 ^ 2098)) q
@@ -52,6 +51,7 @@ neg-round a c = ap neg (round-is binary64 true a c) ∙ neg-units _ _ ∙ sym (r
 pub round-neg : (a c : ℕ) → round binary64 true a c ≡ neg (round binary64 false a c)
 round-neg a c = sym (neg-neg (round binary64 true a c)) ∙ ap neg (neg-round a c)
 
+-- ---- products and quotients
 pub unlike-plus : (s : Bool) → unlike s false ≡ s
 unlike-plus true = refl
 unlike-plus false = refl
@@ -114,6 +114,7 @@ float-mul-comm (fin s m e) (fin t n d) =
     ∙ ap (λ (z : ℕ). round binary64 (unlike t s) z (down e * down d)) (mul-comm (m * up e) (n * up d))
     ∙ ap (λ (z : ℕ). round binary64 (unlike t s) (n * up d * (m * up e)) z) (mul-comm (down e) (down d))
 
+-- ---- sums and differences
 scale-le : (A B C A' B' C' : ℕ) → 0 < C → A * C' ≡ A' * C → B * C' ≡ B' * C → A ≤ B → A' ≤ B'
 scale-le A B C A' B' C' H p q h = le-of-mul-le-mul-right (le-trans (le-of-eq (sym p)) (le-trans (mul-le-mul-right C' h) (le-of-eq q))) H
 
@@ -165,7 +166,7 @@ neg-value nan s a c p = absurd p
 neg-value (inf u) s a c p = absurd p
 neg-value (fin u m e) s a c p = (ap not (p .0), p .1)
 
--- the order of two negative values
+-- so two negative values compare as their sizes do, turned round
 pub lt-by-minus : (x y : Float) (a c b d : ℕ) → 0 < c → 0 < d → HasValue x true a c → HasValue y true b d → lt x y ≡ ltb (b * c) (a * d)
 lt-by-minus x y a c b d C D p q = sym (lt-neg x y) ∙ lt-by-values (neg y) (neg x) b d a c D C (neg-value y true b d q) (neg-value x true a c p)
 
@@ -177,7 +178,7 @@ pub sub-round : (x y : Float) (s t : Bool) (a c b d : ℕ) → 0 < c → 0 < d �
 unfolding sub
 sub-round x y s t a c b d C D p q = add-round x (neg y) s (not t) a c b d C D p (neg-value y t b d q)
 
--- ---- a sum of two signs
+-- a sum of two signs
 pub sum-pos-neg : (a b c : ℕ) → b ≤ a → sum binary64 false a true b c ≡ round binary64 false (a - b) c
 unfolding sum
 sum-pos-neg a b c h = go (ltb a b) (ltb→lt a b)
@@ -215,7 +216,7 @@ sum-neg-neg a b c h = go (ltb a b) (ltb b a) (ltb→lt a b) (lt→ltb b a h)
     go false true f g = refl
     go false false f g = absurd g
 
--- from one fraction to another of the same size
+-- ---- values: from one fraction to another of the same size
 pub rescale : (x : Float) (s : Bool) (w l a c : ℕ) → 0 < l → a * l ≡ w * c → HasValue x s w l → HasValue x s a c
 rescale nan s w l a c p h v = v
 rescale (inf t) s w l a c p h v = v
@@ -242,6 +243,7 @@ exact-at s q i h k =
     back : (i : ℕ) → i ≤ 1074 → 1074 ≡ 1074 - i + i
     back i k = omega arith
 
+-- a whole number up to 2 ^ 53 is held
 pub ofInt-val : (n : ℕ) → n ≤ 2 ^ 53 → HasValue (ofInt binary64 (pos n)) false n 1
 unfolding ofInt
 ofInt-val n h = round-whole binary64 false n h

@@ -33,10 +33,10 @@ twice-exact k h =
     (exact-at false k 52 h (lit≤ tt))
   where
     same : (k : ℕ) → round binary64 false (k * 2) 9007199254740992 ≡ round binary64 false k 4503599627370496
-    same k = round-same binary64 false (k * 2) 9007199254740992 k 4503599627370496 (lit< tt) (lit< tt) (eq k)
+    same k = round-same binary64 false (k * 2) 9007199254740992 k 4503599627370496 (lit< tt) (lit< tt) (twice k)
       where
-        eq : (k : ℕ) → k * 2 * 4503599627370496 ≡ k * 9007199254740992
-        eq k = omega arith
+        twice : (k : ℕ) → k * 2 * 4503599627370496 ≡ k * 9007199254740992
+        twice k = omega arith
 
 less-one : (k : ℕ) → k < 2 ^ 53 → bipolarOf k ≡ sum binary64 false (k * 1) true (1 * 4503599627370496) 4503599627370496
 unfolding bipolarOf drawOf ofBits

@@ -2,17 +2,17 @@
 use mathlib.Core.Bool.{Bool, _||_, cond, false, not, true}
 use mathlib.Core.Path.{_∙_, _≡_, ap, refl, subst, sym}
 use Prim.Native.Nat.{_%_, _*_, _+_, _-_, _/_, _<_, _^_, _≤_, suc, ℕ}
-use native.Mathlib.Nat.{le-mul-of-pos-right, le-trans, lt-of-le-of-lt, lt-of-lt-of-le, mod-eq-of-lt, mul-div-cancel, mul-mod-left, mul-one, one-mul, zero-lt-suc}
+use native.Mathlib.Nat.{le-trans, mod-eq-of-lt, mul-div-cancel, mul-mod-left, mul-one, zero-lt-suc}
 use native.Mathlib.Omega.{arith}
-use lib.Dec.{T, leb, leb→le, le→leb, lit<, lit≤, ltb, lt→ltb, nleb→lt}
-use lib.Ieee.{Float, add, binary64, eq, fin, fits, inf, isNan, le, lt, minus, mul, neg, odd, ofBits, ofFields, ofInt, round, size, sub, sum, toBits}
+use lib.Dec.{T, leb, leb→le, lit<, lit≤, nleb→lt}
+use lib.Ieee.{Float, add, binary64, eq, fin, inf, isNan, le, lt, minus, mul, neg, odd, ofBits, ofFields, ofInt, round, size, sub, sum, toBits}
 use lib.Ieee.Back.{round-whole}
 use lib.Ieee.Bits.{is-true, ofBits-fits, toBits-ofBits}
 use lib.Ieee.Exact.{HasValue, odd-sign}
-use lib.Ieee.Fits.{add-fits, and-i}
+use lib.Ieee.Fits.{add-fits}
 use lib.Ieee.Order.{le-of-values}
 use lib.IntN.{negsuc, pos, ℤ}
-use lib.Pow.{pow-lt, pow-mono, pow-pos}
+use lib.Pow.{pow-pos}
 use Rattle.laws.proofs.Number.{fin-number, lt-number, value-finite}
 use Rattle.laws.proofs.Order.{float-le-trans, le-false, le-neg, le-of-lt-false, lt-by-values, lt-false, lt-not-ge, neg-lt-nonneg, neg-lt-pos, neg-neg}
 use Rattle.laws.proofs.Tests.{eqb-no, leb-no, leb-yes}
@@ -83,21 +83,12 @@ bits-down k h = ap (λ (z : ℕ). ofBits binary64 (z * 4503599627370496)) (same 
     less : (k : ℕ) → suc k ≤ 1022 → k ≤ 1021
     less k h = omega arith
 
-exp-zero : expPart zer ≡ one
-unfolding expPart sixOf ofBits add mul
-exp-zero = refl
+-- so these powers are f64s
+fits-up : (n : ℕ) → n ≤ 1023 → F64 (fin false 1 (pos n))
+fits-up n h = subst (λ (x : Float). F64 x) (bits-up n h) (ofBits-fits binary64 ((1023 + n) * 4503599627370496))
 
--- ---- 1 * 2 ^ z
-fits-pow-up : (n : ℕ) → n ≤ 1023 → T (fits binary64 (fin false 1 (pos n)))
-unfolding fits
-fits-pow-up n h = lt→ltb (1 * 2 ^ n) (2 ^ 1024 * 1) (subst (λ (z : ℕ). z < 2 ^ 1024) (sym (one-mul (2 ^ n))) (pow-lt {j = 1024} (lt-of-le-of-lt h (lit< tt))))
-
-fits-pow-down : (k : ℕ) → suc k ≤ 1022 → T (fits binary64 (fin false 1 (negsuc k)))
-unfolding fits
-fits-pow-down k h = and-i (leb (2 ^ suc k) (2 ^ 1074)) (ltb 1 (2 ^ 1024 * 2 ^ suc k)) (le→leb (2 ^ suc k) (2 ^ 1074) (pow-mono {j = 1074} (le-trans h (lit≤ tt)))) (lt→ltb 1 (2 ^ 1024 * 2 ^ suc k) (big (2 ^ suc k) (pow-pos (suc k))))
-  where
-    big : (p : ℕ) → 0 < p → 1 < 2 ^ 1024 * p
-    big p h = lt-of-lt-of-le (lit< {m = 1} {n = 2 ^ 1024} tt) (le-mul-of-pos-right (2 ^ 1024) h)
+fits-down : (k : ℕ) → suc k ≤ 1022 → F64 (fin false 1 (negsuc k))
+fits-down k h = subst (λ (x : Float). F64 x) (bits-down k h) (ofBits-fits binary64 ((1023 - suc k) * 4503599627370496))
 
 -- ---- the bits of a whole number from 2 ^ 52 to below 2 ^ 53
 whole-pattern : (j : ℕ) → j < 4503599627370496 → HasValue (ofBits binary64 (4841369599423283200 + j)) false (4503599627370496 + j) 1
@@ -118,7 +109,7 @@ whole-pattern j h =
     digits : (j : ℕ) → j < 4503599627370496 → (4841369599423283200 + j) % 4503599627370496 ≡ j
     digits j h = omega arith
 
-whole-bits : (t : Float) (j : ℕ) → j < 4503599627370496 → T (fits binary64 t) → HasValue t false (4503599627370496 + j) 1 → toBits binary64 t ≡ 4841369599423283200 + j
+whole-bits : (t : Float) (j : ℕ) → j < 4503599627370496 → F64 t → HasValue t false (4503599627370496 + j) 1 → toBits binary64 t ≡ 4841369599423283200 + j
 whole-bits t j h f v =
     ap (toBits binary64) (value-unique t (ofBits binary64 (4841369599423283200 + j)) false (4503599627370496 + j) 1 (zero-lt-suc 0) f (ofBits-fits binary64 (4841369599423283200 + j)) v (whole-pattern j h))
     ∙ toBits-ofBits binary64 (4841369599423283200 + j) (low j h) (fin-number (ofBits binary64 (4841369599423283200 + j)) (value-finite (ofBits binary64 (4841369599423283200 + j)) false (4503599627370496 + j) 1 (whole-pattern j h)))
@@ -126,7 +117,7 @@ whole-bits t j h f v =
     low : (j : ℕ) → j < 4503599627370496 → 4841369599423283200 + j < 18446744073709551616
     low j h = omega arith
 
--- ---- 2 ^ w
+-- ---- a whole x, and its sum with the bias
 val-up : (n : ℕ) → n ≤ 1023 → HasValue (ofInt binary64 (pos n)) false n 1
 val-up n h = ofInt-val n (le-trans h (lit≤ tt))
 
@@ -138,7 +129,6 @@ neg-int : (k : ℕ) → neg (ofInt binary64 (negsuc k)) ≡ ofInt binary64 (pos 
 unfolding ofInt
 neg-int k = neg-round (suc k) 1
 
--- the sum with 1.5 * 2 ^ 52 + 1023
 sum-up : (n : ℕ) → n ≤ 1023 → HasValue (add binary64 (ofInt binary64 (pos n)) biased) false (n + 6755399441056767) 1
 unfolding ofBits
 sum-up n h =
@@ -165,7 +155,7 @@ sum-down k h =
     room : (k : ℕ) → 6755399441056767 - suc k ≤ 9007199254740992
     room k = omega arith
 
--- less it again is x
+-- less the bias again is x
 back-up : (n : ℕ) → n ≤ 1023 → sub binary64 (add binary64 (ofInt binary64 (pos n)) biased) biased ≡ ofInt binary64 (pos n)
 unfolding ofBits ofInt
 back-up n h =
@@ -226,13 +216,18 @@ scale-down k h = scale-at (add binary64 (ofInt binary64 (negsuc k)) biased) (102
     same : (k : ℕ) → suc k ≤ 1022 → 6755399441056767 - suc k ≡ 6755399441055744 + (1023 - suc k)
     same k h = omega arith
 
+-- the rest is 0
+exp-zero : expPart zer ≡ one
+unfolding expPart sixOf ofBits add mul
+exp-zero = refl
+
 mid-up : (n : ℕ) → n ≤ 1023 → midOf (ofInt binary64 (pos n)) ≡ fin false 1 (pos n)
 unfolding midOf scaledOf
-mid-up n h = simp (back-up n h, sub-self-zero (ofInt binary64 (pos n)) (value-finite (ofInt binary64 (pos n)) false n 1 (val-up n h)), exp-zero, scale-up n h, one-times (fin false 1 (pos n)) (fits-pow-up n h))
+mid-up n h = simp (back-up n h, sub-self-zero (ofInt binary64 (pos n)) (value-finite (ofInt binary64 (pos n)) false n 1 (val-up n h)), exp-zero, scale-up n h, one-times (fin false 1 (pos n)) (fits-up n h))
 
 mid-down : (k : ℕ) → suc k ≤ 1022 → midOf (ofInt binary64 (negsuc k)) ≡ fin false 1 (negsuc k)
 unfolding midOf scaledOf
-mid-down k h = simp (back-down k h, sub-self-zero (ofInt binary64 (negsuc k)) (value-finite (ofInt binary64 (negsuc k)) true (suc k) 1 (val-down k h)), exp-zero, scale-down k h, one-times (fin false 1 (negsuc k)) (fits-pow-down k h))
+mid-down k h = simp (back-down k h, sub-self-zero (ofInt binary64 (negsuc k)) (value-finite (ofInt binary64 (negsuc k)) true (suc k) 1 (val-down k h)), exp-zero, scale-down k h, one-times (fin false 1 (negsuc k)) (fits-down k h))
 
 -- ---- 2 ^ x at whole x
 abbrev c1024 : Float

@@ -2,15 +2,16 @@
 use mathlib.Core.Bool.{Bool, cond, false, not, true}
 use mathlib.Core.Path.{_∙_, _≡_, ap, refl, subst, sym}
 use Prim.Native.Nat.{_*_, _+_, _-_, _<_, _≤_, suc, zero, ℕ}
-use native.Mathlib.Nat.{add-mul, le-of-eq, le-trans, mul-one, not-suc-le-zero, suc-le-suc-iff, zero-mul}
+use native.Mathlib.Nat.{add-mul, le-antisymm, le-of-eq, le-trans, mul-one, not-suc-le-zero, suc-le-suc-iff}
 use native.Mathlib.Omega.{arith}
-use lib.Dec.{T, leb, leb→le, lit<, lit≤, ltb→lt, nleb→lt}
+use lib.Dec.{T, lit<, lit≤, ltb, ltb→lt}
 use lib.Ieee.{Float, add, binary64, down, eq, fin, inf, isNan, le, lt, mul, nan, neg, ofBits, round, sub, sum, up}
 use lib.Ieee.Back.{round-whole}
 use lib.Ieee.Exact.{HasValue}
 use lib.Ieee.Fits.{add-fits, down-pos}
 use lib.Ieee.Positive.{positive}
 use lib.IntN.{pos, ℤ}
+use borrow.Author.Tests.{ltb-false, ltb-true}
 use Rattle.laws.proofs.Interval.{Within, unit-within, within-add, within-finite, within-mul, within-sub, within-sum, within-wider}
 use Rattle.laws.proofs.Monotone.{round-le}
 use Rattle.laws.proofs.Near.{near-least, near-most, whole-round}
@@ -112,7 +113,7 @@ split-down m e h =
       f .0,
       f .1,
       subst (λ (z : ℕ). HasValue (add binary64 (fin true m e) biased) false z 1) (f .2) t,
-      rest (add binary64 (fin true m e) biased) N t top (w .3) (g .0) (g .1) (leb 6755399441056767 N) (leb→le 6755399441056767 N) (nleb→lt 6755399441056767 N),
+      rest (add binary64 (fin true m e) biased) N t top (g .0) (g .1) (ltb N 6755399441056767) refl,
     )
   where
     range : (n d : ℕ) → 0 < d → n * 1 ≤ 1022 * d → (4503599627370496 * d ≤ 6755399441056767 * d - n) × (6755399441056767 * d - n < 9007199254740992 * d) × (6755399441055745 * d ≤ 6755399441056767 * d - n) × (6755399441056767 * d - n ≤ 6755399441056767 * d) × (n * 1 ≤ 6755399441056767 * d)
@@ -130,29 +131,21 @@ split-down m e h =
     near : (n d x y : ℕ) → n * 1 ≤ 6755399441056767 * d → 6755399441056767 * d ≡ y + x → x * 2 ≤ (6755399441056767 * d - n) * 2 + d → (6755399441056767 * d - n) * 2 ≤ x * 2 + d → (n * 1 ≤ y + d * 1) × (y ≤ n * 1 + d * 1)
     near n d x y c e h k = (omega arith, omega arith)
 
-    -- the nearest whole number is below 0, or it is 0
-    rest : (t : Float) (N : ℕ) → HasValue t false N 1 → N ≤ 6755399441056767 → N ≤ 9007199254740992 → m * up e * 1 ≤ (6755399441056767 - N) * down e + down e * 1 → (6755399441056767 - N) * down e ≤ m * up e * 1 + down e * 1
-        → (b : Bool) → (T b → 6755399441056767 ≤ N) → (T (not b) → N < 6755399441056767) → Within 0 (sub binary64 (fin true m e) (sub binary64 t biased))
-    rest t N v top cap h k true f g =
-        subst (Within 0) (sym (sub-round (fin true m e) (sub binary64 t biased) true false (m * up e) (down e) (N - 6755399441056767) 1 (down-pos e) (lit< tt) (refl, refl) (over-bias t N v (f tt) cap)))
-        (within-sum 0 true true (m * up e * 1) ((N - 6755399441056767) * down e) (down e * 1) (lit≤ tt) (subst (λ (z : ℕ). 0 < z) (sym (mul-one (down e))) (down-pos e))
-        (small (m * up e) (down e) ((6755399441056767 - N) * down e) ((N - 6755399441056767) * down e) (nil N (f tt) (down e)) (nil' N top (down e)) h))
+    -- the nearest whole number is 0, or it is below 0
+    at-zero : (t : Float) → HasValue t false 6755399441056767 1 → m * up e * 1 ≤ 0 * down e + down e * 1 → Within 0 (sub binary64 (fin true m e) (sub binary64 t biased))
+    at-zero t v h =
+        subst (Within 0) (sym (sub-round (fin true m e) (sub binary64 t biased) true false (m * up e) (down e) 0 1 (down-pos e) (lit< tt) (refl, refl) (over-bias t 6755399441056767 v (lit≤ tt) (lit≤ tt))))
+        (within-sum 0 true true (m * up e * 1) (0 * down e) (down e * 1) (lit≤ tt) (subst (λ (z : ℕ). 0 < z) (sym (mul-one (down e))) (down-pos e)) (small (m * up e) (down e) h))
       where
-        nil : (N : ℕ) → 6755399441056767 ≤ N → (d : ℕ) → (6755399441056767 - N) * d ≡ 0
-        nil N h d = ap (λ (z : ℕ). z * d) (none N h) ∙ zero-mul d
-          where
-            none : (N : ℕ) → 6755399441056767 ≤ N → 6755399441056767 - N ≡ 0
-            none N h = omega arith
+        small : (n d : ℕ) → n * 1 ≤ 0 * d + d * 1 → n * 1 + 0 * d ≤ 1 * (d * 1)
+        small n d h = omega arith
 
-        nil' : (N : ℕ) → N ≤ 6755399441056767 → (d : ℕ) → (N - 6755399441056767) * d ≡ 0
-        nil' N h d = ap (λ (z : ℕ). z * d) (none N h) ∙ zero-mul d
-          where
-            none : (N : ℕ) → N ≤ 6755399441056767 → N - 6755399441056767 ≡ 0
-            none N h = omega arith
-
-        small : (n d x y : ℕ) → x ≡ 0 → y ≡ 0 → n * 1 ≤ x + d * 1 → n * 1 + y ≤ 1 * (d * 1)
-        small n d x y p q h = omega arith
-    rest t N v top cap h k false f g = within-sub true (fin true m e) (sub binary64 t biased) (m * up e) (down e) (6755399441056767 - N) 1 (down-pos e) (lit< tt) (refl, refl) (under-bias t N v (g tt)) h k
+    rest : (t : Float) (N : ℕ) → HasValue t false N 1 → N ≤ 6755399441056767 → m * up e * 1 ≤ (6755399441056767 - N) * down e + down e * 1 → (6755399441056767 - N) * down e ≤ m * up e * 1 + down e * 1
+        → (b : Bool) → ltb N 6755399441056767 ≡ b → Within 0 (sub binary64 (fin true m e) (sub binary64 t biased))
+    rest t N v top h k true q = within-sub true (fin true m e) (sub binary64 t biased) (m * up e) (down e) (6755399441056767 - N) 1 (down-pos e) (lit< tt) (refl, refl) (under-bias t N v (ltb-true N 6755399441056767 q)) h k
+    rest t N v top h k false q =
+        let z : N ≡ 6755399441056767 = le-antisymm top (ltb-false N 6755399441056767 q) in
+        at-zero t (subst (λ (n : ℕ). HasValue t false n 1) z v) (subst (λ (n : ℕ). m * up e * 1 ≤ (6755399441056767 - n) * down e + down e * 1) z h)
 
 split : (x : Float) → T (le (neg (ofBits binary64 0x408ff00000000000)) x) → T (le x (ofBits binary64 0x408ff80000000000)) → Split x
 split nan l h = absurd (unfold le lt eq in h)

@@ -1,9 +1,9 @@
--- Where clamp, min, max and the casts land.
+-- Where clamp, min, max and the casts land, and the casts that oscillators make: of a clamped period, of a rate over 20, of a phase over 256 cells, of a share of n.
 use mathlib.Core.Bool.{Bool, cond, false, not, true, true≢false}
 use mathlib.Core.Logic.{_⊎_, inl, inr}
 use mathlib.Core.Path.{_∙_, _≡_, ap, refl, subst, sym}
 use Prim.Native.Nat.{_%_, _*_, _+_, _-_, _/_, _<_, _^_, _≤_, min, suc, zero, zero-le, ℕ}
-use native.Mathlib.Nat.{div-add-mod', div-lt-iff-lt-mul, div-one, le-of-eq, le-refl, le-trans, lt-of-le-of-lt, min-le-left, min-le-right, mul-le-mul-right, mul-one, mul-pos, not-le-of-lt, not-suc-le-zero, one-mul, suc-le-suc-iff, zero-lt-suc}
+use native.Mathlib.Nat.{div-add-mod', div-lt-iff-lt-mul, div-one, le-of-eq, le-refl, le-trans, lt-of-le-of-lt, min-le-left, min-le-right, mul-le-mul-right, mul-one, not-suc-le-zero, suc-le-suc-iff, zero-div}
 use native.Mathlib.Omega.{arith}
 use lib.Dec.{T, eqb, eqb→eq, le→leb, lit<, lit≤, ltb→lt}
 use lib.Ieee.{Float, binary64, div, down, eq, fin, inFloat, inf, isNan, le, lt, mul, nan, ofBits, ofInt, round, sub, toUnsigned, up}
@@ -20,8 +20,9 @@ use Rattle.laws.proofs.Interval.{below-one}
 use Rattle.laws.proofs.Monotone.{div-le, mul-le}
 use Rattle.laws.proofs.Number.{div-number, is-nan, le-numbers}
 use Rattle.laws.proofs.Order.{float-le-refl, le-below, le-of-lt-false, le-of-lt-true, lt-by-values, lt-nan, nan-lt}
-use Rattle.laws.proofs.Tests.{of-false}
-use Rattle.laws.proofs.Values.{mul-round, ofInt-val, sub-round, sum-pos-neg}
+use Rattle.laws.proofs.Tests.{of-false, zero-of}
+use Rattle.laws.proofs.Unique.{one-times}
+use Rattle.laws.proofs.Values.{ofInt-val, sub-round, sum-pos-neg}
 use Rattle.laws.specs.Float.{F64, one, two, zer}
 use Rattle.numeric.specs.Basic.{clampOf, maxOf, minOf, realOf, wholeOf}
 use Rattle.numeric.specs.Floor.{floorOf}
@@ -109,11 +110,8 @@ whole-monotone (fin true m e) y h = zero-le
 whole-monotone (fin false m e) nan h = absurd (unfold le lt eq in h)
 whole-monotone (fin false m e) (inf true) h = absurd (unfold le lt eq in h)
 whole-monotone (fin false m e) (inf false) h = min-le-right (m * up e / down e) 18446744073709551615
-whole-monotone (fin false m e) (fin true n d) h = le-trans (min-le-left (m * up e / down e) 18446744073709551615) (div-mono (m * up e) (down e) 0 1 (down-pos e) (lit< tt) (none (m * up e) (down d) (down e) (down-pos d) (le-below false true m n e d h .0)))
-  where
-    none : (a d c : ℕ) → 0 < d → a * d ≡ 0 → a * 1 ≤ 0 * c
-    none zero d c D k = zero-le
-    none (suc a) d c D k = absurd (not-le-of-lt (mul-pos {m = suc a} (zero-lt-suc a) D) (le-of-eq k))
+whole-monotone (fin false m e) (fin true n d) h =
+    le-trans (min-le-left (m * up e / down e) 18446744073709551615) (le-of-eq (ap (λ (z : ℕ). z / down e) (zero-of (m * up e) (down d) (down-pos d) (le-of-eq (le-below false true m n e d h .0))) ∙ zero-div (down e)))
 whole-monotone (fin false m e) (fin false n d) h = min-mono (m * up e / down e) (n * up d / down d) 18446744073709551615 (div-mono (m * up e) (down e) (n * up d) (down d) (down-pos e) (down-pos d) (le-below false false m n e d h))
 
 pub whole-top : Whole-top
@@ -214,7 +212,7 @@ rate-whole x l h = (
     most : wholeOf (div binary64 highest twenty) ≡ 9600
     most = unfold div ofBits toUnsigned in refl
 
--- and what it is divided by a number is a number
+-- and such a rate over a number is a number
 pub rate-number : (x y : Float) → T (le lowest x) → T (le x highest) → T (not (isNan y)) → T (not (isNan (div binary64 x y)))
 rate-number x y l h q = div-number x y (between lowest x highest (unfold ofBits in tt) (unfold ofBits in tt) l h) q
 
@@ -237,7 +235,7 @@ pub unit-whole : (x : Float) (n : ℕ) → 0 < n → n ≤ 2 ^ 53 → wholeOf (m
 unit-whole x n p h = go (isNan x) refl
   where
     times : mul binary64 one (realOf n) ≡ realOf n
-    times = mul-round one (realOf n) false false 1 1 n 1 (lit< tt) (lit< tt) (unfold ofBits in (refl, refl)) (ofInt-val n h) ∙ unfold ofInt in ap (λ (z : ℕ). round binary64 false z 1) (one-mul n)
+    times = one-times (realOf n) (ofInt-fits binary64 (pos n))
 
     unit : T (le zer one)
     unit = unfold le lt eq ofBits in tt
