@@ -1,3 +1,4 @@
 pub mod Consts
 pub mod Waves
 pub mod Lfo
+pub mod Small

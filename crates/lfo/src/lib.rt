@@ -7,13 +7,15 @@ use common::Hertz;
 use common::Memo1;
 use common::Turns;
 ghost use mathlib.Core.Path.{_≡_};
-ghost use mathlib.Core.Bool.{cond, _||_};
+ghost use mathlib.Core.Bool.{true, false, cond, _||_};
 ghost use lib.Ieee.{binary64, div};
 ghost use Rattle.laws.specs.Float.{zer};
 ghost use Rattle.common.specs.Phase.{turns};
 ghost use Rattle.common.specs.Memo.{recall1};
+ghost use Rattle.answer.specs.Mark.{allFinite, markOf};
 ghost use Rattle.lfo.specs.Waves.{rateToHz, restartOf, sineOf, sinWave, triWave, sawWave, sqrWave, sinUniWave};
-ghost use Rattle.lfo.specs.Lfo.{lfoRefusalOf, lfoNewOf, lfoSoundOf, lfoTickOf, lfoResetOf, lfoSetSampleRateOf};
+ghost use Rattle.lfo.specs.Small.{isSmall};
+ghost use Rattle.lfo.specs.Lfo.{lfoRefusalOf, lfoNewOf, lfoOutputsOf, lfoSoundOf, lfoTickOf, lfoResetOf, lfoSetSampleRateOf};
 
 pub struct Lfo {
     pub phase: Turns,
@@ -38,6 +40,17 @@ pub enum LfoMade {
     Made(Lfo),
     Refused(u32),
 }
+
+// Bits of `wanted`, in port order.
+const WANT_SIN: u32 = 1 << 0;
+
+const WANT_TRI: u32 = 1 << 1;
+
+const WANT_SAW: u32 = 1 << 2;
+
+const WANT_SQR: u32 = 1 << 3;
+
+const WANT_SIN_UNI: u32 = 1 << 4;
 
 // A rate from 0 to 1 as 0.01 Hz to 30 Hz. The clamp lets a NaN pass.
 fn rate_to_hz(rate: f64) -> Hertz
@@ -128,6 +141,41 @@ fn sin_uni(want: bool, sine: f64, depth: f64) -> f64
     }
 }
 
+// The outputs, each where it is wanted; sin and sin_uni share one sine.
+fn outputs(wanted: u32, phase: Turns, depth: f64) -> Volts
+    ensures { λ r. ⌜ r ≡ lfoOutputsOf wanted (phase .0) depth ⌝ }
+{
+    let scale = 5.0 * depth;
+    let want_sin = wanted & WANT_SIN != 0;
+    let want_uni = wanted & WANT_SIN_UNI != 0;
+    let shared = sine(either(want_sin, want_uni), phase);
+    Volts {
+        p10: sin(want_sin, shared, scale),
+        p11: tri(wanted & WANT_TRI != 0, phase, scale),
+        p12: saw(wanted & WANT_SAW != 0, phase, scale),
+        p13: sqr(wanted & WANT_SQR != 0, phase, scale),
+        p14: sin_uni(want_uni, shared, depth),
+    }
+}
+
+fn is_small(depth: f64) -> bool
+    ensures { λ r. ⌜ r ≡ isSmall depth ⌝ }
+{
+    depth <= 1073741824.0 && depth >= -1073741824.0
+}
+
+// The mark. A small depth makes no output that isn't finite, which spares the test of each.
+fn mark(v: Volts, small: bool, phases: bool) -> Answer
+    requires { ⌜ (small ≡ true → allFinite v ≡ true) ⌝ }
+    ensures { λ r. ⌜ r ≡ markOf v false true phases ⌝ }
+{
+    if small && phases {
+        Answer::Clean(v)
+    } else {
+        answer::mark(v, false, true, phases)
+    }
+}
+
 // What the phase grows by in a tick.
 fn increment(freq: Hertz, sample_rate: Hertz) -> Turns
     ensures { λ r. ⌜ r ≡ turns (div binary64 (freq .0) («sample_rate» .0)) ⌝ }
@@ -136,17 +184,6 @@ fn increment(freq: Hertz, sample_rate: Hertz) -> Turns
 }
 
 impl Lfo {
-    // Bits of `wanted`, in port order.
-    const WANT_SIN: u32 = 1 << 0;
-
-    const WANT_TRI: u32 = 1 << 1;
-
-    const WANT_SAW: u32 = 1 << 2;
-
-    const WANT_SQR: u32 = 1 << 3;
-
-    const WANT_SIN_UNI: u32 = 1 << 4;
-
     // 0, or the number that refuses this state: 1 its rate, 2 its phase.
     fn refusal(self) -> u32
         ensures { λ r. ⌜ r ≡ lfoRefusalOf self ⌝ }
@@ -177,6 +214,7 @@ impl Lfo {
 
     // An accepted tick: the Rust's tick_wanted.
     fn sound(self, c: LfoControls, wanted: u32) -> LfoTicked
+        requires { ⌜ lfoRefusalOf self ≡ 0 ⌝ }
         ensures { λ r. ⌜ r ≡ lfoSoundOf self c wanted ⌝ }
     {
         let old = self.phase;
@@ -189,20 +227,10 @@ impl Lfo {
         let risen = edge.rising(c.reset);
         let reset_edge = risen.edge;
         let phase = restart(old, risen.rising);
-        let scale = 5.0 * depth;
-        let want_sin = wanted & Self::WANT_SIN != 0;
-        let want_uni = wanted & Self::WANT_SIN_UNI != 0;
-        let shared = sine(either(want_sin, want_uni), phase);
-        let volts = Volts {
-            p10: sin(want_sin, shared, scale),
-            p11: tri(wanted & Self::WANT_TRI != 0, phase, scale),
-            p12: saw(wanted & Self::WANT_SAW != 0, phase, scale),
-            p13: sqr(wanted & Self::WANT_SQR != 0, phase, scale),
-            p14: sin_uni(want_uni, shared, depth),
-        };
+        let volts = outputs(wanted, phase, depth);
         let next = Turns(phase.0 + increment(freq, sample_rate).0);
         LfoTicked {
-            answer: answer::mark(volts, false, true, numeric::is_finite(next.0)),
+            answer: mark(volts, is_small(depth), numeric::is_finite(next.0)),
             lfo: Lfo {
                 phase: common::wrap_phase(next),
                 sample_rate,
