@@ -1,19 +1,19 @@
 -- Bounds on a float's size, kept through rounded sums and products: so a result is seen to be finite without computing it.
-use mathlib.Core.Bool.{Bool, true, false, cond, not, _&&_, _||_, Bool·beq, true≢false}
+use mathlib.Core.Bool.{Bool, _&&_, true, false, cond, true≢false, _||_, Bool·beq}
 use mathlib.Core.Path.{_≡_, refl, sym, ap, _∙_, subst}
-use Prim.Native.Nat.{ℕ, _+_, _-_, _*_, _^_, _≤_, _<_}
-use native.Mathlib.Nat.{le-trans, le-of-eq, mul-one, mul-pos, mul-le-mul-left, mul-le-mul-right, mul-mul-mul-comm, mul-right-comm, zero-lt-suc}
+use Prim.Native.Nat.{ℕ, _+_, _≤_, _-_, _<_, _^_, _*_}
+use native.Mathlib.Nat.{le-trans, le-of-eq, mul-one, mul-pos, mul-le-mul-right, mul-le-mul-left, zero-lt-suc, mul-mul-mul-comm}
 use native.Mathlib.Omega.{arith}
-use lib.Dec.{T, eqb, ltb, eqb→eq, lit≤}
-use lib.IntN.{ℤ, pos}
-use lib.Ieee.{Float, nan, inf, fin, binary64, up, down, unlike, round, sum, add, sub, mul, neg, lt, le, eq}
+use lib.Dec.{T, ltb, eqb, eqb→eq}
+use lib.Ieee.{Float, binary64, lt, le, mul, round, nan, inf, fin, eq, sub, add, neg, up, down, sum, unlike}
 use lib.Ieee.Back.{round-whole}
 use lib.Ieee.Exact.{HasValue}
 use lib.Ieee.Fits.{down-pos, and-l}
 use lib.Ieee.Order.{round-mono, le-of-values}
-use Rattle.laws.specs.Float.{isFin}
-use Rattle.laws.proofs.Order.{values-le, neg-lt-nonneg, neg-lt-pos, le-neg, neg-neg}
+use lib.IntN.{pos, ℤ}
+use Rattle.laws.proofs.Order.{neg-lt-nonneg, neg-lt-pos, neg-neg, le-neg, values-le}
 use Rattle.laws.proofs.Values.{round-zero, neg-round}
+use Rattle.laws.specs.Float.{isFin}
 use Rattle.numeric.specs.Basic.{fabsOf}
 
 -- |x| is at most the whole number n

@@ -1,26 +1,25 @@
 -- A small depth makes no output that isn't finite: each is a product of numbers that are bounded.
-use mathlib.Core.Bool.{Bool, true, false, cond, _&&_}
+use mathlib.Core.Bool.{Bool, _&&_, true, false, cond}
 use mathlib.Core.Path.{_≡_, refl}
-use Prim.Native.Nat.{ℕ, _≤_, _*_, _+_}
-use native.Mathlib.Nat.{le-trans, mul-le-mul-right}
-use lib.Dec.{T, lit≤}
-use lib.Ieee.{Float, nan, inf, fin, binary64, up, down, add, sub, mul, neg, lt, le, ofBits}
+use Prim.Native.Nat.{ℕ}
+use lib.Dec.{lit≤}
+use lib.Ieee.{Float, binary64, lt, le, mul, ofBits, sub, add, neg}
 use lib.Ieee.Bits.{is-true}
 use lib.Ieee.Fits.{and-l, and-r}
-use Rattle.laws.specs.Float.{zer, one, two, isFin, InUnit}
-use Rattle.laws.proofs.Tests.{of-true}
-use Rattle.numeric.specs.Basic.{fabsOf}
-use Rattle.numeric.specs.Trig.{sinOf}
-use Rattle.numeric.proofs.TrigLaws.{sin-inside}
+use Rattle.answer.specs.Mark.{allFinite}
 use Rattle.common.specs.Consts.{four, five, half, tau}
 use Rattle.common.specs.Phase.{turns}
 use Rattle.common.specs.Tests.{phaseOk}
-use Rattle.answer.specs.Mark.{allFinite}
+use Rattle.laws.proofs.Tests.{of-true}
+use Rattle.laws.specs.Float.{zer, one, two, isFin}
+use Rattle.numeric.proofs.TrigLaws.{sin-inside}
+use Rattle.numeric.specs.Basic.{fabsOf}
+use Rattle.numeric.specs.Trig.{sinOf}
+use Rattle.lfo.proofs.Magnitude.{AtMost, finite, at-most-more, at-most-neg, at-most-fabs, between, upto, lt-le, inside, at-most-mul, at-most-add, at-most-sub}
 use Rattle.lfo.specs.Consts.{ten}
 use Rattle.lfo.specs.Lfo.{lfoOutputsOf}
 use Rattle.lfo.specs.Small.{most, isSmall}
 use Rattle.lfo.specs.Waves.{wants, sineOf, sinWave, triWave, sawWave, sqrWave, sinUniWave}
-use Rattle.lfo.proofs.Magnitude.{AtMost, finite, at-most-more, at-most-neg, at-most-fabs, between, upto, inside, lt-le, at-most-mul, at-most-add, at-most-sub}
 
 -- ---- what goes in
 consts : AtMost 1 one × AtMost 2 two × AtMost 4 four × AtMost 5 five × AtMost 10 ten × AtMost 1 half × AtMost 7 tau
@@ -53,9 +52,9 @@ unfolding ofBits
 finite-if true n x h = finite n x h
 finite-if false n x h = refl
 
-pub small-finite : (wanted : ℕ) (p d : Float) → phaseOk (turns p) ≡ true → isSmall d ≡ true → allFinite (lfoOutputsOf wanted p d) ≡ true
+pub outputs-finite : (wanted : ℕ) (p d : Float) → phaseOk (turns p) ≡ true → isSmall d ≡ true → allFinite (lfoOutputsOf wanted p d) ≡ true
 unfolding allFinite lfoOutputsOf
-small-finite wanted p d h k = simp (sin-finite, tri-finite, saw-finite, sqr-finite, uni-finite)
+outputs-finite wanted p d h k = simp (sin-finite, tri-finite, saw-finite, sqr-finite, uni-finite)
   where
     scale : Float
     scale = mul binary64 five d

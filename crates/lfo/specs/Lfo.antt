@@ -1,20 +1,20 @@
 -- The Lfo's calls, written from oscillators.rs, with document 01's refusals and marks.
-use mathlib.Core.Bool.{Bool, true, false, cond}
+use mathlib.Core.Bool.{true, false, cond}
 use Prim.Native.Nat.{ℕ}
 use lib.Dec.{eqb}
-use lib.Ieee.{Float, binary64, add, mul, div}
-use Rattle.laws.specs.Float.{zer, isFin}
+use lib.Ieee.{Float, binary64, mul, div, add}
+use Rattle.answer.specs.Mark.{markOf}
 use Rattle.common.specs.Consts.{five}
 use Rattle.common.specs.Edge.{newEdge, risingOf}
 use Rattle.common.specs.Memo.{newMemo1, recall1}
 use Rattle.common.specs.Phase.{turns, wrapOf}
 use Rattle.common.specs.Tests.{rateOk, phaseOk}
-use Rattle.common.specs.declared.Hertz.{Hertz}
-use Rattle.answer.specs.Mark.{markOf}
-use Rattle.answer.specs.declared.Volts.{Volts}
-use Rattle.answer.specs.declared.Answer.the-variants as answer
+use Rattle.laws.specs.Float.{zer, isFin}
 use Rattle.lfo.specs.Consts.{ten}
 use Rattle.lfo.specs.Waves.{rateToHz, restartOf, wants, sineOf, sinWave, triWave, sawWave, sqrWave, sinUniWave}
+use Rattle.common.specs.declared.Hertz.{Hertz}
+use Rattle.answer.specs.declared.Volts.{Volts}
+use Rattle.answer.specs.declared.Answer.the-variants as answer
 use Rattle.lfo.specs.declared.Lfo.{Lfo}
 use Rattle.lfo.specs.declared.LfoControls.{LfoControls}
 use Rattle.lfo.specs.declared.LfoTicked.{LfoTicked}
@@ -72,9 +72,10 @@ madeUnless n s = cond (eqb n 0) (made.Made s) (made.Refused n)
 unfoldable pub lfoResetOf : Lfo → LfoMade
 lfoResetOf s = madeUnless (lfoRefusalOf s) (record { phase = turns zer; «sample_rate» = s .«sample_rate»; «reset_edge» = newEdge; «freq_memo» = s .«freq_memo» })
 
--- set_sample_rate: 1 on the new rate and on the old, then 2
+-- set_sample_rate: all but the rate stays
+abbrev pub rated : Lfo → Hertz → Lfo
+rated s r = record { phase = s .phase; «sample_rate» = r; «reset_edge» = s .«reset_edge»; «freq_memo» = s .«freq_memo» }
+
+-- 1 on the new rate and on the old, then 2
 unfoldable pub lfoSetSampleRateOf : Lfo → Hertz → LfoMade
-lfoSetSampleRateOf s r =
-    cond (rateOk r)
-    (madeUnless (lfoRefusalOf s) (record { phase = s .phase; «sample_rate» = r; «reset_edge» = s .«reset_edge»; «freq_memo» = s .«freq_memo» }))
-    (made.Refused 1)
+lfoSetSampleRateOf s r = cond (rateOk r) (madeUnless (lfoRefusalOf s) (rated s r)) (made.Refused 1)

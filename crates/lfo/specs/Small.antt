@@ -1,6 +1,6 @@
 -- A depth at which no output can overflow. It is not of the Rust: it spares the test of each output.
-use mathlib.Core.Bool.{Bool, true, false, _&&_}
-use lib.Ieee.{Float, binary64, le, neg, ofBits}
+use mathlib.Core.Bool.{Bool, _&&_}
+use lib.Ieee.{Float, binary64, le, ofBits, neg}
 
 -- 2 ^ 30
 abbrev pub most : Float

@@ -1,17 +1,17 @@
 -- The Lfo's rate map and its five waveforms, written from Lfo::tick_wanted. One that isn't wanted reads 0.0.
-use mathlib.Core.Bool.{Bool, true, false, cond, not}
+use mathlib.Core.Bool.{Bool, not, cond}
 use Prim.Native.Nat.{ℕ}
 use lib.Bits.{bitAnd}
 use lib.Dec.{eqb}
-use lib.Ieee.{Float, binary64, add, sub, mul, neg, lt}
+use lib.Ieee.{Float, binary64, lt, mul, sub, add, neg}
+use Rattle.common.specs.Consts.{four, half, tau}
 use Rattle.laws.specs.Float.{zer, one, two}
 use Rattle.numeric.specs.Basic.{fabsOf, clampOf}
 use Rattle.numeric.specs.Power.{pow3000Of}
 use Rattle.numeric.specs.Trig.{sinOf}
-use Rattle.common.specs.Consts.{four, half, tau}
+use Rattle.lfo.specs.Consts.{ten, lowest}
 use Rattle.common.specs.declared.Hertz.{Hertz}
 use Rattle.common.specs.declared.Turns.{Turns}
-use Rattle.lfo.specs.Consts.{ten, lowest}
 
 -- the closure || 0.01 * pow(3000.0, rate_cv.clamp(0.0, 1.0))
 unfoldable pub rateToHz : Float → Hertz

@@ -1,6 +1,6 @@
-use Rattle.answer.specs.Answer.{answerOf}
-use Rattle.answer.specs.Mark.{markOf, ruleOf}
 use borrow.Author.Needs.{needs}
+use Rattle.answer.specs.Answer.{answerOf}
+use Rattle.answer.specs.Mark.{ruleOf, markOf}
 use Rattle.lfo.proofs.mark.Statement.{statement}
 use Rattle.lfo.proofs.mark.Tie as tie
 

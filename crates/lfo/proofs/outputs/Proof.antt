@@ -1,6 +1,6 @@
-use Rattle.lfo.specs.Lfo.{lfoOutputsOf}
-use Rattle.lfo.proofs.Shared.{sin-shared, uni-shared}
 use borrow.Author.Needs.{needs}
+use Rattle.lfo.proofs.Shared.{sin-shared, uni-shared}
+use Rattle.lfo.specs.Lfo.{lfoOutputsOf}
 use Rattle.lfo.proofs.outputs.Statement.{statement}
 use Rattle.lfo.proofs.outputs.Tie as tie
 

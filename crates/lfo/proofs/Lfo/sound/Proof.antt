@@ -1,6 +1,6 @@
-use Rattle.lfo.specs.Lfo.{lfoSoundOf}
-use Rattle.lfo.proofs.Accepted.{sound-finite}
 use borrow.Author.Needs.{needs}
+use Rattle.lfo.proofs.Accepted.{sound-finite}
+use Rattle.lfo.specs.Lfo.{lfoSoundOf}
 use Rattle.lfo.proofs.Lfo.sound.Statement.{statement}
 use Rattle.lfo.proofs.Lfo.sound.Tie as tie
 
