@@ -41,16 +41,8 @@ pub enum LfoMade {
     Refused(u32),
 }
 
-// Bits of `wanted`, in port order.
-const WANT_SIN: u32 = 1 << 0;
-
-const WANT_TRI: u32 = 1 << 1;
-
-const WANT_SAW: u32 = 1 << 2;
-
-const WANT_SQR: u32 = 1 << 3;
-
-const WANT_SIN_UNI: u32 = 1 << 4;
+// A whole turn in radians.
+const TAU: f64 = 6.283185307179586;
 
 // A rate from 0 to 1 as 0.01 Hz to 30 Hz. The clamp lets a NaN pass.
 fn rate_to_hz(rate: f64) -> Hertz
@@ -81,7 +73,7 @@ fn restart(phase: Turns, edge: bool) -> Turns
 fn either(a: bool, b: bool) -> bool
     ensures { λ r. ⌜ r ≡ (a || b) ⌝ }
 {
-    if a { true } else { b }
+    a || b
 }
 
 // The sine that sin and sin_uni share: the Rust computes it for each of them.
@@ -89,7 +81,7 @@ fn sine(want: bool, phase: Turns) -> f64
     ensures { λ r. ⌜ r ≡ cond want (sineOf (phase .0)) zer ⌝ }
 {
     if want {
-        numeric::sin(phase.0 * 6.283185307179586)
+        numeric::sin(phase.0 * TAU)
     } else {
         0.0
     }
@@ -141,23 +133,7 @@ fn sin_uni(want: bool, sine: f64, depth: f64) -> f64
     }
 }
 
-// The outputs, each where it is wanted; sin and sin_uni share one sine.
-fn outputs(wanted: u32, phase: Turns, depth: f64) -> Volts
-    ensures { λ r. ⌜ r ≡ lfoOutputsOf wanted (phase .0) depth ⌝ }
-{
-    let scale = 5.0 * depth;
-    let want_sin = wanted & WANT_SIN != 0;
-    let want_uni = wanted & WANT_SIN_UNI != 0;
-    let shared = sine(either(want_sin, want_uni), phase);
-    Volts {
-        p10: sin(want_sin, shared, scale),
-        p11: tri(wanted & WANT_TRI != 0, phase, scale),
-        p12: saw(wanted & WANT_SAW != 0, phase, scale),
-        p13: sqr(wanted & WANT_SQR != 0, phase, scale),
-        p14: sin_uni(want_uni, shared, depth),
-    }
-}
-
+// At this depth no output can overflow.
 fn is_small(depth: f64) -> bool
     ensures { λ r. ⌜ r ≡ isSmall depth ⌝ }
 {
@@ -184,19 +160,6 @@ fn increment(freq: Hertz, sample_rate: Hertz) -> Turns
 }
 
 impl Lfo {
-    // 0, or the number that refuses this state: 1 its rate, 2 its phase.
-    fn refusal(self) -> u32
-        ensures { λ r. ⌜ r ≡ lfoRefusalOf self ⌝ }
-    {
-        let sample_rate = self.sample_rate;
-        let phase = self.phase;
-        if common::rate_ok(sample_rate) {
-            if common::phase_ok(phase) { 0 } else { 2 }
-        } else {
-            1
-        }
-    }
-
     pub fn new(sample_rate: Hertz) -> LfoMade
         ensures { λ r. ⌜ r ≡ lfoNewOf «sample_rate» ⌝ }
     {
@@ -209,6 +172,47 @@ impl Lfo {
             })
         } else {
             LfoMade::Refused(1)
+        }
+    }
+
+    // Bits of `wanted`, in port order.
+    const WANT_SIN: u32 = 1 << 0;
+
+    const WANT_TRI: u32 = 1 << 1;
+
+    const WANT_SAW: u32 = 1 << 2;
+
+    const WANT_SQR: u32 = 1 << 3;
+
+    const WANT_SIN_UNI: u32 = 1 << 4;
+
+    // The outputs, each where it is wanted; sin and sin_uni share one sine.
+    fn outputs(wanted: u32, phase: Turns, depth: f64) -> Volts
+        ensures { λ r. ⌜ r ≡ lfoOutputsOf wanted (phase .0) depth ⌝ }
+    {
+        let scale = 5.0 * depth;
+        let want_sin = wanted & Self::WANT_SIN != 0;
+        let want_uni = wanted & Self::WANT_SIN_UNI != 0;
+        let shared = sine(either(want_sin, want_uni), phase);
+        Volts {
+            p10: sin(want_sin, shared, scale),
+            p11: tri(wanted & Self::WANT_TRI != 0, phase, scale),
+            p12: saw(wanted & Self::WANT_SAW != 0, phase, scale),
+            p13: sqr(wanted & Self::WANT_SQR != 0, phase, scale),
+            p14: sin_uni(want_uni, shared, depth),
+        }
+    }
+
+    // 0, or the number that refuses this state: 1 its rate, 2 its phase.
+    fn refusal(self) -> u32
+        ensures { λ r. ⌜ r ≡ lfoRefusalOf self ⌝ }
+    {
+        let sample_rate = self.sample_rate;
+        let phase = self.phase;
+        if common::rate_ok(sample_rate) {
+            if common::phase_ok(phase) { 0 } else { 2 }
+        } else {
+            1
         }
     }
 
@@ -227,7 +231,7 @@ impl Lfo {
         let risen = edge.rising(c.reset);
         let reset_edge = risen.edge;
         let phase = restart(old, risen.rising);
-        let volts = outputs(wanted, phase, depth);
+        let volts = Self::outputs(wanted, phase, depth);
         let next = Turns(phase.0 + increment(freq, sample_rate).0);
         LfoTicked {
             answer: mark(volts, is_small(depth), numeric::is_finite(next.0)),
@@ -254,7 +258,7 @@ impl Lfo {
         }
     }
 
-    // The memo stays.
+    // Phase and edge start again; the memo stays.
     pub fn reset(self) -> LfoMade
         ensures { λ r. ⌜ r ≡ lfoResetOf self ⌝ }
     {

@@ -1,8 +1,8 @@
 use borrow.Author.Needs.{needs}
 use Rattle.lfo.proofs.Shared.{sin-shared, uni-shared}
 use Rattle.lfo.specs.Lfo.{lfoOutputsOf}
-use Rattle.lfo.proofs.outputs.Statement.{statement}
-use Rattle.lfo.proofs.outputs.Tie as tie
+use Rattle.lfo.proofs.Lfo.outputs.Statement.{statement}
+use Rattle.lfo.proofs.Lfo.outputs.Tie as tie
 
 either-requires : tie.Need-either-requires
 either-requires c κs = search needs
