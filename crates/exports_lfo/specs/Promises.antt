@@ -4,7 +4,7 @@ use mathlib.Core.Path.{_≡_}
 use Prim.Native.Nat.{ℕ}
 use lib.Ieee.{Float}
 use Rattle.laws.specs.Machine.{Settles}
-use Rattle.exports_lfo.specs.Calls.{Kept, Heard, lfoNewAt, lfoTickAt, lfoResetAt, lfoSetSampleRateAt}
+use Rattle.exports_lfo.specs.Calls.{Kept, lfoNewAt, lfoResetAt, lfoSetSampleRateAt, Heard, lfoTickAt}
 use Rattle.exports_lfo.specs.State.{stateOf, floatsOf, wholesOf}
 use Rattle.lfo.specs.declared.Lfo.{Lfo}
 
