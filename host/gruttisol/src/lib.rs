@@ -3,4 +3,12 @@
 //! What each function answers, for every input, is the contract of its Rattle function, which is proved.
 //! Not proved are this crate's declarations and the compiler that made the archive; the tests hold both
 //! to Rust's own functions.
+pub mod answer;
+mod archive;
+pub mod formant_osc;
+pub mod karplus_strong;
+pub mod lfo;
 pub mod numeric;
+pub mod supersaw;
+pub mod vco;
+pub mod wavetable;
