@@ -22,7 +22,11 @@ impl Pair for FormantOsc {
     const CONTROLS: &'static [Control] = &[PITCH, UNIT, SHIFT, UNIT];
     const PORTS: usize = 1;
     const MASKED: bool = false;
-    both!(ours::FormantOsc, rust::FormantOsc, 29, 6);
+    both!(ours::FormantOsc, 29, 6);
+
+    fn new(sample_rate: f64, _draw: &mut Draw) -> Result<Self, Refused> {
+        Ok(FormantOsc { ours: ours::FormantOsc::new(sample_rate)?, theirs: rust::FormantOsc::new(sample_rate) })
+    }
 
     fn invent(&self, controls: &[f64], draw: &mut Draw) -> ([f64; 29], [u64; 6]) {
         let mut floats = [0.0; 29];

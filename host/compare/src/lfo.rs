@@ -21,7 +21,11 @@ impl Pair for Lfo {
     const CONTROLS: &'static [Control] = &[UNIT, DEPTH, GATE];
     const PORTS: usize = 5;
     const MASKED: bool = true;
-    both!(ours::Lfo, rust::Lfo, 4, 2);
+    both!(ours::Lfo, 4, 2);
+
+    fn new(sample_rate: f64, _draw: &mut Draw) -> Result<Self, Refused> {
+        Ok(Lfo { ours: ours::Lfo::new(sample_rate)?, theirs: rust::Lfo::new(sample_rate) })
+    }
 
     fn invent(&self, controls: &[f64], draw: &mut Draw) -> ([f64; 4], [u64; 2]) {
         let [key] = draw.keys([controls[0]]);

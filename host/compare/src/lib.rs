@@ -14,10 +14,29 @@ pub mod supersaw;
 pub mod vco;
 pub mod wavetable;
 
-/// Runs a pair in the gate, and prints what was compared.
+use script::{run, Counts, Pair};
+
+/// A run of scripts from a seed, for so many ticks; the error is the first difference.
+pub type Run = fn(u64, u64) -> Result<Counts, String>;
+
+/// Every oscillator.
+pub const ALL: [(&str, Run); 6] = [
+    of::<vco::Vco>(),
+    of::<lfo::Lfo>(),
+    of::<supersaw::Supersaw>(),
+    of::<wavetable::Wavetable>(),
+    of::<formant_osc::FormantOsc>(),
+    of::<karplus_strong::KarplusStrong>(),
+];
+
+const fn of<P: Pair>() -> (&'static str, Run) {
+    (P::NAME, run::<P>)
+}
+
+/// The run of the gate: a million ticks. It prints what was compared.
 #[track_caller]
-pub fn gate<P: script::Pair>() {
-    match script::run::<P>(1, 1_000_000) {
+pub fn gate<P: Pair>() {
+    match run::<P>(1, 1_000_000) {
         Ok(counts) => println!("{}: {counts}; no difference", P::NAME),
         Err(difference) => panic!("{difference}"),
     }

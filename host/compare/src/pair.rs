@@ -3,13 +3,9 @@ use crate::script::{bad_phase, bad_rate};
 
 /// The parts of a pair that are the same for every oscillator whose state alone is lent.
 macro_rules! both {
-    ($ours:ty, $theirs:ty, $floats:literal, $wholes:literal) => {
+    ($ours:ty, $floats:literal, $wholes:literal) => {
         type Floats = [f64; $floats];
         type Wholes = [u64; $wholes];
-
-        fn new(sample_rate: f64, _draw: &mut Draw) -> Result<Self, Refused> {
-            Ok(Self { ours: <$ours>::new(sample_rate)?, theirs: <$theirs>::new(sample_rate) })
-        }
 
         fn ours(&self) -> (Self::Floats, Self::Wholes) {
             let (floats, wholes) = self.ours.parts();

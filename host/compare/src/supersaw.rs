@@ -18,7 +18,11 @@ impl Pair for Supersaw {
     const CONTROLS: &'static [Control] = &[PITCH, UNIT, UNIT];
     const PORTS: usize = 2;
     const MASKED: bool = false;
-    both!(ours::Supersaw, rust::Supersaw, 10, 2);
+    both!(ours::Supersaw, 10, 2);
+
+    fn new(sample_rate: f64, _draw: &mut Draw) -> Result<Self, Refused> {
+        Ok(Supersaw { ours: ours::Supersaw::new(sample_rate)?, theirs: rust::Supersaw::new(sample_rate) })
+    }
 
     fn invent(&self, controls: &[f64], draw: &mut Draw) -> ([f64; 10], [u64; 2]) {
         let [key] = draw.keys([controls[0]]);

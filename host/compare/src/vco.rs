@@ -18,7 +18,11 @@ impl Pair for Vco {
     const CONTROLS: &'static [Control] = &[PITCH, OCTAVES, UNIT, GATE, VOLTS];
     const PORTS: usize = 4;
     const MASKED: bool = true;
-    both!(ours::Vco, rust::Vco, 4, 4);
+    both!(ours::Vco, 4, 4);
+
+    fn new(sample_rate: f64, _draw: &mut Draw) -> Result<Self, Refused> {
+        Ok(Vco { ours: ours::Vco::new(sample_rate)?, theirs: rust::Vco::new(sample_rate) })
+    }
 
     fn invent(&self, controls: &[f64], draw: &mut Draw) -> ([f64; 4], [u64; 4]) {
         let [a, b, c] = draw.keys([controls[0], controls[1], controls[4]]);

@@ -114,20 +114,22 @@ impl Probe<4, 1, 4, 2> for Wavetable {
     }
 }
 
+/// Tables, of each its levels, of each its numbers.
+pub type Bank = [[[f64; 256]; 8]; 8];
+
 impl Wavetable {
-    /// All cells of the bank: tables, of each its levels, of each its numbers.
-    pub fn bank(&self) -> impl Iterator<Item = f64> + '_ {
-        self.tables.iter().flatten().flatten().copied()
+    /// The bank that it reads.
+    pub fn bank(&self) -> &'static Bank {
+        self.tables
     }
 
-    /// Has the bank filled anew, for a measurement.
-    pub fn fill(bank: &mut [[[f64; 256]; 8]; 8]) {
-        Self::generate_tables(bank);
-    }
-
-    /// Reads another bank from now on.
-    pub fn lend(&mut self, bank: &'static [[[f64; 256]; 8]; 8]) {
+    /// Has it read another bank from now on.
+    pub fn lend(&mut self, bank: &'static Bank) {
         self.tables = bank;
+    }
+
+    pub fn fill(bank: &mut Bank) {
+        Self::generate_tables(bank);
     }
 }
 
