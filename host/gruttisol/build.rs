@@ -1,7 +1,7 @@
 //! Builds the archive of the proved crate `exports` for this machine, and links it.
-//! GRUTTISOL_ARCHIVE names one that is built already; then nothing of the kit is needed.
+//! GRUTTISOL_ARCHIVE names one that is built already, by its full path; then nothing of the kit is needed.
 use std::path::{Path, PathBuf};
-use std::process::Command;
+use std::process::{exit, Command};
 use std::{env, fs};
 
 fn main() {
@@ -18,20 +18,27 @@ fn main() {
 
 fn copy(built: &Path, archive: &Path) {
     println!("cargo:rerun-if-changed={}", built.display());
-    fs::copy(built, archive).unwrap_or_else(|e| panic!("GRUTTISOL_ARCHIVE is {}: {e}", built.display()));
+    if let Err(e) = fs::copy(built, archive) {
+        fail(&format!("GRUTTISOL_ARCHIVE is {}: {e}", built.display()));
+    }
 }
 
 fn build(archive: &Path) {
-    let here = PathBuf::from(env::var_os("CARGO_MANIFEST_DIR").unwrap());
-    let repository = here.join("../..");
-    let native = repository.join("host/tools/native");
+    let host = Path::new(&env::var_os("CARGO_MANIFEST_DIR").unwrap()).parent().unwrap().to_owned();
+    let repository = host.parent().unwrap();
+    let native = host.join("tools/native");
     for read in [&repository.join("crates"), &repository.join("crates.txt"), &native] {
         println!("cargo:rerun-if-changed={}", read.display());
     }
     println!("cargo:rerun-if-env-changed=RATTLE_HOME");
     match Command::new(&native).arg("exports").arg(archive).status() {
         Ok(status) if status.success() => {}
-        Ok(_) => panic!("{} failed; what it said stands above", native.display()),
-        Err(e) => panic!("{}: {e}", native.display()),
+        Ok(_) => fail("tools/native made no archive of the crate exports; it said why above"),
+        Err(e) => fail(&format!("{}: {e}", native.display())),
     }
+}
+
+fn fail(why: &str) -> ! {
+    eprintln!("{why}");
+    exit(1);
 }
