@@ -1,0 +1,3 @@
+pub mod Consts
+pub mod Waves
+pub mod Lfo
