@@ -33,10 +33,10 @@ const fn of<P: Pair>() -> (&'static str, Run) {
     (P::NAME, run::<P>)
 }
 
-/// The run of the gate: a million ticks. It prints what was compared.
+/// The run of the gate. It prints what was compared.
 #[track_caller]
 pub fn gate<P: Pair>() {
-    match run::<P>(1, 1_000_000) {
+    match run::<P>(1, 2_000_000) {
         Ok(counts) => println!("{}: {counts}; no difference", P::NAME),
         Err(difference) => panic!("{difference}"),
     }

@@ -111,12 +111,12 @@ struct Mood {
 
 impl Mood {
     fn drawn(draw: &mut Draw) -> Mood {
-        match draw.below(10) {
+        match draw.below(40) {
             0 => Mood { calls: 30_000, rarely: 1 << 40, held: 4000, glides: false, ticks: 20_000 }, // a long calm run
             1 => Mood { calls: 10_000, rarely: 1 << 40, held: 1000, glides: true, ticks: 5000 },
-            2 | 3 => Mood { calls: 300, rarely: 1, held: 4, glides: false, ticks: 60 }, // nothing but corners
-            4 => Mood { calls: 300, rarely: 8, held: 1, glides: false, ticks: 60 },
-            5 => Mood { calls: 400, rarely: 40, held: 10, glides: true, ticks: 100 },
+            2..=8 => Mood { calls: 300, rarely: 1, held: 4, glides: false, ticks: 60 }, // nothing but corners
+            9..=14 => Mood { calls: 300, rarely: 8, held: 1, glides: false, ticks: 60 },
+            15..=20 => Mood { calls: 400, rarely: 40, held: 10, glides: true, ticks: 100 },
             _ => Mood { calls: 400, rarely: 20, held: 10, glides: false, ticks: 100 },
         }
     }

@@ -2,7 +2,7 @@
 
 #[test]
 #[cfg_attr(not(quiver), ignore = "skipped: QUIVER_SRC not found")]
-fn a_million_ticks() {
+fn two_million_ticks() {
     #[cfg(quiver)]
     compare::gate::<compare::vco::Vco>();
 }

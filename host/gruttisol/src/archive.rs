@@ -96,3 +96,84 @@ macro_rules! oscillator {
     };
 }
 pub(crate) use oscillator;
+
+/// The boundary's own refusals, which the safe functions can't meet: they lend slices of the right length.
+#[cfg(test)]
+mod tests {
+    use super::*;
+
+    const UNTOUCHED: u64 = 0x7ff8_0bad_0bad_0bad;
+    const NO_RATE: f64 = 0.0;
+
+    /// Makes a call with slices of many lengths: by its first wrong length it is refused, by 50, 51 or 52, and where all
+    /// are right by 1, since neither the state's rate nor one that is given is a rate. Not a bit may change. A call
+    /// without samples says that it takes none.
+    fn refuses([floats, wholes, samples]: [usize; 3], call: impl Fn(&mut [f64], &mut [u64], &mut [f64]) -> u32) {
+        let lengths = |right: usize| if right == 0 { vec![0] } else { vec![0, right - 1, right, right + 1, 64] };
+        for f in lengths(floats) {
+            for w in lengths(wholes) {
+                for s in lengths(samples) {
+                    let mut lent = (vec![f64::from_bits(UNTOUCHED); f], vec![UNTOUCHED; w], vec![-0.0; s]);
+                    let number = match (f == floats, w == wholes, s == samples) {
+                        (false, _, _) => 50,
+                        (_, false, _) => 51,
+                        (_, _, false) => 52,
+                        _ => 1,
+                    };
+                    assert_eq!(call(&mut lent.0, &mut lent.1, &mut lent.2), number, "of {f}, {w} and {s}");
+                    assert!(lent.0.iter().all(|x| x.to_bits() == UNTOUCHED));
+                    assert!(lent.1.iter().all(|&n| n == UNTOUCHED));
+                    assert!(lent.2.iter().all(|x| x.to_bits() == 1 << 63));
+                }
+            }
+        }
+    }
+
+    #[test]
+    fn vco() {
+        refuses([4, 4, 4], |f, w, s| vco_tick(0.0, 0.0, 0.5, 0.0, 0.0, u32::MAX, f, w, s));
+        refuses([4, 4, 0], |f, w, _| vco_new(NO_RATE, f, w));
+        refuses([4, 4, 0], |f, w, _| vco_reset(f, w));
+        refuses([4, 4, 0], |f, w, _| vco_set_sample_rate(48000.0, f, w));
+    }
+
+    #[test]
+    fn lfo() {
+        refuses([4, 2, 5], |f, w, s| lfo_tick(0.5, 10.0, 0.0, u32::MAX, f, w, s));
+        refuses([4, 2, 0], |f, w, _| lfo_new(NO_RATE, f, w));
+        refuses([4, 2, 0], |f, w, _| lfo_reset(f, w));
+        refuses([4, 2, 0], |f, w, _| lfo_set_sample_rate(48000.0, f, w));
+    }
+
+    #[test]
+    fn supersaw() {
+        refuses([10, 2, 2], |f, w, s| supersaw_tick(0.0, 0.5, 0.5, f, w, s));
+        refuses([10, 2, 0], |f, w, _| supersaw_new(NO_RATE, f, w));
+        refuses([10, 2, 0], |f, w, _| supersaw_reset(f, w));
+        refuses([10, 2, 0], |f, w, _| supersaw_set_sample_rate(48000.0, f, w));
+    }
+
+    #[test]
+    fn wavetable() {
+        refuses([4, 2, 1], |f, w, s| wavetable_tick(0.0, 0.0, 0.0, 0.0, f, w, s, &[]));
+        refuses([4, 2, 0], |f, w, _| wavetable_new(NO_RATE, f, w));
+        refuses([4, 2, 0], |f, w, _| wavetable_reset(f, w));
+        refuses([4, 2, 0], |f, w, _| wavetable_set_sample_rate(48000.0, f, w));
+    }
+
+    #[test]
+    fn formant_osc() {
+        refuses([29, 6, 1], |f, w, s| formant_osc_tick(0.0, 0.0, 0.0, 0.0, f, w, s));
+        refuses([29, 6, 0], |f, w, _| formant_osc_new(NO_RATE, f, w));
+        refuses([29, 6, 0], |f, w, _| formant_osc_reset(f, w));
+        refuses([29, 6, 0], |f, w, _| formant_osc_set_sample_rate(48000.0, f, w));
+    }
+
+    #[test]
+    fn karplus_strong() {
+        refuses([6, 4, 1], |f, w, s| karplus_strong_tick(0.0, 5.0, 0.5, 0.5, 0.0, f, w, s, &mut [], &[]));
+        refuses([6, 4, 0], |f, w, _| karplus_strong_new(NO_RATE, f, w, &mut []));
+        refuses([6, 4, 0], |f, w, _| karplus_strong_reset(f, w, &mut []));
+        refuses([6, 4, 0], |f, w, _| karplus_strong_set_sample_rate(48000.0, f, w, &mut []));
+    }
+}
