@@ -1,11 +1,11 @@
-//! Finds the Rust's source and declares its files as modules.
+//! Finds the Rust's source and declares its files as modules, for the crates `quiver` and `quiver_system`.
 //!
 //! QUIVER_SRC names the folder that holds the Rust's `src`; if it isn't set, `shared/docs/src` beside the repository is
 //! taken. Nothing of it is in this repository. Files with private fields are copied to cargo's own folder with one line
 //! added at their end, which declares a child module of `probe/`; every byte before that line is the Rust's.
 //!
-//! Where there is no source, this crate is empty, and crates that depend on it are told so: only with the source is
-//! DEP_QUIVER_FOUND set in their build scripts.
+//! Where there is no source, the crate is empty, and crates that depend on it are told so: only with the source is
+//! DEP_QUIVER_FOUND (or DEP_QUIVER_SYSTEM_FOUND) set in their build scripts.
 use std::path::{Path, PathBuf};
 use std::{env, fs};
 
@@ -16,10 +16,12 @@ const FILES: [(&str, bool); 5] =
 fn main() {
     println!("cargo:rustc-check-cfg=cfg(found)");
     println!("cargo:rerun-if-env-changed=QUIVER_SRC");
-    println!("cargo:rerun-if-changed=build.rs");
     let here = PathBuf::from(env::var_os("CARGO_MANIFEST_DIR").unwrap());
+    let above = |what: &str| here.ancestors().find(|folder| folder.join(what).exists()).unwrap();
+    let (quiver, repository) = (above("probe"), above("crates.txt"));
+    println!("cargo:rerun-if-changed={}", quiver.join("build.rs").display());
     let out = PathBuf::from(env::var_os("OUT_DIR").unwrap());
-    let source = env::var_os("QUIVER_SRC").map_or(here.join("../../../shared/docs/src"), PathBuf::from).join("src");
+    let source = env::var_os("QUIVER_SRC").map_or(repository.join("../shared/docs/src"), PathBuf::from).join("src");
     let file = |name: &str| source.join(name).with_extension("rs");
     for (name, _) in FILES {
         println!("cargo:rerun-if-changed={}", file(name).display());
@@ -28,7 +30,7 @@ fn main() {
     let modules = if found {
         println!("cargo:rustc-cfg=found");
         println!("cargo:found=yes");
-        declared(|name, child| if child { with_child(&file(name), &here, &out) } else { whole(&file(name)) })
+        declared(|name, child| if child { with_child(&file(name), quiver, &out) } else { whole(&file(name)) })
     } else {
         println!("cargo:warning=skipped: QUIVER_SRC not found: {} lacks the Rust's files", source.display());
         String::new()
@@ -54,9 +56,9 @@ fn whole(file: &Path) -> PathBuf {
 }
 
 /// A copy of a file with its child module declared at the end.
-fn with_child(file: &Path, here: &Path, out: &Path) -> PathBuf {
+fn with_child(file: &Path, quiver: &Path, out: &Path) -> PathBuf {
     let name = file.file_name().unwrap();
-    let child = whole(&here.join("probe").join(name));
+    let child = whole(&quiver.join("probe").join(name));
     println!("cargo:rerun-if-changed={}", child.display());
     let copy = out.join(name);
     fs::write(&copy, format!("{}\n#[path = {child:?}]\npub mod probe;\n", fs::read_to_string(file).unwrap())).unwrap();

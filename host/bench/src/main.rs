@@ -2,6 +2,8 @@
 //!
 //! Either side is a call that isn't inlined: ours into the archive, Rust's into the C library of the system. The two take
 //! turns, and the best of many short runs counts, since whatever else the machine does only adds.
+mod oscillators;
+
 use gruttisol::numeric;
 use random::Random;
 use std::f64::consts::TAU;
@@ -25,6 +27,8 @@ fn main() {
     row("2^x", -5.0..5.0, numeric::exp2, f64::exp2, "at most 2");
     row("2^x", -1022.0..1024.0, numeric::exp2, f64::exp2, "at most 2");
     row("3000^r", 0.0..1.0, numeric::pow3000, |r| 3000f64.powf(r), "at most 0.6");
+    println!();
+    oscillators::rows();
 }
 
 /// Measures one function over a range, and prints its line.
