@@ -207,7 +207,7 @@ fn tick<P: Pair>(pair: &mut P, controls: &[f64], draw: &mut Draw, counts: &mut C
     if mark != their_mark {
         return Err(told(format!("marked {}, and by the Rust's values {}", mark.word(), their_mark.word())));
     }
-    counts.marks[mark as usize] += 1;
+    counts.marks[mark as usize - Mark::ALL[0] as usize] += 1;
     same(pair).map_err(told)
 }
 

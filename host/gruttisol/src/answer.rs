@@ -23,16 +23,16 @@ impl fmt::Display for Refused {
 
 impl error::Error for Refused {}
 
-/// How an accepted tick went: the first of these that applies.
+/// How an accepted tick went: the first of these that applies. The numbers are those that an exported tick answers.
 #[derive(Clone, Copy, PartialEq, Eq, Debug)]
 pub enum Mark {
     /// The string zeroed its line.
-    Cleared,
+    Cleared = 11,
     /// A wanted output isn't finite, or what stands before its clamp.
-    NotFinite,
+    NotFinite = 12,
     /// A phase plus its increment isn't finite.
-    Lost,
-    Clean,
+    Lost = 13,
+    Clean = 14,
 }
 
 impl Mark {
@@ -67,15 +67,14 @@ pub(crate) fn done(code: u32) -> Result<(), Refused> {
     }
 }
 
-/// A tick: 11 to 14 are the marks.
+/// A tick: the number of a mark says that it was accepted.
 #[inline]
 pub(crate) fn ticked<V>(code: u32, volts: V) -> Result<Ticked<V>, Refused> {
-    let mark = match code {
-        11 => Mark::Cleared,
-        12 => Mark::NotFinite,
-        13 => Mark::Lost,
-        14 => Mark::Clean,
-        _ => return Err(Refused(code)),
-    };
-    Ok(Ticked { mark, volts })
+    match code {
+        11 => Ok(Ticked { mark: Mark::Cleared, volts }),
+        12 => Ok(Ticked { mark: Mark::NotFinite, volts }),
+        13 => Ok(Ticked { mark: Mark::Lost, volts }),
+        14 => Ok(Ticked { mark: Mark::Clean, volts }),
+        _ => Err(Refused(code)),
+    }
 }

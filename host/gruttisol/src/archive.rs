@@ -53,6 +53,9 @@ lent! {
     fn karplus_strong_tick(voct: f64, trigger: f64, damping: f64, brightness: f64, stretch: f64; floats: mut f64, wholes: mut u64, samples: mut f64, line: mut f64, draws: const u64);
     fn karplus_strong_reset(; floats: mut f64, wholes: mut u64, line: mut f64);
     fn karplus_strong_set_sample_rate(sample_rate: f64; floats: mut f64, wholes: mut u64, line: mut f64);
+
+    fn tally_new(; counts: mut u32);
+    fn tally_take(code: u32; counts: mut u32);
 }
 
 /// An oscillator whose state alone is lent to making, reset and rate change.
@@ -175,5 +178,14 @@ mod tests {
         refuses([6, 4, 0], |f, w, _| karplus_strong_new(NO_RATE, f, w, &mut []));
         refuses([6, 4, 0], |f, w, _| karplus_strong_reset(f, w, &mut []));
         refuses([6, 4, 0], |f, w, _| karplus_strong_set_sample_rate(48000.0, f, w, &mut []));
+    }
+
+    #[test]
+    fn tally() {
+        for n in [0, 1, 4, 6, 64] {
+            let mut counts = vec![7; n];
+            assert_eq!((tally_new(&mut counts), tally_take(14, &mut counts)), (50, 50));
+            assert!(counts.iter().all(|&count| count == 7));
+        }
     }
 }

@@ -11,5 +11,6 @@ pub mod karplus_strong;
 pub mod lfo;
 pub mod numeric;
 pub mod supersaw;
+pub mod tally;
 pub mod vco;
 pub mod wavetable;
