@@ -10,7 +10,7 @@ fn the_rust_panics_where_ours_repairs() {
         use std::panic::{catch_unwind, set_hook, AssertUnwindSafe};
 
         let mut string = KarplusStrong::new(48000.0);
-        let mut tick = |string: &mut KarplusStrong| string.body(&[0.0, 0.0, 0.5, 0.5, 0.0], 1, &mut [0.0]);
+        let tick = |string: &mut KarplusStrong| string.body(&[0.0, 0.0, 0.5, 0.5, 0.0], 1, &mut [0.0]);
         (0..100).for_each(|_| tick(&mut string));
         string.set_sample_rate(1000.0);
         let (_, [len, write_pos, ..]) = string.flat();
