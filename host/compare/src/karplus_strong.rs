@@ -66,6 +66,14 @@ impl KarplusStrong {
         Ok(())
     }
 
+    /// Puts an odd number into a cell of both lines.
+    fn poison(&mut self, draw: &mut Draw) {
+        let (cell, x) = (draw.below(self.theirs.line().len() as u64) as usize, draw.odd());
+        self.theirs.line_mut()[cell] = x;
+        self.line[cell] = x;
+        self.due[cell] = x;
+    }
+
     /// A call that must be refused, with this much lent.
     fn must_refuse(
         &mut self,
@@ -103,9 +111,10 @@ impl Pair for KarplusStrong {
         let due = line.clone();
         let made = ours::KarplusStrong::new(sample_rate, &mut line);
         assert!(made.is_ok() || same_bits(&line, &due), "refused, and the line isn't as it stood");
-        let theirs = rust::KarplusStrong::new(if made.is_ok() { sample_rate } else { 48000.0 });
+        let (ours, mut theirs) = (made?, rust::KarplusStrong::new(sample_rate));
+        theirs.put_stream(draw.bits(), draw.bits());
         let lent = line.len();
-        Ok(KarplusStrong { ours: made?, theirs, line, due, lent, draws: vec![], all: true, written: 0, unseen: 0 })
+        Ok(KarplusStrong { ours, theirs, line, due, lent, draws: vec![], all: true, written: 0, unseen: 0 })
     }
 
     fn ours(&self) -> ([f64; 6], [u64; 4]) {
@@ -148,10 +157,6 @@ impl Pair for KarplusStrong {
         match draw.below(4) {
             0 => self.line[..len].fill_with(|| draw.between(-1.0, 1.0)),
             1 => self.line[..len].fill_with(|| if draw.one_in(20) { draw.odd() } else { draw.between(-1.0, 1.0) }),
-            2 => {
-                let poison = draw.odd();
-                self.line[draw.below(len as u64) as usize] = poison;
-            }
             _ => {}
         }
         self.theirs.put_flat(floats, wholes);
@@ -179,6 +184,9 @@ impl Pair for KarplusStrong {
             let short = ours::KarplusStrong::cells(floats[0]) - 1;
             self.must_refuse(3, short, counts, |pair| pair.ours_tick(controls, 1, &mut [0.0]).map(drop))?;
             self.must_refuse(3, short, counts, |pair| pair.ours_reset())?;
+        }
+        if draw.one_in(1000) {
+            self.poison(draw);
         }
         if !rises(floats[4], controls[1]) {
             // not looked at

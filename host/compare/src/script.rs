@@ -101,8 +101,9 @@ struct Mood {
     calls: u64,
     /// Odd values and corners come about once in this many.
     rarely: u64,
-    /// A control changes about once in this many ticks.
+    /// A control changes about once in this many ticks, and a gate once in that many.
     held: u64,
+    gates: u64,
     /// Glides move every control by a step at each tick.
     glides: bool,
     /// Of so many calls, four are something else than a tick.
@@ -111,13 +112,18 @@ struct Mood {
 
 impl Mood {
     fn drawn(draw: &mut Draw) -> Mood {
+        let usual = Mood { calls: 400, rarely: 20, held: 10, gates: 10, glides: false, ticks: 100 };
         match draw.below(40) {
-            0 => Mood { calls: 30_000, rarely: 1 << 40, held: 4000, glides: false, ticks: 20_000 }, // a long calm run
-            1 => Mood { calls: 10_000, rarely: 1 << 40, held: 1000, glides: true, ticks: 5000 },
-            2..=8 => Mood { calls: 300, rarely: 1, held: 4, glides: false, ticks: 60 }, // nothing but corners
-            9..=14 => Mood { calls: 300, rarely: 8, held: 1, glides: false, ticks: 60 },
-            15..=20 => Mood { calls: 400, rarely: 40, held: 10, glides: true, ticks: 100 },
-            _ => Mood { calls: 400, rarely: 20, held: 10, glides: false, ticks: 100 },
+            // long runs without corners
+            0 => Mood { calls: 30_000, rarely: 1 << 40, held: 4000, gates: 3000, ticks: 20_000, ..usual },
+            1 => Mood { calls: 10_000, rarely: 1 << 40, held: 1000, gates: 1000, glides: true, ticks: 5000 },
+            2 => Mood { calls: 5000, rarely: 40, held: 100, gates: 500, ticks: 1000, ..usual },
+            // nothing but corners
+            3..=9 => Mood { calls: 300, rarely: 1, held: 4, gates: 4, ticks: 60, ..usual },
+            10..=15 => Mood { calls: 300, rarely: 8, held: 1, gates: 2, ticks: 60, ..usual },
+            16..=20 => Mood { rarely: 40, gates: 40, glides: true, ..usual },
+            21..=24 => Mood { gates: 200, ..usual },
+            _ => usual,
         }
     }
 }
@@ -160,7 +166,7 @@ fn scene<P: Pair>(draw: &mut Draw, counts: &mut Counts) -> Result<(), String> {
 /// Turns the controls before a tick.
 fn turn<P: Pair>(controls: &mut [f64], mood: &Mood, draw: &mut Draw) {
     for (x, control) in controls.iter_mut().zip(P::CONTROLS) {
-        let held = if control.gate { mood.held.min(50) } else { mood.held };
+        let held = if control.gate { mood.gates } else { mood.held };
         if draw.one_in(held) {
             *x = draw.value(control, mood.rarely);
         } else if mood.glides && !control.gate {
