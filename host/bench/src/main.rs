@@ -4,7 +4,7 @@
 //! turns, and the best of many short runs counts, since whatever else the machine does only adds.
 mod oscillators;
 
-use gruttisol::numeric;
+use gruttisol::{common, numeric};
 use random::Random;
 use std::f64::consts::TAU;
 use std::hint::black_box;
@@ -27,8 +27,21 @@ fn main() {
     row("2^x", -5.0..5.0, numeric::exp2, f64::exp2, "at most 2");
     row("2^x", -1022.0..1024.0, numeric::exp2, f64::exp2, "at most 2");
     row("3000^r", 0.0..1.0, numeric::pow3000, |r| 3000f64.powf(r), "at most 0.6");
+    row("wrap", 0.0..2.0, common::wrap_phase, rust_wrap, "under 2 ns");
+    row("wrap", -1.0..0.0, common::wrap_phase, rust_wrap, "");
+    row("wrap", -1000.0..1000.0, common::wrap_phase, rust_wrap, "");
     println!();
     oscillators::rows();
+}
+
+/// The Rust's `wrap_phase`, a call of its own as ours is.
+#[inline(never)]
+fn rust_wrap(x: f64) -> f64 {
+    if !x.is_finite() {
+        return 0.0;
+    }
+    let wrapped = x - x.floor();
+    if wrapped >= 1.0 { 0.0 } else { wrapped }
 }
 
 /// Measures one function over a range, and prints its line.

@@ -1,6 +1,6 @@
 //! The formant oscillator: a glottal pulse through five resonators that sound like a vowel.
 use crate::answer::{ticked, Refused, Ticked};
-use crate::archive::{formant_osc_tick, oscillator};
+use crate::lent::formant_osc_tick;
 
 /// Inputs in port order.
 #[derive(Clone, Copy, PartialEq, Debug)]

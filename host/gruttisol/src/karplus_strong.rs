@@ -1,6 +1,6 @@
 //! The plucked string: noise that goes round a line which its caller keeps.
 use crate::answer::{done, ticked, Refused, Ticked};
-use crate::archive::{karplus_strong_new, karplus_strong_reset, karplus_strong_set_sample_rate, karplus_strong_tick};
+use crate::lent::{karplus_strong_new, karplus_strong_reset, karplus_strong_set_sample_rate, karplus_strong_tick};
 
 /// Inputs in port order. One that isn't finite counts as its default, the trigger excepted.
 #[derive(Clone, Copy, PartialEq, Debug)]

@@ -1,6 +1,6 @@
 //! The low-frequency oscillator: sine, triangle, saw, square and a sine above zero of one slow phase.
 use crate::answer::{ticked, Refused, Ticked};
-use crate::archive::{lfo_tick, oscillator};
+use crate::lent::lfo_tick;
 
 /// Inputs in port order.
 #[derive(Clone, Copy, PartialEq, Debug)]

@@ -4,8 +4,12 @@
 //! this crate's declarations and the compiler that made the archive; the tests hold both to Rust's own functions.
 //!
 //! A build proves the crates and makes the archive by the kit's `rt`; GRUTTISOL_ARCHIVE names an archive made before.
+#[macro_use]
+mod exported;
+#[macro_use]
+mod lent;
 pub mod answer;
-mod archive;
+pub mod common;
 pub mod formant_osc;
 pub mod karplus_strong;
 pub mod lfo;

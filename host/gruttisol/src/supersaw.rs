@@ -1,6 +1,6 @@
 //! The supersaw: seven saws side by side, and one an octave below.
 use crate::answer::{ticked, Refused, Ticked};
-use crate::archive::{oscillator, supersaw_tick};
+use crate::lent::supersaw_tick;
 
 /// Inputs in port order.
 #[derive(Clone, Copy, PartialEq, Debug)]

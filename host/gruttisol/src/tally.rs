@@ -1,20 +1,17 @@
 //! The tally of a run: how many ticks began, and how each went.
 use crate::answer::{done, Mark, Refused};
-use crate::archive::{tally_new, tally_take};
+use crate::lent::tally_take;
 
 /// Counts: begun, finished (the clean ones), cleared, notfinite, lost.
-#[derive(Clone, Copy, PartialEq, Eq, Debug)]
+#[derive(Clone, Copy, PartialEq, Eq, Debug, Default)]
 pub struct Tally {
     counts: [u32; 5],
 }
 
 impl Tally {
     /// A tally that has counted nothing.
-    #[allow(clippy::new_without_default)]
     pub fn new() -> Self {
-        let mut made = Tally { counts: [u32::MAX; 5] };
-        done(tally_new(&mut made.counts)).expect("five counts are what a tally has");
-        made
+        Tally { counts: [0; 5] }
     }
 
     /// Counts of the caller's making; where the first isn't the sum of the others, nothing is taken any more.

@@ -1,6 +1,6 @@
 //! The voltage-controlled oscillator: sine, triangle, saw and square of one phase.
 use crate::answer::{ticked, Refused, Ticked};
-use crate::archive::{oscillator, vco_tick};
+use crate::lent::vco_tick;
 
 /// Inputs in port order.
 #[derive(Clone, Copy, PartialEq, Debug)]

@@ -1,6 +1,6 @@
 //! The wavetable oscillator: it reads tables from a bank that its caller keeps.
 use crate::answer::{ticked, Refused, Ticked};
-use crate::archive::{oscillator, wavetable_tick};
+use crate::lent::wavetable_tick;
 
 /// Inputs in port order.
 #[derive(Clone, Copy, PartialEq, Debug)]

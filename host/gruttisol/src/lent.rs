@@ -1,4 +1,4 @@
-//! The archive's functions over lent slices.
+//! The functions of the archive that are lent slices, as safe functions that answer the archive's number.
 
 /// Each line declares a function of the archive, under its own name after the project's prefix, and a Rust function that
 /// calls it. A slice is two arguments there, its first cell's address and its length: `mut` ones are written.
@@ -54,7 +54,6 @@ lent! {
     fn karplus_strong_reset(; floats: mut f64, wholes: mut u64, line: mut f64);
     fn karplus_strong_set_sample_rate(sample_rate: f64; floats: mut f64, wholes: mut u64, line: mut f64);
 
-    fn tally_new(; counts: mut u32);
     fn tally_take(code: u32; counts: mut u32);
 }
 
@@ -72,7 +71,7 @@ macro_rules! oscillator {
             /// A new one; refused by 1.
             pub fn new(sample_rate: f64) -> Result<Self, $crate::answer::Refused> {
                 let mut made = $name { floats: [0.0; $floats], wholes: [0; $wholes] };
-                $crate::answer::done($crate::archive::$new(sample_rate, &mut made.floats, &mut made.wholes))?;
+                $crate::answer::done($crate::lent::$new(sample_rate, &mut made.floats, &mut made.wholes))?;
                 Ok(made)
             }
 
@@ -88,17 +87,16 @@ macro_rules! oscillator {
 
             /// Back to the start, memos kept; refused by 1 and 2.
             pub fn reset(&mut self) -> Result<(), $crate::answer::Refused> {
-                $crate::answer::done($crate::archive::$reset(&mut self.floats, &mut self.wholes))
+                $crate::answer::done($crate::lent::$reset(&mut self.floats, &mut self.wholes))
             }
 
             /// Goes on at another sample rate; refused by 1 and 2.
             pub fn set_sample_rate(&mut self, sample_rate: f64) -> Result<(), $crate::answer::Refused> {
-                $crate::answer::done($crate::archive::$set_sample_rate(sample_rate, &mut self.floats, &mut self.wholes))
+                $crate::answer::done($crate::lent::$set_sample_rate(sample_rate, &mut self.floats, &mut self.wholes))
             }
         }
     };
 }
-pub(crate) use oscillator;
 
 /// The boundary's own refusals, which the safe functions can't meet: they lend slices of the right length.
 #[cfg(test)]
@@ -183,9 +181,9 @@ mod tests {
     #[test]
     fn tally() {
         for n in [0, 1, 4, 6, 64] {
-            let mut counts = vec![7; n];
-            assert_eq!((tally_new(&mut counts), tally_take(14, &mut counts)), (50, 50));
-            assert!(counts.iter().all(|&count| count == 7));
+            let mut counts = vec![0; n];
+            assert_eq!(tally_take(14, &mut counts), 53);
+            assert!(counts.iter().all(|&count| count == 0));
         }
     }
 }
