@@ -41,7 +41,11 @@ fn rust_wrap(x: f64) -> f64 {
         return 0.0;
     }
     let wrapped = x - x.floor();
-    if wrapped >= 1.0 { 0.0 } else { wrapped }
+    if wrapped >= 1.0 {
+        0.0
+    } else {
+        wrapped
+    }
 }
 
 /// Measures one function over a range, and prints its line.

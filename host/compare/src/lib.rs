@@ -4,6 +4,7 @@
 //! found, nothing can be compared: this crate is empty, and its tests are skipped.
 #![cfg(quiver)]
 
+pub mod common;
 pub mod draw;
 pub mod formant_osc;
 pub mod karplus_strong;
