@@ -8,7 +8,7 @@ fn a_vco_that_stands_still() {
         use gruttisol::vco::{Controls, Vco};
         use quiver_system::modules::oscillators::{self as rust, probe::Probe};
 
-        for fm in [-1023.0, -1030.0, -1070.0] {
+        for fm in [-1023.0, -1040.0, -1060.0] {
             let mut samples = [0.0; 4];
             rust::Vco::new(48000.0).body(&[0.0, fm, 0.5, 0.0, 0.0], u32::MAX, &mut samples);
             let controls = Controls { voct: 0.0, fm, pw: 0.5, sync: 0.0, fm_lin: 0.0 };
