@@ -2,3 +2,4 @@ pub mod Answer
 pub mod Mark
 pub mod Tally
 pub mod Promises
+pub mod Settled

@@ -1,3 +1,4 @@
 pub mod PhaseLaws
 pub mod MemoLaws
 pub mod EdgeLaws
+pub mod Settled

@@ -5,3 +5,4 @@ pub mod Memo
 pub mod Edge
 pub mod Tests
 pub mod Promises
+pub mod Settled

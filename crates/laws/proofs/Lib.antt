@@ -9,3 +9,4 @@ pub mod Interval
 pub mod Over
 pub mod Always
 pub mod Settled
+pub mod Slices

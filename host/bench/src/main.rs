@@ -2,6 +2,8 @@
 //!
 //! Either side is a call that isn't inlined: ours into the archive, Rust's into the C library of the system. The two take
 //! turns, and the best of many short runs counts, since whatever else the machine does only adds.
+mod oscillators;
+
 use gruttisol::{common, numeric};
 use random::Random;
 use std::f64::consts::TAU;
@@ -28,6 +30,8 @@ fn main() {
     row("wrap", 0.0..2.0, common::wrap_phase, rust_wrap, "under 2 ns");
     row("wrap", -1.0..0.0, common::wrap_phase, rust_wrap, "");
     row("wrap", -1000.0..1000.0, common::wrap_phase, rust_wrap, "");
+    println!();
+    oscillators::rows();
 }
 
 /// The Rust's `wrap_phase`, a call of its own as ours is.
@@ -37,7 +41,11 @@ fn rust_wrap(x: f64) -> f64 {
         return 0.0;
     }
     let wrapped = x - x.floor();
-    if wrapped >= 1.0 { 0.0 } else { wrapped }
+    if wrapped >= 1.0 {
+        0.0
+    } else {
+        wrapped
+    }
 }
 
 /// Measures one function over a range, and prints its line.

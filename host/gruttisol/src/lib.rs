@@ -6,5 +6,15 @@
 //! A build proves the crates and makes the archive by the kit's `rt`; GRUTTISOL_ARCHIVE names an archive made before.
 #[macro_use]
 mod exported;
+#[macro_use]
+mod lent;
+pub mod answer;
 pub mod common;
+pub mod formant_osc;
+pub mod karplus_strong;
+pub mod lfo;
 pub mod numeric;
+pub mod supersaw;
+pub mod tally;
+pub mod vco;
+pub mod wavetable;

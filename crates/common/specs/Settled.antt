@@ -1,0 +1,39 @@
+-- For each public function: any two answers that its contract allows are equal. The contract is the equation under Settles.
+use mathlib.Core.Path.{_≡_}
+use mathlib.Core.Bool.{Bool}
+use lib.Ieee.{Float}
+use Rattle.laws.specs.Machine.{Settles}
+use Rattle.common.specs.Pitch.{voctToHz}
+use Rattle.common.specs.Phase.{turns, wrapOf, polyblepOf, polyblampOf}
+use Rattle.common.specs.Memo.{newMemo1, hits1, filled1, recall1, voctToHzAt, newMemo3, hits3, filled3}
+use Rattle.common.specs.Edge.{newEdge, risingAboveOf, risingOf, crossedAboveOf, crossedOf}
+use Rattle.common.specs.Tests.{rateOk, phaseOk}
+use Rattle.common.specs.declared.Hertz.{Hertz}
+use Rattle.common.specs.declared.Turns.{Turns}
+use Rattle.common.specs.declared.VoltsPerOctave.{VoltsPerOctave}
+use Rattle.common.specs.declared.Memo1.{Memo1}
+use Rattle.common.specs.declared.Memo3.{Memo3}
+use Rattle.common.specs.declared.EdgeDetector.{EdgeDetector}
+use Rattle.common.specs.declared.Risen.{Risen}
+use Rattle.common.specs.declared.Crossed.{Crossed}
+
+pub record Settled : Type 0 where
+  pub voct-to-hz : (v : VoltsPerOctave) → Settles (λ (r : Hertz). r ≡ voctToHz v)
+  pub wrap-phase : (x : Turns) → Settles (λ (r : Turns). r ≡ turns (wrapOf (x .0)))
+  pub polyblep : (t dt : Turns) → Settles (λ (r : Float). r ≡ polyblepOf (t .0) (dt .0))
+  pub polyblamp : (t dt : Turns) → Settles (λ (r : Float). r ≡ polyblampOf (t .0) (dt .0))
+  pub memo1-new : Settles (λ (r : Memo1). r ≡ newMemo1)
+  pub memo1-hits : (m : Memo1) (x : Float) → Settles (λ (r : Bool). r ≡ hits1 m x)
+  pub memo1-filled : (x : Float) (v : Hertz) → Settles (λ (r : Memo1). r ≡ filled1 x v)
+  pub memo1-voct-to-hz : (m : Memo1) (v : VoltsPerOctave) → Settles (λ (r : Memo1). r ≡ recall1 voctToHzAt m (v .0))
+  pub memo3-new : Settles (λ (r : Memo3). r ≡ newMemo3)
+  pub memo3-hits : (m : Memo3) (x y z : Float) → Settles (λ (r : Bool). r ≡ hits3 m x y z)
+  pub memo3-filled : (x y z : Float) (v : Hertz) → Settles (λ (r : Memo3). r ≡ filled3 x y z v)
+  pub edge-new : Settles (λ (r : EdgeDetector). r ≡ newEdge)
+  pub edge-rising : (e : EdgeDetector) (v : Float) → Settles (λ (r : Risen). r ≡ risingOf e v)
+  pub edge-rising-above : (e : EdgeDetector) (v t : Float) → Settles (λ (r : Risen). r ≡ risingAboveOf e v t)
+  pub edge-rising-frac : (e : EdgeDetector) (v : Float) → Settles (λ (r : Crossed). r ≡ crossedOf e v)
+  pub edge-rising-frac-above : (e : EdgeDetector) (v t : Float) → Settles (λ (r : Crossed). r ≡ crossedAboveOf e v t)
+  pub edge-reset : (e : EdgeDetector) → Settles (λ (r : EdgeDetector). r ≡ newEdge)
+  pub rate-ok : (r : Hertz) → Settles (λ (b : Bool). b ≡ rateOk r)
+  pub phase-ok : (p : Turns) → Settles (λ (b : Bool). b ≡ phaseOk p)

@@ -1,0 +1,64 @@
+-- What each exported call answers, and what it leaves in the lent slices. f, w and o are floats, wholes and samples as they stood.
+use mathlib.Core.Bool.{cond}
+use mathlib.Core.List.{List}
+use Prim.Native.Nat.{ℕ, _+_}
+use lib.Dec.{eqb}
+use lib.Ieee.{Float}
+use lib.ListN.{length}
+use Rattle.answer.specs.Answer.{markNumber, voltsOf, refusalOf, accepted}
+use Rattle.lfo.specs.Calls.{Refused}
+use Rattle.lfo.specs.Lfo.{lfoNewOf, lfoTickOf, lfoResetOf, lfoSetSampleRateOf}
+use Rattle.exports_lfo.specs.State.{sizesOf, tickSizesOf, stateOf, floatsOf, wholesOf, samplesOf}
+use Rattle.lfo.specs.declared.LfoMade.{LfoMade}
+use Rattle.lfo.specs.declared.LfoMade.the-variants as made
+use Rattle.lfo.specs.declared.LfoTicked.{LfoTicked}
+
+-- the number of a call without samples, and the slices after it
+pub record Kept : Type 0 where
+  pub code : ℕ
+  pub floats : List Float
+  pub wholes : List ℕ
+
+abbrev pub kept : ℕ → List Float → List ℕ → Kept
+kept n f w = record { code = n; floats = f; wholes = w }
+
+-- 0 and the new state, or what refused it
+unfoldable pub keptOf : LfoMade → List Float → List ℕ → Kept
+keptOf (made.Made s) f w = kept 0 (floatsOf s) (wholesOf s)
+keptOf (made.Refused n) f w = kept n f w
+
+-- k, unless the lengths refuse
+unfoldable pub keptSized : Kept → List Float → List ℕ → Kept
+keptSized k f w = let n = sizesOf (length f) (length w) in cond (eqb n 0) k (kept n f w)
+
+unfoldable pub lfoNewAt : Float → List Float → List ℕ → Kept
+lfoNewAt rate f w = keptSized (keptOf (lfoNewOf (record { 0 = rate })) f w) f w
+
+unfoldable pub lfoResetAt : List Float → List ℕ → Kept
+lfoResetAt f w = keptSized (keptOf (lfoResetOf (stateOf f w)) f w) f w
+
+unfoldable pub lfoSetSampleRateAt : Float → List Float → List ℕ → Kept
+lfoSetSampleRateAt rate f w = keptSized (keptOf (lfoSetSampleRateOf (stateOf f w) (record { 0 = rate })) f w) f w
+
+-- the same of a tick, with its samples
+pub record Heard : Type 0 where
+  pub code : ℕ
+  pub floats : List Float
+  pub wholes : List ℕ
+  pub samples : List Float
+
+abbrev pub heard : ℕ → List Float → List ℕ → List Float → Heard
+heard n f w o = record { code = n; floats = f; wholes = w; samples = o }
+
+-- 10 and the mark's number, the new state and the samples, or what refused it
+unfoldable pub heardOf : LfoTicked → List Float → List ℕ → List Float → Heard
+heardOf t f w o =
+    let a = t .answer in
+    cond (accepted a) (heard (10 + markNumber a) (floatsOf (t .lfo)) (wholesOf (t .lfo)) (samplesOf (voltsOf a))) (heard (refusalOf a) f w o)
+
+unfoldable pub heardSized : Heard → List Float → List ℕ → List Float → Heard
+heardSized h f w o = let n = tickSizesOf (length f) (length w) (length o) in cond (eqb n 0) h (heard n f w o)
+
+unfoldable pub lfoTickAt : Float → Float → Float → ℕ → List Float → List ℕ → List Float → Heard
+lfoTickAt rate depth reset wanted f w o =
+    heardSized (heardOf (lfoTickOf (stateOf f w) (record { rate = rate; depth = depth; reset = reset }) wanted) f w o) f w o

@@ -1,0 +1,37 @@
+-- An Lfo as four floats and two whole numbers, and its samples as five floats.
+use mathlib.Core.Bool.{not, cond}
+use mathlib.Core.List.{List, [], _∷_}
+use Prim.Native.Nat.{ℕ}
+use lib.Dec.{eqb}
+use lib.Ieee.{Float, nan}
+use lib.ListN.{getD}
+use Rattle.answer.specs.declared.Volts.{Volts}
+use Rattle.lfo.specs.declared.Lfo.{Lfo}
+
+-- 0, or what refuses the lengths of floats and wholes
+unfoldable pub sizesOf : ℕ → ℕ → ℕ
+sizesOf f w = cond (eqb f 4) (cond (eqb w 2) 0 51) 50
+
+-- and those of samples after them
+unfoldable pub tickSizesOf : ℕ → ℕ → ℕ → ℕ
+tickSizesOf f w o = cond (eqb (sizesOf f w) 0) (cond (eqb o 5) 0 52) (sizesOf f w)
+
+-- floats [phase, sample_rate, reset_edge.prev, freq_memo.val], wholes [freq_memo.key, freq_memo.valid]
+unfoldable pub stateOf : List Float → List ℕ → Lfo
+stateOf f w =
+    record {
+      phase = record { 0 = getD f 0 nan };
+      «sample_rate» = record { 0 = getD f 1 nan };
+      «reset_edge» = record { prev = getD f 2 nan };
+      «freq_memo» = record { key = getD w 0 0; val = record { 0 = getD f 3 nan }; valid = not (eqb (getD w 1 0) 0) };
+    }
+
+unfoldable pub floatsOf : Lfo → List Float
+floatsOf s = s .phase .0 ∷ s .«sample_rate» .0 ∷ s .«reset_edge» .prev ∷ s .«freq_memo» .val .0 ∷ []
+
+unfoldable pub wholesOf : Lfo → List ℕ
+wholesOf s = s .«freq_memo» .key ∷ cond (s .«freq_memo» .valid) 1 0 ∷ []
+
+-- [sin, tri, saw, sqr, sin_uni]
+unfoldable pub samplesOf : Volts → List Float
+samplesOf v = v .p10 ∷ v .p11 ∷ v .p12 ∷ v .p13 ∷ v .p14 ∷ []

@@ -1,0 +1,20 @@
+-- Every cell of a list stored, one after another; and a bool stored as a whole number.
+use mathlib.Core.Bool.{Bool, true, false, cond}
+use mathlib.Core.List.{List, [], _∷_, _++_, append-nil}
+use mathlib.Core.Path.{_≡_, refl, ap, _∙_}
+use Prim.Native.Nat.{_+_, _≤_}
+use native.Mathlib.Omega.{arith}
+use lib.ListN.{length, drop, drop-of-length-le}
+use lib.Seq.{sets, sets-eq}
+use mir.Val.{boolByte}
+
+-- `sets l 0 vs` computes to the stores of vs at 0, 1, ..
+pub stored : {A : Type 0} (l vs : List A) → length l ≡ length vs → sets l 0 vs ≡ vs
+stored {A} l vs h =
+    sets-eq vs l 0 (omega arith)
+    ∙ ap (λ (r : List A). vs ++ r) (drop-of-length-le l {i = 0 + length vs} (omega arith))
+    ∙ append-nil vs
+
+pub byte : (b : Bool) → boolByte b ≡ cond b 1 0
+byte true = refl
+byte false = refl

@@ -1,0 +1,22 @@
+use borrow.Author.Needs.{needs}
+use borrow.Author.Tests.{ne-eqb, eq-eqb}
+use Rattle.lfo.specs.Lfo.{madeUnless, lfoResetOf}
+use Rattle.lfo.proofs.Lfo.reset.Statement.{statement}
+use Rattle.lfo.proofs.Lfo.reset.Tie as tie
+
+refusal-requires : tie.Need-refusal-requires
+refusal-requires c κs = search needs
+
+reset-requires : tie.Need-reset-requires
+reset-requires c κs = search needs
+
+returns : tie.Need-returns
+unfolding lfoResetOf madeUnless
+returns c = simp (c .reset .ensures, eq-eqb _ _ (c .before .before .before .before .if1 .taken), ← c .before .before .before .before .before .refusal .ensures)
+
+returns-2 : tie.Need-returns-2
+unfolding lfoResetOf madeUnless
+returns-2 c = simp (ne-eqb _ _ (c .if1 .left), ← c .before .refusal .ensures)
+
+pub reset-spec : {M : Type 1} → statement M
+reset-spec = tie.close (tie.spec refusal-requires reset-requires returns returns-2)

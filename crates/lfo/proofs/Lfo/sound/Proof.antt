@@ -1,0 +1,51 @@
+use borrow.Author.Needs.{needs}
+use Rattle.lfo.proofs.Accepted.{sound-finite}
+use Rattle.lfo.specs.Lfo.{lfoSoundOf}
+use Rattle.lfo.proofs.Lfo.sound.Statement.{statement}
+use Rattle.lfo.proofs.Lfo.sound.Tie as tie
+
+recall-requires : tie.Need-recall-requires
+recall-requires c κs = search needs
+
+rising-requires : tie.Need-rising-requires
+rising-requires c κs = search needs
+
+restart-requires : tie.Need-restart-requires
+restart-requires c κs = search needs
+
+outputs-requires : tie.Need-outputs-requires
+outputs-requires c κs = search needs
+
+increment-requires : tie.Need-increment-requires
+increment-requires c κs = search needs
+
+is-small-requires : tie.Need-is-small-requires
+is-small-requires c κs = search needs
+
+is-finite-requires : tie.Need-is-finite-requires
+is-finite-requires c κs = search needs
+
+mark-requires : tie.Need-mark-requires
+mark-requires c κs = sound-finite _ _ _ _ _ _ _ (c .before .before .before .before .before .before .before .before .before .before .before .before .before .before .before .before .pre) (c .before .before .before .before .before .before .restart .ensures) (c .before .before .before .before .before .outputs .ensures) (c .before .is-small .ensures)
+
+wrap-phase-requires : tie.Need-wrap-phase-requires
+wrap-phase-requires c κs = search needs
+
+returns : tie.Need-returns
+unfolding lfoSoundOf
+returns c = simp (c .wrap-phase .ensures, c .before .mark .ensures, c .before .before .is-finite .ensures, c .before .before .before .before .before .before .increment .ensures, c .before .before .before .before .before .before .before .outputs .ensures, c .before .before .before .before .before .before .before .before .restart .ensures, c .before .before .before .before .before .before .before .before .before .before .rising .ensures, c .before .before .before .before .before .before .before .before .before .before .before .before .recall .ensures)
+
+pub sound-spec : {M : Type 1} → statement M
+sound-spec =
+    tie.close
+    (tie.spec
+    recall-requires
+    rising-requires
+    restart-requires
+    outputs-requires
+    increment-requires
+    is-small-requires
+    is-finite-requires
+    mark-requires
+    wrap-phase-requires
+    returns)

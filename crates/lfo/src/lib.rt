@@ -1,0 +1,303 @@
+// The Lfo of oscillators.rs, in its order: a slow oscillator with rate, depth and a reset trigger.
+// Its outputs: p10 sin, p11 tri, p12 saw, p13 sqr, p14 sin_uni.
+use answer::Answer;
+use answer::Volts;
+use common::EdgeDetector;
+use common::Hertz;
+use common::Memo1;
+use common::Turns;
+ghost use mathlib.Core.Path.{_≡_};
+ghost use mathlib.Core.Bool.{true, false, cond, _||_};
+ghost use lib.Ieee.{binary64, div};
+ghost use Rattle.laws.specs.Float.{zer};
+ghost use Rattle.common.specs.Phase.{turns};
+ghost use Rattle.common.specs.Memo.{recall1};
+ghost use Rattle.answer.specs.Mark.{allFinite, markOf};
+ghost use Rattle.lfo.specs.Waves.{rateToHz, restartOf, sineOf, sinWave, triWave, sawWave, sqrWave, sinUniWave};
+ghost use Rattle.lfo.specs.Small.{isSmall};
+ghost use Rattle.lfo.specs.Lfo.{lfoRefusalOf, lfoNewOf, lfoOutputsOf, lfoSoundOf, lfoTickOf, lfoResetOf, lfoSetSampleRateOf};
+
+pub struct Lfo {
+    pub phase: Turns,
+    pub sample_rate: Hertz,
+    pub reset_edge: EdgeDetector,
+    pub freq_memo: Memo1,
+}
+
+// The inputs, in port order.
+pub struct LfoControls {
+    pub rate: f64,
+    pub depth: f64,
+    pub reset: f64,
+}
+
+pub struct LfoTicked {
+    pub answer: Answer,
+    pub lfo: Lfo,
+}
+
+pub enum LfoMade {
+    Made(Lfo),
+    Refused(u32),
+}
+
+// A whole turn in radians.
+const TAU: f64 = 6.283185307179586;
+
+// A rate from 0 to 1 as 0.01 Hz to 30 Hz. The clamp lets a NaN pass.
+fn rate_to_hz(rate: f64) -> Hertz
+    ensures { λ r. ⌜ r ≡ rateToHz rate ⌝ }
+{
+    Hertz(0.01 * numeric::pow3000(numeric::clamp(rate, 0.0, 1.0)))
+}
+
+// The Rust's get_or_compute([rate], ..); its answer is the new memo's val.
+fn recall(memo: Memo1, rate: f64) -> Memo1
+    ensures { λ r. ⌜ r ≡ recall1 rateToHz memo rate ⌝ }
+{
+    if memo.hits(rate) {
+        memo
+    } else {
+        let val = rate_to_hz(rate);
+        Memo1::filled(rate, val)
+    }
+}
+
+// The phase that the waveforms see: 0 where the reset edge is taken.
+fn restart(phase: Turns, edge: bool) -> Turns
+    ensures { λ r. ⌜ r ≡ restartOf phase edge ⌝ }
+{
+    if edge { Turns(0.0) } else { phase }
+}
+
+fn either(a: bool, b: bool) -> bool
+    ensures { λ r. ⌜ r ≡ (a || b) ⌝ }
+{
+    a || b
+}
+
+// The sine that sin and sin_uni share: the Rust computes it for each of them.
+fn sine(want: bool, phase: Turns) -> f64
+    ensures { λ r. ⌜ r ≡ cond want (sineOf (phase .0)) zer ⌝ }
+{
+    if want {
+        numeric::sin(phase.0 * TAU)
+    } else {
+        0.0
+    }
+}
+
+fn sin(want: bool, sine: f64, scale: f64) -> f64
+    ensures { λ r. ⌜ r ≡ sinWave want sine scale ⌝ }
+{
+    if want { sine * scale } else { 0.0 }
+}
+
+fn tri(want: bool, phase: Turns, scale: f64) -> f64
+    ensures { λ r. ⌜ r ≡ triWave want (phase .0) scale ⌝ }
+{
+    if want {
+        (1.0 - 4.0 * numeric::fabs(phase.0 - 0.5)) * scale
+    } else {
+        0.0
+    }
+}
+
+fn saw(want: bool, phase: Turns, scale: f64) -> f64
+    ensures { λ r. ⌜ r ≡ sawWave want (phase .0) scale ⌝ }
+{
+    if want {
+        (2.0 * phase.0 - 1.0) * scale
+    } else {
+        0.0
+    }
+}
+
+fn sqr(want: bool, phase: Turns, scale: f64) -> f64
+    ensures { λ r. ⌜ r ≡ sqrWave want (phase .0) scale ⌝ }
+{
+    if want {
+        if phase.0 < 0.5 { scale } else { -scale }
+    } else {
+        0.0
+    }
+}
+
+fn sin_uni(want: bool, sine: f64, depth: f64) -> f64
+    ensures { λ r. ⌜ r ≡ sinUniWave want sine depth ⌝ }
+{
+    if want {
+        (sine * 0.5 + 0.5) * depth * 10.0
+    } else {
+        0.0
+    }
+}
+
+// At this depth no output can overflow.
+fn is_small(depth: f64) -> bool
+    ensures { λ r. ⌜ r ≡ isSmall depth ⌝ }
+{
+    depth <= 1073741824.0 && depth >= -1073741824.0
+}
+
+// The mark. A small depth makes no output that isn't finite, which spares the test of each.
+fn mark(v: Volts, small: bool, phases: bool) -> Answer
+    requires { ⌜ (small ≡ true → allFinite v ≡ true) ⌝ }
+    ensures { λ r. ⌜ r ≡ markOf v false true phases ⌝ }
+{
+    if small && phases {
+        Answer::Clean(v)
+    } else {
+        answer::mark(v, false, true, phases)
+    }
+}
+
+// What the phase grows by in a tick.
+fn increment(freq: Hertz, sample_rate: Hertz) -> Turns
+    ensures { λ r. ⌜ r ≡ turns (div binary64 (freq .0) («sample_rate» .0)) ⌝ }
+{
+    Turns(freq.0 / sample_rate.0)
+}
+
+impl Lfo {
+    pub fn new(sample_rate: Hertz) -> LfoMade
+        ensures { λ r. ⌜ r ≡ lfoNewOf «sample_rate» ⌝ }
+    {
+        if common::rate_ok(sample_rate) {
+            LfoMade::Made(Lfo {
+                phase: Turns(0.0),
+                sample_rate,
+                reset_edge: EdgeDetector::new(),
+                freq_memo: Memo1::new(),
+            })
+        } else {
+            LfoMade::Refused(1)
+        }
+    }
+
+    // Bits of `wanted`, in port order.
+    const WANT_SIN: u32 = 1 << 0;
+
+    const WANT_TRI: u32 = 1 << 1;
+
+    const WANT_SAW: u32 = 1 << 2;
+
+    const WANT_SQR: u32 = 1 << 3;
+
+    const WANT_SIN_UNI: u32 = 1 << 4;
+
+    // The outputs, each where it is wanted; sin and sin_uni share one sine.
+    fn outputs(wanted: u32, phase: Turns, depth: f64) -> Volts
+        ensures { λ r. ⌜ r ≡ lfoOutputsOf wanted (phase .0) depth ⌝ }
+    {
+        let scale = 5.0 * depth;
+        let want_sin = wanted & Self::WANT_SIN != 0;
+        let want_uni = wanted & Self::WANT_SIN_UNI != 0;
+        let shared = sine(either(want_sin, want_uni), phase);
+        Volts {
+            p10: sin(want_sin, shared, scale),
+            p11: tri(wanted & Self::WANT_TRI != 0, phase, scale),
+            p12: saw(wanted & Self::WANT_SAW != 0, phase, scale),
+            p13: sqr(wanted & Self::WANT_SQR != 0, phase, scale),
+            p14: sin_uni(want_uni, shared, depth),
+        }
+    }
+
+    // 0, or the number that refuses this state: 1 its rate, 2 its phase.
+    fn refusal(self) -> u32
+        ensures { λ r. ⌜ r ≡ lfoRefusalOf self ⌝ }
+    {
+        let sample_rate = self.sample_rate;
+        let phase = self.phase;
+        if common::rate_ok(sample_rate) {
+            if common::phase_ok(phase) { 0 } else { 2 }
+        } else {
+            1
+        }
+    }
+
+    // An accepted tick: the Rust's tick_wanted.
+    fn sound(self, c: LfoControls, wanted: u32) -> LfoTicked
+        requires { ⌜ lfoRefusalOf self ≡ 0 ⌝ }
+        ensures { λ r. ⌜ r ≡ lfoSoundOf self c wanted ⌝ }
+    {
+        let old = self.phase;
+        let sample_rate = self.sample_rate;
+        let edge = self.reset_edge;
+        let memo = self.freq_memo;
+        let depth = c.depth / 10.0;
+        let freq_memo = recall(memo, c.rate);
+        let freq = freq_memo.val;
+        let risen = edge.rising(c.reset);
+        let reset_edge = risen.edge;
+        let phase = restart(old, risen.rising);
+        let volts = Self::outputs(wanted, phase, depth);
+        let next = Turns(phase.0 + increment(freq, sample_rate).0);
+        LfoTicked {
+            answer: mark(volts, is_small(depth), numeric::is_finite(next.0)),
+            lfo: Lfo {
+                phase: common::wrap_phase(next),
+                sample_rate,
+                reset_edge,
+                freq_memo,
+            },
+        }
+    }
+
+    pub fn tick(self, c: LfoControls, wanted: u32) -> LfoTicked
+        ensures { λ r. ⌜ r ≡ lfoTickOf self c wanted ⌝ }
+    {
+        let n = self.refusal();
+        if n == 0 {
+            self.sound(c, wanted)
+        } else {
+            LfoTicked {
+                answer: Answer::Refused(n),
+                lfo: self,
+            }
+        }
+    }
+
+    // Phase and edge start again; the memo stays.
+    pub fn reset(self) -> LfoMade
+        ensures { λ r. ⌜ r ≡ lfoResetOf self ⌝ }
+    {
+        let n = self.refusal();
+        if n == 0 {
+            let sample_rate = self.sample_rate;
+            let edge = self.reset_edge;
+            let freq_memo = self.freq_memo;
+            LfoMade::Made(Lfo {
+                phase: Turns(0.0),
+                sample_rate,
+                reset_edge: edge.reset(),
+                freq_memo,
+            })
+        } else {
+            LfoMade::Refused(n)
+        }
+    }
+
+    pub fn set_sample_rate(self, sample_rate: Hertz) -> LfoMade
+        ensures { λ r. ⌜ r ≡ lfoSetSampleRateOf self «sample_rate» ⌝ }
+    {
+        if common::rate_ok(sample_rate) {
+            let n = self.refusal();
+            if n == 0 {
+                let phase = self.phase;
+                let reset_edge = self.reset_edge;
+                let freq_memo = self.freq_memo;
+                LfoMade::Made(Lfo {
+                    phase,
+                    sample_rate,
+                    reset_edge,
+                    freq_memo,
+                })
+            } else {
+                LfoMade::Refused(n)
+            }
+        } else {
+            LfoMade::Refused(1)
+        }
+    }
+}

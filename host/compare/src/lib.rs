@@ -1,0 +1,44 @@
+//! The proved oscillators and the Rust's, run through the same calls and compared to the last bit.
+//!
+//! The Rust is compiled unchanged by the crate `quiver`, over the proved sine, cosine and powers. Where its source isn't
+//! found, nothing can be compared: this crate is empty, and its tests are skipped.
+#![cfg(quiver)]
+
+pub mod common;
+pub mod draw;
+pub mod formant_osc;
+pub mod karplus_strong;
+pub mod lfo;
+mod pair;
+pub mod script;
+pub mod supersaw;
+pub mod vco;
+pub mod wavetable;
+
+use script::{run, Counts, Pair};
+
+/// A run of scripts from a seed, for so many ticks; the error is the first difference.
+pub type Run = fn(u64, u64) -> Result<Counts, String>;
+
+/// Every oscillator.
+pub const ALL: [(&str, Run); 6] = [
+    of::<vco::Vco>(),
+    of::<lfo::Lfo>(),
+    of::<supersaw::Supersaw>(),
+    of::<wavetable::Wavetable>(),
+    of::<formant_osc::FormantOsc>(),
+    of::<karplus_strong::KarplusStrong>(),
+];
+
+const fn of<P: Pair>() -> (&'static str, Run) {
+    (P::NAME, run::<P>)
+}
+
+/// The run of the gate. It prints what was compared.
+#[track_caller]
+pub fn gate<P: Pair>() {
+    match run::<P>(1, 2_000_000) {
+        Ok(counts) => println!("{}: {counts}; no difference", P::NAME),
+        Err(difference) => panic!("{difference}"),
+    }
+}

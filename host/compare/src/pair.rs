@@ -1,0 +1,75 @@
+//! What the pairs of both sides have in common.
+use crate::script::{bad_phase, bad_rate};
+
+/// The parts of a pair that are the same for every oscillator whose state alone is lent.
+macro_rules! both {
+    ($ours:ty, $floats:literal, $wholes:literal) => {
+        type Floats = [f64; $floats];
+        type Wholes = [u64; $wholes];
+
+        fn ours(&self) -> (Self::Floats, Self::Wholes) {
+            let (floats, wholes) = self.ours.parts();
+            (*floats, *wholes)
+        }
+
+        fn theirs(&self) -> (Self::Floats, Self::Wholes) {
+            self.theirs.flat()
+        }
+
+        fn put_ours(&mut self, floats: &Self::Floats, wholes: &Self::Wholes) {
+            self.ours = <$ours>::of_parts(*floats, *wholes);
+        }
+
+        fn put_theirs(&mut self, floats: &Self::Floats, wholes: &Self::Wholes, _draw: &mut Draw) {
+            self.theirs.put_flat(floats, wholes);
+        }
+
+        fn ours_reset(&mut self) -> Result<(), Refused> {
+            self.ours.reset()
+        }
+
+        fn theirs_reset(&mut self) {
+            self.theirs.reset();
+        }
+
+        fn ours_set_sample_rate(&mut self, sample_rate: f64) -> Result<(), Refused> {
+            self.ours.set_sample_rate(sample_rate)
+        }
+
+        fn theirs_set_sample_rate(&mut self, sample_rate: f64, _counts: &mut Counts) {
+            self.theirs.set_sample_rate(sample_rate);
+        }
+    };
+}
+
+pub(crate) use both;
+
+/// The number that a state is refused by, of its rate and phases.
+pub fn refusal(rate: f64, phases: &[f64]) -> u32 {
+    if bad_rate(rate) {
+        1
+    } else if phases.iter().any(|&phase| bad_phase(phase)) {
+        2
+    } else {
+        0
+    }
+}
+
+/// Whether a gate rises, as document 01 has it.
+pub fn rises(previous: f64, v: f64) -> bool {
+    v > 2.5 && previous <= 2.5
+}
+
+/// The phase that a tick uses: 0 where its gate rises.
+pub fn used(phase: f64, previous: f64, gate: f64) -> f64 {
+    if rises(previous, gate) {
+        0.0
+    } else {
+        phase
+    }
+}
+
+/// The outputs that a mask wants.
+pub fn wanted_of(samples: &[f64], wanted: u32) -> impl Iterator<Item = f64> + '_ {
+    samples.iter().enumerate().filter(move |(port, _)| wanted >> port & 1 == 1).map(|(_, &x)| x)
+}

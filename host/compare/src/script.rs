@@ -1,0 +1,337 @@
+//! One script for every oscillator: calls drawn from a seed, made on both sides, and everything compared after each.
+use crate::draw::{Control, Draw};
+use gruttisol::answer::{Mark, Refused};
+use std::fmt;
+
+/// One oscillator on both sides.
+pub trait Pair: Sized {
+    const NAME: &'static str;
+    const CONTROLS: &'static [Control];
+    const PORTS: usize;
+    /// Whether a tick takes a mask of wanted outputs; else all are wanted.
+    const MASKED: bool;
+    type Floats: AsRef<[f64]> + Copy;
+    type Wholes: AsRef<[u64]> + Copy;
+
+    /// A new one on both sides, if ours isn't refused.
+    fn new(sample_rate: f64, draw: &mut Draw) -> Result<Self, Refused>;
+
+    fn ours(&self) -> (Self::Floats, Self::Wholes);
+    fn theirs(&self) -> (Self::Floats, Self::Wholes);
+
+    /// A state of a caller's own making, given what the next tick may ask of its memos.
+    fn invent(&self, controls: &[f64], draw: &mut Draw) -> (Self::Floats, Self::Wholes);
+    /// Puts ours to a state, refused ones too.
+    fn put_ours(&mut self, floats: &Self::Floats, wholes: &Self::Wholes);
+    /// Puts the Rust's to a state that isn't refused.
+    fn put_theirs(&mut self, floats: &Self::Floats, wholes: &Self::Wholes, draw: &mut Draw);
+    /// The number that document 01 refuses a state by, or 0.
+    fn refusal(floats: &Self::Floats, wholes: &Self::Wholes) -> u32;
+
+    fn ours_tick(&mut self, controls: &[f64], wanted: u32, samples: &mut [f64]) -> Result<Mark, Refused>;
+    /// The mark is document 01's, of the Rust's values.
+    fn theirs_tick(&mut self, controls: &[f64], wanted: u32, samples: &mut [f64]) -> Mark;
+    fn ours_reset(&mut self) -> Result<(), Refused>;
+    fn theirs_reset(&mut self);
+    fn ours_set_sample_rate(&mut self, sample_rate: f64) -> Result<(), Refused>;
+    fn theirs_set_sample_rate(&mut self, sample_rate: f64, counts: &mut Counts);
+
+    /// Makes ready what is lent to the next tick, and tries what that may be refused for.
+    fn lend(&mut self, _controls: &[f64], _draw: &mut Draw, _counts: &mut Counts) -> Result<(), String> {
+        Ok(())
+    }
+    /// The same for a rate change.
+    fn lend_for_rate(&mut self, _rate: f64, _draw: &mut Draw, _counts: &mut Counts) -> Result<(), String> {
+        Ok(())
+    }
+    /// Compares what is lent.
+    fn same_lent(&mut self) -> Result<(), String> {
+        Ok(())
+    }
+}
+
+/// What was run and compared.
+#[derive(Clone, Default, Debug)]
+pub struct Counts {
+    /// Accepted ticks, in the order of `Mark::ALL`.
+    pub marks: [u64; 4],
+    pub resets: u64,
+    pub rate_changes: u64,
+    /// States of a caller's own making that were taken.
+    pub states: u64,
+    pub refused: u64,
+    /// Write positions that a rate change left past the line's end, which ours puts to 0 and the Rust doesn't.
+    pub repaired: u64,
+}
+
+impl Counts {
+    pub fn ticks(&self) -> u64 {
+        self.marks.iter().sum()
+    }
+}
+
+impl fmt::Display for Counts {
+    fn fmt(&self, f: &mut fmt::Formatter<'_>) -> fmt::Result {
+        write!(f, "{} ticks (", self.ticks())?;
+        for (mark, n) in Mark::ALL.into_iter().zip(self.marks) {
+            write!(f, "{n} {}{}", mark.word(), if mark == Mark::Clean { ")" } else { ", " })?;
+        }
+        let Counts { resets, rate_changes, states, refused, .. } = self;
+        write!(f, ", {resets} resets, {rate_changes} rate changes, {states} states put in, {refused} refused calls")?;
+        if self.repaired > 0 {
+            write!(f, ", {} write positions repaired", self.repaired)?;
+        }
+        Ok(())
+    }
+}
+
+/// Runs scripts from a seed until there were that many ticks. The error is the first difference.
+pub fn run<P: Pair>(seed: u64, ticks: u64) -> Result<Counts, String> {
+    let mut draw = Draw::new(seed);
+    let mut counts = Counts::default();
+    while counts.ticks() < ticks {
+        scene::<P>(&mut draw, &mut counts)
+            .map_err(|said| format!("{}, seed {seed}, tick {}: {said}", P::NAME, counts.ticks()))?;
+    }
+    Ok(counts)
+}
+
+/// How a scene goes.
+struct Mood {
+    calls: u64,
+    /// Odd values and corners come about once in this many.
+    rarely: u64,
+    /// A control changes about once in this many ticks, and a gate once in that many.
+    held: u64,
+    gates: u64,
+    /// Glides move every control by a step at each tick.
+    glides: bool,
+    /// Of so many calls, four are something else than a tick.
+    ticks: u64,
+}
+
+impl Mood {
+    fn drawn(draw: &mut Draw) -> Mood {
+        let usual = Mood { calls: 400, rarely: 20, held: 10, gates: 10, glides: false, ticks: 100 };
+        match draw.below(40) {
+            // long runs without corners
+            0 => Mood { calls: 30_000, rarely: 1 << 40, held: 4000, gates: 3000, ticks: 20_000, ..usual },
+            1 => Mood { calls: 10_000, rarely: 1 << 40, held: 1000, gates: 1000, glides: true, ticks: 5000 },
+            2 => Mood { calls: 5000, rarely: 40, held: 100, gates: 500, ticks: 1000, ..usual },
+            // nothing but corners
+            3..=9 => Mood { calls: 300, rarely: 1, held: 4, gates: 4, ticks: 60, ..usual },
+            10..=15 => Mood { calls: 300, rarely: 8, held: 1, gates: 2, ticks: 60, ..usual },
+            16..=20 => Mood { rarely: 40, gates: 40, glides: true, ..usual },
+            21..=24 => Mood { gates: 200, ..usual },
+            _ => usual,
+        }
+    }
+}
+
+fn scene<P: Pair>(draw: &mut Draw, counts: &mut Counts) -> Result<(), String> {
+    let mood = Mood::drawn(draw);
+    let bad = draw.bad_rate();
+    refused(P::new(bad, draw).map(drop), 1, counts).map_err(|said| format!("new at {bad:?}: {said}"))?;
+    let rate = draw.rate();
+    let mut pair = P::new(rate, draw).map_err(|n| format!("new at {rate:?}: {n}"))?;
+    same(&mut pair).map_err(|said| format!("new at {rate:?}: {said}"))?;
+    let mut controls: Vec<f64> = P::CONTROLS.iter().map(|control| draw.usual(control)).collect();
+    for _ in 0..mood.calls {
+        match draw.below(mood.ticks) {
+            0 => reset(&mut pair, counts)?,
+            1 => change_rate(&mut pair, draw, counts)?,
+            2 => {
+                if put_state(&mut pair, &controls, draw, counts)? {
+                    match draw.below(8) {
+                        0 => reset(&mut pair, counts)?,
+                        1 => change_rate(&mut pair, draw, counts)?,
+                        _ => tick(&mut pair, &controls, draw, counts)?,
+                    }
+                }
+            }
+            3 => {
+                let bad = draw.bad_rate();
+                unchanged(&mut pair, counts, 1, |pair| pair.ours_set_sample_rate(bad))
+                    .map_err(|said| format!("rate change to {bad:?}: {said}"))?;
+            }
+            _ => {
+                turn::<P>(&mut controls, &mood, draw);
+                tick(&mut pair, &controls, draw, counts)?;
+            }
+        }
+    }
+    Ok(())
+}
+
+/// Turns the controls before a tick.
+fn turn<P: Pair>(controls: &mut [f64], mood: &Mood, draw: &mut Draw) {
+    for (x, control) in controls.iter_mut().zip(P::CONTROLS) {
+        let held = if control.gate { mood.gates } else { mood.held };
+        if draw.one_in(held) {
+            *x = draw.value(control, mood.rarely);
+        } else if mood.glides && !control.gate {
+            *x += draw.between(-1e-3, 1e-3) * (control.hi - control.lo);
+        }
+    }
+}
+
+fn mask<P: Pair>(draw: &mut Draw) -> u32 {
+    match draw.below(8) {
+        _ if !P::MASKED => u32::MAX,
+        0 => draw.bits() as u32,
+        1 => draw.below(1 << P::PORTS) as u32,
+        2 => draw.of(&[0, 1 << P::PORTS, !0 << P::PORTS]),
+        _ => u32::MAX,
+    }
+}
+
+/// What stands in a sample before the Rust writes it.
+const UNWRITTEN: u64 = 0x7ff4_5ca1_ab1e_0000;
+
+fn tick<P: Pair>(pair: &mut P, controls: &[f64], draw: &mut Draw, counts: &mut Counts) -> Result<(), String> {
+    let wanted = mask::<P>(draw);
+    let before = pair.theirs();
+    let told = |said: String| {
+        let (floats, wholes) = (before.0.as_ref(), before.1.as_ref());
+        format!("tick of {controls:?}, wanted {wanted:#x}, from {floats:?} {wholes:x?}: {said}")
+    };
+    pair.lend(controls, draw, counts).map_err(told)?;
+    let (mut ours, mut theirs) = ([1.0; 5], [f64::from_bits(UNWRITTEN); 5]);
+    let mark = pair.ours_tick(controls, wanted, &mut ours[..P::PORTS]).map_err(|n| told(n.to_string()))?;
+    let their_mark = pair.theirs_tick(controls, wanted, &mut theirs[..P::PORTS]);
+    for port in 0..P::PORTS {
+        let (a, b) = (ours[port], theirs[port]);
+        let right = if wanted >> port & 1 == 1 {
+            alike(a, b) && b.to_bits() != UNWRITTEN
+        } else {
+            a.to_bits() == 0 && b.to_bits() == UNWRITTEN
+        };
+        if !right {
+            return Err(told(format!("output {port} is {}, the Rust's {}", hex(a), hex(b))));
+        }
+    }
+    if mark != their_mark {
+        return Err(told(format!("marked {}, and by the Rust's values {}", mark.word(), their_mark.word())));
+    }
+    counts.marks[mark as usize - Mark::ALL[0] as usize] += 1;
+    same(pair).map_err(told)
+}
+
+fn reset<P: Pair>(pair: &mut P, counts: &mut Counts) -> Result<(), String> {
+    let told = |said: String| format!("reset: {said}");
+    pair.ours_reset().map_err(|n| told(n.to_string()))?;
+    pair.theirs_reset();
+    counts.resets += 1;
+    same(pair).map_err(told)
+}
+
+fn change_rate<P: Pair>(pair: &mut P, draw: &mut Draw, counts: &mut Counts) -> Result<(), String> {
+    let rate = draw.rate();
+    let told = |said: String| format!("rate change to {rate:?}: {said}");
+    pair.lend_for_rate(rate, draw, counts).map_err(told)?;
+    pair.ours_set_sample_rate(rate).map_err(|n| told(n.to_string()))?;
+    pair.theirs_set_sample_rate(rate, counts);
+    counts.rate_changes += 1;
+    same(pair).map_err(told)
+}
+
+/// Puts both sides to a state of a caller's own making, and says whether it was taken. If not, every call refuses it, and
+/// both go on from where they were.
+fn put_state<P: Pair>(pair: &mut P, controls: &[f64], draw: &mut Draw, counts: &mut Counts) -> Result<bool, String> {
+    let (before, (floats, wholes)) = (pair.ours(), pair.invent(controls, draw));
+    let told = |said: String| format!("state of {:?} {:x?}: {said}", floats.as_ref(), wholes.as_ref());
+    pair.put_ours(&floats, &wholes);
+    let number = P::refusal(&floats, &wholes);
+    if number == 0 {
+        pair.put_theirs(&floats, &wholes, draw);
+        counts.states += 1;
+        return Ok(true);
+    }
+    let (rate, bad, mut samples) = (draw.rate(), draw.bad_rate(), [0.0; 5]);
+    unchanged(pair, counts, number, |pair| pair.ours_tick(controls, u32::MAX, &mut samples[..P::PORTS]).map(drop))
+        .and_then(|_| unchanged(pair, counts, number, |pair| pair.ours_reset()))
+        .and_then(|_| unchanged(pair, counts, number, |pair| pair.ours_set_sample_rate(rate)))
+        .and_then(|_| unchanged(pair, counts, 1, |pair| pair.ours_set_sample_rate(bad)))
+        .map_err(told)?;
+    pair.put_ours(&before.0, &before.1);
+    same(pair).map_err(told)?;
+    Ok(false)
+}
+
+/// A call that must be refused by this number and leave our state as it stood, to the last bit of a NaN.
+pub fn unchanged<P: Pair>(
+    pair: &mut P,
+    counts: &mut Counts,
+    number: u32,
+    call: impl FnOnce(&mut P) -> Result<(), Refused>,
+) -> Result<(), String> {
+    let (floats, wholes) = pair.ours();
+    let answer = call(pair);
+    refused(answer, number, counts)?;
+    let now = pair.ours();
+    let stays = floats.as_ref().iter().zip(now.0.as_ref()).all(|(a, b)| a.to_bits() == b.to_bits());
+    if stays && wholes.as_ref() == now.1.as_ref() {
+        Ok(())
+    } else {
+        Err(format!("refused, and the state is now {:?} {:x?}", now.0.as_ref(), now.1.as_ref()))
+    }
+}
+
+fn refused(answer: Result<(), Refused>, number: u32, counts: &mut Counts) -> Result<(), String> {
+    if answer == Err(Refused(number)) {
+        counts.refused += 1;
+        Ok(())
+    } else {
+        Err(format!("answered {answer:?}, and document 01 refuses it by {number}"))
+    }
+}
+
+/// Compares every field of both states, and what is lent. Memo keys are bits of floats, and any NaN is one.
+fn same<P: Pair>(pair: &mut P) -> Result<(), String> {
+    let (ours, theirs) = (pair.ours(), pair.theirs());
+    let floats = ours.0.as_ref().iter().zip(theirs.0.as_ref()).all(|(&a, &b)| alike(a, b));
+    let wholes =
+        ours.1.as_ref().iter().zip(theirs.1.as_ref()).all(|(&a, &b)| alike(f64::from_bits(a), f64::from_bits(b)));
+    if floats && wholes {
+        pair.same_lent()
+    } else {
+        let ((a, b), (c, d)) = (ours, theirs);
+        Err(format!("the state is {:?} {:x?}, the Rust's {:?} {:x?}", a.as_ref(), b.as_ref(), c.as_ref(), d.as_ref()))
+    }
+}
+
+/// Whether two numbers are the same to the last bit, any NaN being one.
+#[inline]
+pub fn alike(a: f64, b: f64) -> bool {
+    a.to_bits() == b.to_bits() || a.is_nan() && b.is_nan()
+}
+
+pub fn hex(x: f64) -> String {
+    format!("{x:?} ({:016X})", x.to_bits())
+}
+
+/// Refusal 1 of a rate.
+pub fn bad_rate(rate: f64) -> bool {
+    !(1000.0..=192000.0).contains(&rate)
+}
+
+/// Refusal 2 of a phase.
+pub fn bad_phase(phase: f64) -> bool {
+    !(0.0..1.0).contains(&phase)
+}
+
+/// The mark by document 01's rule: `outputs` are the wanted ones, `sums` what stands before a clamp, `phases` each phase
+/// plus its increment.
+pub fn mark(
+    outputs: impl IntoIterator<Item = f64>,
+    sums: impl IntoIterator<Item = f64>,
+    phases: impl IntoIterator<Item = f64>,
+) -> Mark {
+    if !outputs.into_iter().chain(sums).all(f64::is_finite) {
+        Mark::NotFinite
+    } else if !phases.into_iter().all(f64::is_finite) {
+        Mark::Lost
+    } else {
+        Mark::Clean
+    }
+}

@@ -1,0 +1,51 @@
+//! The voltage-controlled oscillator on both sides.
+use crate::draw::{under, Control, Draw, GATE, OCTAVES, PITCH, UNIT, VOLTS};
+use crate::pair::{both, refusal, used, wanted_of};
+use crate::script::{mark, Counts, Pair};
+use gruttisol::answer::{Mark, Refused};
+use gruttisol::vco as ours;
+use quiver::modules::oscillators as rust;
+use quiver::modules::oscillators::probe::Probe;
+use quiver::port::GraphModule;
+
+pub struct Vco {
+    ours: ours::Vco,
+    theirs: rust::Vco,
+}
+
+impl Pair for Vco {
+    const NAME: &'static str = "vco";
+    const CONTROLS: &'static [Control] = &[PITCH, OCTAVES, UNIT, GATE, VOLTS];
+    const PORTS: usize = 4;
+    const MASKED: bool = true;
+    both!(ours::Vco, 4, 4);
+
+    fn new(sample_rate: f64, _draw: &mut Draw) -> Result<Self, Refused> {
+        Ok(Vco { ours: ours::Vco::new(sample_rate)?, theirs: rust::Vco::new(sample_rate) })
+    }
+
+    fn invent(&self, controls: &[f64], draw: &mut Draw) -> ([f64; 4], [u64; 4]) {
+        let [a, b, c] = draw.keys([controls[0], controls[1], controls[4]]);
+        let val = under(&[a, b, c], draw.hertz());
+        ([draw.phase(), draw.state_rate(), draw.previous(), val], [a, b, c, draw.valid()])
+    }
+
+    fn refusal([phase, rate, ..]: &[f64; 4], _: &[u64; 4]) -> u32 {
+        refusal(*rate, &[*phase])
+    }
+
+    fn ours_tick(&mut self, controls: &[f64], wanted: u32, samples: &mut [f64]) -> Result<Mark, Refused> {
+        let [voct, fm, pw, sync, fm_lin] = *controls else { unreachable!() };
+        let ticked = self.ours.tick(&ours::Controls { voct, fm, pw, sync, fm_lin }, wanted)?;
+        let ours::Volts { sin, tri, saw, sqr } = ticked.volts;
+        samples.copy_from_slice(&[sin, tri, saw, sqr]);
+        Ok(ticked.mark)
+    }
+
+    fn theirs_tick(&mut self, controls: &[f64], wanted: u32, samples: &mut [f64]) -> Mark {
+        let ([phase, _, previous, _], _) = self.theirs.flat();
+        self.theirs.body(controls.try_into().unwrap(), wanted, samples.try_into().unwrap());
+        let ([_, rate, _, freq], _) = self.theirs.flat();
+        mark(wanted_of(samples, wanted), [], [used(phase, previous, controls[3]) + freq / rate])
+    }
+}

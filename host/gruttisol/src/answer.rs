@@ -1,0 +1,80 @@
+//! What calls answer: done or refused, and a tick its mark with its volts.
+use std::{error, fmt};
+
+/// The number that refused a call. The call left the state and every lent slice as they stood.
+#[derive(Clone, Copy, PartialEq, Eq, Debug)]
+pub struct Refused(pub u32);
+
+impl fmt::Display for Refused {
+    fn fmt(&self, f: &mut fmt::Formatter<'_>) -> fmt::Result {
+        let why = match self.0 {
+            1 => "the sample rate isn't from 1,000 to 192,000",
+            2 => "the state is no oscillator's",
+            3 => "the lent line is too short",
+            4 => "the bank isn't of 16,384 numbers, or the part or table isn't one of it",
+            5 => "too few draws for a trigger",
+            6 => "a draw isn't below 2^53",
+            7 => "the tally's counts don't add up, or it is full",
+            _ => "a slice of another length than the boundary takes",
+        };
+        write!(f, "refused by {}: {why}", self.0)
+    }
+}
+
+impl error::Error for Refused {}
+
+/// How an accepted tick went: the first of these that applies. The numbers are those that an exported tick answers.
+#[derive(Clone, Copy, PartialEq, Eq, Debug)]
+pub enum Mark {
+    /// The string zeroed its line.
+    Cleared = 11,
+    /// A wanted output isn't finite, or what stands before its clamp.
+    NotFinite = 12,
+    /// A phase plus its increment isn't finite.
+    Lost = 13,
+    Clean = 14,
+}
+
+impl Mark {
+    /// All marks, in the order of their numbers.
+    pub const ALL: [Mark; 4] = [Mark::Cleared, Mark::NotFinite, Mark::Lost, Mark::Clean];
+
+    /// The word that stands for it in texts.
+    pub fn word(self) -> &'static str {
+        match self {
+            Mark::Cleared => "cleared",
+            Mark::NotFinite => "notfinite",
+            Mark::Lost => "lost",
+            Mark::Clean => "clean",
+        }
+    }
+}
+
+/// An accepted tick.
+#[derive(Clone, Copy, PartialEq, Debug)]
+pub struct Ticked<V> {
+    pub mark: Mark,
+    pub volts: V,
+}
+
+/// A call without samples: 0 says that it was done.
+#[inline]
+pub(crate) fn done(code: u32) -> Result<(), Refused> {
+    if code == 0 {
+        Ok(())
+    } else {
+        Err(Refused(code))
+    }
+}
+
+/// A tick: the number of a mark says that it was accepted.
+#[inline]
+pub(crate) fn ticked<V>(code: u32, volts: V) -> Result<Ticked<V>, Refused> {
+    match code {
+        11 => Ok(Ticked { mark: Mark::Cleared, volts }),
+        12 => Ok(Ticked { mark: Mark::NotFinite, volts }),
+        13 => Ok(Ticked { mark: Mark::Lost, volts }),
+        14 => Ok(Ticked { mark: Mark::Clean, volts }),
+        _ => Err(Refused(code)),
+    }
+}

@@ -1,0 +1,189 @@
+//! The functions of the archive that are lent slices, as safe functions that answer the archive's number.
+
+/// Each line declares a function of the archive, under its own name after the project's prefix, and a Rust function that
+/// calls it. A slice is two arguments there, its first cell's address and its length: `mut` ones are written.
+macro_rules! lent {
+    ($(fn $name:ident($($plain:ident: $number:ty),*; $($slice:ident: $access:ident $cell:ty),*);)*) => {
+        mod linked {
+            unsafe extern "C" {
+                $(#[link_name = concat!("gruttisol_", stringify!($name))]
+                pub fn $name($($plain: $number,)* $($slice: *$access $cell, _: usize),*) -> u32;)*
+            }
+        }
+        $(#[inline]
+        pub fn $name($($plain: $number,)* $($slice: lent!(@slice $access $cell)),*) -> u32 {
+            // SAFETY: this is a proved function with these types. It has no `requires`, and so takes any numbers and
+            // slices of any length and content; it reads and writes inside them alone, and keeps none.
+            unsafe { linked::$name($($plain,)* $(lent!(@address $access $slice), $slice.len()),*) }
+        })*
+    };
+    (@slice mut $cell:ty) => { &mut [$cell] };
+    (@slice const $cell:ty) => { &[$cell] };
+    (@address mut $slice:ident) => { $slice.as_mut_ptr() };
+    (@address const $slice:ident) => { $slice.as_ptr() };
+}
+
+lent! {
+    fn vco_new(sample_rate: f64; floats: mut f64, wholes: mut u64);
+    fn vco_tick(voct: f64, fm: f64, pw: f64, sync: f64, fm_lin: f64, wanted: u32; floats: mut f64, wholes: mut u64, samples: mut f64);
+    fn vco_reset(; floats: mut f64, wholes: mut u64);
+    fn vco_set_sample_rate(sample_rate: f64; floats: mut f64, wholes: mut u64);
+
+    fn lfo_new(sample_rate: f64; floats: mut f64, wholes: mut u64);
+    fn lfo_tick(rate: f64, depth: f64, reset: f64, wanted: u32; floats: mut f64, wholes: mut u64, samples: mut f64);
+    fn lfo_reset(; floats: mut f64, wholes: mut u64);
+    fn lfo_set_sample_rate(sample_rate: f64; floats: mut f64, wholes: mut u64);
+
+    fn supersaw_new(sample_rate: f64; floats: mut f64, wholes: mut u64);
+    fn supersaw_tick(voct: f64, detune: f64, mix: f64; floats: mut f64, wholes: mut u64, samples: mut f64);
+    fn supersaw_reset(; floats: mut f64, wholes: mut u64);
+    fn supersaw_set_sample_rate(sample_rate: f64; floats: mut f64, wholes: mut u64);
+
+    fn wavetable_new(sample_rate: f64; floats: mut f64, wholes: mut u64);
+    fn wavetable_tick(v_oct: f64, table: f64, morph: f64, sync: f64; floats: mut f64, wholes: mut u64, samples: mut f64, bank: const f64);
+    fn wavetable_reset(; floats: mut f64, wholes: mut u64);
+    fn wavetable_set_sample_rate(sample_rate: f64; floats: mut f64, wholes: mut u64);
+
+    fn formant_osc_new(sample_rate: f64; floats: mut f64, wholes: mut u64);
+    fn formant_osc_tick(v_oct: f64, vowel: f64, formant_shift: f64, vibrato: f64; floats: mut f64, wholes: mut u64, samples: mut f64);
+    fn formant_osc_reset(; floats: mut f64, wholes: mut u64);
+    fn formant_osc_set_sample_rate(sample_rate: f64; floats: mut f64, wholes: mut u64);
+
+    fn karplus_strong_new(sample_rate: f64; floats: mut f64, wholes: mut u64, line: mut f64);
+    fn karplus_strong_tick(voct: f64, trigger: f64, damping: f64, brightness: f64, stretch: f64; floats: mut f64, wholes: mut u64, samples: mut f64, line: mut f64, draws: const u64);
+    fn karplus_strong_reset(; floats: mut f64, wholes: mut u64, line: mut f64);
+    fn karplus_strong_set_sample_rate(sample_rate: f64; floats: mut f64, wholes: mut u64, line: mut f64);
+
+    fn tally_take(code: u32; counts: mut u32);
+}
+
+/// An oscillator whose state alone is lent to making, reset and rate change.
+macro_rules! oscillator {
+    ($(#[$doc:meta])* $name:ident: [f64; $floats:literal], [u64; $wholes:literal], $new:ident, $reset:ident, $set_sample_rate:ident) => {
+        $(#[$doc])*
+        #[derive(Clone, Copy, Debug)]
+        pub struct $name {
+            floats: [f64; $floats],
+            wholes: [u64; $wholes],
+        }
+
+        impl $name {
+            /// A new one; refused by 1.
+            pub fn new(sample_rate: f64) -> Result<Self, $crate::answer::Refused> {
+                let mut made = $name { floats: [0.0; $floats], wholes: [0; $wholes] };
+                $crate::answer::done($crate::lent::$new(sample_rate, &mut made.floats, &mut made.wholes))?;
+                Ok(made)
+            }
+
+            /// The state as it stands.
+            pub fn parts(&self) -> (&[f64; $floats], &[u64; $wholes]) {
+                (&self.floats, &self.wholes)
+            }
+
+            /// A state of the caller's making; where it is no oscillator's, every call refuses it.
+            pub fn of_parts(floats: [f64; $floats], wholes: [u64; $wholes]) -> Self {
+                $name { floats, wholes }
+            }
+
+            /// Back to the start, memos kept; refused by 1 and 2.
+            pub fn reset(&mut self) -> Result<(), $crate::answer::Refused> {
+                $crate::answer::done($crate::lent::$reset(&mut self.floats, &mut self.wholes))
+            }
+
+            /// Goes on at another sample rate; refused by 1 and 2.
+            pub fn set_sample_rate(&mut self, sample_rate: f64) -> Result<(), $crate::answer::Refused> {
+                $crate::answer::done($crate::lent::$set_sample_rate(sample_rate, &mut self.floats, &mut self.wholes))
+            }
+        }
+    };
+}
+
+/// The boundary's own refusals, which the safe functions can't meet: they lend slices of the right length.
+#[cfg(test)]
+mod tests {
+    use super::*;
+
+    const UNTOUCHED: u64 = 0x7ff8_0bad_0bad_0bad;
+    const NO_RATE: f64 = 0.0;
+
+    /// Makes a call with slices of many lengths: by its first wrong length it is refused, by 50, 51 or 52, and where all
+    /// are right by 1, since neither the state's rate nor one that is given is a rate. Not a bit may change. A call
+    /// without samples says that it takes none.
+    fn refuses([floats, wholes, samples]: [usize; 3], call: impl Fn(&mut [f64], &mut [u64], &mut [f64]) -> u32) {
+        let lengths = |right: usize| if right == 0 { vec![0] } else { vec![0, right - 1, right, right + 1, 64] };
+        for f in lengths(floats) {
+            for w in lengths(wholes) {
+                for s in lengths(samples) {
+                    let mut lent = (vec![f64::from_bits(UNTOUCHED); f], vec![UNTOUCHED; w], vec![-0.0; s]);
+                    let number = match (f == floats, w == wholes, s == samples) {
+                        (false, _, _) => 50,
+                        (_, false, _) => 51,
+                        (_, _, false) => 52,
+                        _ => 1,
+                    };
+                    assert_eq!(call(&mut lent.0, &mut lent.1, &mut lent.2), number, "of {f}, {w} and {s}");
+                    assert!(lent.0.iter().all(|x| x.to_bits() == UNTOUCHED));
+                    assert!(lent.1.iter().all(|&n| n == UNTOUCHED));
+                    assert!(lent.2.iter().all(|x| x.to_bits() == 1 << 63));
+                }
+            }
+        }
+    }
+
+    #[test]
+    fn vco() {
+        refuses([4, 4, 4], |f, w, s| vco_tick(0.0, 0.0, 0.5, 0.0, 0.0, u32::MAX, f, w, s));
+        refuses([4, 4, 0], |f, w, _| vco_new(NO_RATE, f, w));
+        refuses([4, 4, 0], |f, w, _| vco_reset(f, w));
+        refuses([4, 4, 0], |f, w, _| vco_set_sample_rate(48000.0, f, w));
+    }
+
+    #[test]
+    fn lfo() {
+        refuses([4, 2, 5], |f, w, s| lfo_tick(0.5, 10.0, 0.0, u32::MAX, f, w, s));
+        refuses([4, 2, 0], |f, w, _| lfo_new(NO_RATE, f, w));
+        refuses([4, 2, 0], |f, w, _| lfo_reset(f, w));
+        refuses([4, 2, 0], |f, w, _| lfo_set_sample_rate(48000.0, f, w));
+    }
+
+    #[test]
+    fn supersaw() {
+        refuses([10, 2, 2], |f, w, s| supersaw_tick(0.0, 0.5, 0.5, f, w, s));
+        refuses([10, 2, 0], |f, w, _| supersaw_new(NO_RATE, f, w));
+        refuses([10, 2, 0], |f, w, _| supersaw_reset(f, w));
+        refuses([10, 2, 0], |f, w, _| supersaw_set_sample_rate(48000.0, f, w));
+    }
+
+    #[test]
+    fn wavetable() {
+        refuses([4, 2, 1], |f, w, s| wavetable_tick(0.0, 0.0, 0.0, 0.0, f, w, s, &[]));
+        refuses([4, 2, 0], |f, w, _| wavetable_new(NO_RATE, f, w));
+        refuses([4, 2, 0], |f, w, _| wavetable_reset(f, w));
+        refuses([4, 2, 0], |f, w, _| wavetable_set_sample_rate(48000.0, f, w));
+    }
+
+    #[test]
+    fn formant_osc() {
+        refuses([29, 6, 1], |f, w, s| formant_osc_tick(0.0, 0.0, 0.0, 0.0, f, w, s));
+        refuses([29, 6, 0], |f, w, _| formant_osc_new(NO_RATE, f, w));
+        refuses([29, 6, 0], |f, w, _| formant_osc_reset(f, w));
+        refuses([29, 6, 0], |f, w, _| formant_osc_set_sample_rate(48000.0, f, w));
+    }
+
+    #[test]
+    fn karplus_strong() {
+        refuses([6, 4, 1], |f, w, s| karplus_strong_tick(0.0, 5.0, 0.5, 0.5, 0.0, f, w, s, &mut [], &[]));
+        refuses([6, 4, 0], |f, w, _| karplus_strong_new(NO_RATE, f, w, &mut []));
+        refuses([6, 4, 0], |f, w, _| karplus_strong_reset(f, w, &mut []));
+        refuses([6, 4, 0], |f, w, _| karplus_strong_set_sample_rate(48000.0, f, w, &mut []));
+    }
+
+    #[test]
+    fn tally() {
+        for n in [0, 1, 4, 6, 64] {
+            let mut counts = vec![0; n];
+            assert_eq!(tally_take(14, &mut counts), 53);
+            assert!(counts.iter().all(|&count| count == 0));
+        }
+    }
+}

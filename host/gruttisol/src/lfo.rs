@@ -1,0 +1,49 @@
+//! The low-frequency oscillator: sine, triangle, saw, square and a sine above zero of one slow phase.
+use crate::answer::{ticked, Refused, Ticked};
+use crate::lent::lfo_tick;
+
+/// Inputs in port order.
+#[derive(Clone, Copy, PartialEq, Debug)]
+pub struct Controls {
+    /// From 0, a turn in 100 seconds, to 1, thirty turns a second.
+    pub rate: f64,
+    /// Volts from peak to peak.
+    pub depth: f64,
+    /// A rise above 2.5 V starts the phase anew.
+    pub reset: f64,
+}
+
+/// Outputs in port order; one that isn't wanted reads 0.0.
+#[derive(Clone, Copy, PartialEq, Debug)]
+pub struct Volts {
+    pub sin: f64,
+    pub tri: f64,
+    pub saw: f64,
+    pub sqr: f64,
+    pub sin_uni: f64,
+}
+
+oscillator! {
+    /// Floats: phase, sample rate, previous reset input, memo's frequency. Wholes: the memo's key, and whether it holds.
+    Lfo: [f64; 4], [u64; 2], lfo_new, lfo_reset, lfo_set_sample_rate
+}
+
+impl Lfo {
+    /// Bits of `wanted`; others do nothing.
+    pub const WANT_SIN: u32 = 1 << 0;
+    pub const WANT_TRI: u32 = 1 << 1;
+    pub const WANT_SAW: u32 = 1 << 2;
+    pub const WANT_SQR: u32 = 1 << 3;
+    pub const WANT_SIN_UNI: u32 = 1 << 4;
+    pub const WANT_ALL: u32 = u32::MAX;
+
+    /// One sample of each wanted output; refused by 1 and 2.
+    #[inline]
+    pub fn tick(&mut self, c: &Controls, wanted: u32) -> Result<Ticked<Volts>, Refused> {
+        let mut samples = [0.0; 5];
+        let (floats, wholes) = (&mut self.floats, &mut self.wholes);
+        let code = lfo_tick(c.rate, c.depth, c.reset, wanted, floats, wholes, &mut samples);
+        let [sin, tri, saw, sqr, sin_uni] = samples;
+        ticked(code, Volts { sin, tri, saw, sqr, sin_uni })
+    }
+}

@@ -1,0 +1,34 @@
+//! The tally of a run: how many ticks began, and how each went.
+use crate::answer::{done, Mark, Refused};
+use crate::lent::tally_take;
+
+/// Counts: begun, finished (the clean ones), cleared, notfinite, lost.
+#[derive(Clone, Copy, PartialEq, Eq, Debug, Default)]
+pub struct Tally {
+    counts: [u32; 5],
+}
+
+impl Tally {
+    /// A tally that has counted nothing.
+    pub fn new() -> Self {
+        Tally { counts: [0; 5] }
+    }
+
+    /// Counts of the caller's making; where the first isn't the sum of the others, nothing is taken any more.
+    pub fn of_counts(counts: [u32; 5]) -> Self {
+        Tally { counts }
+    }
+
+    pub fn counts(&self) -> &[u32; 5] {
+        &self.counts
+    }
+
+    /// Takes a tick's answer, which is counted by its mark; a refused tick counts nowhere. Refused by 7.
+    pub fn take(&mut self, answer: Result<Mark, Refused>) -> Result<(), Refused> {
+        let code = match answer {
+            Ok(mark) => mark as u32,
+            Err(Refused(number)) => number,
+        };
+        done(tally_take(code, &mut self.counts))
+    }
+}

@@ -1,0 +1,62 @@
+//! The tally against counts kept by hand.
+use gruttisol::answer::{Mark, Refused};
+use gruttisol::tally::Tally;
+use random::Random;
+
+const FULL: u32 = u32::MAX;
+
+/// Every answer that a tick can have, refused ones and the boundary's numbers among them.
+fn answer(random: &mut Random) -> Result<Mark, Refused> {
+    match random.bits() % 6 {
+        k @ 0..4 => Ok(Mark::ALL[k as usize]),
+        4 => Err(Refused(1 + (random.bits() % 7) as u32)),
+        _ => Err(Refused(50 + (random.bits() % 3) as u32)),
+    }
+}
+
+#[test]
+fn counts_are_of_the_answers_taken() {
+    const ANSWERS: usize = 1_000_000;
+    let mut random = Random::new(1);
+    let (mut tally, mut counts) = (Tally::new(), [0; 5]);
+    for _ in 0..ANSWERS {
+        let answer = answer(&mut random);
+        if let Ok(mark) = answer {
+            counts[0] += 1;
+            counts[match mark {
+                Mark::Clean => 1,
+                Mark::Cleared => 2,
+                Mark::NotFinite => 3,
+                Mark::Lost => 4,
+            }] += 1;
+        }
+        assert_eq!(tally.take(answer), Ok(()));
+        assert_eq!(*tally.counts(), counts);
+    }
+    println!("{ANSWERS} answers: begun, finished, cleared, notfinite, lost are {counts:?}");
+}
+
+#[test]
+fn sums_that_do_not_add_up_are_refused() {
+    for counts in [[1, 0, 0, 0, 0], [0, 1, 0, 0, 0], [0, FULL, 1, 0, 0], [4, 1, 1, 1, 2], [FULL, FULL, FULL, FULL, 3]] {
+        for answer in Mark::ALL.map(Ok).into_iter().chain([Err(Refused(1)), Err(Refused(0))]) {
+            let mut tally = Tally::of_counts(counts);
+            assert_eq!(tally.take(answer), Err(Refused(7)));
+            assert_eq!(*tally.counts(), counts);
+        }
+    }
+}
+
+#[test]
+fn a_full_tally_takes_refused_ticks_alone() {
+    let counts = [FULL, FULL - 6, 1, 2, 3];
+    for mark in Mark::ALL {
+        let mut tally = Tally::of_counts(counts);
+        assert_eq!(tally.take(Ok(mark)), Err(Refused(7)));
+        assert_eq!(tally.take(Err(Refused(2))), Ok(()));
+        assert_eq!(*tally.counts(), counts);
+    }
+    let mut tally = Tally::of_counts([FULL - 1, FULL - 7, 1, 2, 3]);
+    assert_eq!(tally.take(Ok(Mark::Clean)), Ok(()));
+    assert_eq!(*tally.counts(), counts);
+}
