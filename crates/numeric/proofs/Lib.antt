@@ -8,3 +8,4 @@ pub mod PowerRange
 pub mod TrigLaws
 pub mod RangeLaws
 pub mod Laws
+pub mod Settled
