@@ -1,0 +1,5 @@
+pub mod StateLaws
+pub mod Within
+pub mod PulseLaws
+pub mod QuietLaws
+pub mod CalmLaws
