@@ -3,3 +3,6 @@ pub mod Within
 pub mod PulseLaws
 pub mod QuietLaws
 pub mod CalmLaws
+pub mod Reached
+pub mod Forget
+pub mod Settled
