@@ -1,5 +1,5 @@
 -- A quiet tick: what its test says, and that its samples are plain and finite.
-use mathlib.Core.Bool.{Bool, true, false, cond, _&&_, true≢false}
+use mathlib.Core.Bool.{Bool, true, false, cond, _&&_}
 use mathlib.Core.Path.{_≡_, refl, sym, ap, _∙_, subst}
 use Prim.Native.Nat.{ℕ, _+_, _*_, _≤_, _<_}
 use native.Mathlib.Nat.{le-of-lt, le-trans, le-of-eq, mul-one, mul-zero, mul-pos}
@@ -25,12 +25,11 @@ use Rattle.answer.specs.Mark.{allFinite, markOf, ruleOf}
 use Rattle.vco.specs.Waves.{outOf, sineOf, sawOf, levelOf, pwEdgeOf, sqrOf, cornerHalfOf, triOf, steppedOf, Quiet}
 use Rattle.vco.specs.Vco.{wants, vcoVoltsOf}
 use Rattle.vco.proofs.Within.{Rounded, rounded, Within, within-finite, within-mul, within-add, within-sub, within-to, within-fabs, within-neg, within-unit, within-inside, lt-le}
-use Rattle.vco.proofs.PulseLaws.{Phase, phase-value}
-use Rattle.vco.proofs.QuietLaws.{Away, away}
+use Rattle.vco.proofs.PulseLaws.{phase-value}
+use Rattle.vco.proofs.QuietLaws.{away}
 use Rattle.common.specs.declared.Crossing.{Crossing}
-use Rattle.common.specs.declared.Crossing.the-variants.{Nowhere, At}
+use Rattle.common.specs.declared.Crossing.the-variants.{Nowhere}
 use Rattle.answer.specs.declared.Volts.{Volts}
-use Rattle.answer.specs.declared.Answer.{Answer}
 use Rattle.answer.specs.declared.Answer.the-variants as answer
 
 -- ---- the test

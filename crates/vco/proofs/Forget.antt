@@ -1,32 +1,28 @@
 -- At its sync edge a Vco forgets all that came before: it goes on as a new one would that was fed the edge's tick first.
-use mathlib.Core.Bool.{Bool, true, false, cond, _&&_}
+use mathlib.Core.Bool.{Bool, true}
 use mathlib.Core.Logic.{inl}
-use mathlib.Core.Path.{_≡_, refl, sym, ap, _∙_, subst}
+use mathlib.Core.Path.{_≡_, refl, sym, ap, _∙_}
 use Prim.Native.Nat.{ℕ}
 use lib.Dec.{T}
-use lib.Ieee.{Float, lt, le, eq, ofBits}
+use lib.Ieee.{Float, lt, le, ofBits}
 use lib.Ieee.Bits.{is-true}
 use Rattle.laws.specs.Float.{zer}
 use Rattle.laws.specs.Machine.{replies}
-use Rattle.laws.proofs.Tests.{of-true}
 use Rattle.common.specs.Consts.{gateThreshold, five}
 use Rattle.common.specs.Edge.{risesAbove, crossedAboveOf, crossedOf}
 use Rattle.common.specs.Memo.{newMemo3, filled3, recall3}
-use Rattle.common.specs.Promises.{Coherent3}
-use Rattle.common.specs.Tests.{rateOk, phaseOk}
 use Rattle.common.proofs.EdgeLaws.{rises-new, gate-above}
 use Rattle.common.proofs.MemoLaws.{recall3-is}
-use Rattle.answer.specs.Answer.{accepted, voltsOf}
+use Rattle.answer.specs.Answer.{voltsOf}
 use Rattle.answer.specs.Mark.{markOf}
 use Rattle.answer.proofs.Laws.{mark-says}
 use Rattle.answer.specs.declared.Volts.{Volts}
-use Rattle.vco.specs.Vco.{newVco, frequencyOf, restartOf, vcoVoltsOf, vcoAnswerOf, vcoSoundOf, vcoTickOf}
-use Rattle.vco.specs.Calls.{Call, Tick, Fit, ReachedVco, after, reply}
-use Rattle.vco.specs.Promises.{taken, Forgotten, Forgets, Comes, Edge-comes}
+use Rattle.vco.specs.Vco.{newVco, frequencyOf, restartOf, vcoVoltsOf, vcoAnswerOf, vcoSoundOf}
+use Rattle.vco.specs.Calls.{Tick, Fit, after, reply}
+use Rattle.vco.specs.Promises.{taken, Forgets, Edge-comes}
 use Rattle.vco.proofs.Reached.{Good, good-new, after-tick, Remembers, reached, good-after, tick-sound, accepted-sound, good-accepts}
 use Rattle.vco.specs.declared.Vco.{Vco}
 use Rattle.vco.specs.declared.VcoControls.{VcoControls}
-use Rattle.vco.specs.declared.VcoTicked.{VcoTicked}
 
 -- a new Vco takes the edge too
 edge-new : (s : Vco) (c : VcoControls) → taken s c ≡ true → taken (newVco (s .«sample_rate»)) c ≡ true

@@ -6,3 +6,4 @@ pub mod CalmLaws
 pub mod Reached
 pub mod Forget
 pub mod Settled
+pub mod Frame

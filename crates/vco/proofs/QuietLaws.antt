@@ -1,19 +1,18 @@
 -- Away from its corners nothing is smoothed. With half = |phase - 1/2|, a tick dt of at most half that leaves half below 1/2 - dt
 -- keeps the phase from dt to 1 - dt, and so the phase seen from the triangle's upper corner.
-use mathlib.Core.Bool.{Bool, true, false, not, cond, true≢false, false≢true}
+use mathlib.Core.Bool.{Bool, true, false, not, true≢false, false≢true}
 use mathlib.Core.Logic.{_⊎_, inl, inr, ⊎-elim}
 use mathlib.Core.Path.{_≡_, refl, sym, ap, _∙_, subst}
 use Prim.Native.Nat.{ℕ, _+_, _-_, _*_, _≤_, _<_}
-use native.Mathlib.Nat.{le-of-mul-le-mul-right, lt-of-not-le, le-trans, le-of-eq, le-of-lt, mul-pos, one-mul, mul-one, mul-le-mul-left, mul-le-mul-right}
+use native.Mathlib.Nat.{le-of-mul-le-mul-right, lt-of-not-le, le-trans, le-of-eq, le-of-lt, mul-pos, one-mul, mul-one, mul-le-mul-right}
 use native.Mathlib.Omega.{arith}
-use lib.Dec.{T, ltb, lit<, lit≤, lt→ltb, ltb→lt, nltb→le}
+use lib.Dec.{T, ltb, lit<, lit≤, ltb→lt, nltb→le}
 use lib.Ieee.{Float, nan, inf, fin, binary64, round, sum, add, sub, neg, lt, le, eq, up, down, ofBits}
-use lib.Ieee.Bits.{is-true}
 use lib.Ieee.Exact.{HasValue}
 use lib.Ieee.Fits.{down-pos}
 use lib.Ieee.Order.{round-mono, le-of-values}
 use Rattle.laws.specs.Float.{zer, one, F64}
-use Rattle.laws.proofs.Order.{lt-by-values, values-le, lt-false, lt-not-ge, neg-neg, neg-lt-zero}
+use Rattle.laws.proofs.Order.{values-le, lt-false, lt-not-ge, neg-neg, neg-lt-zero}
 use Rattle.laws.proofs.Tests.{of-true, of-false}
 use Rattle.laws.proofs.Unique.{round-own}
 use Rattle.laws.proofs.Values.{add-round, sub-round, sum-pos-neg, sum-neg, sum-neg-pos, neg-round, neg-value, exact-at}

@@ -1,14 +1,14 @@
 -- A Vco that is reached from new has a good rate, a phase in [0, 1) and a coherent memo: so no call refuses but for its own input.
 use mathlib.Core.Bool.{Bool, true, false, cond}
 use mathlib.Core.Logic.{inl}
-use mathlib.Core.Path.{_≡_, refl, sym, ap, _∙_, subst}
+use mathlib.Core.Path.{_≡_, refl, sym, ap, subst}
 use Prim.Native.Nat.{ℕ}
 use lib.Dec.{eqb}
-use lib.Ieee.{Float, binary64, add, lt, le, eq, ofBits}
+use lib.Ieee.{binary64, lt, le, eq, ofBits}
 use lib.Ieee.Fits.{add-fits}
 use Rattle.laws.specs.Float.{zer}
 use Rattle.laws.proofs.Always.{always}
-use Rattle.common.specs.Phase.{turns, wrapOf}
+use Rattle.common.specs.Phase.{turns}
 use Rattle.common.specs.Promises.{Coherent3}
 use Rattle.common.specs.Tests.{rateOk, phaseOk}
 use Rattle.common.proofs.PhaseLaws.{wrap-in}
@@ -17,12 +17,11 @@ use Rattle.common.specs.declared.Hertz.{Hertz}
 use Rattle.answer.specs.Answer.{accepted}
 use Rattle.answer.proofs.Laws.{mark-says}
 use Rattle.vco.specs.Vco.{newVco, frequencyOf, vcoAnswerOf, vcoSoundOf, vcoRefusalOf, vcoRateRefusalOf, vcoTickOf, restarted, vcoResetOf, rated, vcoSetSampleRateOf}
-use Rattle.vco.specs.Calls.{Call, Tick, Reset, SetSampleRate, Reply, Done, Refused, FitCall, First, ReachedVco, keptBy, toldBy, after, reply}
+use Rattle.vco.specs.Calls.{Call, Tick, Reset, SetSampleRate, Done, Refused, FitCall, First, ReachedVco, keptBy, toldBy, after, reply}
 use Rattle.vco.specs.Promises.{Accepts, Never-refused}
 use Rattle.vco.specs.declared.Vco.{Vco}
 use Rattle.vco.specs.declared.VcoControls.{VcoControls}
 use Rattle.vco.specs.declared.VcoTicked.{VcoTicked}
-use Rattle.vco.specs.declared.VcoMade.{VcoMade}
 use Rattle.vco.specs.declared.VcoMade.the-variants as made
 
 -- nothing refuses such a state

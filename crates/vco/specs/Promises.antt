@@ -1,18 +1,20 @@
 -- Theorems about the Vco: the statements. The proofs of the same names in small letters stand in proofs/.
 use mathlib.Core.Path.{_≡_}
-use mathlib.Core.Bool.{Bool, true, false, cond}
+use mathlib.Core.Bool.{Bool, true, cond}
 use mathlib.Core.List.{List}
 use Prim.Native.Nat.{ℕ}
 use lib.Dec.{T}
-use lib.Ieee.{le}
-use Rattle.laws.specs.Machine.{Reached, replies, Settles}
-use Rattle.common.specs.Consts.{gateThreshold, five}
+use lib.Ieee.{binary64, le, neg, ofBits}
+use Rattle.laws.specs.Float.{zer}
+use Rattle.laws.specs.Machine.{replies, Settles}
+use Rattle.common.specs.Consts.{gateThreshold, five, half}
 use Rattle.common.specs.Edge.{risesAbove}
 use Rattle.common.specs.Tests.{rateOk, phaseOk}
 use Rattle.common.specs.declared.Hertz.{Hertz}
 use Rattle.answer.specs.Answer.{accepted, voltsOf}
+use Rattle.answer.specs.declared.Answer.the-variants as answer
 use Rattle.vco.specs.Vco.{newVco, vcoNewOf, vcoTickOf, vcoResetOf, vcoSetSampleRateOf}
-use Rattle.vco.specs.Calls.{Call, Tick, Reset, SetSampleRate, Reply, Done, Refused, Fit, after, reply, ReachedVco}
+use Rattle.vco.specs.Calls.{Call, Tick, Reset, SetSampleRate, Done, Refused, Fit, after, reply, ReachedVco}
 use Rattle.vco.specs.declared.Vco.{Vco}
 use Rattle.vco.specs.declared.VcoControls.{VcoControls}
 use Rattle.vco.specs.declared.VcoTicked.{VcoTicked}
@@ -61,3 +63,16 @@ pub record Settled : Type 0 where
   pub tick : (s : Vco) (c : VcoControls) (wanted : ℕ) → Settles (λ (t : VcoTicked). t ≡ vcoTickOf s c wanted)
   pub reset : (s : Vco) → Settles (λ (m : VcoMade). m ≡ vcoResetOf s)
   pub rate : (s : Vco) (r : Hertz) → Settles (λ (m : VcoMade). m ≡ vcoSetSampleRateOf s r)
+
+-- ---- document 01's example 10: the frame that `render` prints
+-- 48,000 Hz; voct 0, fm 0, pw 0.5, sync 0 and fm_lin -5 V
+abbrev pub frameRate : Hertz
+frameRate = record { 0 = ofBits binary64 0x40e7700000000000 }
+
+abbrev pub frameControls : VcoControls
+frameControls = record { voct = record { 0 = zer }; fm = record { 0 = zer }; pw = half; sync = zer; «fm_lin» = neg five }
+
+abbrev pub First-frame : Type 0
+First-frame =
+    vcoTickOf (newVco frameRate) frameControls 15 .answer
+    ≡ answer.Clean (record { p10 = ofBits binary64 0; p11 = ofBits binary64 0xc014000000000000; p12 = ofBits binary64 0xc014000000000000; p13 = ofBits binary64 0x4014000000000000; p14 = zer })

@@ -2,8 +2,6 @@ use Rattle.vco.specs.Vco.{vcoNewOf, newVco}
 use borrow.Author.Needs.{needs}
 use Rattle.vco.proofs.Vco.new.Statement.{statement}
 use Rattle.vco.proofs.Vco.new.Tie as tie
-use Rattle.common.proofs.EdgeDetector.new.Reads as EdgeDetector-new-reads
-use Rattle.common.proofs.Memo3.new.Reads as Memo3-new-reads
 
 rate-ok-requires : tie.Need-rate-ok-requires
 rate-ok-requires c κs = search needs
