@@ -159,7 +159,7 @@ upper : (p w : Float) → F64 p → (f : Phase p) (r : Fraction w) → f .bottom
 upper p w t f r h e l k =
     record {
       above = le-of-values w p b d a c D C (r .3) v (one-side a c b d small h);
-      below = subst (λ (z : Float). T (le z (sub binary64 one w))) (round-own p a c C t v) (rw (one-less w r small) (round-mono binary64 a c (1 * d - b * 1) (1 * d) C D1 (less a c b d small h apart)));
+      below = subst (λ (z : Float). T (le z (sub binary64 one w))) (round-own false p a c C t v) (rw (one-less w r small) (round-mono binary64 a c (1 * d - b * 1) (1 * d) C D1 (less a c b d small h apart)));
       half-above = rw corner l1;
       half-below = rw (corner, one-less w r small) (round-mono binary64 (a * 2 - 1 * c) (c * 2) (1 * d - b * 1) (1 * d) C2 D1 (far a c b d small apart));
     }
@@ -281,8 +281,8 @@ lower : (p w : Float) → F64 p → F64 w → (f : Phase p) (r : Fraction w) →
 lower p w t u f r h e l k =
     record {
       above = le-of-values w p b d a c D C (r .3) v (over-tick a c b d (1 * c - a * 2) (1 * d - b * 2) (rest a c h) (split b d small .0) apart);
-      below = subst (λ (z : Float). T (le z (sub binary64 one w))) (round-own p a c C t v) (rw (one-less w r small) (round-mono binary64 a c (1 * d - b * 1) (1 * d) C D1 (low a c b d small h)));
-      half-above = subst (λ (z : Float). T (le z (cornerHalfOf p))) (round-own w b d D u (r .3)) (rw corner (round-mono binary64 b d (1 * n - m * 1) (n * 1) D N1 (wide b d m n small (q .most))));
+      below = subst (λ (z : Float). T (le z (sub binary64 one w))) (round-own false p a c C t v) (rw (one-less w r small) (round-mono binary64 a c (1 * d - b * 1) (1 * d) C D1 (low a c b d small h)));
+      half-above = subst (λ (z : Float). T (le z (cornerHalfOf p))) (round-own false w b d D u (r .3)) (rw corner (round-mono binary64 b d (1 * n - m * 1) (n * 1) D N1 (wide b d m n small (q .most))));
       half-below = rw (corner, one-less w r small) (round-mono binary64 (1 * n - m * 1) (n * 1) (1 * d - b * 1) (1 * d) N1 D1 (less-still b d m n small (q .most) (values-le w x b d m n D (q .bottom-pos) (r .3) (q .value) l1)));
     }
   where
