@@ -29,7 +29,7 @@ wants wanted bit = not (eqb (bitAnd wanted bit) 0)
 unfoldable pub sineOf : Float → Float
 sineOf phase = sinOf (mul binary64 phase tau)
 
--- sine * scale
+-- sin(phase * TAU) * scale, over that sine
 unfoldable pub sinWave : Bool → Float → Float → Float
 sinWave want sine scale = cond want (mul binary64 sine scale) zer
 
@@ -45,6 +45,6 @@ sawWave want phase scale = cond want (mul binary64 (sub binary64 (mul binary64 t
 unfoldable pub sqrWave : Bool → Float → Float → Float
 sqrWave want phase scale = cond want (cond (lt phase half) scale (neg scale)) zer
 
--- (sine * 0.5 + 0.5) * depth * 10.0
+-- (sin(phase * TAU) * 0.5 + 0.5) * depth * 10.0, over that sine
 unfoldable pub sinUniWave : Bool → Float → Float → Float
 sinUniWave want sine depth = cond want (mul binary64 (mul binary64 (add binary64 (mul binary64 sine half) half) depth) ten) zer
