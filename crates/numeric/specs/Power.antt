@@ -1,6 +1,6 @@
 -- 2 ^ x and 3000 ^ r: this project's own definitions. Each operation is rounded once.
-use mathlib.Core.Bool.{Bool, true, false, cond}
-use Prim.Native.Nat.{ℕ, _*_, _%_}
+use mathlib.Core.Bool.{false, cond}
+use Prim.Native.Nat.{_*_, _%_}
 use lib.Ieee.{Float, nan, inf, binary64, lt, le, eq, neg, add, sub, mul, toBits, ofBits}
 use Rattle.laws.specs.Float.{zer, one, two}
 

@@ -9,7 +9,7 @@ use lib.Dec.{T, ltb}
 use lib.Ieee.{Float, nan, inf, fin, binary64, up, down, lt, le, neg, sub, ofInt, ofBits, isNan}
 use lib.Ieee.Exact.{HasValue}
 use Rattle.laws.specs.Float.{zer, one, F64, isFin, InUnit}
-use Rattle.numeric.specs.Basic.{fabsOf, clampOf, minOf, maxOf, wholeOf, realOf}
+use Rattle.numeric.specs.Basic.{clampOf, minOf, maxOf, wholeOf, realOf}
 use Rattle.numeric.specs.Floor.{floorOf}
 use Rattle.numeric.specs.Draw.{drawOf, bipolarOf}
 use Rattle.numeric.specs.Power.{exp2Of, pow3000Of}
@@ -67,10 +67,11 @@ Exp2-above = (x : Float) → T (le (ofBits binary64 0x4090000000000000) x) → e
 abbrev pub Exp2-below : Type 0
 Exp2-below = (x : Float) → T (lt x (neg (ofBits binary64 0x408ff00000000000))) → exp2Of x ≡ zer
 
+-- NaN of NaN
 abbrev pub Exp2-nan : Type 0
 Exp2-nan = exp2Of nan ≡ nan
 
--- and of no number
+-- and a number of a number
 abbrev pub Exp2-number : Type 0
 Exp2-number = (x : Float) → T (not (isNan x)) → T (not (isNan (exp2Of x)))
 
@@ -87,6 +88,7 @@ Pow3000-one = pow3000Of one ≡ ofBits binary64 0x40a7700000000000
 abbrev pub Pow3000-nan : Type 0
 Pow3000-nan = pow3000Of nan ≡ nan
 
+-- a number of a number, outside [0, 1] too
 abbrev pub Pow3000-number : Type 0
 Pow3000-number = (r : Float) → T (not (isNan r)) → T (not (isNan (pow3000Of r)))
 
