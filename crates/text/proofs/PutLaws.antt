@@ -9,7 +9,7 @@ use lib.Dec.{leb}
 use lib.ListN.{length, set, length-append}
 use lib.Seq.{sets, set-out, length-sets}
 use borrow.Author.Tests.{leb-true, leb-false}
-use Rattle.text.specs.Promises.{Put-then, Put-within}
+use Rattle.text.specs.Promises.{Put, Put-then, Put-within}
 use Rattle.text.specs.Put.{placeOf}
 
 -- past the end nothing is stored
@@ -41,16 +41,24 @@ sets-cut o at t = cut-by o at t (leb (length o) at) refl
 same-size : (o : List ℕ) (at : ℕ) (t : List ℕ) {p : List ℕ} → p ≡ sets o at t → length p ≡ length o
 same-size o at t e = ap length e ∙ length-sets o at t
 
-pub put-then : Put-then
+pub after : (out : List ℕ) (at : ℕ) (a b : List ℕ) {r s : ℕ} {p q : List ℕ} → Put out at a r p → Put p r b s q → Put out at (a ++ b) s q
 unfolding placeOf
-put-then out at a b r s p q (er, ep) (es, eq) =
+after out at a b {r} {s} {p} {q} (er, ep) (es, eq) =
     let n = same-size out at a ep in
     let m = length-append a b in
     (omega arith, eq ∙ cut ∙ sets-append out at a b)
   where
     cut : sets p r b ≡ sets (sets out at a) (at + length a) b
-    cut = rw (er, ep) (ap (λ (n : ℕ). sets (sets out at a) (min n (at + length a)) b) (sym (length-sets out at a)) ∙ sets-cut (sets out at a) (at + length a) b)
+    cut =
+        rw (er, ep)
+        (ap (λ (n : ℕ). sets (sets out at a) (min n (at + length a)) b) (sym (length-sets out at a)) ∙ sets-cut (sets out at a) (at + length a) b)
+
+pub within : (out : List ℕ) (at : ℕ) (t : List ℕ) {r : ℕ} {p : List ℕ} → Put out at t r p → (r ≤ length p) × (length p ≡ length out)
+unfolding placeOf
+within out at t (er, ep) = let n = same-size out at t ep in (omega arith, n)
+
+pub put-then : Put-then
+put-then out at a b r s p q = after out at a b
 
 pub put-within : Put-within
-unfolding placeOf
-put-within out at t r p (er, ep) = let n = same-size out at t ep in (omega arith, n)
+put-within out at t r p = within out at t

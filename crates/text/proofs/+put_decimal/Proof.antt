@@ -5,7 +5,7 @@ use native.Mathlib.Omega.{arith}
 use borrow.Fn.Kinds.{In}
 use borrow.Fn.PlainCycle.{Measures, is, falls, and}
 use Rattle.text.proofs.DecimalLaws.{decimal-small, decimal-large}
-use Rattle.text.proofs.PutLaws.{put-then, put-within}
+use Rattle.text.proofs.PutLaws.{after, within}
 use Rattle.text.proofs.+put_decimal.{statement}
 use Rattle.text.proofs.+put_decimal.Tie.{close}
 use Rattle.text.proofs.put_decimal.Reads as put-decimal
@@ -44,16 +44,16 @@ put-decimal-put-byte-requires-2 : (t : ℕ) → put-decimal-lts.Need-put-byte-re
 put-decimal-put-byte-requires-2 t c κs = tt
 
 put-decimal-same-length : (t : ℕ) → put-decimal-lts.Need-same-length (claims t) (put-decimal-at t) put-decimal.Post
-put-decimal-same-length t c = put-within _ _ _ _ _ (c .before .before .put-byte .ensures) .1
+put-decimal-same-length t c = within _ _ _ (c .before .before .put-byte .ensures) .1
 
 put-decimal-returns : (t : ℕ) → put-decimal-lts.Need-returns (claims t) (put-decimal-at t) put-decimal.Post
 put-decimal-returns t c = rw (decimal-small _ (c .before .before .before .before .before .if1 .taken), ← c .before .before .before .digit .ensures) (c .before .before .put-byte .ensures)
 
 put-decimal-same-length-2 : (t : ℕ) → put-decimal-lts.Need-same-length-2 (claims t) (put-decimal-at t) put-decimal.Post
-put-decimal-same-length-2 t c = put-within _ _ _ _ _ (c .before .before .put-byte2 .ensures) .1 ∙ put-within _ _ _ _ _ (c .before .before .before .before .before .before .before .put-decimal .ensures) .1
+put-decimal-same-length-2 t c = within _ _ _ (c .before .before .put-byte2 .ensures) .1 ∙ within _ _ _ (c .before .before .before .before .before .before .before .put-decimal .ensures) .1
 
 put-decimal-returns-2 : (t : ℕ) → put-decimal-lts.Need-returns-2 (claims t) (put-decimal-at t) put-decimal.Post
-put-decimal-returns-2 t c = rw (decimal-large _ (c .before .before .before .before .before .before .before .before .before .if1 .left), ← c .before .before .before .digit2 .ensures) (put-then _ _ _ _ _ _ _ _ (c .before .before .before .before .before .before .before .put-decimal .ensures) (c .before .before .put-byte2 .ensures))
+put-decimal-returns-2 t c = rw (decimal-large _ (c .before .before .before .before .before .before .before .before .before .if1 .left), ← c .before .before .before .digit2 .ensures) (after _ _ _ _ (c .before .before .before .before .before .before .before .put-decimal .ensures) (c .before .before .put-byte2 .ensures))
 
 pub +put-decimal-spec : {M : Type 1} → statement M
 +put-decimal-spec = close μ-put-decimal λ t. put-decimal-lts.spec (claims t) (put-decimal-at t)

@@ -8,7 +8,7 @@ use Rattle.text.specs.Hex.{hexFrom, hexText}
 use Rattle.text.specs.Promises.{Put}
 use Rattle.text.specs.Put.{placeOf}
 use Rattle.text.proofs.HexLaws.{hex-next, hex-end}
-use Rattle.text.proofs.PutLaws.{put-then, put-within}
+use Rattle.text.proofs.PutLaws.{after, within}
 use Rattle.text.proofs.put_hex.Statement.{statement}
 use Rattle.text.proofs.put_hex.Tie as tie
 
@@ -46,10 +46,10 @@ loop-less c = search needs
 loop-again : tie.Need-loop-again Inv-loop μ-loop
 loop-again c =
     let (d, (e, p)) = c .before .before .before .before .before .before .loop .inv .1 in
-    (omega arith, (d ++ (c .before .before .before .digit .result ∷ []), (rw (c .before .before .before .digit .ensures) (hex-next d _ _ _ (c .before .before .before .before .before .loop-test .taken) e), put-then _ _ d _ _ _ _ _ p (c .before .before .put-byte .ensures))))
+    (omega arith, (d ++ (c .before .before .before .digit .result ∷ []), (rw (c .before .before .before .digit .ensures) (hex-next d _ _ _ (c .before .before .before .before .before .loop-test .taken) e), after _ _ d _ p (c .before .before .put-byte .ensures))))
 
 same-length : tie.Need-same-length Inv-loop μ-loop
-same-length c = put-within _ _ _ _ _ (c .before .loop .inv .1 .1 .1) .1
+same-length c = within _ _ _ (c .before .loop .inv .1 .1 .1) .1
 
 returns : tie.Need-returns Inv-loop μ-loop
 returns c =

@@ -9,7 +9,7 @@ use lib.Seq.{take-suc, take-all}
 use borrow.Author.Needs.{needs}
 use Rattle.text.specs.Promises.{Put}
 use Rattle.text.specs.Put.{placeOf}
-use Rattle.text.proofs.PutLaws.{put-then, put-within}
+use Rattle.text.proofs.PutLaws.{after, within}
 use Rattle.text.proofs.put_text.Statement.{statement}
 use Rattle.text.proofs.put_text.Tie as tie
 
@@ -42,10 +42,10 @@ loop-again : tie.Need-loop-again Inv-loop μ-loop
 loop-again c =
     let h = c .before .before .before .before .before .loop-test .taken in
     let l = c .before .before .before .before .before .before .loop in
-    (omega arith, rw (add-one, take-suc {A = ℕ} _ (l .i) 0 h) (put-then _ _ (take (l .i) _) (_ ∷ []) _ _ _ _ (l .inv .1) (c .before .before .put-byte .ensures)))
+    (omega arith, rw (add-one, take-suc {A = ℕ} _ (l .i) 0 h) (after _ _ (take (l .i) _) (_ ∷ []) (l .inv .1) (c .before .before .put-byte .ensures)))
 
 same-length : tie.Need-same-length Inv-loop μ-loop
-same-length c = put-within _ _ _ _ _ (c .before .loop .inv .1) .1
+same-length c = within _ _ _ (c .before .loop .inv .1) .1
 
 returns : tie.Need-returns Inv-loop μ-loop
 returns c = rw (take-all _ _ (c .loop-test .left)) at (c .before .loop .inv .1)

@@ -1,6 +1,6 @@
 -- `values::put_line`: four texts, one after the other.
 use borrow.Author.Needs.{needs}
-use Rattle.text.proofs.PutLaws.{put-then}
+use Rattle.text.proofs.PutLaws.{after}
 use Rattle.values.specs.Line.{lineOf}
 use Rattle.values.proofs.put_line.Statement.{statement}
 use Rattle.values.proofs.put_line.Tie as tie
@@ -27,8 +27,8 @@ returns : tie.Need-returns
 unfolding lineOf
 returns c =
     rw (← c .before .before .before .before .before .before .before .bits .ensures)
-    (put-then _ _ _ _ _ _ _ _
-    (put-then _ _ _ _ _ _ _ _ (put-then _ _ _ _ _ _ _ _ (c .before .before .before .before .before .before .before .before .before .before .before .before .before .before .before .put-text .ensures) (c .before .before .before .before .before .before .before .before .before .before .before .put-byte .ensures)) (c .before .before .before .before .before .before .put-hex .ensures))
+    (after _ _ _ _
+    (after _ _ _ _ (after _ _ _ _ (c .before .before .before .before .before .before .before .before .before .before .before .before .before .before .before .put-text .ensures) (c .before .before .before .before .before .before .before .before .before .before .before .put-byte .ensures)) (c .before .before .before .before .before .before .put-hex .ensures))
     (c .before .before .put-byte2 .ensures))
 
 pub put-line-spec : {M : Type 1} → statement M

@@ -2,7 +2,7 @@
 use mathlib.Core.Path.{sym}
 use lib.Seq.{length-take-le}
 use borrow.Author.Needs.{needs}
-use Rattle.text.proofs.PutLaws.{put-within}
+use Rattle.text.proofs.PutLaws.{within}
 use Rattle.values.proofs.show.Statement.{statement}
 use Rattle.values.proofs.show.Tie as tie
 
@@ -13,10 +13,10 @@ put-line-requires : tie.Need-put-line-requires
 put-line-requires c κs = search needs
 
 array-share-prefix-out : tie.Need-array-share-prefix-out
-array-share-prefix-out c = put-within _ _ _ _ _ (c .before .put-line .ensures) .0
+array-share-prefix-out c = within _ _ _ (c .before .put-line .ensures) .0
 
 slice-aggregate-write-all : tie.Need-slice-aggregate-write-all
-slice-aggregate-write-all c = sym (length-take-le _ _ (put-within _ _ _ _ _ (c .before .before .put-line .ensures) .0))
+slice-aggregate-write-all c = sym (length-take-le _ _ (within _ _ _ (c .before .before .put-line .ensures) .0))
 
 write-all-requires : tie.Need-write-all-requires
 write-all-requires c κs = search needs
