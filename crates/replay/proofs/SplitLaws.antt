@@ -9,7 +9,7 @@ use lib.Dec.{eqb}
 use lib.ListN.{length, getD, take, drop, drop-of-length-le, length-drop}
 use lib.Seq.{drop-cons, drop-drop, take-all}
 use borrow.Author.Tests.{eq-eqb, ne-eqb}
-use Rattle.replay.specs.Split.{untilOf, sameOf, before, linesOf, placeIn}
+use Rattle.replay.specs.Split.{untilOf, sameOf, inFront, linesOf, placeIn}
 
 -- ---- up to a mark
 module _ (s : List ℕ) (i : ℕ) (h : i < length s) (mark : ℕ) where
@@ -75,7 +75,7 @@ first-by : (b : ℕ) (s : List ℕ) (x : Bool) → eqb b 10 ≡ x
 unfolding linesOf untilOf
 first-by b s true e ih = simp e
 first-by b [] false e ih = simp e
-first-by b (c ∷ s) false e ih = simp e (ap (before b) (ih (omega arith)))
+first-by b (c ∷ s) false e ih = simp e (ap (inFront b) (ih (omega arith)))
 
 first-line : (s : List ℕ) → 0 < length s → linesOf s ≡ take (untilOf 10 s) s ∷ linesOf (drop (suc (untilOf 10 s)) s)
 first-line [] h = elim (no h) [ ]

@@ -1,7 +1,7 @@
 -- What a line's verdict is, and what a text's tally is.
 use mathlib.Core.Bool.{cond}
 use mathlib.Core.List.{List, [], _∷_}
-use Prim.Native.Nat.{ℕ, _+_}
+use Prim.Native.Nat.{ℕ, _+_, _-_, _^_}
 use lib.Dec.{ltb}
 use lib.ListN.{getD, take, drop, set, replicate}
 use Rattle.replay.specs.Split.{untilOf, linesOf}
@@ -19,17 +19,17 @@ verdictOf line =
     Malformed
 
 -- one more, up to the largest u64
-unfoldable pub more : ℕ → ℕ
-more n = cond (ltb n 18446744073709551615) (n + 1) n
+unfoldable pub oneMore : ℕ → ℕ
+oneMore n = cond (ltb n (2 ^ 64 - 1)) (n + 1) n
 
-unfoldable pub moreAt : List ℕ → ℕ → List ℕ
-moreAt counts k = set counts k (more (getD counts k 0))
+unfoldable pub oneMoreAt : List ℕ → ℕ → List ℕ
+oneMoreAt counts k = set counts k (oneMore (getD counts k 0))
 
 unfoldable pub countedOf : Tally → Verdict → Tally
-countedOf t (Same k) = record { lines = more (t .lines); malformed = t .malformed; cases = moreAt (t .cases) k; differences = t .differences }
+countedOf t (Same k) = record { lines = oneMore (t .lines); malformed = t .malformed; cases = oneMoreAt (t .cases) k; differences = t .differences }
 countedOf t (Differs k) =
-    record { lines = more (t .lines); malformed = t .malformed; cases = moreAt (t .cases) k; differences = moreAt (t .differences) k }
-countedOf t Malformed = record { lines = more (t .lines); malformed = more (t .malformed); cases = t .cases; differences = t .differences }
+    record { lines = oneMore (t .lines); malformed = t .malformed; cases = oneMoreAt (t .cases) k; differences = oneMoreAt (t .differences) k }
+countedOf t Malformed = record { lines = oneMore (t .lines); malformed = oneMore (t .malformed); cases = t .cases; differences = t .differences }
 
 -- line by line
 unfoldable pub tallyFrom : Tally → List (List ℕ) → Tally

@@ -16,14 +16,14 @@ sameOf (a ∷ t) [] = false
 sameOf (a ∷ t) (b ∷ u) = cond (eqb a b) (sameOf t u) false
 
 -- a byte before lines belongs to the first of them
-abbrev pub before : ℕ → List (List ℕ) → List (List ℕ)
-before b [] = (b ∷ []) ∷ []
-before b (l ∷ ls) = (b ∷ l) ∷ ls
+abbrev pub inFront : ℕ → List (List ℕ) → List (List ℕ)
+inFront b [] = (b ∷ []) ∷ []
+inFront b (l ∷ ls) = (b ∷ l) ∷ ls
 
 -- the lines of a text, without their line feeds; the last may lack its own
 unfoldable pub linesOf : List ℕ → List (List ℕ)
 linesOf [] = []
-linesOf (b ∷ bs) = cond (eqb b 10) ([] ∷ linesOf bs) (before b (linesOf bs))
+linesOf (b ∷ bs) = cond (eqb b 10) ([] ∷ linesOf bs) (inFront b (linesOf bs))
 
 -- the place of the first that is the name, or how many there are
 unfoldable pub placeIn : List ℕ → List (List ℕ) → ℕ

@@ -1,6 +1,6 @@
 // What is counted: a line's verdict, and a text's tally.
 ghost use mathlib.Core.Path.{_≡_};
-ghost use Rattle.replay.specs.Judge.{verdictOf, more, moreAt, countedOf, tallyOf};
+ghost use Rattle.replay.specs.Judge.{verdictOf, oneMore, oneMoreAt, countedOf, tallyOf};
 use crate::split::until;
 use crate::table::Verdict;
 use crate::table::number_of;
@@ -30,13 +30,13 @@ pub struct Tally {
 
 // No text has so many lines that it stops.
 fn one_more(n: u64) -> u64
-    ensures { λ r. ⌜ r ≡ more n ⌝ }
+    ensures { λ r. ⌜ r ≡ oneMore n ⌝ }
 {
     if n < 18446744073709551615 { n + 1 } else { n }
 }
 
 fn one_more_at(mut counts: [u64; 32], k: usize) -> [u64; 32]
-    ensures { λ r. ⌜ r ≡ moreAt counts k ⌝ }
+    ensures { λ r. ⌜ r ≡ oneMoreAt counts k ⌝ }
 {
     if k < 32 {
         counts[k] = one_more(counts[k]);

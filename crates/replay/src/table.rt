@@ -1,4 +1,5 @@
 // The names that a case can have, and what is run for each.
+// A further name is a line at the end of `NAMES`, an arm of `run` that hands its answers to `held`, and a row of specs/Table.antt.
 ghost use mathlib.Core.Path.{_≡_};
 ghost use mathlib.Core.Bool.{cond};
 ghost use mathlib.Core.List.{[], _∷_};

@@ -3,7 +3,7 @@ use mathlib.Core.Path.{sym}
 use native.Mathlib.Omega.{arith}
 use lib.Seq.{set-out}
 use borrow.Author.Needs.{needs}
-use Rattle.replay.specs.Judge.{moreAt}
+use Rattle.replay.specs.Judge.{oneMoreAt}
 use Rattle.replay.proofs.judge.one_more_at.Statement.{statement}
 use Rattle.replay.proofs.judge.one_more_at.Tie as tie
 
@@ -23,11 +23,11 @@ array-write-counts : tie.Need-array-write-counts
 array-write-counts c = search needs
 
 returns : tie.Need-returns
-unfolding moreAt
+unfolding oneMoreAt
 returns c = simp (c .one-more .ensures)
 
 returns-2 : tie.Need-returns-2
-unfolding moreAt
+unfolding oneMoreAt
 returns-2 c = sym (set-out _ _ _ (omega arith))
 
 pub one-more-at-spec : {M : Type 1} → statement M
