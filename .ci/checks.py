@@ -188,6 +188,27 @@ def no_copy(files):
 
 # ---- the checks, each with examples that it must refuse
 
+# ---- the proof map
+
+DECLARED = {
+    ".antt": r"^(?:abbrev |unfoldable )?pub (?:use [^\n]*[{{ ,]|record |data )?{0}(?=[\s:,}}])",
+    ".rt": r"^\s*(?:pub )?(?:extern \"C\" )?(?:fn|struct|enum) {0}\b",
+}
+
+
+def map_holds(files):
+    """Each name of the proof map stands in the file that the map gives."""
+    path = "docs/PROOFS.md"
+    text = files.get(path, "")
+    spans = list(re.finditer(r"`([\w/]+(\.antt|\.rt)):([^`\s]+)`", text))
+    if not spans:
+        yield f"{path}: names nothing"
+    for m in spans:
+        declared = DECLARED[m[2]].format(re.escape(m[3]))
+        if m[1] not in files or not re.search(declared, files[m[1]], re.M):
+            yield f"{path}:{line(text, m.start())}: {m[1]} has no {m[3]}"
+
+
 CHECKS = {
     only_promises: [
         {"crates/x/proofs/A.antt": "a : A\nunfolding lt sinOf\na = refl\n"},
@@ -203,6 +224,11 @@ CHECKS = {
     no_hole: [{"crates/x/proofs/f/Proof.antt": "returns c = ?\n"}],
     own_words: [{"docs/x.md": "built in /" + "work/ here\n"}],
     no_copy: [{"x.rs": COPY}],
+    map_holds: [
+        {"docs/PROOFS.md": "`crates/laws/specs/Machine.antt:Settle`\n"},
+        {"docs/PROOFS.md": "`crates/laws/specs/Gone.antt:Settles`\n"},
+        {"docs/PROOFS.md": "nothing\n"},
+    ],
 }
 
 

@@ -1,15 +1,15 @@
 -- Every cell of a list stored, one after another; and lengths that nothing refuses.
 use mathlib.Core.Bool.{Bool, true, false, cond, true≢false}
-use mathlib.Core.List.{List, [], _∷_, _++_, append-nil}
+use mathlib.Core.List.{List, _++_, append-nil}
 use mathlib.Core.Path.{_≡_, refl, sym, ap, _∙_}
-use Prim.Native.Nat.{ℕ, _+_, _≤_}
+use Prim.Native.Nat.{ℕ, _+_}
 use native.Mathlib.Omega.{arith}
 use lib.Dec.{eqb}
-use lib.ListN.{length, drop, drop-of-length-le}
+use lib.ListN.{length, drop-of-length-le}
 use lib.Seq.{sets, sets-eq}
-use mir.Val.{boolByte}
 use borrow.Author.Tests.{eqb-true}
 use Rattle.laws.proofs.Tests.{eqb-yes}
+use mir.Val.{boolByte}
 use Rattle.exports_lfo.specs.State.{sizesOf, tickSizesOf}
 
 pub stored : {A : Type 0} (l vs : List A) → length l ≡ length vs → sets l 0 vs ≡ vs

@@ -1,16 +1,17 @@
 -- What each exported call answers, and what it leaves in the lent slices. f, w and o are floats, wholes and samples as they stood.
-use mathlib.Core.Bool.{Bool, true, false, cond}
-use mathlib.Core.List.{List, [], _∷_}
+use mathlib.Core.Bool.{cond}
+use mathlib.Core.List.{List}
 use Prim.Native.Nat.{ℕ, _+_}
 use lib.Dec.{eqb}
-use lib.ListN.{length}
 use lib.Ieee.{Float}
+use lib.ListN.{length}
 use Rattle.answer.specs.Answer.{markNumber, voltsOf, refusalOf, accepted}
+use Rattle.lfo.specs.Calls.{Refused}
 use Rattle.lfo.specs.Lfo.{lfoNewOf, lfoTickOf, lfoResetOf, lfoSetSampleRateOf}
+use Rattle.exports_lfo.specs.State.{sizesOf, tickSizesOf, stateOf, floatsOf, wholesOf, samplesOf}
 use Rattle.lfo.specs.declared.LfoMade.{LfoMade}
 use Rattle.lfo.specs.declared.LfoMade.the-variants as made
 use Rattle.lfo.specs.declared.LfoTicked.{LfoTicked}
-use Rattle.exports_lfo.specs.State.{sizesOf, tickSizesOf, stateOf, floatsOf, wholesOf, samplesOf}
 
 -- the number of a call without samples, and the slices after it
 pub record Kept : Type 0 where

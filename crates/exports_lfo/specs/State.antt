@@ -1,10 +1,10 @@
 -- An Lfo as four floats and two whole numbers, and its samples as five floats.
-use mathlib.Core.Bool.{Bool, true, false, cond, not}
+use mathlib.Core.Bool.{not, cond}
 use mathlib.Core.List.{List, [], _∷_}
 use Prim.Native.Nat.{ℕ}
 use lib.Dec.{eqb}
-use lib.ListN.{getD}
 use lib.Ieee.{Float, nan}
+use lib.ListN.{getD}
 use Rattle.answer.specs.declared.Volts.{Volts}
 use Rattle.lfo.specs.declared.Lfo.{Lfo}
 

@@ -1,51 +1,26 @@
--- Values that stay from 0 to 2 ^ -i through rounded products, sums and differences, since rounding keeps an order.
--- So a polynomial whose terms halve is shown to lie from 0 to 1 without a word on its error.
-use mathlib.Core.Path.{_≡_, refl, sym, ap, _∙_, subst}
-use mathlib.Core.Bool.{Bool, true, false, not, _&&_, _||_, Bool·beq, cond, true≢false}
-use Prim.Native.Nat.{ℕ, zero, suc, _+_, _-_, _*_, _/_, _%_, _^_, _≤_, _<_, compare}
-use native.Mathlib.Nat.{le-trans, le-of-eq, le-of-lt, mul-pos, mul-one, one-mul, mul-comm, mul-assoc, mul-right-comm, mul-le-mul-left, mul-le-mul-right, zero-lt-suc, pow-suc}
+-- Bounds that rounded products, sums and differences keep, since rounding keeps an order: from 0 to 2 ^ -i, a size of at most 2 ^ i, from -1 to 1.
+-- So a polynomial whose terms halve is shown to lie from 0 to 1, and any polynomial to be finite, without a word on errors.
+use mathlib.Core.Bool.{Bool, Bool·beq, _&&_, cond, false, not, true, true≢false}
+use mathlib.Core.Path.{_∙_, _≡_, ap, refl, subst, sym}
+use Prim.Native.Nat.{_*_, _+_, _-_, _<_, _^_, _≤_, suc, ℕ}
+use native.Mathlib.Nat.{add-le-add, le-of-eq, le-trans, mul-assoc, mul-comm, mul-le-mul, mul-le-mul-left, mul-le-mul-right, mul-mul-mul-comm, mul-one, mul-pos, mul-right-comm, not-le-of-lt, one-mul, pow-suc, zero-lt-suc}
 use native.Mathlib.Omega.{arith}
-use lib.IntN.{pos}
-use lib.Dec.{T, ltb, ltb→lt, lit<, lit≤}
-use lib.Pow.{pow-pos}
-use lib.Ieee.{Float, nan, inf, fin, binary64, up, down, unlike, round, units, odd, sum, add, sub, mul, neg, lt, le, eq, size, nearest, ofBits}
-use lib.Ieee.Fits.{down-pos}
-use lib.Ieee.Exact.{HasValue}
-use lib.Ieee.Order.{round-mono, le-of-values}
-use Rattle.laws.specs.Float.{one, InUnit}
-use Rattle.laws.proofs.Tests.{of-true}
-use Rattle.laws.proofs.Order.{values-le, neg-lt-nonneg, le-neg, neg-neg}
-use Rattle.laws.proofs.Values.{mul-round, add-round, sub-round, sum-pos-neg, exact-at, neg-round, neg-value}
+use lib.Dec.{T, leb, leb→le, lit<, lit≤, ltb, ltb→lt, nleb→lt}
+use lib.Ieee.{Float, add, binary64, down, eq, fin, fits, inf, le, lt, mul, nan, neg, ofBits, round, sub, sum, unlike, up}
+use lib.Ieee.Exact.{HasValue, round-exact}
+use lib.Ieee.Fits.{and-l, and-r, down-pos}
+use lib.Ieee.Order.{round-mono}
+use lib.Ieee.Positive.{den, den-pos, num, own-value, positive}
+use lib.IntN.{negsuc, pos, ℤ}
+use lib.Pow.{pow-add, pow-lt, pow-pos}
+use Rattle.laws.proofs.Monotone.{round-le}
+use Rattle.laws.proofs.Number.{Signed, round-signed}
+use Rattle.laws.proofs.Order.{Below, below-le, le-below, le-neg, neg-neg, values-le}
+use Rattle.laws.proofs.Values.{add-round, exact-at, fits-small, float-mul-comm, mul-round, neg-value, round-neg, sub-round, sum-pos-neg, unlike-plus}
+use Rattle.laws.specs.Float.{F64, InUnit, isFin, one}
 
--- ---- a rounded fraction keeps its sign
-abbrev Plus : Float → Type 0
-Plus nan = ⊥
-Plus (inf s) = s ≡ false
-Plus (fin s m e) = s ≡ false
-
-odd-plus : (d q k l : ℕ) → Plus (odd d false q k l)
-unfolding odd
-odd-plus d zero k l = refl
-odd-plus d (suc q) k l = refl
-
-units-plus : (q k : ℕ) → Plus (units binary64 false q k)
-unfolding units
-units-plus q k = go (ltb (q * 2 ^ k) (2 ^ 2098)) (odd 54 false q k 1074) (odd-plus 54 q k 1074)
-  where
-    go : (t : Bool) (x : Float) → Plus x → Plus (cond t x (inf false))
-    go true x h = h
-    go false x h = refl
-
-round-plus : (a b : ℕ) → Plus (round binary64 false a b)
-unfolding round
-round-plus a b =
-    let n = a * 2 ^ 1074 in
-    let k = size (n / b) - 53 in
-    let u = b * 2 ^ k in
-    units-plus (nearest (n / u) (compare (n % u * 2) u)) k
-
--- what is not above a number is a number
-under : (x y : Float) (b d : ℕ) → Plus x → 0 < d → HasValue y false b d → T (le x y) → (a : ℕ) × (c : ℕ) × (0 < c) × (a * d ≤ b * c) × HasValue x false a c
+-- a value that is not above a finite one is finite
+under : (x y : Float) (b d : ℕ) → Signed false x → 0 < d → HasValue y false b d → T (le x y) → (a : ℕ) × (c : ℕ) × (0 < c) × (a * d ≤ b * c) × HasValue x false a c
 unfolding le lt eq
 under nan y b d p D v h = absurd p
 under (inf true) y b d p D v h = absurd (true≢false p)
@@ -63,9 +38,27 @@ Part i x = (a : ℕ) × (c : ℕ) × (0 < c) × (a * 2 ^ i ≤ c) × HasValue x 
 abbrev pub Between : ℕ → ℕ → Float → Type 0
 Between j i x = (a : ℕ) × (c : ℕ) × (0 < c) × (c ≤ a * 2 ^ j) × (a * 2 ^ i ≤ c) × HasValue x false a c
 
+-- of a given number both are computed
+abbrev pub inPart : ℕ → Float → Bool
+inPart i x = positive x && leb (num x * 2 ^ i) (den x)
+
+pub part-of : (i : ℕ) (x : Float) → T (inPart i x) → Part i x
+part-of i x t =
+    let p = and-l (positive x) (leb (num x * 2 ^ i) (den x)) t in
+    (num x, den x, den-pos x, leb→le (num x * 2 ^ i) (den x) (and-r (positive x) (leb (num x * 2 ^ i) (den x)) t), own-value x p)
+
+abbrev pub isBetween : ℕ → ℕ → Float → Bool
+isBetween j i x = inPart i x && leb (den x) (num x * 2 ^ j)
+
+pub between-of : (j i : ℕ) (x : Float) → T (isBetween j i x) → Between j i x
+unfolding part-of
+between-of j i x t =
+    let p = part-of i x (and-l (inPart i x) (leb (den x) (num x * 2 ^ j)) t) in
+    (p .0, p .1, p .2, leb→le (den x) (num x * 2 ^ j) (and-r (inPart i x) (leb (den x) (num x * 2 ^ j)) t), p .3, p .4)
+
 pub part-round : (i a c : ℕ) → i ≤ 1074 → 0 < c → a * 2 ^ i ≤ c → Part i (round binary64 false a c)
 part-round i a c I C h =
-    let r = under (round binary64 false a c) (round binary64 false 1 (2 ^ i)) 1 (2 ^ i) (round-plus a c) (pow-pos i) (exact-at false 1 i (lit< tt) I) (round-mono binary64 a c 1 (2 ^ i) C (pow-pos i) (le-trans h (le-of-eq (sym (one-mul c))))) in
+    let r = under (round binary64 false a c) (round binary64 false 1 (2 ^ i)) 1 (2 ^ i) (round-signed false a c) (pow-pos i) (exact-at false 1 i (lit< tt) I) (round-mono binary64 a c 1 (2 ^ i) C (pow-pos i) (le-trans h (le-of-eq (sym (one-mul c))))) in
     (r .0, r .1, r .2, le-trans (r .3) (le-of-eq (one-mul (r .1))), r .4)
 
 pub part-mul : (i : ℕ) (x y : Float) → i ≤ 1074 → Part i x → Part 0 y → Part i (mul binary64 x y)
@@ -74,9 +67,7 @@ part-mul i x y I p q =
     (part-round i (p .0 * q .0) (p .1 * q .1) I (mul-pos (p .2) (q .2)) (le-trans (le-of-eq (mul-right-comm (p .0) (q .0) (2 ^ i))) (le-trans (mul-le-mul-right (q .0) (p .3)) (mul-le-mul-left (p .1) (le-trans (le-of-eq (sym (mul-one (q .0)))) (q .3))))))
 
 pub part-mul' : (i : ℕ) (x y : Float) → i ≤ 1074 → Part 0 x → Part i y → Part i (mul binary64 x y)
-part-mul' i x y I p q =
-    subst (Part i) (sym (mul-round x y false false (p .0) (p .1) (q .0) (q .1) (p .2) (q .2) (p .4) (q .4)))
-    (part-round i (p .0 * q .0) (p .1 * q .1) I (mul-pos (p .2) (q .2)) (le-trans (le-of-eq (mul-assoc (p .0) (q .0) (2 ^ i))) (le-trans (mul-le-mul-left (p .0) (q .3)) (mul-le-mul-right (q .1) (le-trans (le-of-eq (sym (mul-one (p .0)))) (p .3))))))
+part-mul' i x y I p q = subst (Part i) (float-mul-comm y x) (part-mul i y x I q p)
 
 -- two halves are at most a whole
 pub part-add : (i : ℕ) (x y : Float) → i ≤ 1074 → Part (suc i) x → Part (suc i) y → Part i (add binary64 x y)
@@ -114,86 +105,215 @@ part-sub j i x y I p q =
     less : (m n : ℕ) → m - n ≤ m
     less m n = omega arith
 
--- the square of what lies from -1 to 1
-pub part-square : (x : Float) (s : Bool) (a c : ℕ) → 0 < c → a ≤ c → HasValue x s a c → Part 0 (mul binary64 x x)
-part-square x s a c C h v =
-    subst (Part 0) (sym (mul-round x x s s a c a c C C v v ∙ ap (λ (t : Bool). round binary64 t (a * a) (c * c)) (like s)))
-    (part-round 0 (a * a) (c * c) (lit≤ tt) (mul-pos C C) (le-trans (le-of-eq (mul-one (a * a))) (le-trans (mul-le-mul-left a h) (mul-le-mul-right c h))))
+-- ---- x has the sign s, and |x| is at most 2 ^ i
+abbrev pub Sized : Bool → ℕ → Float → Type 0
+Sized s i x = (a : ℕ) × (c : ℕ) × (0 < c) × (a ≤ 2 ^ i * c) × HasValue x s a c
+
+pub round-sized : (s : Bool) (i a c : ℕ) → i ≤ 1023 → 0 < c → a ≤ 2 ^ i * c → Sized s i (round binary64 s a c)
+round-sized s i a c I C h = go s
   where
+    top : HasValue (round binary64 false (2 ^ i) 1) false (2 ^ i) 1
+    top = round-exact binary64 false (2 ^ i) 1 1 (i + 1074) (zero-lt-suc 0) (lit< tt) (subst (λ (z : ℕ). z < 2 ^ 2098) (sym (one-mul (2 ^ (i + 1074)))) (pow-lt {j = 2098} (room i I))) (sym (pow-add 2 i 1074) ∙ sym (one-mul (2 ^ (i + 1074))) ∙ sym (mul-one (1 * 2 ^ (i + 1074))))
+      where
+        room : (i : ℕ) → i ≤ 1023 → i + 1074 < 2098
+        room i h = omega arith
+
+    r : (b : ℕ) × (d : ℕ) × (0 < d) × (b * 1 ≤ 2 ^ i * d) × HasValue (round binary64 false a c) false b d
+    r = under (round binary64 false a c) (round binary64 false (2 ^ i) 1) (2 ^ i) 1 (round-signed false a c) (zero-lt-suc 0) top (round-mono binary64 a c (2 ^ i) 1 C (zero-lt-suc 0) (le-trans (le-of-eq (mul-one a)) h))
+
+    go : (s : Bool) → Sized s i (round binary64 s a c)
+    go false = (r .0, r .1, r .2, le-trans (le-of-eq (sym (mul-one (r .0)))) (r .3), r .4)
+    go true = (r .0, r .1, r .2, le-trans (le-of-eq (sym (mul-one (r .0)))) (r .3), subst (λ (z : Float). HasValue z true (r .0) (r .1)) (sym (round-neg a c)) (neg-value (round binary64 false a c) false (r .0) (r .1) (r .4)))
+
+pub part-sized : (x : Float) → Part 0 x → Sized false 0 x
+part-sized x p = (p .0, p .1, p .2, le-trans (le-of-eq (sym (mul-one (p .0)))) (le-trans (p .3) (le-of-eq (sym (one-mul (p .1))))), p .4)
+
+-- a product with what lies from 0 to 1 keeps both
+pub sized-mul : (s : Bool) (i : ℕ) (x y : Float) → i ≤ 1023 → Sized s i x → Part 0 y → Sized s i (mul binary64 x y)
+sized-mul s i x y I p q =
+    subst (Sized s i) (sym (mul-round x y s false (p .0) (p .1) (q .0) (q .1) (p .2) (q .2) (p .4) (q .4) ∙ ap (λ (t : Bool). round binary64 t (p .0 * q .0) (p .1 * q .1)) (unlike-plus s)))
+    (round-sized s i (p .0 * q .0) (p .1 * q .1) I (mul-pos (p .2) (q .2))
+    (le-trans (mul-le-mul (p .3) (le-trans (le-of-eq (sym (mul-one (q .0)))) (q .3))) (le-of-eq (mul-assoc (2 ^ i) (p .1) (q .1)))))
+
+-- the square of what lies from -1 to 1
+pub part-square : (s : Bool) (x : Float) → Sized s 0 x → Part 0 (mul binary64 x x)
+part-square s x p =
+    subst (Part 0) (sym (mul-round x x s s (p .0) (p .1) (p .0) (p .1) (p .2) (p .2) (p .4) (p .4) ∙ ap (λ (t : Bool). round binary64 t (p .0 * p .0) (p .1 * p .1)) (like s)))
+    (part-round 0 (p .0 * p .0) (p .1 * p .1) (lit≤ tt) (mul-pos (p .2) (p .2)) (le-trans (le-of-eq (mul-one (p .0 * p .0))) (mul-le-mul h h)))
+  where
+    h : p .0 ≤ p .1
+    h = le-trans (p .3) (le-of-eq (one-mul (p .1)))
+
     like : (s : Bool) → unlike s s ≡ false
     like true = refl
     like false = refl
 
 -- ---- from -1 to 1
-sized : (s : Bool) (a c : ℕ) → 0 < c → a ≤ c → (b : ℕ) × (d : ℕ) × (0 < d) × (b ≤ d) × HasValue (round binary64 s a c) s b d
-sized s a c C h = go s
-  where
-    p : Part 0 (round binary64 false a c)
-    p = part-round 0 a c (lit≤ tt) C (le-trans (le-of-eq (mul-one a)) h)
-
-    go : (s : Bool) → (b : ℕ) × (d : ℕ) × (0 < d) × (b ≤ d) × HasValue (round binary64 s a c) s b d
-    go false = (p .0, p .1, p .2, le-trans (le-of-eq (sym (mul-one (p .0)))) (p .3), p .4)
-    go true = (
-      p .0,
-      p .1,
-      p .2,
-      le-trans (le-of-eq (sym (mul-one (p .0)))) (p .3),
-      subst (λ (z : Float). HasValue z true (p .0) (p .1)) (sym (sym (neg-neg (round binary64 true a c)) ∙ ap neg (neg-round a c))) (neg-value (round binary64 false a c) false (p .0) (p .1) (p .4)),
-    )
-
-or-left : (a b : Bool) → T a → T (a || b)
-or-left true b t = tt
-or-left false b t = absurd t
-
-nonneg-unit : (x : Float) (a c : ℕ) → 0 < c → a ≤ c → HasValue x false a c → InUnit x
-unfolding le ofBits neg
-nonneg-unit x a c C h v = (
-  or-left (lt (fin true 1 (pos 0)) x) (eq (fin true 1 (pos 0)) x) (of-true (lt (fin true 1 (pos 0)) x) (neg-lt-nonneg 1 (pos 0) x a c (zero-lt-suc 0) v)),
-  le-of-values x (fin false 1 (pos 0)) a c 1 1 C (zero-lt-suc 0) v (refl, refl) (le-trans (le-of-eq (mul-one a)) (le-trans h (le-of-eq (sym (one-mul c))))),
+round-unit : (s : Bool) (a c : ℕ) → 0 < c → a ≤ c → InUnit (round binary64 s a c)
+round-unit s a c C h = (
+  subst (λ (z : Float). T (le z (round binary64 s a c))) low (round-le true s 1 1 a c (zero-lt-suc 0) C (above s)),
+  subst (λ (z : Float). T (le (round binary64 s a c) z)) high (round-le s false a c 1 1 C (zero-lt-suc 0) (beneath s)),
 )
+  where
+    low : round binary64 true 1 1 ≡ neg one
+    low = unfold round neg ofBits in refl
+
+    high : round binary64 false 1 1 ≡ one
+    high = unfold round ofBits in refl
+
+    most : a * 1 ≤ 1 * c
+    most = le-trans (le-of-eq (mul-one a)) (le-trans h (le-of-eq (sym (one-mul c))))
+
+    above : (s : Bool) → Below true (1 * c) s (a * 1)
+    above true = most
+    above false = tt
+
+    beneath : (s : Bool) → Below s (a * 1) false (1 * c)
+    beneath true = tt
+    beneath false = most
 
 pub neg-unit : (v : Float) → InUnit v → InUnit (neg v)
 neg-unit v h = (le-neg v one (h .1), subst (λ (z : Float). T (le (neg v) z)) (neg-neg one) (le-neg (neg one) v (h .0)))
 
-round-unit : (s : Bool) (a c : ℕ) → 0 < c → a ≤ c → InUnit (round binary64 s a c)
-round-unit s a c C h = go s
-  where
-    plain : InUnit (round binary64 false a c)
-    plain = let r = sized false a c C h in nonneg-unit (round binary64 false a c) (r .0) (r .1) (r .2) (r .3) (r .4)
-
-    go : (s : Bool) → InUnit (round binary64 s a c)
-    go false = plain
-    go true = subst InUnit (sym (sym (neg-neg (round binary64 true a c)) ∙ ap neg (neg-round a c))) (neg-unit (round binary64 false a c) plain)
-
 -- the difference of two values of one sign from -1 to 1
-pub sub-unit : (s : Bool) (x y : Float) (a c b d : ℕ) → 0 < c → 0 < d → a ≤ c → b ≤ d → HasValue x s a c → HasValue y s b d → InUnit (sub binary64 x y)
+pub unit-sub : (s : Bool) (x y : Float) → Sized s 0 x → Sized s 0 y → InUnit (sub binary64 x y)
 unfolding sum
-sub-unit s x y a c b d C D h k v w = subst InUnit (sym (sub-round x y s s a c b d C D v w)) (go s (ltb (a * d) (b * c)))
+unit-sub s x y p q = subst InUnit (sym (sub-round x y s s (p .0) (p .1) (q .0) (q .1) (p .2) (q .2) (p .4) (q .4))) (go s (ltb A B))
   where
-    left : a * d - b * c ≤ c * d
-    left = le-trans (less (a * d) (b * c)) (mul-le-mul-right d h)
-      where
-        less : (m n : ℕ) → m - n ≤ m
-        less m n = omega arith
+    A : ℕ
+    A = p .0 * q .1
 
-    right : b * c - a * d ≤ c * d
-    right = le-trans (less (b * c) (a * d)) (le-trans (mul-le-mul-right c k) (le-of-eq (mul-comm d c)))
-      where
-        less : (m n : ℕ) → m - n ≤ m
-        less m n = omega arith
+    B : ℕ
+    B = q .0 * p .1
 
-    go : (s t : Bool) → InUnit (cond (Bool·beq s (not s)) (round binary64 s (a * d + b * c) (c * d)) (cond t (round binary64 (not s) (b * c - a * d) (c * d)) (round binary64 (s && ltb (b * c) (a * d)) (a * d - b * c) (c * d))))
-    go true true = round-unit false (b * c - a * d) (c * d) (mul-pos C D) right
-    go true false = round-unit (ltb (b * c) (a * d)) (a * d - b * c) (c * d) (mul-pos C D) left
-    go false true = round-unit true (b * c - a * d) (c * d) (mul-pos C D) right
-    go false false = round-unit false (a * d - b * c) (c * d) (mul-pos C D) left
+    C : ℕ
+    C = p .1 * q .1
 
--- a product with what lies from 0 to 1 keeps the sign and stays from -1 to 1
-pub mul-sized : (s : Bool) (x y : Float) (a c : ℕ) → 0 < c → a ≤ c → HasValue x s a c → Part 0 y → (b : ℕ) × (d : ℕ) × (0 < d) × (b ≤ d) × HasValue (mul binary64 x y) s b d
-mul-sized s x y a c C h v q =
-    subst (λ (z : Float). (b : ℕ) × (d : ℕ) × (0 < d) × (b ≤ d) × HasValue z s b d) (sym (mul-round x y s false a c (q .0) (q .1) C (q .2) v (q .4) ∙ ap (λ (t : Bool). round binary64 t (a * q .0) (c * q .1)) (like s)))
-    (sized s (a * q .0) (c * q .1) (mul-pos C (q .2)) (le-trans (mul-le-mul-right (q .0) h) (mul-le-mul-left c (le-trans (le-of-eq (sym (mul-one (q .0)))) (q .3)))))
+    pos-c : 0 < C
+    pos-c = mul-pos (p .2) (q .2)
+
+    less : (m n k : ℕ) → m ≤ k → m - n ≤ k
+    less m n k h = omega arith
+
+    left : A - B ≤ C
+    left = less A B C (mul-le-mul-right (q .1) (le-trans (p .3) (le-of-eq (one-mul (p .1)))))
+
+    right : B - A ≤ C
+    right = less B A C (le-trans (mul-le-mul-right (p .1) (le-trans (q .3) (le-of-eq (one-mul (q .1))))) (le-of-eq (mul-comm (q .1) (p .1))))
+
+    go : (s t : Bool) → InUnit (cond (Bool·beq s (not s)) (round binary64 s (A + B) C) (cond t (round binary64 (not s) (B - A) C) (round binary64 (s && ltb B A) (A - B) C)))
+    go true true = round-unit false (B - A) C pos-c right
+    go true false = round-unit (ltb B A) (A - B) C pos-c left
+    go false true = round-unit true (B - A) C pos-c right
+    go false false = round-unit false (A - B) C pos-c left
+
+-- ---- |x| is at most 2 ^ i: so x is finite
+abbrev pub Within : ℕ → Float → Type 0
+Within i x = (s : Bool) × Sized s i x
+
+pub within-finite : (i : ℕ) (x : Float) → Within i x → T (isFin x)
+within-finite i nan h = absurd (h .1 .4)
+within-finite i (inf s) h = absurd (h .1 .4)
+within-finite i (fin s m e) h = tt
+
+pub within-wider : (i : ℕ) (x : Float) → Within i x → Within (suc i) x
+within-wider i x h = let p = h .1 in (h .0, (p .0, p .1, p .2, le-trans (p .3) (le-trans (double (2 ^ i * p .1)) (le-of-eq (twice i (p .1)))), p .4))
   where
-    like : (s : Bool) → unlike s false ≡ s
-    like true = refl
-    like false = refl
+    double : (n : ℕ) → n ≤ n * 2
+    double n = omega arith
+
+    twice : (i c : ℕ) → 2 ^ i * c * 2 ≡ 2 ^ suc i * c
+    twice i c = mul-right-comm (2 ^ i) c 2 ∙ ap (λ (z : ℕ). z * c) (sym (pow-suc 2 i))
+
+within-round : (i : ℕ) (s : Bool) (a c : ℕ) → i ≤ 1023 → 0 < c → a ≤ 2 ^ i * c → Within i (round binary64 s a c)
+within-round i s a c I C h = (s, round-sized s i a c I C h)
+
+pub within-mul : (i j : ℕ) (x y : Float) → i + j ≤ 1023 → Within i x → Within j y → Within (i + j) (mul binary64 x y)
+within-mul i j x y I h k =
+    let p = h .1 in
+    let q = k .1 in
+    subst (Within (i + j)) (sym (mul-round x y (h .0) (k .0) (p .0) (p .1) (q .0) (q .1) (p .2) (q .2) (p .4) (q .4)))
+    (within-round (i + j) (unlike (h .0) (k .0)) (p .0 * q .0) (p .1 * q .1) I (mul-pos (p .2) (q .2))
+    (le-trans (mul-le-mul (p .3) (q .3)) (le-of-eq (mul-mul-mul-comm (2 ^ i) (p .1) (2 ^ j) (q .1) ∙ ap (λ (z : ℕ). z * (p .1 * q .1)) (sym (pow-add 2 i j))))))
+
+-- the size of a sum is at most that of both
+pub within-sum : (i : ℕ) (s t : Bool) (a b c : ℕ) → i ≤ 1023 → 0 < c → a + b ≤ 2 ^ i * c → Within i (sum binary64 s a t b c)
+unfolding sum
+within-sum i s t a b c I C h = go (Bool·beq s t) (ltb a b)
+  where
+    less : (m n k : ℕ) → m + n ≤ k → m - n ≤ k
+    less m n k h = omega arith
+
+    more : (m n k : ℕ) → m + n ≤ k → n - m ≤ k
+    more m n k h = omega arith
+
+    go : (x y : Bool) → Within i (cond x (round binary64 s (a + b) c) (cond y (round binary64 t (b - a) c) (round binary64 (s && ltb b a) (a - b) c)))
+    go true y = within-round i s (a + b) c I C h
+    go false true = within-round i t (b - a) c I C (more a b (2 ^ i * c) h)
+    go false false = within-round i (s && ltb b a) (a - b) c I C (less a b (2 ^ i * c) h)
+
+pub within-add : (i : ℕ) (x y : Float) → suc i ≤ 1023 → Within i x → Within i y → Within (suc i) (add binary64 x y)
+within-add i x y I h k =
+    let p = h .1 in
+    let q = k .1 in
+    subst (Within (suc i)) (sym (add-round x y (h .0) (k .0) (p .0) (p .1) (q .0) (q .1) (p .2) (q .2) (p .4) (q .4)))
+    (within-sum (suc i) (h .0) (k .0) (p .0 * q .1) (q .0 * p .1) (p .1 * q .1) I (mul-pos (p .2) (q .2))
+    (le-trans (add-le-add (le-trans (mul-le-mul-right (q .1) (p .3)) (le-of-eq (mul-assoc (2 ^ i) (p .1) (q .1)))) (le-trans (mul-le-mul-right (p .1) (q .3)) (le-of-eq (mul-assoc (2 ^ i) (q .1) (p .1) ∙ ap (λ (z : ℕ). 2 ^ i * z) (mul-comm (q .1) (p .1))))))
+    (le-of-eq (twice (2 ^ i) (p .1 * q .1) ∙ ap (λ (z : ℕ). z * (p .1 * q .1)) (sym (pow-suc 2 i))))))
+  where
+    twice : (u n : ℕ) → u * n + u * n ≡ u * 2 * n
+    twice u n = omega arith
+
+-- two values of one sign that differ by 1 at most
+pub within-sub : (s : Bool) (x y : Float) (a c b d : ℕ) → 0 < c → 0 < d → HasValue x s a c → HasValue y s b d → a * d ≤ b * c + c * d → b * c ≤ a * d + c * d → Within 0 (sub binary64 x y)
+unfolding sum
+within-sub s x y a c b d C D v w h k = subst (Within 0) (sym (sub-round x y s s a c b d C D v w)) (go s (ltb (a * d) (b * c)))
+  where
+    less : (m n u : ℕ) → m ≤ n + u → m - n ≤ 1 * u
+    less m n u h = omega arith
+
+    go : (s t : Bool) → Within 0 (cond (Bool·beq s (not s)) (round binary64 s (a * d + b * c) (c * d)) (cond t (round binary64 (not s) (b * c - a * d) (c * d)) (round binary64 (s && ltb (b * c) (a * d)) (a * d - b * c) (c * d))))
+    go true true = within-round 0 false (b * c - a * d) (c * d) (lit≤ tt) (mul-pos C D) (less (b * c) (a * d) (c * d) k)
+    go true false = within-round 0 (ltb (b * c) (a * d)) (a * d - b * c) (c * d) (lit≤ tt) (mul-pos C D) (less (a * d) (b * c) (c * d) h)
+    go false true = within-round 0 true (b * c - a * d) (c * d) (lit≤ tt) (mul-pos C D) (less (b * c) (a * d) (c * d) k)
+    go false false = within-round 0 false (a * d - b * c) (c * d) (lit≤ tt) (mul-pos C D) (less (a * d) (b * c) (c * d) h)
+
+-- a number from -1 to 1
+pub unit-within : (x : Float) → InUnit x → Within 0 x
+unfolding ofBits
+unit-within nan h = absurd (unfold le lt eq in h .1)
+unit-within (inf true) h = absurd (unfold le lt eq neg in h .0)
+unit-within (inf false) h = absurd (unfold le lt eq in h .1)
+unit-within (fin false m e) h = (false, (m * up e, down e, down-pos e, le-trans (le-of-eq (sym (mul-one (m * up e)))) (le-below false false m 1 e (pos 0) (h .1)), (refl, refl)))
+unit-within (fin true m e) h = (true, (m * up e, down e, down-pos e, le-trans (le-of-eq (sym (mul-one (m * up e)))) (le-below true true 1 m (pos 0) e (unfold neg in h .0)), (refl, refl)))
+
+-- ---- the float before 1: what is below 1 is at most 1 - 2 ^ -53
+before : (n d : ℕ) → n < d → (9007199254740992 ≤ d → n < 9007199254740992) → n * 9007199254740992 ≤ 9007199254740991 * d
+before n d h k = go (leb 9007199254740992 d) (leb→le 9007199254740992 d) (nleb→lt 9007199254740992 d)
+  where
+    large : 9007199254740992 ≤ d → n < 9007199254740992 → n * 9007199254740992 ≤ 9007199254740991 * d
+    large l m = omega arith
+
+    small : d < 9007199254740992 → n * 9007199254740992 ≤ 9007199254740991 * d
+    small l = omega arith
+
+    go : (b : Bool) → (T b → 9007199254740992 ≤ d) → (T (not b) → d < 9007199254740992) → n * 9007199254740992 ≤ 9007199254740991 * d
+    go true f g = large (f tt) (k (f tt))
+    go false f g = small (g tt)
+
+few : (s : Bool) (m : ℕ) (e : ℤ) → T (fits binary64 (fin s m e)) → 9007199254740992 ≤ down e → m * up e < 9007199254740992
+few s m (pos k) t h = absurd (not-le-of-lt (lit< {m = 1} {n = 9007199254740992} tt) h)
+few s m (negsuc k) t h = subst (λ (z : ℕ). z < 9007199254740992) (sym (mul-one m)) (fits-small s m (negsuc k) t)
+
+pub below-one : (x : Float) → F64 x → T (lt x one) → T (le x (ofBits binary64 0x3fefffffffffffff))
+unfolding ofBits
+below-one nan t h = absurd (unfold lt in h)
+below-one (inf true) t h = unfold le lt eq in tt
+below-one (inf false) t h = absurd (unfold lt in h)
+below-one (fin true m e) t h = below-le true false m 9007199254740991 e (negsuc 52) tt
+below-one (fin false m e) t h =
+    below-le false false m 9007199254740991 e (negsuc 52)
+    (le-trans (before (m * up e) (down e) (strict (m * up e) (down e) (ltb→lt (m * up e * 1) (1 * down e) (unfold lt in h))) (few false m e t)) (le-of-eq (ap (λ (z : ℕ). z * down e) (sym (mul-one 9007199254740991)))))
+  where
+    strict : (n d : ℕ) → n * 1 < 1 * d → n < d
+    strict n d h = omega arith

@@ -3,6 +3,7 @@ pub mod Order
 pub mod Values
 pub mod Unique
 pub mod Number
+pub mod Monotone
 pub mod Near
 pub mod Interval
 pub mod Over

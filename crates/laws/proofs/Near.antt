@@ -1,17 +1,17 @@
 -- The whole number nearest to a fraction, and the floats from 2 ^ 52 to below 2 ^ 53, which are the whole numbers.
 use mathlib.Core.Bool.{false, not}
-use mathlib.Core.Path.{_≡_, sym, ap, _∙_, subst}
-use Prim.Native.Nat.{ℕ, zero, suc, _+_, _-_, _*_, _≤_, _<_, _/_, _%_, _^_, compare, Ordering, Ordering·lt, Ordering·eq, Ordering·gt}
-use native.Mathlib.Nat.{le-trans, le-of-eq, mul-le-mul-right, le-antisymm, mul-one, mul-pos, lt-of-lt-of-le, lt-of-le-of-lt, lt-of-not-le, le-of-suc-le-suc, not-le-of-lt, mul-right-comm, mul-lt-mul-of-pos-right, mod-lt, div-add-mod', div-lt-iff-lt-mul, le-div-iff-mul-le}
+use mathlib.Core.Path.{_∙_, _≡_, ap, subst, sym}
+use Prim.Native.Nat.{Ordering, Ordering·eq, Ordering·gt, Ordering·lt, _%_, _*_, _+_, _-_, _/_, _<_, _^_, _≤_, compare, suc, zero, ℕ}
+use native.Mathlib.Nat.{div-add-mod', div-lt-iff-lt-mul, le-antisymm, le-div-iff-mul-le, le-of-eq, le-of-lt, le-of-suc-le-suc, le-trans, lt-of-le-of-lt, lt-of-lt-of-le, lt-of-not-le, mod-lt, mul-le-mul-right, mul-lt-mul-of-pos-right, mul-one, mul-pos, mul-right-comm, not-le-of-lt, suc-mul}
 use native.Mathlib.Omega.{arith}
 use lib.Arith.{lt-of-le-ne}
-use lib.Dec.{eqb, T, lit<, leb→le, isLe, isEq, nleb→lt, eqb→eq, eqb-refl}
-use lib.Ieee.{binary64, round, nearest, size}
+use lib.Dec.{T, eqb, eqb-refl, eqb→eq, isEq, isLe, leb→le, lit<, nleb→lt}
+use lib.Ieee.{binary64, nearest, round, size}
 use lib.Ieee.Digits.{size-le, size-lt}
 use lib.Ieee.Exact.{HasValue}
 use lib.Ieee.Nearest.{closest, closest-same}
 use lib.Ieee.Scale.{grid, round-val}
-use lib.Pow.{pow-pos, pow-mono}
+use lib.Pow.{pow-mono, pow-pos}
 use Rattle.laws.proofs.Values.{rescale}
 
 -- ---- a and b differ by e at most
@@ -62,10 +62,23 @@ whole-near w r b Ordering·gt h l = (one, two)
     two = omega arith
 
 -- the nearest whole number to a / b is within a half
-pub closest-near : (a b : ℕ) → 0 < b → Near (closest a b * b * 2) (a * 2) b
+closest-near : (a b : ℕ) → 0 < b → Near (closest a b * b * 2) (a * 2) b
 closest-near a b B =
     subst (λ (z : ℕ). Near (closest a b * b * 2) (z * 2) b) (div-add-mod' a b)
     (whole-near (a / b) (a % b) b (compare (a % b * 2) b) (cmp (a % b * 2) b) (mod-lt a B))
+
+-- ---- the whole number N nearest to a / c lies where a / c does
+pub near-most : (N K a c : ℕ) → 0 < c → a ≤ K * c → N * c * 2 ≤ a * 2 + c → N ≤ K
+near-most N K a c C h k = le-of-suc-le-suc (lt-of-not-le (λ (g : suc K ≤ N). bad (N * c) (K * c) (le-trans (le-of-eq (sym (suc-mul K c))) (mul-le-mul-right c g)) h k))
+  where
+    bad : (x y : ℕ) → y + c ≤ x → a ≤ y → x * 2 ≤ a * 2 + c → ⊥
+    bad x y g h k = omega arith
+
+pub near-least : (N K a c : ℕ) → 0 < c → K * c ≤ a → a * 2 ≤ N * c * 2 + c → K ≤ N
+near-least N K a c C h k = le-of-suc-le-suc (lt-of-not-le (λ (g : suc N ≤ K). bad (N * c) (K * c) (le-trans (le-of-eq (sym (suc-mul N c))) (mul-le-mul-right c g)) h k))
+  where
+    bad : (x y : ℕ) → x + c ≤ y → y ≤ a → a * 2 ≤ x * 2 + c → ⊥
+    bad x y g h k = omega arith
 
 -- ---- a fraction from 2 ^ 52 to below 2 ^ 53 is rounded to the nearest whole number
 size-at : (n j : ℕ) → 2 ^ j ≤ n → n < 2 ^ suc j → size n ≡ suc j
@@ -88,17 +101,11 @@ grid-mid a c C h k =
     turn : (a u c : ℕ) → a * u * c ≡ a * (c * u)
     turn a u c = omega arith
 
-closest-cap : (a c q : ℕ) → 0 < c → a < 9007199254740992 * c → Near (q * c * 2) (a * 2) c → q ≤ 9007199254740992
-closest-cap a c q C k h = le-of-suc-le-suc (lt-of-not-le (λ (g : suc 9007199254740992 ≤ q). bad (q * c) (mul-le-mul-right c g) (h .0)))
-  where
-    bad : (x : ℕ) → 9007199254740993 * c ≤ x → x * 2 ≤ a * 2 + c → ⊥
-    bad x g h = omega arith
-
 pub whole-round : (a c : ℕ) → 0 < c → 4503599627370496 * c ≤ a → a < 9007199254740992 * c
     → (N : ℕ) × HasValue (round binary64 false a c) false N 1 × Near (N * c * 2) (a * 2) c × (N ≤ 9007199254740992)
 whole-round a c C h k =
     let n = closest-near a c C in
-    let q = closest-cap a c (closest a c) C k n in
+    let q = near-most (closest a c) 9007199254740992 a c C (le-of-lt k) (n .0) in
     let e = grid-mid a c C h k in (
       closest a c,
       rescale (round binary64 false a c) false (closest a c * 2 ^ 1074) (2 ^ 1074) (closest a c) 1 (pow-pos 1074) (sym (mul-one (closest a c * 2 ^ 1074)))

@@ -1,31 +1,48 @@
--- Values that are no NaN.
-use mathlib.Core.Bool.{Bool, true, false, cond, not, _&&_, false≢true, Bool·beq}
-use mathlib.Core.Path.{_≡_, sym, subst}
-use Prim.Native.Nat.{ℕ, zero, suc, _+_, _-_, _*_, _/_, _%_, _^_, compare}
-use lib.Dec.{eqb, T, ltb}
-use lib.Ieee.{Float, nan, inf, fin, binary64, up, down, lt, le, neg, sub, unlike, mul, round, sum, add, nearest, size, odd, isNan, units}
-use lib.IntN.{ℤ}
+-- Which values are numbers, that is no NaN.
+use mathlib.Core.Bool.{Bool, Bool·beq, _&&_, cond, false, false≢true, not, true, true≢false}
+use mathlib.Core.Path.{_≡_, refl, subst, sym}
+use Prim.Native.Nat.{_*_, _+_, _-_, _^_, suc, zero, ℕ}
+use lib.Dec.{T, eqb, eqb·suc-zero, ltb}
+use lib.Ieee.{Float, add, binary64, div, down, eq, fin, inf, isNan, le, lt, mul, nan, neg, odd, round, sub, sum, units, unlike, up}
+use lib.Ieee.Exact.{HasValue}
+use lib.Ieee.Fits.{round-is}
+use lib.Ieee.Positive.{positive}
+use Rattle.laws.specs.Float.{isFin}
 
-odd-number : (d : ℕ) (s : Bool) (q k l : ℕ) → T (not (isNan (odd d s q k l)))
-unfolding odd isNan
-odd-number d s zero k l = tt
-odd-number d s (suc q) k l = tt
+-- ---- a rounded fraction has the sign it is given
+abbrev pub Signed : Bool → Float → Type 0
+Signed s nan = ⊥
+Signed s (inf t) = t ≡ s
+Signed s (fin t m e) = t ≡ s
 
-units-number : (s : Bool) (q k : ℕ) → T (not (isNan (units binary64 s q k)))
-unfolding units isNan
-units-number s q k = go (ltb (q * 2 ^ k) (2 ^ 2098)) (odd 54 s q k 1074) (odd-number 54 s q k 1074)
+odd-signed : (d : ℕ) (s : Bool) (q k l : ℕ) → Signed s (odd d s q k l)
+unfolding odd
+odd-signed d s zero k l = refl
+odd-signed d s (suc q) k l = refl
+
+pub round-signed : (s : Bool) (a b : ℕ) → Signed s (round binary64 s a b)
+round-signed s a b = subst (Signed s) (sym (round-is binary64 s a b)) (units-signed _ _)
   where
-    go : (t : Bool) (x : Float) → T (not (isNan x)) → T (not (isNan (cond t x (inf s))))
-    go true x h = h
-    go false x h = tt
+    units-signed : (q k : ℕ) → Signed s (units binary64 s q k)
+    units-signed q k = unfold units in go (ltb (q * 2 ^ k) (2 ^ 2098)) (odd 54 s q k 1074) (odd-signed 54 s q k 1074)
+      where
+        go : (t : Bool) (x : Float) → Signed s x → Signed s (cond t x (inf s))
+        go true x h = h
+        go false x h = refl
 
+signed-number : (s : Bool) (x : Float) → Signed s x → T (not (isNan x))
+unfolding isNan
+signed-number s nan h = absurd h
+signed-number s (inf t) h = tt
+signed-number s (fin t m e) h = tt
+
+-- ---- so it is a number, and so is what comes of finite ones
 pub round-number : (s : Bool) (a b : ℕ) → T (not (isNan (round binary64 s a b)))
-unfolding round
-round-number s a b =
-    let n = a * 2 ^ 1074 in
-    let k = size (n / b) - 53 in
-    let u = b * 2 ^ k in
-    units-number s (nearest (n / u) (compare (n % u * 2) u)) k
+round-number s a b = signed-number s (round binary64 s a b) (round-signed s a b)
+
+pub pos-eqb : (n : ℕ) → T (ltb 0 n) → eqb n 0 ≡ false
+pos-eqb zero h = absurd h
+pos-eqb (suc n) h = eqb·suc-zero n
 
 sum-number : (s : Bool) (a : ℕ) (t : Bool) (b c : ℕ) → T (not (isNan (sum binary64 s a t b c)))
 unfolding sum
@@ -36,23 +53,55 @@ sum-number s a t b c = go (Bool·beq s t) (ltb a b)
     go false true = round-number t (b - a) c
     go false false = round-number (s && ltb b a) (a - b) c
 
-pub add-number : (x : Float) (t : Bool) (n : ℕ) (d : ℤ) → T (not (isNan x)) → T (not (isNan (add binary64 x (fin t n d))))
+-- a sum and a difference with a finite number, a product with one above 0, a quotient of one above 0
+pub add-number : (x y : Float) → T (isFin y) → T (not (isNan x)) → T (not (isNan (add binary64 x y)))
 unfolding add isNan
-add-number nan t n d h = absurd h
-add-number (inf s) t n d h = tt
-add-number (fin s m e) t n d h = sum-number s (m * up e * down d) t (n * up d * down e) (down e * down d)
+add-number nan y f h = absurd h
+add-number (inf s) nan f h = absurd f
+add-number (inf s) (inf t) f h = absurd f
+add-number (inf s) (fin t n d) f h = tt
+add-number (fin s m e) nan f h = absurd f
+add-number (fin s m e) (inf t) f h = absurd f
+add-number (fin s m e) (fin t n d) f h = sum-number s (m * up e * down d) t (n * up d * down e) (down e * down d)
 
-pub sub-number : (x : Float) (t : Bool) (n : ℕ) (d : ℤ) → T (not (isNan x)) → T (not (isNan (sub binary64 x (fin t n d))))
+pub sub-number : (x y : Float) → T (isFin y) → T (not (isNan x)) → T (not (isNan (sub binary64 x y)))
 unfolding sub neg
-sub-number x t n d h = add-number x (not t) n d h
+sub-number x nan f h = absurd f
+sub-number x (inf t) f h = absurd f
+sub-number x (fin t n d) f h = add-number x (fin (not t) n d) tt h
 
-pub mul-number : (x : Float) (t : Bool) (n : ℕ) (d : ℤ) → eqb n 0 ≡ false → T (not (isNan x)) → T (not (isNan (mul binary64 x (fin t n d))))
+pub mul-number : (x y : Float) → T (positive y) → T (not (isNan x)) → T (not (isNan (mul binary64 x y)))
 unfolding mul isNan
-mul-number nan t n d z h = absurd h
-mul-number (inf s) t n d z h = subst (λ (b : Bool). T (not (isNan (cond b nan (inf (unlike s t)))))) (sym z) tt
-mul-number (fin s m e) t n d z h = round-number (unlike s t) (m * up e * (n * up d)) (down e * down d)
+mul-number nan y p h = absurd h
+mul-number (inf s) nan p h = absurd p
+mul-number (inf s) (inf t) p h = absurd p
+mul-number (inf s) (fin true n d) p h = absurd p
+mul-number (inf s) (fin false n d) p h = subst (λ (b : Bool). T (not (isNan (cond b nan (inf (unlike s false)))))) (sym (pos-eqb n p)) tt
+mul-number (fin s m e) nan p h = absurd p
+mul-number (fin s m e) (inf t) p h = absurd p
+mul-number (fin s m e) (fin t n d) p h = round-number (unlike s t) (m * up e * (n * up d)) (down e * down d)
 
--- what passes a test is none
+pub div-number : (x y : Float) → T (positive x) → T (not (isNan y)) → T (not (isNan (div binary64 x y)))
+unfolding div isNan
+div-number nan y p h = absurd p
+div-number (inf s) y p h = absurd p
+div-number (fin true m e) y p h = absurd p
+div-number (fin false m e) nan p h = absurd h
+div-number (fin false m e) (inf t) p h = tt
+div-number (fin false m e) (fin t n d) p h = go (eqb n 0) (eqb m 0) (pos-eqb m p)
+  where
+    go : (a b : Bool) → b ≡ false → T (not (isNan (cond a (cond b nan (inf (unlike false t))) (round binary64 (unlike false t) (m * up e * down d) (n * up d * down e)))))
+    go true true k = absurd (true≢false k)
+    go true false k = tt
+    go false b k = round-number (unlike false t) (m * up e * down d) (n * up d * down e)
+
+pub is-nan : (x : Float) → isNan x ≡ true → x ≡ nan
+unfolding isNan
+is-nan nan e = refl
+is-nan (inf s) e = absurd (false≢true e)
+is-nan (fin s m d) e = absurd (false≢true e)
+
+-- what passes a test is a number
 pub lt-number : (x y : Float) → lt x y ≡ true → T (not (isNan x))
 unfolding lt isNan
 lt-number nan y h = absurd (false≢true h)
@@ -64,3 +113,26 @@ unfolding le isNan
 le-number nan y h = absurd (false≢true h)
 le-number (inf s) y h = tt
 le-number (fin s m e) y h = tt
+
+-- and so are both sides of an order
+pub le-numbers : (x y : Float) → T (le x y) → T (not (isNan x)) × T (not (isNan y))
+unfolding le lt eq isNan
+le-numbers nan y h = absurd h
+le-numbers (inf s) nan h = absurd h
+le-numbers (inf s) (inf t) h = (tt, tt)
+le-numbers (inf s) (fin t n d) h = (tt, tt)
+le-numbers (fin s m e) nan h = absurd h
+le-numbers (fin s m e) (inf t) h = (tt, tt)
+le-numbers (fin s m e) (fin t n d) h = (tt, tt)
+
+-- what has a value is finite, and what is finite is a number
+pub value-finite : (x : Float) (s : Bool) (a c : ℕ) → HasValue x s a c → T (isFin x)
+value-finite nan s a c v = absurd v
+value-finite (inf t) s a c v = absurd v
+value-finite (fin t m e) s a c v = tt
+
+pub fin-number : (x : Float) → T (isFin x) → T (not (isNan x))
+unfolding isNan
+fin-number nan h = absurd h
+fin-number (inf s) h = absurd h
+fin-number (fin s m e) h = tt

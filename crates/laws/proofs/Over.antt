@@ -1,20 +1,20 @@
 -- `over f n l` is l with its first n cells replaced by f's. A loop that stores f i at i for i = 0, 1, .. keeps the list at `over f i l`.
 -- `d` is what getD gives past a list's end: nan for floats, 0 for whole numbers.
-use mathlib.Core.List.{List, [], _∷_, _++_, append-assoc, append-nil}
+use mathlib.Core.List.{List, [], _++_, _∷_, append-assoc, append-nil}
 use mathlib.Core.Logic.{⊎-elim}
-use mathlib.Core.Path.{_≡_, refl, sym, ap, _∙_}
-use Prim.Native.Nat.{ℕ, zero, suc, _+_, _≤_, _<_}
-use native.Mathlib.Nat.{le-of-suc-le-suc, not-suc-le-zero, eq-or-lt-of-le}
+use mathlib.Core.Path.{_∙_, _≡_, ap, refl, sym}
+use Prim.Native.Nat.{_+_, _<_, _≤_, suc, zero, ℕ}
+use native.Mathlib.Nat.{eq-or-lt-of-le, le-of-suc-le-suc, not-suc-le-zero}
 use native.Mathlib.Numerals.{add-one}
 use native.Mathlib.Omega.{arith}
-use lib.ListN.{length, getD, take, drop, set, length-append, length-drop, take-append-drop, List·getD-append, drop-of-length-le}
-use lib.Seq.{drop-cons, take-suc, set-at, getD-at, take-at, ext-getD, getD-set-same, getD-set-other}
-use Rattle.laws.specs.Lists.{tab, over}
+use lib.ListN.{List·getD-append, drop, drop-of-length-le, getD, length, length-append, length-drop, set, take, take-append-drop}
+use lib.Seq.{drop-cons, ext-getD, getD-at, getD-set-other, getD-set-same, set-at, take-at, take-suc}
+use Rattle.laws.specs.Lists.{over, tab}
 
 pub length-tab : {A : Type 0} (f : ℕ → A) (n : ℕ) → length (tab f n) ≡ n
 unfolding tab
 length-tab f zero = refl
-length-tab f (suc n) = length-append (tab f n) (f n ∷ []) ∙ ap (λ (k : ℕ). k + 1) (length-tab f n) ∙ add-one n
+length-tab f (suc n) = simp (length-append, length-tab f n, add-one)
 
 pub length-over : {A : Type 0} (f : ℕ → A) (n : ℕ) (l : List A) → n ≤ length l → length (over f n l) ≡ length l
 unfolding over

@@ -1,5 +1,5 @@
 -- One equation settles an answer.
-use mathlib.Core.Path.{_≡_, sym, _∙_}
+use mathlib.Core.Path.{_∙_, _≡_, sym}
 use Rattle.laws.specs.Machine.{Settles}
 
 pub settled : {A : Type 0} (a : A) → Settles (λ (r : A). r ≡ a)

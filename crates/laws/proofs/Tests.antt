@@ -1,13 +1,13 @@
 -- Tests on Bools and whole numbers, and what they say.
-use mathlib.Core.Bool.{Bool, true, false, cond, not, _&&_, true≢false, false≢true}
-use mathlib.Core.Path.{_≡_, refl, sym}
-use Prim.Native.Nat.{ℕ, _≤_, _<_}
-use native.Mathlib.Nat.{lt-of-not-le, not-le-of-lt}
-use lib.Dec.{eqb, leb, T, ltb, ltb→lt, lt→ltb, leb→le, eqb→eq, le→leb, not-T}
-use lib.Ieee.Bits.{is-true, is-false}
+use mathlib.Core.Bool.{Bool, _&&_, _||_, false, false≢true, not, true, true≢false}
+use mathlib.Core.Path.{_≡_, refl}
+use Prim.Native.Nat.{_*_, _<_, _≤_, suc, zero, ℕ}
+use native.Mathlib.Nat.{lt-of-not-le, mul-pos, not-le-of-lt, zero-lt-suc}
+use lib.Dec.{T, eqb, eqb→eq, leb, leb→le, le→leb, ltb, ltb→lt, lt→ltb, not-T}
+use lib.Ieee.Bits.{is-false, is-true}
 use lib.Ieee.Fits.{eq→eqb}
 
-pub bool-iff : (a b : Bool) → (T a → T b) → (T b → T a) → a ≡ b
+bool-iff : (a b : Bool) → (T a → T b) → (T b → T a) → a ≡ b
 bool-iff true true h k = refl
 bool-iff true false h k = absurd (h tt)
 bool-iff false true h k = absurd (k tt)
@@ -17,6 +17,14 @@ pub and-true : (a : Bool) → (a && true) ≡ a
 and-true true = refl
 and-true false = refl
 
+pub or-left : (a b : Bool) → T a → T (a || b)
+or-left true b t = tt
+or-left false b t = absurd t
+
+pub or-case : (a b : Bool) {X : Type 0} → (T a → X) → (T b → X) → T (a || b) → X
+or-case true b f g t = f tt
+or-case false b f g t = g t
+
 pub of-true : (b : Bool) → b ≡ true → T b
 of-true true e = tt
 of-true false e = absurd (false≢true e)
@@ -25,15 +33,8 @@ pub of-false : (b : Bool) → b ≡ false → T (not b)
 of-false true e = absurd (true≢false e)
 of-false false e = tt
 
-pub cond-yes : {X : Type 0} (b : Bool) (x y : X) → T b → cond b x y ≡ x
-cond-yes true x y t = refl
-cond-yes false x y t = absurd t
-
 pub eqb-iff : (a b c d : ℕ) → (a ≡ b → c ≡ d) → (c ≡ d → a ≡ b) → eqb a b ≡ eqb c d
 eqb-iff a b c d h k = bool-iff (eqb a b) (eqb c d) (λ t. eq→eqb (h (eqb→eq a b t))) (λ t. eq→eqb (k (eqb→eq c d t)))
-
-pub eqb-sym : (a b : ℕ) → eqb a b ≡ eqb b a
-eqb-sym a b = eqb-iff a b b a (λ h. sym h) (λ h. sym h)
 
 pub ltb-iff : (a b c d : ℕ) → (b ≤ a → d ≤ c) → (d ≤ c → b ≤ a) → ltb a b ≡ ltb c d
 ltb-iff a b c d h k = bool-iff (ltb a b) (ltb c d) (go a b c d k) (go c d a b h)
@@ -52,3 +53,8 @@ eqb-yes a b h = is-true (eqb a b) (eq→eqb h)
 
 pub eqb-no : (a b : ℕ) → (a ≡ b → ⊥) → eqb a b ≡ false
 eqb-no a b h = is-false (eqb a b) (not-T (eqb a b) (λ (t : T (eqb a b)). h (eqb→eq a b t)))
+
+-- a product with a number above 0 is 0 only where the other factor is
+pub zero-of : (a d : ℕ) → 0 < d → a * d ≤ 0 → a ≡ 0
+zero-of zero d D h = refl
+zero-of (suc a) d D h = absurd (not-le-of-lt (mul-pos {m = suc a} (zero-lt-suc a) D) h)

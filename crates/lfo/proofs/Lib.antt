@@ -1,1 +1,7 @@
 pub mod Shared
+pub mod Magnitude
+pub mod Small
+pub mod Accepted
+pub mod Reached
+pub mod Forget
+pub mod Settled

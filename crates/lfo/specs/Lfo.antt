@@ -1,19 +1,20 @@
 -- The Lfo's calls, written from oscillators.rs, with document 01's refusals and marks.
-use mathlib.Core.Bool.{Bool, true, false, cond}
+use mathlib.Core.Bool.{true, false, cond}
 use Prim.Native.Nat.{ℕ}
 use lib.Dec.{eqb}
-use lib.Ieee.{Float, binary64, add, mul, div}
-use Rattle.laws.specs.Float.{zer, isFin}
+use lib.Ieee.{Float, binary64, mul, div, add}
+use Rattle.answer.specs.Mark.{markOf}
 use Rattle.common.specs.Consts.{five}
 use Rattle.common.specs.Edge.{newEdge, risingOf}
 use Rattle.common.specs.Memo.{newMemo1, recall1}
 use Rattle.common.specs.Phase.{turns, wrapOf}
 use Rattle.common.specs.Tests.{rateOk, phaseOk}
-use Rattle.common.specs.declared.Hertz.{Hertz}
-use Rattle.answer.specs.Mark.{markOf}
-use Rattle.answer.specs.declared.Answer.the-variants as answer
+use Rattle.laws.specs.Float.{zer, isFin}
 use Rattle.lfo.specs.Consts.{ten}
 use Rattle.lfo.specs.Waves.{rateToHz, restartOf, wants, sineOf, sinWave, triWave, sawWave, sqrWave, sinUniWave}
+use Rattle.common.specs.declared.Hertz.{Hertz}
+use Rattle.answer.specs.declared.Volts.{Volts}
+use Rattle.answer.specs.declared.Answer.the-variants as answer
 use Rattle.lfo.specs.declared.Lfo.{Lfo}
 use Rattle.lfo.specs.declared.LfoControls.{LfoControls}
 use Rattle.lfo.specs.declared.LfoTicked.{LfoTicked}
@@ -32,6 +33,18 @@ lfoRefusalOf s = cond (rateOk (s .«sample_rate»)) (cond (phaseOk (s .phase)) 0
 unfoldable pub lfoNewOf : Hertz → LfoMade
 lfoNewOf r = cond (rateOk r) (made.Made (newLfo r)) (made.Refused 1)
 
+-- the outputs of tick_wanted, each where it is wanted
+unfoldable pub lfoOutputsOf : ℕ → Float → Float → Volts
+lfoOutputsOf wanted phase depth =
+    let scale = mul binary64 five depth in
+    record {
+      p10 = sinWave (wants wanted 1) (sineOf phase) scale;
+      p11 = triWave (wants wanted 2) phase scale;
+      p12 = sawWave (wants wanted 4) phase scale;
+      p13 = sqrWave (wants wanted 8) phase scale;
+      p14 = sinUniWave (wants wanted 16) (sineOf phase) depth;
+    }
+
 -- tick_wanted, line by line
 unfoldable pub lfoSoundOf : Lfo → LfoControls → ℕ → LfoTicked
 lfoSoundOf s c wanted =
@@ -39,19 +52,9 @@ lfoSoundOf s c wanted =
     let memo = recall1 rateToHz (s .«freq_memo») (c .rate) in
     let risen = risingOf (s .«reset_edge») (c .reset) in
     let phase = restartOf (s .phase) (risen .rising) .0 in
-    let scale = mul binary64 five depth in
     let next = add binary64 phase (div binary64 (memo .val .0) (s .«sample_rate» .0)) in
     record {
-      answer =
-          markOf
-          (record {
-            p10 = sinWave (wants wanted 1) (sineOf phase) scale;
-            p11 = triWave (wants wanted 2) phase scale;
-            p12 = sawWave (wants wanted 4) phase scale;
-            p13 = sqrWave (wants wanted 8) phase scale;
-            p14 = sinUniWave (wants wanted 16) (sineOf phase) depth;
-          })
-          false true (isFin next);
+      answer = markOf (lfoOutputsOf wanted phase depth) false true (isFin next);
       lfo = record { phase = turns (wrapOf next); «sample_rate» = s .«sample_rate»; «reset_edge» = risen .edge; «freq_memo» = memo };
     }
 
@@ -69,9 +72,10 @@ madeUnless n s = cond (eqb n 0) (made.Made s) (made.Refused n)
 unfoldable pub lfoResetOf : Lfo → LfoMade
 lfoResetOf s = madeUnless (lfoRefusalOf s) (record { phase = turns zer; «sample_rate» = s .«sample_rate»; «reset_edge» = newEdge; «freq_memo» = s .«freq_memo» })
 
--- set_sample_rate: 1 on the new rate and on the old, then 2
+-- set_sample_rate: all but the rate stays
+abbrev pub rated : Lfo → Hertz → Lfo
+rated s r = record { phase = s .phase; «sample_rate» = r; «reset_edge» = s .«reset_edge»; «freq_memo» = s .«freq_memo» }
+
+-- 1 on the new rate and on the old, then 2
 unfoldable pub lfoSetSampleRateOf : Lfo → Hertz → LfoMade
-lfoSetSampleRateOf s r =
-    cond (rateOk r)
-    (madeUnless (lfoRefusalOf s) (record { phase = s .phase; «sample_rate» = r; «reset_edge» = s .«reset_edge»; «freq_memo» = s .«freq_memo» }))
-    (made.Refused 1)
+lfoSetSampleRateOf s r = cond (rateOk r) (madeUnless (lfoRefusalOf s) (rated s r)) (made.Refused 1)

@@ -1,3 +1,6 @@
 pub mod Consts
 pub mod Waves
 pub mod Lfo
+pub mod Small
+pub mod Calls
+pub mod Promises

@@ -1,17 +1,17 @@
 -- The Lfo's rate map and its five waveforms, written from Lfo::tick_wanted. One that isn't wanted reads 0.0.
-use mathlib.Core.Bool.{Bool, true, false, cond, not}
+use mathlib.Core.Bool.{Bool, not, cond}
 use Prim.Native.Nat.{ℕ}
 use lib.Bits.{bitAnd}
 use lib.Dec.{eqb}
-use lib.Ieee.{Float, binary64, add, sub, mul, neg, lt}
+use lib.Ieee.{Float, binary64, lt, mul, sub, add, neg}
+use Rattle.common.specs.Consts.{four, half, tau}
 use Rattle.laws.specs.Float.{zer, one, two}
 use Rattle.numeric.specs.Basic.{fabsOf, clampOf}
 use Rattle.numeric.specs.Power.{pow3000Of}
 use Rattle.numeric.specs.Trig.{sinOf}
-use Rattle.common.specs.Consts.{four, half, tau}
+use Rattle.lfo.specs.Consts.{ten, lowest}
 use Rattle.common.specs.declared.Hertz.{Hertz}
 use Rattle.common.specs.declared.Turns.{Turns}
-use Rattle.lfo.specs.Consts.{ten, lowest}
 
 -- the closure || 0.01 * pow(3000.0, rate_cv.clamp(0.0, 1.0))
 unfoldable pub rateToHz : Float → Hertz
@@ -29,7 +29,7 @@ wants wanted bit = not (eqb (bitAnd wanted bit) 0)
 unfoldable pub sineOf : Float → Float
 sineOf phase = sinOf (mul binary64 phase tau)
 
--- sine * scale
+-- sin(phase * TAU) * scale, over that sine
 unfoldable pub sinWave : Bool → Float → Float → Float
 sinWave want sine scale = cond want (mul binary64 sine scale) zer
 
@@ -45,6 +45,6 @@ sawWave want phase scale = cond want (mul binary64 (sub binary64 (mul binary64 t
 unfoldable pub sqrWave : Bool → Float → Float → Float
 sqrWave want phase scale = cond want (cond (lt phase half) scale (neg scale)) zer
 
--- (sine * 0.5 + 0.5) * depth * 10.0
+-- (sin(phase * TAU) * 0.5 + 0.5) * depth * 10.0, over that sine
 unfoldable pub sinUniWave : Bool → Float → Float → Float
 sinUniWave want sine depth = cond want (mul binary64 (mul binary64 (add binary64 (mul binary64 sine half) half) depth) ten) zer

@@ -7,13 +7,15 @@ use common::Hertz;
 use common::Memo1;
 use common::Turns;
 ghost use mathlib.Core.Path.{_≡_};
-ghost use mathlib.Core.Bool.{cond, _||_};
+ghost use mathlib.Core.Bool.{true, false, cond, _||_};
 ghost use lib.Ieee.{binary64, div};
 ghost use Rattle.laws.specs.Float.{zer};
 ghost use Rattle.common.specs.Phase.{turns};
 ghost use Rattle.common.specs.Memo.{recall1};
+ghost use Rattle.answer.specs.Mark.{allFinite, markOf};
 ghost use Rattle.lfo.specs.Waves.{rateToHz, restartOf, sineOf, sinWave, triWave, sawWave, sqrWave, sinUniWave};
-ghost use Rattle.lfo.specs.Lfo.{lfoRefusalOf, lfoNewOf, lfoSoundOf, lfoTickOf, lfoResetOf, lfoSetSampleRateOf};
+ghost use Rattle.lfo.specs.Small.{isSmall};
+ghost use Rattle.lfo.specs.Lfo.{lfoRefusalOf, lfoNewOf, lfoOutputsOf, lfoSoundOf, lfoTickOf, lfoResetOf, lfoSetSampleRateOf};
 
 pub struct Lfo {
     pub phase: Turns,
@@ -38,6 +40,9 @@ pub enum LfoMade {
     Made(Lfo),
     Refused(u32),
 }
+
+// A whole turn in radians.
+const TAU: f64 = 6.283185307179586;
 
 // A rate from 0 to 1 as 0.01 Hz to 30 Hz. The clamp lets a NaN pass.
 fn rate_to_hz(rate: f64) -> Hertz
@@ -68,7 +73,7 @@ fn restart(phase: Turns, edge: bool) -> Turns
 fn either(a: bool, b: bool) -> bool
     ensures { λ r. ⌜ r ≡ (a || b) ⌝ }
 {
-    if a { true } else { b }
+    a || b
 }
 
 // The sine that sin and sin_uni share: the Rust computes it for each of them.
@@ -76,7 +81,7 @@ fn sine(want: bool, phase: Turns) -> f64
     ensures { λ r. ⌜ r ≡ cond want (sineOf (phase .0)) zer ⌝ }
 {
     if want {
-        numeric::sin(phase.0 * 6.283185307179586)
+        numeric::sin(phase.0 * TAU)
     } else {
         0.0
     }
@@ -128,6 +133,25 @@ fn sin_uni(want: bool, sine: f64, depth: f64) -> f64
     }
 }
 
+// At this depth no output can overflow.
+fn is_small(depth: f64) -> bool
+    ensures { λ r. ⌜ r ≡ isSmall depth ⌝ }
+{
+    depth <= 1073741824.0 && depth >= -1073741824.0
+}
+
+// The mark. A small depth makes no output that isn't finite, which spares the test of each.
+fn mark(v: Volts, small: bool, phases: bool) -> Answer
+    requires { ⌜ (small ≡ true → allFinite v ≡ true) ⌝ }
+    ensures { λ r. ⌜ r ≡ markOf v false true phases ⌝ }
+{
+    if small && phases {
+        Answer::Clean(v)
+    } else {
+        answer::mark(v, false, true, phases)
+    }
+}
+
 // What the phase grows by in a tick.
 fn increment(freq: Hertz, sample_rate: Hertz) -> Turns
     ensures { λ r. ⌜ r ≡ turns (div binary64 (freq .0) («sample_rate» .0)) ⌝ }
@@ -136,30 +160,6 @@ fn increment(freq: Hertz, sample_rate: Hertz) -> Turns
 }
 
 impl Lfo {
-    // Bits of `wanted`, in port order.
-    const WANT_SIN: u32 = 1 << 0;
-
-    const WANT_TRI: u32 = 1 << 1;
-
-    const WANT_SAW: u32 = 1 << 2;
-
-    const WANT_SQR: u32 = 1 << 3;
-
-    const WANT_SIN_UNI: u32 = 1 << 4;
-
-    // 0, or the number that refuses this state: 1 its rate, 2 its phase.
-    fn refusal(self) -> u32
-        ensures { λ r. ⌜ r ≡ lfoRefusalOf self ⌝ }
-    {
-        let sample_rate = self.sample_rate;
-        let phase = self.phase;
-        if common::rate_ok(sample_rate) {
-            if common::phase_ok(phase) { 0 } else { 2 }
-        } else {
-            1
-        }
-    }
-
     pub fn new(sample_rate: Hertz) -> LfoMade
         ensures { λ r. ⌜ r ≡ lfoNewOf «sample_rate» ⌝ }
     {
@@ -175,8 +175,50 @@ impl Lfo {
         }
     }
 
+    // Bits of `wanted`, in port order.
+    const WANT_SIN: u32 = 1 << 0;
+
+    const WANT_TRI: u32 = 1 << 1;
+
+    const WANT_SAW: u32 = 1 << 2;
+
+    const WANT_SQR: u32 = 1 << 3;
+
+    const WANT_SIN_UNI: u32 = 1 << 4;
+
+    // The outputs, each where it is wanted; sin and sin_uni share one sine.
+    fn outputs(wanted: u32, phase: Turns, depth: f64) -> Volts
+        ensures { λ r. ⌜ r ≡ lfoOutputsOf wanted (phase .0) depth ⌝ }
+    {
+        let scale = 5.0 * depth;
+        let want_sin = wanted & Self::WANT_SIN != 0;
+        let want_uni = wanted & Self::WANT_SIN_UNI != 0;
+        let shared = sine(either(want_sin, want_uni), phase);
+        Volts {
+            p10: sin(want_sin, shared, scale),
+            p11: tri(wanted & Self::WANT_TRI != 0, phase, scale),
+            p12: saw(wanted & Self::WANT_SAW != 0, phase, scale),
+            p13: sqr(wanted & Self::WANT_SQR != 0, phase, scale),
+            p14: sin_uni(want_uni, shared, depth),
+        }
+    }
+
+    // 0, or the number that refuses this state: 1 its rate, 2 its phase.
+    fn refusal(self) -> u32
+        ensures { λ r. ⌜ r ≡ lfoRefusalOf self ⌝ }
+    {
+        let sample_rate = self.sample_rate;
+        let phase = self.phase;
+        if common::rate_ok(sample_rate) {
+            if common::phase_ok(phase) { 0 } else { 2 }
+        } else {
+            1
+        }
+    }
+
     // An accepted tick: the Rust's tick_wanted.
     fn sound(self, c: LfoControls, wanted: u32) -> LfoTicked
+        requires { ⌜ lfoRefusalOf self ≡ 0 ⌝ }
         ensures { λ r. ⌜ r ≡ lfoSoundOf self c wanted ⌝ }
     {
         let old = self.phase;
@@ -189,20 +231,10 @@ impl Lfo {
         let risen = edge.rising(c.reset);
         let reset_edge = risen.edge;
         let phase = restart(old, risen.rising);
-        let scale = 5.0 * depth;
-        let want_sin = wanted & Self::WANT_SIN != 0;
-        let want_uni = wanted & Self::WANT_SIN_UNI != 0;
-        let shared = sine(either(want_sin, want_uni), phase);
-        let volts = Volts {
-            p10: sin(want_sin, shared, scale),
-            p11: tri(wanted & Self::WANT_TRI != 0, phase, scale),
-            p12: saw(wanted & Self::WANT_SAW != 0, phase, scale),
-            p13: sqr(wanted & Self::WANT_SQR != 0, phase, scale),
-            p14: sin_uni(want_uni, shared, depth),
-        };
+        let volts = Self::outputs(wanted, phase, depth);
         let next = Turns(phase.0 + increment(freq, sample_rate).0);
         LfoTicked {
-            answer: answer::mark(volts, false, true, numeric::is_finite(next.0)),
+            answer: mark(volts, is_small(depth), numeric::is_finite(next.0)),
             lfo: Lfo {
                 phase: common::wrap_phase(next),
                 sample_rate,
@@ -226,7 +258,7 @@ impl Lfo {
         }
     }
 
-    // The memo stays.
+    // Phase and edge start again; the memo stays.
     pub fn reset(self) -> LfoMade
         ensures { λ r. ⌜ r ≡ lfoResetOf self ⌝ }
     {

@@ -1,19 +1,18 @@
 -- The draw is exact, and twice it less 1 too.
-use mathlib.Core.Bool.{Bool, true, false, not, cond}
-use mathlib.Core.Path.{_≡_, refl, sym, ap, _∙_, subst}
-use Prim.Native.Nat.{ℕ, _≤_, _-_, _<_, _^_, _*_}
-use native.Mathlib.Nat.{mul-one, le-of-lt, zero-lt-suc}
+use mathlib.Core.Bool.{Bool, cond, false, not, true}
+use mathlib.Core.Path.{_∙_, _≡_, ap, refl, subst, sym}
+use Prim.Native.Nat.{_*_, _-_, _<_, _^_, _≤_, ℕ}
+use native.Mathlib.Nat.{le-of-lt, mul-one, zero-lt-suc}
 use native.Mathlib.Omega.{arith}
-use lib.Dec.{T, ltb, ltb→lt, lit<, nltb→le, lit≤}
-use lib.Ieee.{Float, binary64, mul, ofBits, round, fin, eq, sum, ofInt, low}
+use lib.Dec.{T, lit<, lit≤, ltb, ltb→lt, nltb→le}
+use lib.Ieee.{Float, binary64, fin, mul, ofBits, ofInt, round, sum}
 use lib.Ieee.Exact.{HasValue}
 use lib.Ieee.Scale.{round-same}
-use lib.IntN.{pos, negsuc}
-use Rattle.laws.proofs.Values.{mul-round, sub-round, sum-pos-neg, sum-neg, rescale, exact-at, ofInt-val}
+use lib.IntN.{negsuc, pos}
+use Rattle.laws.proofs.Values.{exact-at, mul-round, ofInt-val, rescale, sub-round, sum-neg, sum-pos-neg}
 use Rattle.laws.specs.Float.{two}
-use Rattle.laws.specs.Machine.{more}
-use Rattle.numeric.specs.Draw.{drawOf, bipolarOf}
-use Rattle.numeric.specs.Promises.{Draw-exact, Bipolar-exact}
+use Rattle.numeric.specs.Draw.{bipolarOf, drawOf}
+use Rattle.numeric.specs.Promises.{Bipolar-exact, Draw-exact}
 
 -- k * 2 ^ -53, exactly
 pub draw-exact : Draw-exact
@@ -34,10 +33,10 @@ twice-exact k h =
     (exact-at false k 52 h (lit≤ tt))
   where
     same : (k : ℕ) → round binary64 false (k * 2) 9007199254740992 ≡ round binary64 false k 4503599627370496
-    same k = round-same binary64 false (k * 2) 9007199254740992 k 4503599627370496 (lit< tt) (lit< tt) (eq k)
+    same k = round-same binary64 false (k * 2) 9007199254740992 k 4503599627370496 (lit< tt) (lit< tt) (twice k)
       where
-        eq : (k : ℕ) → k * 2 * 4503599627370496 ≡ k * 9007199254740992
-        eq k = omega arith
+        twice : (k : ℕ) → k * 2 * 4503599627370496 ≡ k * 9007199254740992
+        twice k = omega arith
 
 less-one : (k : ℕ) → k < 2 ^ 53 → bipolarOf k ≡ sum binary64 false (k * 1) true (1 * 4503599627370496) 4503599627370496
 unfolding bipolarOf drawOf ofBits

@@ -1,21 +1,22 @@
--- The floor: what its value is, that it is not above x, and that x less it, rounded, lies from 0 to 1.
-use mathlib.Core.Bool.{Bool, true, false, not, cond, true≢false}
-use mathlib.Core.Path.{_≡_, refl, sym, ap, _∙_, subst}
-use Prim.Native.Nat.{ℕ, _+_, _≤_, _-_, zero, suc, _%_, _<_, _^_, _/_, _*_}
-use native.Mathlib.Nat.{mod-lt, le-trans, le-of-eq, mul-one, mul-pos, mul-le-mul-right, le-of-lt, lt-of-le-of-lt, mul-right-comm, div-add-mod', zero-lt-suc, div-le-self}
+-- The floor of a finite number is a whole number, not above it and less than 1 below it. So it is finite, and what is left over it, rounded, lies from 0 to 1.
+use mathlib.Core.Bool.{Bool, cond, false, not, true}
+use mathlib.Core.Path.{_∙_, _≡_, ap, refl, subst, sym}
+use Prim.Native.Nat.{_%_, _*_, _+_, _-_, _/_, _<_, _^_, _≤_, suc, zero, ℕ}
+use native.Mathlib.Nat.{div-add-mod', div-le-self, le-of-eq, le-of-lt, le-trans, lt-of-le-of-lt, mod-lt, mul-one, zero-lt-suc}
 use native.Mathlib.Omega.{arith}
-use lib.Dec.{T, eqb, eqb→eq}
-use lib.Ieee.{Float, binary64, le, ofBits, round, nan, inf, fin, fits, sub, neg, up, down, ofInt}
-use lib.Ieee.Exact.{HasValue}
+use lib.Dec.{T, eqb, lit<}
+use lib.Ieee.{Float, binary64, down, fin, inf, le, nan, neg, ofBits, ofInt, up}
 use lib.Ieee.Fits.{down-pos}
 use lib.Ieee.Order.{le-of-values}
-use lib.IntN.{pos, ℤ, negsuc}
+use lib.IntN.{negsuc, pos, ℤ}
 use lib.Pow.{pow-pos}
-use Rattle.laws.proofs.Order.{le-neg, le-refl-fin}
-use Rattle.laws.proofs.Values.{fits-small, unit-law, neg-value, sum-pos-neg, sum-neg-pos, ofInt-val, sub-self}
-use Rattle.laws.specs.Float.{isFin}
+use borrow.Author.Tests.{eqb-false, eqb-true}
+use Rattle.laws.proofs.Monotone.{unit-law}
+use Rattle.laws.proofs.Number.{value-finite}
+use Rattle.laws.proofs.Values.{fits-small, le-by-minus, neg-value, ofInt-val, sub-round, sum-neg-pos, sum-pos-neg}
+use Rattle.laws.specs.Float.{F64}
 use Rattle.numeric.specs.Floor.{floorOf}
-use Rattle.numeric.specs.Promises.{WholeBelow, Floor-whole, Floor-finite, Floor-below, Floor-rest}
+use Rattle.numeric.specs.Promises.{Floor-below, Floor-finite, Floor-rest, Floor-whole, WholeBelow}
 
 mod-one : (n : ℕ) → n % 1 ≡ 0
 mod-one n = omega arith
@@ -24,7 +25,7 @@ too-big : (m p : ℕ) → m < 9007199254740992 → 0 < p → 4503599627370496 * 
 too-big m p a b c = omega arith
 
 -- a value that fits and is 2 ^ 52 or more has no fraction
-pub big-whole : (s : Bool) (m : ℕ) (e : ℤ) → T (fits binary64 (fin s m e)) → 4503599627370496 * down e ≤ m * up e * 1 → m * up e % down e ≡ 0
+pub big-whole : (s : Bool) (m : ℕ) (e : ℤ) → F64 (fin s m e) → 4503599627370496 * down e ≤ m * up e * 1 → m * up e % down e ≡ 0
 big-whole s m (pos k) t h = mod-one (m * 2 ^ k)
 big-whole s m (negsuc k) t h = absurd (too-big m (2 ^ k) (fits-small s m (negsuc k) t) (pow-pos k) (le-trans (le-of-eq (ap (λ (z : ℕ). 4503599627370496 * z) (two-suc k))) (le-trans h (le-of-eq (mul-one (m * 1))))))
   where
@@ -32,168 +33,92 @@ big-whole s m (negsuc k) t h = absurd (too-big m (2 ^ k) (fits-small s m (negsuc
     two-suc k = omega arith
 
 -- what is not whole is below 2 ^ 53
-pub part-small : (s : Bool) (m : ℕ) (e : ℤ) → T (fits binary64 (fin s m e)) → T (not (eqb (m * up e % down e) 0)) → m * up e / down e < 2 ^ 53
+part-small : (s : Bool) (m : ℕ) (e : ℤ) → F64 (fin s m e) → T (not (eqb (m * up e % down e) 0)) → m * up e / down e < 2 ^ 53
 part-small s m (pos k) t h = absurd (contra (m * 2 ^ k % 1) (mod-one (m * 2 ^ k)) h)
   where
     contra : (r : ℕ) → r ≡ 0 → T (not (eqb r 0)) → ⊥
     contra r e n = subst (λ (z : ℕ). T (not (eqb z 0))) e n
 part-small s m (negsuc k) t h = lt-of-le-of-lt (div-le-self (m * 1) (2 ^ suc k)) (subst (λ (z : ℕ). z < 2 ^ 53) (sym (mul-one m)) (fits-small s m (negsuc k) t))
 
--- r is a fraction from 0 to 1, rounded
-abbrev Frac : Float → Type 0
-Frac r = (a : ℕ) × (c : ℕ) × (0 < c) × (a ≤ c) × (r ≡ round binary64 false a c)
+-- ---- the value: n / d with n = q d + r
+module _ (n d q r : ℕ) (h : q * d + r ≡ n) where
+  at-whole : r ≡ 0 → 0 < d → (n * 1 ≡ q * d) × (q * d ≤ n) × (n < (q + 1) * d) × (n ≤ q * d) × (q * d < n + d)
+  at-whole z p = (omega arith, omega arith, omega arith, omega arith, omega arith)
 
-diff-le : (a b c : ℕ) → a ≤ b + c → a - b ≤ c
-diff-le a b c h = omega arith
+  above-cut : r < d → (q * d ≤ n) × (n < (q + 1) * d)
+  above-cut k = (omega arith, omega arith)
 
-self-le : (a c : ℕ) → a - a ≤ c
-self-le a c = omega arith
-
--- with w = n / g, the whole number q, and x = N / D
-scaled : (n g q D : ℕ) → n * 1 ≡ q * g → n * D ≡ q * D * g
-scaled n g q D h = ap (λ (z : ℕ). z * D) (sym (mul-one n) ∙ h) ∙ mul-right-comm q g D
-
-le-up : (N q D g : ℕ) → N ≤ q * D → N * g ≤ q * D * g
-le-up N q D g h = mul-le-mul-right g h
-
-le-down : (N q D g : ℕ) → q * D ≤ N → q * D * g ≤ N * g
-le-down N q D g h = mul-le-mul-right g h
-
-down-sub : (w : Float) (m : ℕ) (e : ℤ) (q : ℕ) → HasValue w false q 1 → q * down e ≤ m * up e → m * up e ≤ q * down e + down e → Frac (sub binary64 (fin false m e) w)
-unfolding sub neg
-down-sub nan m e q v h k = absurd v
-down-sub (inf t) m e q v h k = absurd v
-down-sub (fin true n d) m e q v h k = absurd (true≢false (v .0))
-down-sub (fin false n d) m e q v h k =
-    let N = m * up e in
-    let D = down e in
-    let b : n * up d * D ≡ q * D * down d = scaled (n * up d) (down d) q D (v .1) in
-    let lo : q * D * down d ≤ N * down d = mul-le-mul-right (down d) h in
-    let hi : N * down d ≤ (q * D + D) * down d = mul-le-mul-right (down d) k in (
-      N * down d - n * up d * D,
-      D * down d,
-      mul-pos (down-pos e) (down-pos d),
-      diff-le (N * down d) (n * up d * D) (D * down d) (subst (λ (z : ℕ). N * down d ≤ z + D * down d) (sym b) (le-trans hi (le-of-eq (spread (q * D) D (down d))))),
-      sum-pos-neg (N * down d) (n * up d * D) (D * down d) (subst (λ (z : ℕ). z ≤ N * down d) (sym b) lo),
-    )
-  where
-    spread : (a b g : ℕ) → (a + b) * g ≡ a * g + b * g
-    spread a b g = omega arith
-
-up-sub : (w : Float) (m : ℕ) (e : ℤ) (q : ℕ) → HasValue w false q 1 → m * up e ≤ q * down e → q * down e ≤ m * up e + down e → Frac (sub binary64 (fin true m e) (neg w))
-unfolding sub neg
-up-sub nan m e q v h k = absurd v
-up-sub (inf t) m e q v h k = absurd v
-up-sub (fin true n d) m e q v h k = absurd (true≢false (v .0))
-up-sub (fin false n d) m e q v h k =
-    let N = m * up e in
-    let D = down e in
-    let b : n * up d * D ≡ q * D * down d = scaled (n * up d) (down d) q D (v .1) in
-    let lo : N * down d ≤ q * D * down d = mul-le-mul-right (down d) h in
-    let hi : q * D * down d ≤ (N + D) * down d = mul-le-mul-right (down d) k in (
-      n * up d * D - N * down d,
-      D * down d,
-      mul-pos (down-pos e) (down-pos d),
-      diff-le (n * up d * D) (N * down d) (D * down d) (subst (λ (z : ℕ). z ≤ N * down d + D * down d) (sym b) (le-trans hi (le-of-eq (spread N D (down d))))),
-      sum-neg-pos (N * down d) (n * up d * D) (D * down d) (subst (λ (z : ℕ). N * down d ≤ z) (sym b) lo),
-    )
-  where
-    spread : (a b g : ℕ) → (a + b) * g ≡ a * g + b * g
-    spread a b g = omega arith
-
-parts : (N D q r : ℕ) → q * D + r ≡ N → r < D → (q * D ≤ N) × (N ≤ q * D + D) × (N ≤ suc q * D) × (suc q * D ≤ N + D)
-parts N D q r h k = (omega arith, omega arith, omega arith, omega arith)
-
-frac-law : (x : Float) → T (fits binary64 x) → T (isFin x) → Frac (sub binary64 x (floorOf x))
-unfolding floorOf
-frac-law nan t f = absurd f
-frac-law (inf s) t f = absurd f
-frac-law (fin s m e) t f = go s (eqb (m * up e % down e) 0) (part-small s m e t)
-  where
-    go : (s : Bool) (b : Bool) → (T (not b) → m * up e / down e < 2 ^ 53)
-        → Frac (sub binary64 (fin s m e) (cond b (fin s m e) (cond s (neg (ofInt binary64 (pos (suc (m * up e / down e))))) (ofInt binary64 (pos (m * up e / down e))))))
-    go s true h = (m * up e * down e - m * up e * down e, down e * down e, mul-pos (down-pos e) (down-pos e), self-le (m * up e * down e) (down e * down e), sub-self s m e)
-    go true false h =
-        let p = parts (m * up e) (down e) (m * up e / down e) (m * up e % down e) (div-add-mod' (m * up e) (down e)) (mod-lt (m * up e) (down-pos e)) in
-        up-sub (ofInt binary64 (pos (suc (m * up e / down e)))) m e (suc (m * up e / down e)) (ofInt-val (suc (m * up e / down e)) (h tt)) (p .2) (p .3)
-    go false false h =
-        let p = parts (m * up e) (down e) (m * up e / down e) (m * up e % down e) (div-add-mod' (m * up e) (down e)) (mod-lt (m * up e) (down-pos e)) in
-        down-sub (ofInt binary64 (pos (m * up e / down e))) m e (m * up e / down e) (ofInt-val (m * up e / down e) (le-of-lt (h tt))) (p .0) (p .1)
-
--- x less its floor, rounded, lies from 0 to 1
-pub floor-rest : Floor-rest
-unfolding ofBits
-floor-rest x t f =
-    let k = frac-law x t f in
-    subst (λ (z : Float). T (le (fin false 0 (pos 0)) z) × T (le z (fin false 1 (pos 0)))) (sym (k .4)) (unit-law (k .0) (k .1) (k .2) (k .3))
-
-neg-fin : (m : ℕ) (e : ℤ) → neg (fin false m e) ≡ fin true m e
-unfolding neg
-neg-fin m e = refl
-
-pub floor-below : Floor-below
-unfolding floorOf
-floor-below nan t f = absurd f
-floor-below (inf s) t f = absurd f
-floor-below (fin s m e) t f = go s (eqb (m * up e % down e) 0) (part-small s m e t)
-  where
-    go : (s b : Bool) → (T (not b) → m * up e / down e < 2 ^ 53)
-        → T (le (cond b (fin s m e) (cond s (neg (ofInt binary64 (pos (suc (m * up e / down e))))) (ofInt binary64 (pos (m * up e / down e))))) (fin s m e))
-    go s true h = le-refl-fin s m e
-    go true false h =
-        let p = parts (m * up e) (down e) (m * up e / down e) (m * up e % down e) (div-add-mod' (m * up e) (down e)) (mod-lt (m * up e) (down-pos e)) in
-        subst (λ (z : Float). T (le (neg (ofInt binary64 (pos (suc (m * up e / down e))))) z)) (neg-fin m e)
-        (le-neg (fin false m e) (ofInt binary64 (pos (suc (m * up e / down e))))
-        (le-of-values (fin false m e) (ofInt binary64 (pos (suc (m * up e / down e)))) (m * up e) (down e) (suc (m * up e / down e)) 1 (down-pos e) (zero-lt-suc 0) (refl, refl) (ofInt-val (suc (m * up e / down e)) (h tt)) (le-trans (le-of-eq (mul-one (m * up e))) (p .2))))
-    go false false h =
-        let p = parts (m * up e) (down e) (m * up e / down e) (m * up e % down e) (div-add-mod' (m * up e) (down e)) (mod-lt (m * up e) (down-pos e)) in
-        le-of-values (ofInt binary64 (pos (m * up e / down e))) (fin false m e) (m * up e / down e) 1 (m * up e) (down e) (zero-lt-suc 0) (down-pos e) (ofInt-val (m * up e / down e) (le-of-lt (h tt))) (refl, refl) (le-trans (p .0) (le-of-eq (sym (mul-one (m * up e)))))
-
--- ---- the promises
--- N = q D + r
-module _ (N D q r : ℕ) (h : q * D + r ≡ N) where
-  low-whole : r ≡ 0 → 0 < D → (N * 1 ≡ q * D) × (q * D ≤ N) × (N < (q + 1) * D) × (N ≤ q * D) × (q * D < N + D)
-  low-whole z p = (omega arith, omega arith, omega arith, omega arith, omega arith)
-
-  low-part : r < D → (q * D ≤ N) × (N < (q + 1) * D)
-  low-part k = (omega arith, omega arith)
-
-  high-part : r < D → 0 < r → (N ≤ suc q * D) × (suc q * D < N + D)
-  high-part k p = (omega arith, omega arith)
+  below-next : r < d → 0 < r → (n ≤ suc q * d) × (suc q * d < n + d)
+  below-next k p = (omega arith, omega arith)
 
 pub floor-whole : Floor-whole
 unfolding floorOf
-floor-whole s m e t = go s (eqb N 0) (eqb→eq N 0) (positive N) (part-small s m e t)
+floor-whole s m e t = go s (eqb r 0) refl (part-small s m e t)
   where
-    N : ℕ
-    N = m * up e % down e
+    q : ℕ
+    q = m * up e / down e
 
-    h : m * up e / down e * down e + m * up e % down e ≡ m * up e
+    r : ℕ
+    r = m * up e % down e
+
+    h : q * down e + r ≡ m * up e
     h = div-add-mod' (m * up e) (down e)
 
-    k : m * up e % down e < down e
+    k : r < down e
     k = mod-lt (m * up e) (down-pos e)
 
-    positive : (n : ℕ) → T (not (eqb n 0)) → 0 < n
-    positive zero t = absurd t
+    positive : (n : ℕ) → (n ≡ 0 → ⊥) → 0 < n
+    positive zero t = absurd (t refl)
     positive (suc n) t = zero-lt-suc n
 
-    go : (s b : Bool) → (T b → N ≡ 0) → (T (not b) → 0 < N) → (T (not b) → m * up e / down e < 2 ^ 53)
-        → WholeBelow s m e (cond b (fin s m e) (cond s (neg (ofInt binary64 (pos (suc (m * up e / down e))))) (ofInt binary64 (pos (m * up e / down e)))))
-    go false true z p f = let w = low-whole (m * up e) (down e) (m * up e / down e) N h (z tt) (down-pos e) in (m * up e / down e, (refl, w .0), w .1, w .2)
-    go true true z p f = let w = low-whole (m * up e) (down e) (m * up e / down e) N h (z tt) (down-pos e) in (m * up e / down e, (refl, w .0), w .3, w .4)
-    go false false z p f = let w = low-part (m * up e) (down e) (m * up e / down e) N h k in (m * up e / down e, ofInt-val (m * up e / down e) (le-of-lt (f tt)), w .0, w .1)
-    go true false z p f =
-        let w = high-part (m * up e) (down e) (m * up e / down e) N h k (p tt) in
-        (suc (m * up e / down e), neg-value (ofInt binary64 (pos (suc (m * up e / down e)))) false (suc (m * up e / down e)) 1 (ofInt-val (suc (m * up e / down e)) (f tt)), w .0, w .1)
+    go : (s b : Bool) → eqb r 0 ≡ b → (T (not b) → q < 2 ^ 53) → WholeBelow s m e (cond b (fin s m e) (cond s (neg (ofInt binary64 (pos (suc q)))) (ofInt binary64 (pos q))))
+    go false true z f = let w = at-whole (m * up e) (down e) q r h (eqb-true r 0 z) (down-pos e) in (q, (refl, w .0), w .1, w .2)
+    go true true z f = let w = at-whole (m * up e) (down e) q r h (eqb-true r 0 z) (down-pos e) in (q, (refl, w .0), w .3, w .4)
+    go false false z f = let w = above-cut (m * up e) (down e) q r h k in (q, ofInt-val q (le-of-lt (f tt)), w .0, w .1)
+    go true false z f =
+        let w = below-next (m * up e) (down e) q r h k (positive r (eqb-false r 0 z)) in
+        (suc q, neg-value (ofInt binary64 (pos (suc q))) false (suc q) 1 (ofInt-val (suc q) (f tt)), w .0, w .1)
 
-finite-of : (x : Float) (s : Bool) (a c : ℕ) → HasValue x s a c → T (isFin x)
-finite-of nan s a c v = absurd v
-finite-of (inf t) s a c v = absurd v
-finite-of (fin t m e) s a c v = tt
-
+-- ---- what follows
 pub floor-finite : Floor-finite
 floor-finite nan t f = absurd f
 floor-finite (inf s) t f = absurd f
-floor-finite (fin true m e) t f = let w = floor-whole true m e t in finite-of (floorOf (fin true m e)) true (w .0) 1 (w .1)
-floor-finite (fin false m e) t f = let w = floor-whole false m e t in finite-of (floorOf (fin false m e)) false (w .0) 1 (w .1)
+floor-finite (fin true m e) t f = let w = floor-whole true m e t in value-finite (floorOf (fin true m e)) true (w .0) 1 (w .1)
+floor-finite (fin false m e) t f = let w = floor-whole false m e t in value-finite (floorOf (fin false m e)) false (w .0) 1 (w .1)
+
+pub floor-below : Floor-below
+floor-below nan t f = absurd f
+floor-below (inf s) t f = absurd f
+floor-below (fin false m e) t f =
+    let w = floor-whole false m e t in
+    le-of-values (floorOf (fin false m e)) (fin false m e) (w .0) 1 (m * up e) (down e) (lit< tt) (down-pos e) (w .1) (refl, refl) (le-trans (w .2) (le-of-eq (sym (mul-one (m * up e)))))
+floor-below (fin true m e) t f =
+    let w = floor-whole true m e t in
+    le-by-minus (floorOf (fin true m e)) (fin true m e) (w .0) 1 (m * up e) (down e) (lit< tt) (down-pos e) (w .1) (refl, refl) (le-trans (le-of-eq (mul-one (m * up e))) (w .2))
+
+-- x less its floor is one rounding of a fraction from 0 to 1
+pub floor-rest : Floor-rest
+unfolding ofBits
+floor-rest nan t f = absurd f
+floor-rest (inf s) t f = absurd f
+floor-rest (fin false m e) t f =
+    let w = floor-whole false m e t in
+    let b = range (m * up e) (down e) (w .0 * down e) (down-pos e) (w .2) (le-trans (le-of-lt (w .3)) (le-of-eq (next (w .0) (down e)))) in
+    subst (λ (z : Float). T (le (fin false 0 (pos 0)) z) × T (le z (fin false 1 (pos 0))))
+    (sym (sub-round (fin false m e) (floorOf (fin false m e)) false false (m * up e) (down e) (w .0) 1 (down-pos e) (lit< tt) (refl, refl) (w .1) ∙ sum-pos-neg (m * up e * 1) (w .0 * down e) (down e * 1) (b .0)))
+    (unit-law (m * up e * 1 - w .0 * down e) (down e * 1) (b .1) (b .2))
+  where
+    next : (q d : ℕ) → (q + 1) * d ≡ q * d + d
+    next q d = omega arith
+
+    range : (n d x : ℕ) → 0 < d → x ≤ n → n ≤ x + d → (x ≤ n * 1) × (0 < d * 1) × (n * 1 - x ≤ d * 1)
+    range n d x D h k = (omega arith, omega arith, omega arith)
+floor-rest (fin true m e) t f =
+    let w = floor-whole true m e t in
+    let b = range (m * up e) (down e) (w .0 * down e) (down-pos e) (w .2) (le-of-lt (w .3)) in
+    subst (λ (z : Float). T (le (fin false 0 (pos 0)) z) × T (le z (fin false 1 (pos 0))))
+    (sym (sub-round (fin true m e) (floorOf (fin true m e)) true true (m * up e) (down e) (w .0) 1 (down-pos e) (lit< tt) (refl, refl) (w .1) ∙ sum-neg-pos (m * up e * 1) (w .0 * down e) (down e * 1) (b .0)))
+    (unit-law (w .0 * down e - m * up e * 1) (down e * 1) (b .1) (b .2))
+  where
+    range : (n d x : ℕ) → 0 < d → n ≤ x → x ≤ n + d → (n * 1 ≤ x) × (0 < d * 1) × (x - n * 1 ≤ d * 1)
+    range n d x D h k = (omega arith, omega arith, omega arith)

@@ -4,4 +4,8 @@ pub mod SmallFloor
 pub mod MagicFloor
 pub mod DrawLaws
 pub mod PowerLaws
+pub mod PowerRange
 pub mod TrigLaws
+pub mod RangeLaws
+pub mod Laws
+pub mod Settled

@@ -1,35 +1,33 @@
--- The floor by two sums: a number from 0 to below 2 ^ 52 plus 2 ^ 52 comes out rounded to a whole number, and that less 2 ^ 52 is the whole number nearest. It is above the floor by 1 or not at all.
-use mathlib.Core.Bool.{Bool, _&&_, true, false, not, cond, true≢false, _||_, false≢true, Bool·beq}
-use mathlib.Core.Path.{_≡_, refl, sym, ap, _∙_, subst}
-use Prim.Native.Nat.{ℕ, _+_, _≤_, _-_, zero, suc, _%_, _<_, _/_, _*_}
-use native.Mathlib.Nat.{le-antisymm, le-of-suc-le-suc, le-trans, mul-one, mul-le-mul-right, zero-mul, zero-lt-suc, lt-of-not-le, add-mul, add-comm}
+-- The body of floor: a number from 0 to below 2 ^ 52, plus 2 ^ 52 and less it again, is the whole number nearest to it; the floor is that or one less.
+-- Below 0 the signs are turned; from 2 ^ 52 on there is no fraction.
+use mathlib.Core.Bool.{Bool, _&&_, cond, false, false≢true, true, true≢false}
+use mathlib.Core.Path.{_∙_, _≡_, ap, refl, subst, sym}
+use Prim.Native.Nat.{_*_, _+_, _-_, _<_, _≤_, suc, zero, zero-le, ℕ}
+use native.Mathlib.Nat.{add-mul, le-trans, mul-one, zero-mul}
 use native.Mathlib.Omega.{arith}
-use lib.Dec.{T, ltb, eqb, ltb→lt, eqb→eq, nltb→le, lit≤}
-use lib.Ieee.{Float, binary64, lt, ofBits, round, nan, inf, fin, eq, fits, sub, add, neg, up, down, sum, ofInt, low}
+use lib.Arith.{lt-of-le-ne}
+use lib.Dec.{eqb, lit<, lit≤, ltb}
+use lib.Ieee.{Float, add, binary64, down, eq, fin, inf, level, lt, nan, neg, ofBits, ofInt, round, sub, sum, up}
 use lib.Ieee.Back.{round-whole}
 use lib.Ieee.Bits.{is-true}
 use lib.Ieee.Exact.{HasValue}
-use lib.Ieee.Fits.{down-pos, and-i, eq→eqb}
+use lib.Ieee.Fits.{and-i, down-pos, eq→eqb}
 use lib.IntN.{pos, ℤ}
-use Rattle.laws.proofs.Near.{Near, whole-round}
-use Rattle.laws.proofs.Order.{eq-by-values, lt-by-values, neg-neg}
-use Rattle.laws.proofs.Tests.{of-true, of-false, eqb-yes}
-use Rattle.laws.proofs.Values.{round-zero, neg-round, add-round, neg-value, sub-round, sum-pos-neg, sum-neg-pos, sum-neg-neg, ofInt-val}
-use Rattle.laws.specs.Float.{zer, one}
-use denote.Signature.{plain}
+use borrow.Author.Tests.{eqb-false, eqb-true, ltb-false, ltb-true}
+use Rattle.laws.proofs.Near.{near-least, whole-round}
+use Rattle.laws.proofs.Order.{eq-by-values, lt-by-values}
+use Rattle.laws.proofs.Values.{add-round, lt-by-minus, neg-value, ofInt-val, round-neg, round-zero, sub-round, sum-neg-neg, sum-neg-pos, sum-pos-neg}
+use Rattle.laws.specs.Float.{F64, one, zer}
 use Rattle.numeric.proofs.FloorLaws.{big-whole}
-use Rattle.numeric.proofs.SmallFloor.{floor-frac, floor-kept}
+use Rattle.numeric.proofs.RangeLaws.{suc-less}
+use Rattle.numeric.proofs.SmallFloor.{floor-frac, floor-kept, floor-whole-kept, none-below}
 use Rattle.numeric.specs.Floor.{floorOf}
 
--- ---- the body
+-- ---- what `pick` makes of x and a whole number r next to it
 abbrev pick : Float → Float → Float
 pick x r = cond (lt x r) (sub binary64 r one) (cond (eq r x) x r)
 
-one-val : HasValue one false 1 1
-unfolding ofBits
-one-val = (refl, refl)
-
--- ---- x = n / d
+-- x = n / d lies within a half of R
 module _ (n d R : ℕ) (D : 0 < d) (hi : R * d * 2 ≤ n * 2 + d) (lo : n * 2 ≤ R * d * 2 + d) where
   below-next : n < (R + 1) * d
   below-next = omega arith
@@ -40,135 +38,65 @@ module _ (n d R : ℕ) (D : 0 < d) (hi : R * d * 2 ≤ n * 2 + d) (lo : n * 2 �
       go : R * d ≡ suc S * d → S * d < n
       go h = omega arith
 
--- the whole number minus one
-int-less : (S : ℕ) → suc S ≤ 9007199254740992 → sub binary64 (ofInt binary64 (pos (suc S))) one ≡ ofInt binary64 (pos S)
-unfolding ofInt
-int-less S h =
-    sub-round (ofInt binary64 (pos (suc S))) one false false (suc S) 1 1 1 (zero-lt-suc 0) (zero-lt-suc 0) (ofInt-val (suc S) h) one-val
-    ∙ sum-pos-neg (suc S * 1) 1 1 (least S)
-    ∙ ap (λ (z : ℕ). round binary64 false z 1) (at S)
-  where
-    least : (S : ℕ) → 1 ≤ suc S * 1
-    least S = omega arith
-
-    at : (S : ℕ) → suc S * 1 - 1 ≡ S
-    at S = omega arith
+next : (S d : ℕ) → (S + 1) * d ≡ suc S * d
+next S d = omega arith
 
 pos-pick : (m : ℕ) (e : ℤ) (R : ℕ) → R ≤ 9007199254740992 → R * down e * 2 ≤ m * up e * 2 + down e → m * up e * 2 ≤ R * down e * 2 + down e
     → pick (fin false m e) (ofInt binary64 (pos R)) ≡ floorOf (fin false m e)
-pos-pick m e R cap hi lo =
-    ap (λ (b : Bool). cond b (sub binary64 (ofInt binary64 (pos R)) one) (cond (eq (ofInt binary64 (pos R)) (fin false m e)) (fin false m e) (ofInt binary64 (pos R)))) (lt-by-values (fin false m e) (ofInt binary64 (pos R)) (m * up e) (down e) R 1 (down-pos e) (zero-lt-suc 0) (refl, refl) (ofInt-val R cap))
-    ∙ ap (λ (b : Bool). cond (ltb (m * up e * 1) (R * down e)) (sub binary64 (ofInt binary64 (pos R)) one) (cond b (fin false m e) (ofInt binary64 (pos R)))) (eq-by-values (ofInt binary64 (pos R)) (fin false m e) R 1 (m * up e) (down e) (zero-lt-suc 0) (down-pos e) (ofInt-val R cap) (refl, refl))
-    ∙ go R cap hi lo (ltb (m * up e * 1) (R * down e)) (eqb (R * down e) (m * up e * 1)) (ltb→lt (m * up e * 1) (R * down e)) (nltb→le (m * up e * 1) (R * down e)) (eqb→eq (R * down e) (m * up e * 1)) (apart (R * down e) (m * up e * 1))
+pos-pick m e R top hi lo =
+    simp (
+      lt-by-values (fin false m e) (ofInt binary64 (pos R)) (m * up e) (down e) R 1 (down-pos e) (lit< tt) (refl, refl) (ofInt-val R top),
+      eq-by-values false (ofInt binary64 (pos R)) (fin false m e) R 1 (m * up e) (down e) (lit< tt) (down-pos e) (ofInt-val R top) (refl, refl),
+      mul-one,
+    )
+    (go R top hi lo (ltb (m * up e) (R * down e)) (eqb (R * down e) (m * up e)) refl refl)
   where
-    apart : (a b : ℕ) → T (not (eqb a b)) → a ≡ b → ⊥
-    apart a b z q = subst (λ (c : Bool). T (not c)) (eqb-yes a b q) z
-
     no : (n d : ℕ) → n < 0 * d → ⊥
     no n d h = omega arith
 
-    unit : (n x : ℕ) → n * 1 < x → n < x
-    unit n x h = omega arith
-
-    next : (S d : ℕ) → (S + 1) * d ≡ suc S * d
-    next S d = omega arith
-
-    strict : (n x : ℕ) → x ≤ n * 1 → (x ≡ n * 1 → ⊥) → x < n
-    strict n x h z = lt-of-not-le (λ (g : n ≤ x). z (le-antisymm h (subst (λ (y : ℕ). y ≤ x) (sym (mul-one n)) g)))
-
-    go : (R : ℕ) → R ≤ 9007199254740992 → R * down e * 2 ≤ m * up e * 2 + down e → m * up e * 2 ≤ R * down e * 2 + down e → (a b : Bool) → (T a → m * up e * 1 < R * down e) → (T (not a) → R * down e ≤ m * up e * 1) → (T b → R * down e ≡ m * up e * 1) → (T (not b) → R * down e ≡ m * up e * 1 → ⊥)
+    go : (R : ℕ) → R ≤ 9007199254740992 → R * down e * 2 ≤ m * up e * 2 + down e → m * up e * 2 ≤ R * down e * 2 + down e → (a b : Bool) → ltb (m * up e) (R * down e) ≡ a → eqb (R * down e) (m * up e) ≡ b
         → cond a (sub binary64 (ofInt binary64 (pos R)) one) (cond b (fin false m e) (ofInt binary64 (pos R))) ≡ floorOf (fin false m e)
-    go zero cap hi lo true b A A' B B' = absurd (no (m * up e * 1) (down e) (A tt))
-    go (suc S) cap hi lo true b A A' B B' =
-        int-less S cap ∙ sym (floor-frac false m e S (above-last (m * up e) (down e) (suc S) (down-pos e) hi lo S refl) (subst (λ (z : ℕ). m * up e < z) (sym (next S (down e))) (unit (m * up e) (suc S * down e) (A tt))))
-    go R cap hi lo false true A A' B B' = sym (floor-kept false m e R (sym (B tt ∙ mul-one (m * up e))))
-    go R cap hi lo false false A A' B B' = sym (floor-frac false m e R (strict (m * up e) (R * down e) (A' tt) (B' tt)) (below-next (m * up e) (down e) R (down-pos e) hi lo))
+    go zero top hi lo true b p q = absurd (no (m * up e) (down e) (ltb-true (m * up e) (0 * down e) p))
+    go (suc S) top hi lo true b p q =
+        suc-less S top
+        ∙ sym (floor-frac false m e S (above-last (m * up e) (down e) (suc S) (down-pos e) hi lo S refl) (subst (λ (z : ℕ). m * up e < z) (sym (next S (down e))) (ltb-true (m * up e) (suc S * down e) p)))
+    go R top hi lo false true p q = sym (floor-kept false m e R (sym (eqb-true (R * down e) (m * up e) q)))
+    go R top hi lo false false p q = sym (floor-frac false m e R (lt-of-le-ne (ltb-false (m * up e) (R * down e) p) (eqb-false (R * down e) (m * up e) q)) (below-next (m * up e) (down e) R (down-pos e) hi lo))
 
--- ---- the same below 0: r is -R, or +0
-round-neg : (a : ℕ) → round binary64 true a 1 ≡ neg (round binary64 false a 1)
-round-neg a = sym (neg-neg (round binary64 true a 1)) ∙ ap neg (neg-round a 1)
-
-int-neg-less : (S : ℕ) → suc S ≤ 4503599627370496 → sub binary64 (round binary64 true (suc S) 1) one ≡ neg (ofInt binary64 (pos (suc (suc S))))
+-- the same below 0: r is -R, or +0
+minus-less : (R : ℕ) → R ≤ 4503599627370496 → sub binary64 (round binary64 true R 1) one ≡ neg (ofInt binary64 (pos (suc R)))
 unfolding ofInt
-int-neg-less S h =
-    sub-round (round binary64 true (suc S) 1) one true false (suc S) 1 1 1 (zero-lt-suc 0) (zero-lt-suc 0) (round-whole binary64 true (suc S) (le-trans h (lit≤ tt))) one-val
-    ∙ unfold sum in ap (λ (z : ℕ). round binary64 true z 1) (at S)
-    ∙ round-neg (suc (suc S))
+minus-less R h =
+    sub-round (round binary64 true R 1) one true false R 1 1 1 (lit< tt) (lit< tt) (round-whole binary64 true R (le-trans h (lit≤ tt))) (unfold ofBits in (refl, refl))
+    ∙ unfold sum in ap (λ (z : ℕ). round binary64 true z 1) (at R)
+    ∙ round-neg (suc R) 1
   where
-    at : (S : ℕ) → suc S * 1 + 1 ≡ suc (suc S)
-    at S = omega arith
-
-lt-negs : (x y : Float) (a c b d : ℕ) → 0 < c → 0 < d → HasValue x true a c → HasValue y true b d → lt x y ≡ ltb (b * c) (a * d)
-lt-negs x y a c b d C D p q = sym (flip x y) ∙ lt-by-values (neg y) (neg x) b d a c D C (neg-value y true b d q) (neg-value x true a c p)
-  where
-    flip : (x y : Float) → lt (neg y) (neg x) ≡ lt x y
-    flip nan nan = unfold lt neg in refl
-    flip nan (inf true) = unfold lt neg in refl
-    flip nan (inf false) = unfold lt neg in refl
-    flip nan (fin t n g) = unfold lt neg in refl
-    flip (inf s) nan = unfold lt neg in refl
-    flip (inf true) (inf true) = unfold lt neg in refl
-    flip (inf true) (inf false) = unfold lt neg in refl
-    flip (inf false) (inf true) = unfold lt neg in refl
-    flip (inf false) (inf false) = unfold lt neg in refl
-    flip (inf true) (fin t n g) = unfold lt neg in refl
-    flip (inf false) (fin t n g) = unfold lt neg in refl
-    flip (fin s m e) nan = unfold lt neg in refl
-    flip (fin s m e) (inf true) = unfold lt neg in refl
-    flip (fin s m e) (inf false) = unfold lt neg in refl
-    flip (fin true m e) (fin true n g) = unfold lt neg in refl
-    flip (fin true m e) (fin false n g) = unfold lt neg in ap (λ (z : ℕ). ltb 0 z) (add-comm (n * up g * down e) (m * up e * down g))
-    flip (fin false m e) (fin true n g) = unfold lt neg in refl
-    flip (fin false m e) (fin false n g) = unfold lt neg in refl
-
-eq-negs : (x y : Float) (a c b d : ℕ) → 0 < c → 0 < d → HasValue x true a c → HasValue y true b d → eq x y ≡ eqb (a * d) (b * c)
-eq-negs x y a c b d C D p q = sym (flip x y) ∙ eq-by-values (neg x) (neg y) a c b d C D (neg-value x true a c p) (neg-value y true b d q)
-  where
-    beq-not : (s t : Bool) → Bool·beq (not s) (not t) ≡ Bool·beq s t
-    beq-not true true = refl
-    beq-not true false = refl
-    beq-not false true = refl
-    beq-not false false = refl
-
-    flip : (x y : Float) → eq (neg x) (neg y) ≡ eq x y
-    flip nan y = unfold eq neg in refl
-    flip (inf s) nan = unfold eq neg in refl
-    flip (inf s) (inf t) = unfold eq neg in beq-not s t
-    flip (inf s) (fin t n g) = unfold eq neg in refl
-    flip (fin s m e) nan = unfold eq neg in refl
-    flip (fin s m e) (inf t) = unfold eq neg in refl
-    flip (fin s m e) (fin t n g) = unfold eq neg in ap (λ (z : Bool). eqb (m * up e * down g) (n * up g * down e) && (z || eqb (m * up e * down g) 0)) (beq-not s t)
+    at : (R : ℕ) → R * 1 + 1 ≡ suc R
+    at R = omega arith
 
 neg-pick : (m : ℕ) (e : ℤ) (S : ℕ) → suc S ≤ 4503599627370496 → suc S * down e * 2 ≤ m * up e * 2 + down e → m * up e * 2 ≤ suc S * down e * 2 + down e
     → pick (fin true m e) (round binary64 true (suc S) 1) ≡ floorOf (fin true m e)
-neg-pick m e S cap hi lo =
-    let v = round-whole binary64 true (suc S) (le-trans cap (lit≤ tt)) in
-    ap (λ (b : Bool). cond b (sub binary64 (round binary64 true (suc S) 1) one) (cond (eq (round binary64 true (suc S) 1) (fin true m e)) (fin true m e) (round binary64 true (suc S) 1))) (lt-negs (fin true m e) (round binary64 true (suc S) 1) (m * up e) (down e) (suc S) 1 (down-pos e) (zero-lt-suc 0) (refl, refl) v)
-    ∙ ap (λ (b : Bool). cond (ltb (suc S * down e) (m * up e * 1)) (sub binary64 (round binary64 true (suc S) 1) one) (cond b (fin true m e) (round binary64 true (suc S) 1))) (eq-negs (round binary64 true (suc S) 1) (fin true m e) (suc S) 1 (m * up e) (down e) (zero-lt-suc 0) (down-pos e) v (refl, refl))
-    ∙ go (ltb (suc S * down e) (m * up e * 1)) (eqb (suc S * down e) (m * up e * 1)) (ltb→lt (suc S * down e) (m * up e * 1)) (nltb→le (suc S * down e) (m * up e * 1)) (eqb→eq (suc S * down e) (m * up e * 1)) (apart (suc S * down e) (m * up e * 1))
+neg-pick m e S top hi lo =
+    let v = round-whole binary64 true (suc S) (le-trans top (lit≤ tt)) in
+    simp (
+      lt-by-minus (fin true m e) (round binary64 true (suc S) 1) (m * up e) (down e) (suc S) 1 (down-pos e) (lit< tt) (refl, refl) v,
+      eq-by-values true (round binary64 true (suc S) 1) (fin true m e) (suc S) 1 (m * up e) (down e) (lit< tt) (down-pos e) v (refl, refl),
+      mul-one,
+    )
+    (go (ltb (suc S * down e) (m * up e)) (eqb (suc S * down e) (m * up e)) refl refl)
   where
-    apart : (a b : ℕ) → T (not (eqb a b)) → a ≡ b → ⊥
-    apart a b z q = subst (λ (c : Bool). T (not c)) (eqb-yes a b q) z
-
-    unit : (n x : ℕ) → x < n * 1 → x < n
-    unit n x h = omega arith
-
-    next : (S d : ℕ) → (S + 1) * d ≡ suc S * d
-    next S d = omega arith
-
-    strict : (n x : ℕ) → n * 1 ≤ x → (x ≡ n * 1 → ⊥) → n < x
-    strict n x h z = lt-of-not-le (λ (g : x ≤ n). z (le-antisymm (subst (λ (y : ℕ). x ≤ y) (sym (mul-one n)) g) h))
-
-    go : (a b : Bool) → (T a → suc S * down e < m * up e * 1) → (T (not a) → m * up e * 1 ≤ suc S * down e) → (T b → suc S * down e ≡ m * up e * 1) → (T (not b) → suc S * down e ≡ m * up e * 1 → ⊥)
+    go : (a b : Bool) → ltb (suc S * down e) (m * up e) ≡ a → eqb (suc S * down e) (m * up e) ≡ b
         → cond a (sub binary64 (round binary64 true (suc S) 1) one) (cond b (fin true m e) (round binary64 true (suc S) 1)) ≡ floorOf (fin true m e)
-    go true b A A' B B' = int-neg-less S cap ∙ sym (floor-frac true m e (suc S) (unit (m * up e) (suc S * down e) (A tt)) (below-next (m * up e) (down e) (suc S) (down-pos e) hi lo))
-    go false true A A' B B' = sym (floor-kept true m e (suc S) (sym (B tt ∙ mul-one (m * up e))))
-    go false false A A' B B' =
-        round-neg (suc S) ∙ unfold ofInt in sym (floor-frac true m e S (above-last (m * up e) (down e) (suc S) (down-pos e) hi lo S refl) (subst (λ (z : ℕ). m * up e < z) (sym (next S (down e))) (strict (m * up e) (suc S * down e) (A' tt) (B' tt))))
+    go true b p q = minus-less (suc S) top ∙ sym (floor-frac true m e (suc S) (ltb-true (suc S * down e) (m * up e) p) (below-next (m * up e) (down e) (suc S) (down-pos e) hi lo))
+    go false true p q = sym (floor-kept true m e (suc S) (sym (eqb-true (suc S * down e) (m * up e) q)))
+    go false false p q =
+        round-neg (suc S) 1
+        ∙ unfold ofInt in sym (floor-frac true m e S (above-last (m * up e) (down e) (suc S) (down-pos e) hi lo S refl)
+        (subst (λ (z : ℕ). m * up e < z) (sym (next S (down e))) (lt-of-le-ne (ltb-false (suc S * down e) (m * up e) p) (λ (z : m * up e ≡ suc S * down e). eqb-false (suc S * down e) (m * up e) q (sym z)))))
 
 zer-pick : (m : ℕ) (e : ℤ) → m * up e * 2 ≤ down e → pick (fin true m e) (fin false 0 (pos 0)) ≡ floorOf (fin true m e)
 unfolding lt eq
-zer-pick m e h = go (ltb 0 (m * up e * 1 + 0 * down e)) (eqb (0 * down e) (m * up e * 1) && eqb (0 * down e) 0) (ltb→lt 0 (m * up e * 1 + 0 * down e)) (nltb→le 0 (m * up e * 1 + 0 * down e)) (both (m * up e) (down e))
+zer-pick m e h = go (ltb 0 (m * up e * 1 + 0 * down e)) (level false (0 * down e) true (m * up e * 1)) refl (both (m * up e) (down e))
   where
     less : sub binary64 (fin false 0 (pos 0)) one ≡ neg (ofInt binary64 (pos 1))
     less = unfold sub ofInt neg ofBits in refl
@@ -176,8 +104,8 @@ zer-pick m e h = go (ltb 0 (m * up e * 1 + 0 * down e)) (eqb (0 * down e) (m * u
     both : (n d : ℕ) → n ≡ 0 → (eqb (0 * d) (n * 1) && eqb (0 * d) 0) ≡ true
     both n d z = is-true (eqb (0 * d) (n * 1) && eqb (0 * d) 0) (and-i (eqb (0 * d) (n * 1)) (eqb (0 * d) 0) (eq→eqb (zero-mul d ∙ sym (mul-one n ∙ z))) (eq→eqb (zero-mul d)))
 
-    low : (n d : ℕ) → 0 < n * 1 + 0 * d → 0 * d < n
-    low n d h = omega arith
+    above : (n d : ℕ) → 0 < n * 1 + 0 * d → 0 * d < n
+    above n d h = omega arith
 
     top : (n d : ℕ) → n * 2 ≤ d → 0 < d → n < (0 + 1) * d
     top n d h p = omega arith
@@ -185,147 +113,129 @@ zer-pick m e h = go (ltb 0 (m * up e * 1 + 0 * down e)) (eqb (0 * down e) (m * u
     nil : (n d : ℕ) → n * 1 + 0 * d ≤ 0 → n ≡ 0
     nil n d h = omega arith
 
-    go : (a b : Bool) → (T a → 0 < m * up e * 1 + 0 * down e) → (T (not a) → m * up e * 1 + 0 * down e ≤ 0) → (m * up e ≡ 0 → b ≡ true)
+    go : (a b : Bool) → ltb 0 (m * up e * 1 + 0 * down e) ≡ a → (m * up e ≡ 0 → b ≡ true)
         → cond a (sub binary64 (fin false 0 (pos 0)) one) (cond b (fin true m e) (fin false 0 (pos 0))) ≡ floorOf (fin true m e)
-    go true b A A' B = less ∙ sym (floor-frac true m e 0 (low (m * up e) (down e) (A tt)) (top (m * up e) (down e) h (down-pos e)))
-    go false b A A' B =
-        let z = nil (m * up e) (down e) (A' tt) in
-        ap (λ (b : Bool). cond b (fin true m e) (fin false 0 (pos 0))) (B z) ∙ sym (floor-kept true m e 0 (z ∙ sym (zero-mul (down e))))
+    go true b p q = less ∙ sym (floor-frac true m e 0 (above (m * up e) (down e) (ltb-true 0 (m * up e * 1 + 0 * down e) p)) (top (m * up e) (down e) h (down-pos e)))
+    go false b p q =
+        let z = nil (m * up e) (down e) (ltb-false 0 (m * up e * 1 + 0 * down e) p) in
+        ap (λ (b : Bool). cond b (fin true m e) (fin false 0 (pos 0))) (q z) ∙ sym (floor-kept true m e 0 (z ∙ sym (zero-mul (down e))))
 
 -- ---- the sums
-abbrev pub big : Float
+abbrev big : Float
 big = ofBits binary64 0x4330000000000000
 
-abbrev pub upOf : Float → Float
+abbrev upOf : Float → Float
 upOf x = sub binary64 (add binary64 x big) big
 
-abbrev pub downOf : Float → Float
+abbrev downOf : Float → Float
 downOf x = add binary64 (sub binary64 x big) big
 
 big-val : HasValue big false 4503599627370496 1
 unfolding ofBits
 big-val = (refl, refl)
 
--- N is the whole number nearest to n / d + 2 ^ 52
-module _ (n d N : ℕ) (D : 0 < d) (hi : N * (d * 1) * 2 ≤ (n * 1 + 4503599627370496 * d) * 2 + d * 1) (lo : (n * 1 + 4503599627370496 * d) * 2 ≤ N * (d * 1) * 2 + d * 1) where
-  least : 4503599627370496 ≤ N
-  least = le-of-suc-le-suc (lt-of-not-le (λ (g : suc N ≤ 4503599627370496). bad (mul-le-mul-right d g)))
-    where
-      bad : suc N * d ≤ 4503599627370496 * d → ⊥
-      bad g = omega arith
-
-  shifted : N * d ≡ (N - 4503599627370496) * d + 4503599627370496 * d
-  shifted = ap (λ (z : ℕ). z * d) (back N least) ∙ add-mul (N - 4503599627370496) 4503599627370496 d
-    where
-      back : (N : ℕ) → 4503599627370496 ≤ N → N ≡ N - 4503599627370496 + 4503599627370496
-      back N g = omega arith
-
-  hi-of : (N - 4503599627370496) * d * 2 ≤ n * 2 + d
-  hi-of = go (N * d) ((N - 4503599627370496) * d) shifted (subst (λ (z : ℕ). N * z * 2 ≤ (n * 1 + 4503599627370496 * d) * 2 + d * 1) (mul-one d) hi)
-    where
-      go : (x y : ℕ) → x ≡ y + 4503599627370496 * d → x * 2 ≤ (n * 1 + 4503599627370496 * d) * 2 + d * 1 → y * 2 ≤ n * 2 + d
-      go x y e h = omega arith
-
-  lo-of : n * 2 ≤ (N - 4503599627370496) * d * 2 + d
-  lo-of = go (N * d) ((N - 4503599627370496) * d) shifted (subst (λ (z : ℕ). (n * 1 + 4503599627370496 * d) * 2 ≤ N * z * 2 + d * 1) (mul-one d) lo)
-    where
-      go : (x y : ℕ) → x ≡ y + 4503599627370496 * d → (n * 1 + 4503599627370496 * d) * 2 ≤ x * 2 + d * 1 → n * 2 ≤ y * 2 + d
-      go x y e h = omega arith
-
-nearest-whole : (n d : ℕ) → 0 < d → n * 1 < 4503599627370496 * d
-    → (N : ℕ) × HasValue (round binary64 false (n * 1 + 4503599627370496 * d) (d * 1)) false N 1 × Near (N * (d * 1) * 2) ((n * 1 + 4503599627370496 * d) * 2) (d * 1) × (N ≤ 9007199254740992)
-nearest-whole n d D h = whole-round (n * 1 + 4503599627370496 * d) (d * 1) (one-pos d D) (low n d) (high n d h)
+-- n / d + 2 ^ 52 is rounded to the whole number 2 ^ 52 + R, R being nearest to n / d
+nearest : (n d : ℕ) → 0 < d → n < 4503599627370496 * d
+    → (R : ℕ) × HasValue (round binary64 false (n + 4503599627370496 * d) d) false (4503599627370496 + R) 1 × (R ≤ 4503599627370496) × (R * d * 2 ≤ n * 2 + d) × (n * 2 ≤ R * d * 2 + d)
+nearest n d D h =
+    let w = whole-round (n + 4503599627370496 * d) d D (low n d) (high n d h) in
+    let N = w .0 in
+    let least : 4503599627370496 ≤ N = near-least N 4503599627370496 (n + 4503599627370496 * d) d D (low n d) (w .2 .1) in
+    let b = back N least in
+    let r = shift (N * d) ((N - 4503599627370496) * d) (ap (λ (z : ℕ). z * d) b ∙ add-mul 4503599627370496 (N - 4503599627370496) d) (w .2 .0) (w .2 .1) in
+    (N - 4503599627370496, subst (λ (z : ℕ). HasValue (round binary64 false (n + 4503599627370496 * d) d) false z 1) b (w .1), most N (w .3), r .0, r .1)
   where
-    one-pos : (d : ℕ) → 0 < d → 0 < d * 1
-    one-pos d h = omega arith
-
-    low : (n d : ℕ) → 4503599627370496 * (d * 1) ≤ n * 1 + 4503599627370496 * d
+    low : (n d : ℕ) → 4503599627370496 * d ≤ n + 4503599627370496 * d
     low n d = omega arith
 
-    high : (n d : ℕ) → n * 1 < 4503599627370496 * d → n * 1 + 4503599627370496 * d < 9007199254740992 * (d * 1)
+    high : (n d : ℕ) → n < 4503599627370496 * d → n + 4503599627370496 * d < 9007199254740992 * d
     high n d h = omega arith
 
-up-sum : (m : ℕ) (e : ℤ) → m * up e * 1 < 4503599627370496 * down e → pick (fin false m e) (upOf (fin false m e)) ≡ floorOf (fin false m e)
+    back : (N : ℕ) → 4503599627370496 ≤ N → N ≡ 4503599627370496 + (N - 4503599627370496)
+    back N g = omega arith
+
+    most : (N : ℕ) → N ≤ 9007199254740992 → N - 4503599627370496 ≤ 4503599627370496
+    most N g = omega arith
+
+    shift : (x y : ℕ) → x ≡ 4503599627370496 * d + y → x * 2 ≤ (n + 4503599627370496 * d) * 2 + d → (n + 4503599627370496 * d) * 2 ≤ x * 2 + d → (y * 2 ≤ n * 2 + d) × (n * 2 ≤ y * 2 + d)
+    shift x y e h k = (omega arith, omega arith)
+
+up-sum : (m : ℕ) (e : ℤ) → m * up e < 4503599627370496 * down e → pick (fin false m e) (upOf (fin false m e)) ≡ floorOf (fin false m e)
 up-sum m e h =
-    let n = m * up e in
-    let d = down e in
-    let w = nearest-whole n d (down-pos e) h in
-    let N = w .0 in
-    let tv : HasValue (add binary64 (fin false m e) big) false N 1 = subst (λ (z : Float). HasValue z false N 1) (sym (add-round (fin false m e) big false false n d 4503599627370496 1 (down-pos e) (zero-lt-suc 0) (refl, refl) big-val ∙ plain n d)) (w .1) in
-    let rv : upOf (fin false m e) ≡ ofInt binary64 (pos (N - 4503599627370496)) =
-    sub-round (add binary64 (fin false m e) big) big false false N 1 4503599627370496 1 (zero-lt-suc 0) (zero-lt-suc 0) tv big-val
-    ∙ sum-pos-neg (N * 1) 4503599627370496 1 (subst (λ (z : ℕ). 4503599627370496 ≤ z) (sym (mul-one N)) (least n d N (down-pos e) (w .2 .0) (w .2 .1)))
-    ∙ unfold ofInt in ap (λ (z : ℕ). round binary64 false (z - 4503599627370496) 1) (mul-one N) in
-    ap (λ (r : Float). pick (fin false m e) r) rv
-    ∙ pos-pick m e (N - 4503599627370496) (le-trans (less N) (w .3)) (hi-of n d N (down-pos e) (w .2 .0) (w .2 .1)) (lo-of n d N (down-pos e) (w .2 .0) (w .2 .1))
+    let w = nearest (m * up e) (down e) (down-pos e) h in
+    let R = w .0 in
+    let t : HasValue (add binary64 (fin false m e) big) false (4503599627370496 + R) 1 =
+    subst (λ (z : Float). HasValue z false (4503599627370496 + R) 1) (sym (add-round (fin false m e) big false false (m * up e) (down e) 4503599627370496 1 (down-pos e) (lit< tt) (refl, refl) big-val ∙ plain (m * up e) (down e))) (w .1) in
+    ap (λ (r : Float). pick (fin false m e) r)
+    (sub-round (add binary64 (fin false m e) big) big false false (4503599627370496 + R) 1 4503599627370496 1 (lit< tt) (lit< tt) t big-val
+    ∙ sum-pos-neg ((4503599627370496 + R) * 1) 4503599627370496 1 (least R)
+    ∙ whole R)
+    ∙ pos-pick m e R (le-trans (w .2) (lit≤ tt)) (w .3) (w .4)
   where
-    plain : (n d : ℕ) → sum binary64 false (n * 1) false (4503599627370496 * d) (d * 1) ≡ round binary64 false (n * 1 + 4503599627370496 * d) (d * 1)
-    plain n d = unfold sum in refl
+    plain : (n d : ℕ) → sum binary64 false (n * 1) false (4503599627370496 * d) (d * 1) ≡ round binary64 false (n + 4503599627370496 * d) d
+    plain n d = unfold sum in simp (mul-one)
 
-    less : (N : ℕ) → N - 4503599627370496 ≤ N
-    less N = omega arith
+    least : (R : ℕ) → 4503599627370496 ≤ (4503599627370496 + R) * 1
+    least R = omega arith
 
-down-sum : (m : ℕ) (e : ℤ) → m * up e * 1 < 4503599627370496 * down e → pick (fin true m e) (downOf (fin true m e)) ≡ floorOf (fin true m e)
+    whole : (R : ℕ) → round binary64 false ((4503599627370496 + R) * 1 - 4503599627370496) 1 ≡ ofInt binary64 (pos R)
+    whole R = unfold ofInt in ap (λ (z : ℕ). round binary64 false z 1) (rest R)
+      where
+        rest : (R : ℕ) → (4503599627370496 + R) * 1 - 4503599627370496 ≡ R
+        rest R = omega arith
+
+down-sum : (m : ℕ) (e : ℤ) → m * up e < 4503599627370496 * down e → pick (fin true m e) (downOf (fin true m e)) ≡ floorOf (fin true m e)
 down-sum m e h =
-    let n = m * up e in
-    let d = down e in
-    let w = nearest-whole n d (down-pos e) h in
-    let N = w .0 in
-    let tv : HasValue (sub binary64 (fin true m e) big) true N 1 =
-    subst (λ (z : Float). HasValue z true N 1) (sym (sub-round (fin true m e) big true false n d 4503599627370496 1 (down-pos e) (zero-lt-suc 0) (refl, refl) big-val ∙ plain n d ∙ sym (neg-neg (round binary64 true (n * 1 + 4503599627370496 * d) (d * 1))) ∙ ap neg (neg-round (n * 1 + 4503599627370496 * d) (d * 1))))
-    (neg-value (round binary64 false (n * 1 + 4503599627370496 * d) (d * 1)) false N 1 (w .1)) in
-    let rv : downOf (fin true m e) ≡ sum binary64 true (N * 1) false 4503599627370496 1 = add-round (sub binary64 (fin true m e) big) big true false N 1 4503599627370496 1 (zero-lt-suc 0) (zero-lt-suc 0) tv big-val in
-    ap (λ (r : Float). pick (fin true m e) r) rv
-    ∙ go N (N - 4503599627370496) refl (least n d N (down-pos e) (w .2 .0) (w .2 .1)) (w .3) (hi-of n d N (down-pos e) (w .2 .0) (w .2 .1)) (lo-of n d N (down-pos e) (w .2 .0) (w .2 .1))
+    let w = nearest (m * up e) (down e) (down-pos e) h in
+    let R = w .0 in
+    let t : HasValue (sub binary64 (fin true m e) big) true (4503599627370496 + R) 1 =
+    subst (λ (z : Float). HasValue z true (4503599627370496 + R) 1)
+    (sym (sub-round (fin true m e) big true false (m * up e) (down e) 4503599627370496 1 (down-pos e) (lit< tt) (refl, refl) big-val ∙ plain (m * up e) (down e) ∙ round-neg (m * up e + 4503599627370496 * down e) (down e)))
+    (neg-value (round binary64 false (m * up e + 4503599627370496 * down e) (down e)) false (4503599627370496 + R) 1 (w .1)) in
+    ap (λ (r : Float). pick (fin true m e) r) (add-round (sub binary64 (fin true m e) big) big true false (4503599627370496 + R) 1 4503599627370496 1 (lit< tt) (lit< tt) t big-val)
+    ∙ go R (w .2) (w .3) (w .4)
   where
-    plain : (n d : ℕ) → sum binary64 true (n * 1) true (4503599627370496 * d) (d * 1) ≡ round binary64 true (n * 1 + 4503599627370496 * d) (d * 1)
-    plain n d = unfold sum in refl
+    plain : (n d : ℕ) → sum binary64 true (n * 1) true (4503599627370496 * d) (d * 1) ≡ round binary64 true (n + 4503599627370496 * d) d
+    plain n d = unfold sum in simp (mul-one)
 
-    go : (N R : ℕ) → N - 4503599627370496 ≡ R → 4503599627370496 ≤ N → N ≤ 9007199254740992 → (N - 4503599627370496) * down e * 2 ≤ m * up e * 2 + down e → m * up e * 2 ≤ (N - 4503599627370496) * down e * 2 + down e
-        → pick (fin true m e) (sum binary64 true (N * 1) false 4503599627370496 1) ≡ floorOf (fin true m e)
-    go N zero q g top hi lo =
-        ap (λ (r : Float). pick (fin true m e) r) (sum-neg-pos (N * 1) 4503599627370496 1 (same N g q) ∙ ap (λ (z : ℕ). round binary64 false z 1) (nil N g q) ∙ round-zero false 1 (zero-lt-suc 0))
-        ∙ zer-pick m e (flat (m * up e) (down e) (N - 4503599627370496) q lo)
-      where
-        same : (N : ℕ) → 4503599627370496 ≤ N → N - 4503599627370496 ≡ 0 → N * 1 ≤ 4503599627370496
-        same N g q = omega arith
+    flat : (n d : ℕ) → n * 2 ≤ 0 * d * 2 + d → n * 2 ≤ d
+    flat n d h = omega arith
 
-        nil : (N : ℕ) → 4503599627370496 ≤ N → N - 4503599627370496 ≡ 0 → 4503599627370496 - N * 1 ≡ 0
-        nil N g q = omega arith
+    less : (S : ℕ) → 4503599627370496 < (4503599627370496 + suc S) * 1
+    less S = omega arith
 
-        flat : (n d r : ℕ) → r ≡ 0 → n * 2 ≤ r * d * 2 + d → n * 2 ≤ d
-        flat n d r q h = small (r * d) (ap (λ (z : ℕ). z * d) q ∙ zero-mul d) h
-          where
-            small : (x : ℕ) → x ≡ 0 → n * 2 ≤ x * 2 + d → n * 2 ≤ d
-            small x q h = omega arith
-    go N (suc S) q g top hi lo =
-        ap (λ (r : Float). pick (fin true m e) r) (sum-neg-neg (N * 1) 4503599627370496 1 (less N S q) ∙ ap (λ (z : ℕ). round binary64 true z 1) (ap (λ (z : ℕ). z - 4503599627370496) (mul-one N) ∙ q))
-        ∙ neg-pick m e S (subst (λ (z : ℕ). z ≤ 4503599627370496) q (capped N top)) (subst (λ (z : ℕ). z * down e * 2 ≤ m * up e * 2 + down e) q hi) (subst (λ (z : ℕ). m * up e * 2 ≤ z * down e * 2 + down e) q lo)
-      where
-        less : (N S : ℕ) → N - 4503599627370496 ≡ suc S → 4503599627370496 < N * 1
-        less N S q = omega arith
+    rest : (S : ℕ) → (4503599627370496 + suc S) * 1 - 4503599627370496 ≡ suc S
+    rest S = omega arith
 
-        capped : (N : ℕ) → N ≤ 9007199254740992 → N - 4503599627370496 ≤ 4503599627370496
-        capped N g = omega arith
+    go : (R : ℕ) → R ≤ 4503599627370496 → R * down e * 2 ≤ m * up e * 2 + down e → m * up e * 2 ≤ R * down e * 2 + down e
+        → pick (fin true m e) (sum binary64 true ((4503599627370496 + R) * 1) false 4503599627370496 1) ≡ floorOf (fin true m e)
+    go zero top hi lo =
+        ap (λ (r : Float). pick (fin true m e) r) (sum-neg-pos 4503599627370496 4503599627370496 1 (lit≤ tt) ∙ round-zero false 1 (lit< tt))
+        ∙ zer-pick m e (flat (m * up e) (down e) lo)
+    go (suc S) top hi lo =
+        ap (λ (r : Float). pick (fin true m e) r) (sum-neg-neg ((4503599627370496 + suc S) * 1) 4503599627370496 1 (less S) ∙ ap (λ (z : ℕ). round binary64 true z 1) (rest S))
+        ∙ neg-pick m e S top hi lo
 
 -- -0 goes the way of the numbers that are not below 0
 minus-zero : (m : ℕ) (e : ℤ) → m * up e ≡ 0 → pick (fin true m e) (upOf (fin true m e)) ≡ floorOf (fin true m e)
 minus-zero m e h =
     let v : HasValue (fin true m e) true 0 1 = (refl, mul-one (m * up e) ∙ h ∙ sym (zero-mul (down e))) in
-    let tv : HasValue (add binary64 (fin true m e) big) false 4503599627370496 1 = subst (λ (z : Float). HasValue z false 4503599627370496 1) (sym (add-round (fin true m e) big true false 0 1 4503599627370496 1 (zero-lt-suc 0) (zero-lt-suc 0) v big-val ∙ sum-neg-pos 0 4503599627370496 1 (lit≤ tt))) (round-whole binary64 false 4503599627370496 (lit≤ tt)) in
-    ap (λ (r : Float). pick (fin true m e) r) (sub-round (add binary64 (fin true m e) big) big false false 4503599627370496 1 4503599627370496 1 (zero-lt-suc 0) (zero-lt-suc 0) tv big-val ∙ sum-pos-neg 4503599627370496 4503599627370496 1 (lit≤ tt) ∙ round-zero false 1 (zero-lt-suc 0))
-    ∙ zer-pick m e (subst (λ (z : ℕ). z * 2 ≤ down e) (sym h) (nonneg (down e)))
-  where
-    nonneg : (d : ℕ) → 0 * 2 ≤ d
-    nonneg d = omega arith
+    let t : HasValue (add binary64 (fin true m e) big) false 4503599627370496 1 =
+    subst (λ (z : Float). HasValue z false 4503599627370496 1) (sym (add-round (fin true m e) big true false 0 1 4503599627370496 1 (lit< tt) (lit< tt) v big-val ∙ sum-neg-pos 0 4503599627370496 1 (lit≤ tt))) (round-whole binary64 false 4503599627370496 (lit≤ tt)) in
+    ap (λ (r : Float). pick (fin true m e) r)
+    (sub-round (add binary64 (fin true m e) big) big false false 4503599627370496 1 4503599627370496 1 (lit< tt) (lit< tt) t big-val ∙ sum-pos-neg 4503599627370496 4503599627370496 1 (lit≤ tt) ∙ round-zero false 1 (lit< tt))
+    ∙ zer-pick m e (subst (λ (z : ℕ). z * 2 ≤ down e) (sym h) zero-le)
 
--- ---- the two ways
+-- ---- the four ways of the body
+one-less : (n c : ℕ) → n * 1 < c → n < c
+one-less n c h = omega arith
+
 pub floor-up : (x : Float) → lt x zer ≡ false → lt x big ≡ true → pick x (upOf x) ≡ floorOf x
 floor-up nan h k = absurd (false≢true (unfold lt ofBits in k))
 floor-up (inf true) h k = absurd (true≢false (unfold lt ofBits in h))
 floor-up (inf false) h k = absurd (false≢true (unfold lt ofBits in k))
-floor-up (fin false m e) h k = up-sum m e (ltb→lt (m * up e * 1) (4503599627370496 * down e) (of-true (ltb (m * up e * 1) (4503599627370496 * down e)) (unfold lt ofBits in k)))
-floor-up (fin true m e) h k = minus-zero m e (nil (m * up e) (down e) (nltb→le 0 (m * up e * 1 + 0 * down e) (of-false (ltb 0 (m * up e * 1 + 0 * down e)) (unfold lt ofBits in h))))
+floor-up (fin false m e) h k = up-sum m e (one-less (m * up e) (4503599627370496 * down e) (ltb-true (m * up e * 1) (4503599627370496 * down e) (unfold lt ofBits in k)))
+floor-up (fin true m e) h k = minus-zero m e (nil (m * up e) (down e) (ltb-false 0 (m * up e * 1 + 0 * down e) (unfold lt ofBits in h)))
   where
     nil : (n d : ℕ) → n * 1 + 0 * d ≤ 0 → n ≡ 0
     nil n d h = omega arith
@@ -334,31 +244,20 @@ pub floor-down : (x : Float) → lt x zer ≡ true → lt (neg big) x ≡ true �
 floor-down nan h k = absurd (false≢true (unfold lt ofBits in h))
 floor-down (inf true) h k = absurd (false≢true (unfold lt ofBits neg in k))
 floor-down (inf false) h k = absurd (false≢true (unfold lt ofBits in h))
-floor-down (fin true m e) h k = down-sum m e (ltb→lt (m * up e * 1) (4503599627370496 * down e) (of-true (ltb (m * up e * 1) (4503599627370496 * down e)) (unfold lt ofBits neg in k)))
-floor-down (fin false m e) h k = absurd (no (m * up e * 1) (down e) (ltb→lt (m * up e * 1) (0 * down e) (of-true (ltb (m * up e * 1) (0 * down e)) (unfold lt ofBits in h))))
-  where
-    no : (n d : ℕ) → n < 0 * d → ⊥
-    no n d h = omega arith
+floor-down (fin true m e) h k = down-sum m e (one-less (m * up e) (4503599627370496 * down e) (ltb-true (m * up e * 1) (4503599627370496 * down e) (unfold lt ofBits neg in k)))
+floor-down (fin false m e) h k = absurd (none-below (m * up e * 1) (down e) (ltb-true (m * up e * 1) (0 * down e) (unfold lt ofBits in h)))
 
--- ---- and where it has no fraction
-whole-kept : (s : Bool) (m : ℕ) (e : ℤ) → m * up e % down e ≡ 0 → floorOf (fin s m e) ≡ fin s m e
-unfolding floorOf
-whole-kept s m e h = ap (λ (b : Bool). cond b (fin s m e) (cond s (neg (ofInt binary64 (pos (suc (m * up e / down e))))) (ofInt binary64 (pos (m * up e / down e))))) (eqb-yes (m * up e % down e) 0 h)
-
-pub floor-high : (x : Float) → T (fits binary64 x) → lt x zer ≡ false → lt x big ≡ false → floorOf x ≡ x
+pub floor-high : (x : Float) → F64 x → lt x zer ≡ false → lt x big ≡ false → floorOf x ≡ x
 floor-high nan t h k = unfold floorOf in refl
 floor-high (inf s) t h k = unfold floorOf in refl
-floor-high (fin false m e) t h k = whole-kept false m e (big-whole false m e t (nltb→le (m * up e * 1) (4503599627370496 * down e) (of-false (ltb (m * up e * 1) (4503599627370496 * down e)) (unfold lt ofBits in k))))
-floor-high (fin true m e) t h k = absurd (no (m * up e) (down e) (down-pos e) (nltb→le 0 (m * up e * 1 + 4503599627370496 * down e) (of-false (ltb 0 (m * up e * 1 + 4503599627370496 * down e)) (unfold lt ofBits in k))))
+floor-high (fin false m e) t h k = floor-whole-kept false m e (big-whole false m e t (ltb-false (m * up e * 1) (4503599627370496 * down e) (unfold lt ofBits in k)))
+floor-high (fin true m e) t h k = absurd (no (m * up e) (down e) (down-pos e) (ltb-false 0 (m * up e * 1 + 4503599627370496 * down e) (unfold lt ofBits in k)))
   where
     no : (n d : ℕ) → 0 < d → n * 1 + 4503599627370496 * d ≤ 0 → ⊥
     no n d D h = omega arith
 
-pub floor-low : (x : Float) → T (fits binary64 x) → lt x zer ≡ true → lt (neg big) x ≡ false → floorOf x ≡ x
+pub floor-low : (x : Float) → F64 x → lt x zer ≡ true → lt (neg big) x ≡ false → floorOf x ≡ x
 floor-low nan t h k = unfold floorOf in refl
 floor-low (inf s) t h k = unfold floorOf in refl
-floor-low (fin true m e) t h k = whole-kept true m e (big-whole true m e t (nltb→le (m * up e * 1) (4503599627370496 * down e) (of-false (ltb (m * up e * 1) (4503599627370496 * down e)) (unfold lt ofBits neg in k))))
-floor-low (fin false m e) t h k = absurd (no (m * up e * 1) (down e) (ltb→lt (m * up e * 1) (0 * down e) (of-true (ltb (m * up e * 1) (0 * down e)) (unfold lt ofBits in h))))
-  where
-    no : (n d : ℕ) → n < 0 * d → ⊥
-    no n d h = omega arith
+floor-low (fin true m e) t h k = floor-whole-kept true m e (big-whole true m e t (ltb-false (m * up e * 1) (4503599627370496 * down e) (unfold lt ofBits neg in k)))
+floor-low (fin false m e) t h k = absurd (none-below (m * up e * 1) (down e) (ltb-true (m * up e * 1) (0 * down e) (unfold lt ofBits in h)))

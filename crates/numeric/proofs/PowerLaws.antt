@@ -1,28 +1,26 @@
--- Laws of 2^x and 3000^r: exact at whole x, and the cases outside.
-use mathlib.Core.Bool.{Bool, _&&_, true, false, not, cond, _||_}
-use mathlib.Core.Path.{_≡_, refl, sym, ap, _∙_, subst}
-use Prim.Native.Nat.{ℕ, _+_, _≤_, _-_, suc, _%_, _<_, _^_, _/_, _*_}
-use native.Mathlib.Nat.{le-trans, mul-one, mul-pos, lt-of-le-of-lt, lt-of-lt-of-le, zero-lt-suc, one-mul, le-mul-of-pos-right, mul-mod-left, mul-div-cancel, mod-eq-of-lt}
+-- 2 ^ x is exact at whole x, +infinity from 1024 on, 0 below -1022 and NaN of NaN; 3000 ^ r is right at 0, at 1 and at NaN.
+use mathlib.Core.Bool.{Bool, _||_, cond, false, not, true}
+use mathlib.Core.Path.{_∙_, _≡_, ap, refl, subst, sym}
+use Prim.Native.Nat.{_%_, _*_, _+_, _-_, _/_, _<_, _^_, _≤_, suc, ℕ}
+use native.Mathlib.Nat.{le-trans, mod-eq-of-lt, mul-div-cancel, mul-mod-left, mul-one, zero-lt-suc}
 use native.Mathlib.Omega.{arith}
-use lib.Dec.{T, leb, ltb, eqb, le→leb, eqb→eq, lt→ltb, leb→le, lit<, lit≤, nleb→lt}
-use lib.Ieee.{Float, binary64, lt, le, mul, ofBits, isNan, round, size, odd, nan, inf, fin, eq, fits, toBits, sub, add, neg, up, down, sum, ofInt, low, minus, ofFields}
+use lib.Dec.{T, leb, leb→le, lit<, lit≤, nleb→lt}
+use lib.Ieee.{Float, add, binary64, eq, fin, inf, isNan, le, lt, minus, mul, neg, odd, ofBits, ofFields, ofInt, round, size, sub, sum, toBits}
 use lib.Ieee.Back.{round-whole}
 use lib.Ieee.Bits.{is-true, ofBits-fits, toBits-ofBits}
-use lib.Ieee.Exact.{HasValue, round-exact, odd-sign}
-use lib.Ieee.Fits.{down-pos, and-r, add-fits, and-i, round-fits}
+use lib.Ieee.Exact.{HasValue, odd-sign}
+use lib.Ieee.Fits.{add-fits}
 use lib.Ieee.Order.{le-of-values}
-use lib.IntN.{pos, ℤ, negsuc}
-use lib.Pow.{pow-pos, pow-mono, pow-lt, pow-add}
-use Rattle.laws.proofs.Order.{lt-by-values, neg-lt-nonneg, neg-lt-pos, neg-neg, lt-false, le-false, le-neg, values-le}
-use Rattle.laws.proofs.Tests.{leb-yes, leb-no, eqb-no}
-use Rattle.laws.proofs.Unique.{value-unique}
-use Rattle.laws.proofs.Values.{neg-round, add-round, sub-round, sum-pos-neg, sum-neg-pos, sum-neg, rescale, ofInt-val, sub-self-zero}
-use Rattle.laws.specs.Float.{zer, one}
-use Rattle.laws.specs.Machine.{more}
-use denote.Signature.{plain}
-use Rattle.numeric.proofs.MagicFloor.{big}
-use Rattle.numeric.specs.Power.{expPart, biased, scaleOf, scaledOf, midOf, exp2Of, pow3000Of}
-use Rattle.numeric.specs.Promises.{Exp2-whole, Exp2-above, Exp2-below, Exp2-nan, Pow3000-zero, Pow3000-one, Pow3000-nan}
+use lib.IntN.{negsuc, pos, ℤ}
+use lib.Pow.{pow-pos}
+use Rattle.laws.proofs.Number.{fin-number, lt-number, value-finite}
+use Rattle.laws.proofs.Order.{float-le-trans, le-false, le-neg, le-of-lt-false, lt-by-values, lt-false, lt-not-ge, neg-lt-nonneg, neg-lt-pos, neg-neg}
+use Rattle.laws.proofs.Tests.{eqb-no, leb-no, leb-yes}
+use Rattle.laws.proofs.Unique.{one-times, value-unique}
+use Rattle.laws.proofs.Values.{add-round, neg-round, ofInt-val, rescale, sub-round, sub-self-zero, sum-neg, sum-neg-pos, sum-pos-neg}
+use Rattle.laws.specs.Float.{F64, one, zer}
+use Rattle.numeric.specs.Power.{biased, exp2Of, expPart, midOf, pow3000Of, scaleOf, scaledOf, sixOf}
+use Rattle.numeric.specs.Promises.{Exp2-above, Exp2-below, Exp2-minus-zero, Exp2-nan, Exp2-whole, Pow3000-minus-zero, Pow3000-nan, Pow3000-one, Pow3000-zero}
 
 -- ---- the bits of a power of two
 fields-pow : (x : ℕ) → suc x < 2047 → ofFields binary64 false (suc x) 0 ≡ fin false 1 (minus (x + 52) 1074)
@@ -64,80 +62,33 @@ minus-down k h = ap (λ (b : Bool). cond b (pos (1021 - k + 52 - 1074)) (negsuc 
     at : (k : ℕ) → k ≤ 1021 → 1074 - suc (1021 - k + 52) ≡ k
     at k h = omega arith
 
-pub bits-up : (n : ℕ) → n ≤ 1023 → ofBits binary64 ((1023 + n) * 4503599627370496) ≡ fin false 1 (pos n)
-bits-up n h = ap (λ (z : ℕ). ofBits binary64 (z * 4503599627370496)) (eq n) ∙ bits-pow (1022 + n) (lt' n h) ∙ ap (λ (z : ℤ). fin false 1 z) (minus-up n)
+bits-up : (n : ℕ) → n ≤ 1023 → ofBits binary64 ((1023 + n) * 4503599627370496) ≡ fin false 1 (pos n)
+bits-up n h = ap (λ (z : ℕ). ofBits binary64 (z * 4503599627370496)) (same n) ∙ bits-pow (1022 + n) (room n h) ∙ ap (λ (z : ℤ). fin false 1 z) (minus-up n)
   where
-    eq : (n : ℕ) → 1023 + n ≡ suc (1022 + n)
-    eq n = omega arith
+    same : (n : ℕ) → 1023 + n ≡ suc (1022 + n)
+    same n = omega arith
 
-    lt' : (n : ℕ) → n ≤ 1023 → suc (1022 + n) < 2047
-    lt' n h = omega arith
-
-pub bits-down : (k : ℕ) → suc k ≤ 1022 → ofBits binary64 ((1023 - suc k) * 4503599627370496) ≡ fin false 1 (negsuc k)
-bits-down k h = ap (λ (z : ℕ). ofBits binary64 (z * 4503599627370496)) (eq k h) ∙ bits-pow (1021 - k) (lt' k h) ∙ ap (λ (z : ℤ). fin false 1 z) (minus-down k (le' k h))
-  where
-    eq : (k : ℕ) → suc k ≤ 1022 → 1023 - suc k ≡ suc (1021 - k)
-    eq k h = omega arith
-
-    lt' : (k : ℕ) → suc k ≤ 1022 → suc (1021 - k) < 2047
-    lt' k h = omega arith
-
-    le' : (k : ℕ) → suc k ≤ 1022 → k ≤ 1021
-    le' k h = omega arith
-
-self-zero : (w : Float) (s : Bool) (a c : ℕ) → HasValue w s a c → sub binary64 w w ≡ zer
-unfolding ofBits
-self-zero nan s a c v = absurd v
-self-zero (inf t) s a c v = absurd v
-self-zero (fin t m e) s a c v = sub-self-zero t m e
-
-exp-zero : expPart zer ≡ one
-unfolding expPart ofBits add mul
-exp-zero = refl
-
--- ---- 1 * 2 ^ z
-fits-pow-up : (n : ℕ) → n ≤ 1023 → T (fits binary64 (fin false 1 (pos n)))
-unfolding fits
-fits-pow-up n h = lt→ltb (1 * 2 ^ n) (2 ^ 1024 * 1) (subst (λ (z : ℕ). z < 2 ^ 1024) (sym (one-mul (2 ^ n))) (pow-lt {j = 1024} (lt-of-le-of-lt h (lit< tt))))
-
-fits-pow-down : (k : ℕ) → suc k ≤ 1022 → T (fits binary64 (fin false 1 (negsuc k)))
-unfolding fits
-fits-pow-down k h = and-i (leb (2 ^ suc k) (2 ^ 1074)) (ltb 1 (2 ^ 1024 * 2 ^ suc k)) (le→leb (2 ^ suc k) (2 ^ 1074) (pow-mono {j = 1074} (le-trans h (lit≤ tt)))) (lt→ltb 1 (2 ^ 1024 * 2 ^ suc k) (big (2 ^ suc k) (pow-pos (suc k))))
-  where
-    big : (p : ℕ) → 0 < p → 1 < 2 ^ 1024 * p
-    big p h = lt-of-lt-of-le (lit< {m = 1} {n = 2 ^ 1024} tt) (le-mul-of-pos-right (2 ^ 1024) h)
-
-mul-one-up : (n : ℕ) → n ≤ 1023 → mul binary64 one (fin false 1 (pos n)) ≡ fin false 1 (pos n)
-unfolding mul ofBits
-mul-one-up n h =
-    value-unique (round binary64 false (1 * (1 * 2 ^ n)) 1) (fin false 1 (pos n)) false (1 * (1 * 2 ^ n)) 1 (zero-lt-suc 0)
-    (round-fits binary64 false (1 * (1 * 2 ^ n)) 1) (fits-pow-up n h)
-    (round-exact binary64 false (1 * (1 * 2 ^ n)) 1 1 (n + 1074) (zero-lt-suc 0) (lit< tt)
-    (subst (λ (z : ℕ). z < 2 ^ 2098) (sym (one-mul (2 ^ (n + 1074)))) (pow-lt {j = 2098} (room n h)))
-    (ap (λ (z : ℕ). z * 2 ^ 1074) (one-mul (1 * 2 ^ n) ∙ one-mul (2 ^ n)) ∙ sym (pow-add 2 n 1074) ∙ sym (one-mul (2 ^ (n + 1074))) ∙ sym (mul-one (1 * 2 ^ (n + 1074)))))
-    (refl, ap (λ (z : ℕ). z * 1) (sym (one-mul (1 * 2 ^ n))))
-  where
-    room : (n : ℕ) → n ≤ 1023 → n + 1074 < 2098
+    room : (n : ℕ) → n ≤ 1023 → suc (1022 + n) < 2047
     room n h = omega arith
 
-mul-one-down : (k : ℕ) → suc k ≤ 1022 → mul binary64 one (fin false 1 (negsuc k)) ≡ fin false 1 (negsuc k)
-unfolding mul ofBits
-mul-one-down k h =
-    value-unique (round binary64 false 1 (1 * 2 ^ suc k)) (fin false 1 (negsuc k)) false 1 (1 * 2 ^ suc k) (mul-pos (zero-lt-suc 0) (pow-pos (suc k)))
-    (round-fits binary64 false 1 (1 * 2 ^ suc k)) (fits-pow-down k h)
-    (round-exact binary64 false 1 (1 * 2 ^ suc k) 1 (1074 - suc k) (mul-pos (zero-lt-suc 0) (pow-pos (suc k))) (lit< tt)
-    (subst (λ (z : ℕ). z < 2 ^ 2098) (sym (one-mul (2 ^ (1074 - suc k)))) (pow-lt {j = 2098} (room k)))
-    (one-mul (2 ^ 1074) ∙ ap (λ (z : ℕ). 2 ^ z) (back k h) ∙ pow-add 2 (1074 - suc k) (suc k) ∙ both (2 ^ (1074 - suc k)) (2 ^ suc k)))
-    (refl, one-mul (1 * 2 ^ suc k))
+bits-down : (k : ℕ) → suc k ≤ 1022 → ofBits binary64 ((1023 - suc k) * 4503599627370496) ≡ fin false 1 (negsuc k)
+bits-down k h = ap (λ (z : ℕ). ofBits binary64 (z * 4503599627370496)) (same k h) ∙ bits-pow (1021 - k) (room k) ∙ ap (λ (z : ℤ). fin false 1 z) (minus-down k (less k h))
   where
-    room : (k : ℕ) → 1074 - suc k < 2098
+    same : (k : ℕ) → suc k ≤ 1022 → 1023 - suc k ≡ suc (1021 - k)
+    same k h = omega arith
+
+    room : (k : ℕ) → suc (1021 - k) < 2047
     room k = omega arith
 
-    back : (k : ℕ) → suc k ≤ 1022 → 1074 ≡ 1074 - suc k + suc k
-    back k h = omega arith
+    less : (k : ℕ) → suc k ≤ 1022 → k ≤ 1021
+    less k h = omega arith
 
-    both : (a b : ℕ) → a * b ≡ 1 * a * (1 * b)
-    both a b = omega arith
+-- so these powers are f64s
+fits-up : (n : ℕ) → n ≤ 1023 → F64 (fin false 1 (pos n))
+fits-up n h = subst (λ (x : Float). F64 x) (bits-up n h) (ofBits-fits binary64 ((1023 + n) * 4503599627370496))
+
+fits-down : (k : ℕ) → suc k ≤ 1022 → F64 (fin false 1 (negsuc k))
+fits-down k h = subst (λ (x : Float). F64 x) (bits-down k h) (ofBits-fits binary64 ((1023 - suc k) * 4503599627370496))
 
 -- ---- the bits of a whole number from 2 ^ 52 to below 2 ^ 53
 whole-pattern : (j : ℕ) → j < 4503599627370496 → HasValue (ofBits binary64 (4841369599423283200 + j)) false (4503599627370496 + j) 1
@@ -158,21 +109,15 @@ whole-pattern j h =
     digits : (j : ℕ) → j < 4503599627370496 → (4841369599423283200 + j) % 4503599627370496 ≡ j
     digits j h = omega arith
 
-number : (x : Float) (s : Bool) (a c : ℕ) → HasValue x s a c → T (not (isNan x))
-unfolding isNan
-number nan s a c v = absurd v
-number (inf t) s a c v = tt
-number (fin t m e) s a c v = tt
-
-pub whole-bits : (t : Float) (j : ℕ) → j < 4503599627370496 → T (fits binary64 t) → HasValue t false (4503599627370496 + j) 1 → toBits binary64 t ≡ 4841369599423283200 + j
+whole-bits : (t : Float) (j : ℕ) → j < 4503599627370496 → F64 t → HasValue t false (4503599627370496 + j) 1 → toBits binary64 t ≡ 4841369599423283200 + j
 whole-bits t j h f v =
     ap (toBits binary64) (value-unique t (ofBits binary64 (4841369599423283200 + j)) false (4503599627370496 + j) 1 (zero-lt-suc 0) f (ofBits-fits binary64 (4841369599423283200 + j)) v (whole-pattern j h))
-    ∙ toBits-ofBits binary64 (4841369599423283200 + j) (low j h) (number (ofBits binary64 (4841369599423283200 + j)) false (4503599627370496 + j) 1 (whole-pattern j h))
+    ∙ toBits-ofBits binary64 (4841369599423283200 + j) (low j h) (fin-number (ofBits binary64 (4841369599423283200 + j)) (value-finite (ofBits binary64 (4841369599423283200 + j)) false (4503599627370496 + j) 1 (whole-pattern j h)))
   where
     low : (j : ℕ) → j < 4503599627370496 → 4841369599423283200 + j < 18446744073709551616
     low j h = omega arith
 
--- ---- 2 ^ w
+-- ---- a whole x, and its sum with the bias
 val-up : (n : ℕ) → n ≤ 1023 → HasValue (ofInt binary64 (pos n)) false n 1
 val-up n h = ofInt-val n (le-trans h (lit≤ tt))
 
@@ -184,7 +129,6 @@ neg-int : (k : ℕ) → neg (ofInt binary64 (negsuc k)) ≡ ofInt binary64 (pos 
 unfolding ofInt
 neg-int k = neg-round (suc k) 1
 
--- the sum with 1.5 * 2 ^ 52 + 1023
 sum-up : (n : ℕ) → n ≤ 1023 → HasValue (add binary64 (ofInt binary64 (pos n)) biased) false (n + 6755399441056767) 1
 unfolding ofBits
 sum-up n h =
@@ -211,7 +155,7 @@ sum-down k h =
     room : (k : ℕ) → 6755399441056767 - suc k ≤ 9007199254740992
     room k = omega arith
 
--- less it again is x
+-- less the bias again is x
 back-up : (n : ℕ) → n ≤ 1023 → sub binary64 (add binary64 (ofInt binary64 (pos n)) biased) biased ≡ ofInt binary64 (pos n)
 unfolding ofBits ofInt
 back-up n h =
@@ -238,45 +182,52 @@ back-down k h =
     at : (k : ℕ) → suc k ≤ 1022 → 6755399441056767 - (6755399441056767 - suc k) * 1 ≡ suc k
     at k h = omega arith
 
-scale-up : (n : ℕ) → n ≤ 1023 → scaleOf (add binary64 (ofInt binary64 (pos n)) biased) ≡ fin false 1 (pos n)
+-- t is the whole number 1.5 * 2 ^ 52 + F
+pub scale-at : (t : Float) (F : ℕ) → F ≤ 2046 → F64 t → HasValue t false (6755399441055744 + F) 1 → scaleOf t ≡ ofBits binary64 (F * 4503599627370496)
 unfolding scaleOf
-scale-up n h =
-    ap (λ (z : ℕ). ofBits binary64 (z % 4096 * 4503599627370496))
-    (whole-bits (add binary64 (ofInt binary64 (pos n)) biased) (n + 2251799813686271) (room n h) (add-fits binary64 (ofInt binary64 (pos n)) biased) (subst (λ (z : ℕ). HasValue (add binary64 (ofInt binary64 (pos n)) biased) false z 1) (same n) (sum-up n h)))
-    ∙ ap (λ (z : ℕ). ofBits binary64 (z * 4503599627370496)) (field n h) ∙ bits-up n h
+scale-at t F h f v =
+    ap (λ (z : ℕ). ofBits binary64 (z % 4096 * 4503599627370496)) (whole-bits t (2251799813685248 + F) (room F h) f (subst (λ (z : ℕ). HasValue t false z 1) (same F) v))
+    ∙ ap (λ (z : ℕ). ofBits binary64 (z * 4503599627370496)) (lowest-bits F h)
   where
-    room : (n : ℕ) → n ≤ 1023 → n + 2251799813686271 < 4503599627370496
+    room : (F : ℕ) → F ≤ 2046 → 2251799813685248 + F < 4503599627370496
+    room F h = omega arith
+
+    same : (F : ℕ) → 6755399441055744 + F ≡ 4503599627370496 + (2251799813685248 + F)
+    same F = omega arith
+
+    lowest-bits : (F : ℕ) → F ≤ 2046 → (4841369599423283200 + (2251799813685248 + F)) % 4096 ≡ F
+    lowest-bits F h = omega arith
+
+scale-up : (n : ℕ) → n ≤ 1023 → scaleOf (add binary64 (ofInt binary64 (pos n)) biased) ≡ fin false 1 (pos n)
+scale-up n h = scale-at (add binary64 (ofInt binary64 (pos n)) biased) (1023 + n) (room n h) (add-fits binary64 (ofInt binary64 (pos n)) biased) (subst (λ (z : ℕ). HasValue (add binary64 (ofInt binary64 (pos n)) biased) false z 1) (same n) (sum-up n h)) ∙ bits-up n h
+  where
+    room : (n : ℕ) → n ≤ 1023 → 1023 + n ≤ 2046
     room n h = omega arith
 
-    same : (n : ℕ) → n + 6755399441056767 ≡ 4503599627370496 + (n + 2251799813686271)
+    same : (n : ℕ) → n + 6755399441056767 ≡ 6755399441055744 + (1023 + n)
     same n = omega arith
 
-    field : (n : ℕ) → n ≤ 1023 → (4841369599423283200 + (n + 2251799813686271)) % 4096 ≡ 1023 + n
-    field n h = omega arith
-
 scale-down : (k : ℕ) → suc k ≤ 1022 → scaleOf (add binary64 (ofInt binary64 (negsuc k)) biased) ≡ fin false 1 (negsuc k)
-unfolding scaleOf
-scale-down k h =
-    ap (λ (z : ℕ). ofBits binary64 (z % 4096 * 4503599627370496))
-    (whole-bits (add binary64 (ofInt binary64 (negsuc k)) biased) (2251799813686271 - suc k) (room k) (add-fits binary64 (ofInt binary64 (negsuc k)) biased) (subst (λ (z : ℕ). HasValue (add binary64 (ofInt binary64 (negsuc k)) biased) false z 1) (same k h) (sum-down k h)))
-    ∙ ap (λ (z : ℕ). ofBits binary64 (z * 4503599627370496)) (field k h) ∙ bits-down k h
+scale-down k h = scale-at (add binary64 (ofInt binary64 (negsuc k)) biased) (1023 - suc k) (room k) (add-fits binary64 (ofInt binary64 (negsuc k)) biased) (subst (λ (z : ℕ). HasValue (add binary64 (ofInt binary64 (negsuc k)) biased) false z 1) (same k h) (sum-down k h)) ∙ bits-down k h
   where
-    room : (k : ℕ) → 2251799813686271 - suc k < 4503599627370496
+    room : (k : ℕ) → 1023 - suc k ≤ 2046
     room k = omega arith
 
-    same : (k : ℕ) → suc k ≤ 1022 → 6755399441056767 - suc k ≡ 4503599627370496 + (2251799813686271 - suc k)
+    same : (k : ℕ) → suc k ≤ 1022 → 6755399441056767 - suc k ≡ 6755399441055744 + (1023 - suc k)
     same k h = omega arith
 
-    field : (k : ℕ) → suc k ≤ 1022 → (4841369599423283200 + (2251799813686271 - suc k)) % 4096 ≡ 1023 - suc k
-    field k h = omega arith
+-- the rest is 0
+exp-zero : expPart zer ≡ one
+unfolding expPart sixOf ofBits add mul
+exp-zero = refl
 
 mid-up : (n : ℕ) → n ≤ 1023 → midOf (ofInt binary64 (pos n)) ≡ fin false 1 (pos n)
 unfolding midOf scaledOf
-mid-up n h = simp (back-up n h, self-zero (ofInt binary64 (pos n)) false n 1 (val-up n h), exp-zero, scale-up n h, mul-one-up n h)
+mid-up n h = simp (back-up n h, sub-self-zero (ofInt binary64 (pos n)) (value-finite (ofInt binary64 (pos n)) false n 1 (val-up n h)), exp-zero, scale-up n h, one-times (fin false 1 (pos n)) (fits-up n h))
 
 mid-down : (k : ℕ) → suc k ≤ 1022 → midOf (ofInt binary64 (negsuc k)) ≡ fin false 1 (negsuc k)
 unfolding midOf scaledOf
-mid-down k h = simp (back-down k h, self-zero (ofInt binary64 (negsuc k)) true (suc k) 1 (val-down k h), exp-zero, scale-down k h, mul-one-down k h)
+mid-down k h = simp (back-down k h, sub-self-zero (ofInt binary64 (negsuc k)) (value-finite (ofInt binary64 (negsuc k)) true (suc k) 1 (val-down k h)), exp-zero, scale-down k h, one-times (fin false 1 (negsuc k)) (fits-down k h))
 
 -- ---- 2 ^ x at whole x
 abbrev c1024 : Float
@@ -356,45 +307,33 @@ exp2-whole (pos n) h = exp2-up n h
 exp2-whole (negsuc k) h = exp2-down k h
 
 -- ---- outside
-wider : (n d : ℕ) → 1024 * d ≤ n * 1 → 1023 * d ≤ n * 1
-wider n d h = omega arith
-
-none : (a b : ℕ) → 0 < b → T (eqb b a && eqb b 0) → ⊥
-none a b p h = bad b p (eqb→eq b 0 (and-r (eqb b a) (eqb b 0) h))
-  where
-    bad : (b : ℕ) → 0 < b → b ≡ 0 → ⊥
-    bad b p e = omega arith
-
-above-less : (x : Float) → T (le c1024 x) → T (le c1023 x)
-unfolding le lt eq ofBits
-above-less nan h = absurd h
-above-less (inf true) h = absurd h
-above-less (inf false) h = tt
-above-less (fin true m e) h = absurd (none (m * up e * 1) (1024 * down e) (mul-pos {m = 1024} (lit< tt) (down-pos e)) h)
-above-less (fin false m e) h = le-of-values (fin false 1023 (pos 0)) (fin false m e) 1023 1 (m * up e) (down e) (zero-lt-suc 0) (down-pos e) (refl, refl) (refl, refl) (wider (m * up e) (down e) (values-le (fin false 1 (pos 10)) (fin false m e) 1024 1 (m * up e) (down e) (zero-lt-suc 0) (down-pos e) (refl, refl) (refl, refl) h))
+tops : T (le c1023 c1024) × T (le (neg c1022) c1023)
+unfolding le lt eq neg ofBits
+tops = (tt, tt)
 
 pub exp2-above : Exp2-above
 unfolding exp2Of
-exp2-above x h = simp (lt-false x c1023 (above-less x h), lt-false x c1024 h, is-true (le c1024 x) h)
+exp2-above x h = simp (lt-false x c1023 (float-le-trans c1023 c1024 x (tops .0) h), lt-false x c1024 h, is-true (le c1024 x) h)
 
-neg-below-top : (x : Float) → T (lt x (neg c1022)) → lt x c1023 ≡ true
-unfolding lt neg ofBits
-neg-below-top nan h = absurd h
-neg-below-top (inf true) h = refl
-neg-below-top (inf false) h = absurd h
-neg-below-top (fin false m e) h = absurd h
-neg-below-top (fin true m e) h = is-true (ltb 0 (m * up e * 1 + 1023 * down e)) (lt→ltb 0 (m * up e * 1 + 1023 * down e) (more (m * up e) (down e) (down-pos e)))
+-- what is below -1022 is below 1023
+low-below : (x : Float) → T (lt x (neg c1022)) → lt x c1023 ≡ true
+low-below x h = go (lt x c1023) refl
   where
-    more : (a d : ℕ) → 0 < d → 0 < a * 1 + 1023 * d
-    more a d h = omega arith
+    go : (b : Bool) → lt x c1023 ≡ b → b ≡ true
+    go true e = refl
+    go false e = absurd (lt-not-ge x (neg c1022) h (float-le-trans (neg c1022) c1023 x (tops .1) (le-of-lt-false x c1023 (lt-number x (neg c1022) (is-true (lt x (neg c1022)) h)) (unfold isNan ofBits in tt) e)))
 
 pub exp2-below : Exp2-below
 unfolding exp2Of
-exp2-below x h = simp (neg-below-top x h, le-false x (neg c1022) h)
+exp2-below x h = simp (low-below x h, le-false x (neg c1022) h)
 
 pub exp2-nan : Exp2-nan
 unfolding exp2Of lt le ofBits
 exp2-nan = refl
+
+pub exp2-minus-zero : Exp2-minus-zero
+unfolding exp2Of midOf scaledOf scaleOf expPart sixOf lt le eq neg add sub mul ofBits toBits size
+exp2-minus-zero = refl
 
 -- ---- 3000 ^ r
 pub pow3000-one : Pow3000-one
@@ -402,8 +341,12 @@ unfolding pow3000Of eq ofBits
 pow3000-one = refl
 
 pub pow3000-zero : Pow3000-zero
-unfolding pow3000Of exp2Of midOf scaledOf scaleOf expPart eq lt le neg add sub mul ofBits toBits size
+unfolding pow3000Of exp2Of midOf scaledOf scaleOf expPart sixOf eq lt le neg add sub mul ofBits toBits size
 pow3000-zero = refl
+
+pub pow3000-minus-zero : Pow3000-minus-zero
+unfolding pow3000Of exp2Of midOf scaledOf scaleOf expPart sixOf eq lt le neg add sub mul ofBits toBits size
+pow3000-minus-zero = refl
 
 pub pow3000-nan : Pow3000-nan
 unfolding pow3000Of exp2Of eq lt le mul ofBits

@@ -1,6 +1,6 @@
 -- The small functions on f64, as Rust's methods of the same names have them.
 -- The finite test is `isFin` of laws; bits are lib.Ieee's `toBits` and `ofBits`; casts its `toUnsigned` and `ofInt`.
-use mathlib.Core.Bool.{Bool, true, false, cond}
+use mathlib.Core.Bool.{false, cond}
 use Prim.Native.Nat.{ℕ}
 use lib.IntN.{pos}
 use lib.Ieee.{Float, nan, inf, fin, binary64, lt, isNan, ofInt, toUnsigned}

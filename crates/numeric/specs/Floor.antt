@@ -1,7 +1,7 @@
 -- The largest whole number that is not above x. A NaN, an infinity and a whole number (-0.0 too) are kept.
-use mathlib.Core.Bool.{Bool, true, false, cond}
-use Prim.Native.Nat.{ℕ, suc, _*_, _/_, _%_}
-use lib.IntN.{ℤ, pos}
+use mathlib.Core.Bool.{cond}
+use Prim.Native.Nat.{suc, _*_, _/_, _%_}
+use lib.IntN.{pos}
 use lib.Dec.{eqb}
 use lib.Ieee.{Float, nan, inf, fin, binary64, up, down, neg, ofInt}
 

@@ -4,3 +4,4 @@ pub mod Draw
 pub mod Power
 pub mod Trig
 pub mod Promises
+pub mod Settled

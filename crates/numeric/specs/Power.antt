@@ -1,31 +1,35 @@
 -- 2 ^ x and 3000 ^ r: this project's own definitions. Each operation is rounded once.
-use mathlib.Core.Bool.{Bool, true, false, cond}
-use Prim.Native.Nat.{ℕ, _*_, _%_}
+use mathlib.Core.Bool.{false, cond}
+use Prim.Native.Nat.{_*_, _%_}
 use lib.Ieee.{Float, nan, inf, binary64, lt, le, eq, neg, add, sub, mul, toBits, ofBits}
 use Rattle.laws.specs.Float.{zer, one, two}
 
--- 2 ^ f for an f from -1/2 to 1/2: 1 + c1 f + .. + c11 f ^ 11, c1 = ln 2 and the others nearly the best ones, summed in pairs of pairs.
--- With z = f ^ 2 and w = f ^ 4 it is ((1 + f c1) + z (c2 + f c3)) + w (((c4 + f c5) + z (c6 + f c7)) + w ((c8 + f c9) + z (c10 + f c11))).
+-- c0 + c1 z + .. + c5 z ^ 5, taken in pairs
+unfoldable pub sixOf : Float → Float → Float → Float → Float → Float → Float → Float
+sixOf z c0 c1 c2 c3 c4 c5 =
+    let w = mul binary64 z z in
+    add binary64 (add binary64 c0 (mul binary64 z c1))
+    (mul binary64 w (add binary64 (add binary64 c2 (mul binary64 z c3)) (mul binary64 w (add binary64 c4 (mul binary64 z c5)))))
+
+-- 2 ^ f for an f from -1/2 to 1/2: 1 + c1 f + .. + c11 f ^ 11, c1 = ln 2 and the others nearly the best ones.
+-- The even powers and the odd ones are two sums of one shape, which a processor works out side by side.
 unfoldable pub expPart : Float → Float
 expPart f =
     let z = mul binary64 f f in
-    let w = mul binary64 z z in
-    let c1 = ofBits binary64 0x3fe62e42fefa39ef in
-    let c2 = ofBits binary64 0x3fcebfbdff82c598 in
-    let c3 = ofBits binary64 0x3fac6b08d704a0c2 in
-    let c4 = ofBits binary64 0x3f83b2ab6fba1dda in
-    let c5 = ofBits binary64 0x3f55d87fe78a5276 in
-    let c6 = ofBits binary64 0x3f2430913096fd9f in
-    let c7 = ofBits binary64 0x3eeffcbfc670dcd4 in
-    let c8 = ofBits binary64 0x3eb62bfd47773353 in
-    let c9 = ofBits binary64 0x3e7b524fae627834 in
-    let c10 = ofBits binary64 0x3e3e6063f7217bc6 in
-    let c11 = ofBits binary64 0x3dfe9d3fe3952179 in
     add binary64
-    (add binary64 (add binary64 one (mul binary64 f c1)) (mul binary64 z (add binary64 c2 (mul binary64 f c3))))
-    (mul binary64 w (add binary64
-    (add binary64 (add binary64 c4 (mul binary64 f c5)) (mul binary64 z (add binary64 c6 (mul binary64 f c7))))
-    (mul binary64 w (add binary64 (add binary64 c8 (mul binary64 f c9)) (mul binary64 z (add binary64 c10 (mul binary64 f c11)))))))
+    (sixOf z one
+    (ofBits binary64 0x3fcebfbdff82c598)
+    (ofBits binary64 0x3f83b2ab6fba1dda)
+    (ofBits binary64 0x3f2430913096fd9f)
+    (ofBits binary64 0x3eb62bfd47773353)
+    (ofBits binary64 0x3e3e6063f7217bc6))
+    (mul binary64 f (sixOf z
+    (ofBits binary64 0x3fe62e42fefa39ef)
+    (ofBits binary64 0x3fac6b08d704a0c2)
+    (ofBits binary64 0x3f55d87fe78a5276)
+    (ofBits binary64 0x3eeffcbfc670dcd4)
+    (ofBits binary64 0x3e7b524fae627834)
+    (ofBits binary64 0x3dfe9d3fe3952179)))
 
 -- 1.5 * 2 ^ 52 + 1023: a number added to it comes out rounded to a whole k, and the lowest bits of the sum are 1023 + k,
 -- the exponent's field of 2 ^ k

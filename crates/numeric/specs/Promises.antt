@@ -1,13 +1,15 @@
--- What document 01 promises of these functions, for all x: the statements. proofs/Laws.antt proves each under the same name in small letters.
+-- What document 01 promises of these functions, for all x, and what the crates above need of them: the statements.
+-- proofs/Laws.antt has the proof of each under the same name in small letters.
 use mathlib.Core.Path.{_≡_}
 use mathlib.Core.Bool.{Bool, true, false, not, cond}
+use mathlib.Core.Logic.{_⊎_}
 use Prim.Native.Nat.{ℕ, suc, _+_, _-_, _*_, _^_, _≤_, _<_}
 use lib.IntN.{ℤ, pos, negsuc}
 use lib.Dec.{T, ltb}
 use lib.Ieee.{Float, nan, inf, fin, binary64, up, down, lt, le, neg, sub, ofInt, ofBits, isNan}
 use lib.Ieee.Exact.{HasValue}
 use Rattle.laws.specs.Float.{zer, one, F64, isFin, InUnit}
-use Rattle.numeric.specs.Basic.{fabsOf, clampOf, minOf, maxOf, wholeOf, realOf}
+use Rattle.numeric.specs.Basic.{clampOf, minOf, maxOf, wholeOf, realOf}
 use Rattle.numeric.specs.Floor.{floorOf}
 use Rattle.numeric.specs.Draw.{drawOf, bipolarOf}
 use Rattle.numeric.specs.Power.{exp2Of, pow3000Of}
@@ -36,6 +38,13 @@ Sin-zero = sinOf zer ≡ zer
 abbrev pub Cos-zero : Type 0
 Cos-zero = cosOf zer ≡ one
 
+-- -0.0 is a 0 too
+abbrev pub Sin-minus-zero : Type 0
+Sin-minus-zero = sinOf (neg zer) ≡ zer
+
+abbrev pub Cos-minus-zero : Type 0
+Cos-minus-zero = cosOf (neg zer) ≡ one
+
 -- ---- 2 ^ x
 -- z is from -1022 to 1023
 abbrev pub InRange : ℤ → Type 0
@@ -46,6 +55,10 @@ InRange (negsuc k) = suc k ≤ 1022
 abbrev pub Exp2-whole : Type 0
 Exp2-whole = (z : ℤ) → InRange z → exp2Of (ofInt binary64 z) ≡ fin false 1 z
 
+-- and -0.0 is whole
+abbrev pub Exp2-minus-zero : Type 0
+Exp2-minus-zero = exp2Of (neg zer) ≡ one
+
 -- +infinity from 1024 on
 abbrev pub Exp2-above : Type 0
 Exp2-above = (x : Float) → T (le (ofBits binary64 0x4090000000000000) x) → exp2Of x ≡ inf false
@@ -54,18 +67,30 @@ Exp2-above = (x : Float) → T (le (ofBits binary64 0x4090000000000000) x) → e
 abbrev pub Exp2-below : Type 0
 Exp2-below = (x : Float) → T (lt x (neg (ofBits binary64 0x408ff00000000000))) → exp2Of x ≡ zer
 
+-- NaN of NaN
 abbrev pub Exp2-nan : Type 0
 Exp2-nan = exp2Of nan ≡ nan
+
+-- and a number of a number
+abbrev pub Exp2-number : Type 0
+Exp2-number = (x : Float) → T (not (isNan x)) → T (not (isNan (exp2Of x)))
 
 -- ---- 3000 ^ r
 abbrev pub Pow3000-zero : Type 0
 Pow3000-zero = pow3000Of zer ≡ one
+
+abbrev pub Pow3000-minus-zero : Type 0
+Pow3000-minus-zero = pow3000Of (neg zer) ≡ one
 
 abbrev pub Pow3000-one : Type 0
 Pow3000-one = pow3000Of one ≡ ofBits binary64 0x40a7700000000000
 
 abbrev pub Pow3000-nan : Type 0
 Pow3000-nan = pow3000Of nan ≡ nan
+
+-- a number of a number, outside [0, 1] too
+abbrev pub Pow3000-number : Type 0
+Pow3000-number = (r : Float) → T (not (isNan r)) → T (not (isNan (pow3000Of r)))
 
 -- ---- the draw
 -- k * 2 ^ -53, nothing lost
@@ -103,13 +128,21 @@ Clamp-range = (x lo hi : Float) → T (le lo hi) → T (not (isNan x)) → T (le
 abbrev pub Clamp-nan : Type 0
 Clamp-nan = (lo hi : Float) → clampOf nan lo hi ≡ nan
 
--- min and max are one of their arguments, below or above both unless one is NaN, and with one NaN the other
+-- min and max are one of their arguments
+abbrev pub Min-either : Type 0
+Min-either = (a b : Float) → (minOf a b ≡ a) ⊎ (minOf a b ≡ b)
+
+abbrev pub Max-either : Type 0
+Max-either = (a b : Float) → (maxOf a b ≡ a) ⊎ (maxOf a b ≡ b)
+
+-- not above, not below, each of them that is a number
 abbrev pub Min-range : Type 0
-Min-range = (a b : Float) → T (not (isNan a)) → T (not (isNan b)) → T (le (minOf a b) a) × T (le (minOf a b) b)
+Min-range = (a b : Float) → (T (not (isNan a)) → T (le (minOf a b) a)) × (T (not (isNan b)) → T (le (minOf a b) b))
 
 abbrev pub Max-range : Type 0
-Max-range = (a b : Float) → T (not (isNan a)) → T (not (isNan b)) → T (le a (maxOf a b)) × T (le b (maxOf a b))
+Max-range = (a b : Float) → (T (not (isNan a)) → T (le a (maxOf a b))) × (T (not (isNan b)) → T (le b (maxOf a b)))
 
+-- with one NaN, the other
 abbrev pub Min-nan : Type 0
 Min-nan = (x : Float) → (minOf nan x ≡ x) × (minOf x nan ≡ x)
 

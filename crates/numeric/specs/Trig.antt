@@ -1,5 +1,5 @@
 -- Sine and cosine of radians, |x| at most 512: this project's own definitions. Each operation is rounded once.
-use mathlib.Core.Bool.{Bool, true, false, cond}
+use mathlib.Core.Bool.{Bool, false, cond}
 use Prim.Native.Nat.{ℕ, _+_, _%_}
 use lib.Dec.{eqb}
 use lib.Ieee.{Float, nan, binary64, le, neg, add, sub, mul, toBits, ofBits}

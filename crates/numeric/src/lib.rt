@@ -10,7 +10,7 @@ ghost use Rattle.laws.specs.Float.{isFin, one};
 ghost use Rattle.numeric.specs.Basic.{fabsOf, clampOf, minOf, maxOf, wholeOf, realOf};
 ghost use Rattle.numeric.specs.Floor.{floorOf};
 ghost use Rattle.numeric.specs.Draw.{drawOf, bipolarOf};
-ghost use Rattle.numeric.specs.Power.{expPart, scaleOf, midOf, exp2Of, pow3000Of};
+ghost use Rattle.numeric.specs.Power.{sixOf, expPart, scaleOf, midOf, exp2Of, pow3000Of};
 ghost use Rattle.numeric.specs.Trig.{pairsOf, kernelSin, kernelCos, isNear, restOf, quadrant, boundOf, turnedOf, farOf, sinOf, cosOf};
 
 // ---- small functions
@@ -169,19 +169,38 @@ pub fn bipolar(k: u64) -> f64
 
 // ---- powers
 
-// 2^f for an f from -1/2 to 1/2.
+// A polynomial of degree 5, in pairs.
+fn six(z: f64, c0: f64, c1: f64, c2: f64, c3: f64, c4: f64, c5: f64) -> f64
+    ensures { λ v. ⌜ v ≡ sixOf z c0 c1 c2 c3 c4 c5 ⌝ }
+{
+    let w = z * z;
+    (c0 + z * c1) + w * ((c2 + z * c3) + w * (c4 + z * c5))
+}
+
+// 2^f for an f from -1/2 to 1/2: the even powers and the odd ones.
 fn exp_part(f: f64) -> f64
     ensures { λ r. ⌜ r ≡ expPart f ⌝ }
 {
     let z = f * f;
-    let w = z * z;
-    ((1.0 + f * 0.6931471805599453) + z * (0.24022650695910097 + f * 0.0555041086648216))
-        + w
-            * (((0.009618129107606888 + f * 0.0013333558146416936)
-                + z * (0.0001540353044173605 + f * 1.525273382983612e-05))
-                + w
-                    * ((1.321544258792169e-06 + f * 1.0178062445845774e-07)
-                        + z * (7.072585949269223e-09 + f * 4.4549605981865186e-10)))
+    six(
+        z,
+        1.0,
+        0.24022650695910097,
+        0.009618129107606888,
+        0.0001540353044173605,
+        1.321544258792169e-06,
+        7.072585949269223e-09,
+    )
+        + f
+            * six(
+                z,
+                0.6931471805599453,
+                0.0555041086648216,
+                0.0013333558146416936,
+                1.525273382983612e-05,
+                1.0178062445845774e-07,
+                4.4549605981865186e-10,
+            )
 }
 
 // The power of two whose exponent's field stands in the lowest bits of t.

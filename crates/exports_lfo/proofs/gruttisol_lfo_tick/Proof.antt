@@ -1,8 +1,8 @@
-use borrow.Author.Tests.{eq-eqb, ne-eqb}
 use mathlib.Core.Path.{sym, _∙_}
-use Rattle.exports_lfo.specs.Calls.{lfoTickAt, heardSized}
-use Rattle.exports_lfo.proofs.Slices.{tick-sized}
 use borrow.Author.Needs.{needs}
+use borrow.Author.Tests.{ne-eqb, eq-eqb}
+use Rattle.exports_lfo.proofs.Slices.{tick-sized}
+use Rattle.exports_lfo.specs.Calls.{heardSized, lfoTickAt}
 use Rattle.exports_lfo.proofs.gruttisol_lfo_tick.Statement.{statement}
 use Rattle.exports_lfo.proofs.gruttisol_lfo_tick.Tie as tie
 

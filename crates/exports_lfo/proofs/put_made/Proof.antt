@@ -1,5 +1,5 @@
-use Rattle.exports_lfo.specs.Calls.{keptOf}
 use borrow.Author.Needs.{needs}
+use Rattle.exports_lfo.specs.Calls.{keptOf}
 use Rattle.exports_lfo.proofs.put_made.Statement.{statement}
 use Rattle.exports_lfo.proofs.put_made.Tie as tie
 

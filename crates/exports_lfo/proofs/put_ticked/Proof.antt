@@ -1,6 +1,6 @@
-use Rattle.exports_lfo.specs.Calls.{heardOf}
-use Rattle.answer.specs.Answer.{accepted, markNumber, voltsOf, refusalOf}
 use borrow.Author.Needs.{needs}
+use Rattle.answer.specs.Answer.{markNumber, voltsOf, refusalOf, accepted}
+use Rattle.exports_lfo.specs.Calls.{heardOf}
 use Rattle.exports_lfo.proofs.put_ticked.Statement.{statement}
 use Rattle.exports_lfo.proofs.put_ticked.Tie as tie
 

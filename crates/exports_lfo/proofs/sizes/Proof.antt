@@ -1,4 +1,4 @@
-use borrow.Author.Tests.{eq-eqb, ne-eqb}
+use borrow.Author.Tests.{ne-eqb, eq-eqb}
 use Rattle.exports_lfo.specs.State.{sizesOf}
 use Rattle.exports_lfo.proofs.sizes.Statement.{statement}
 use Rattle.exports_lfo.proofs.sizes.Tie as tie

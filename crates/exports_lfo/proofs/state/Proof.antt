@@ -1,6 +1,6 @@
 use mathlib.Core.Path.{refl}
-use Rattle.exports_lfo.specs.State.{stateOf}
 use borrow.Author.Needs.{needs}
+use Rattle.exports_lfo.specs.State.{stateOf}
 use Rattle.exports_lfo.proofs.state.Statement.{statement}
 use Rattle.exports_lfo.proofs.state.Tie as tie
 

@@ -1,6 +1,6 @@
-use borrow.Author.Tests.{eq-eqb, ne-eqb}
-use Rattle.exports_lfo.specs.State.{tickSizesOf}
 use borrow.Author.Needs.{needs}
+use borrow.Author.Tests.{ne-eqb, eq-eqb}
+use Rattle.exports_lfo.specs.State.{tickSizesOf}
 use Rattle.exports_lfo.proofs.tick_sizes.Statement.{statement}
 use Rattle.exports_lfo.proofs.tick_sizes.Tie as tie
 

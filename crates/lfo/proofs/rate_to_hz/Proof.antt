@@ -1,5 +1,5 @@
-use Rattle.lfo.specs.Waves.{rateToHz}
 use borrow.Author.Needs.{needs}
+use Rattle.lfo.specs.Waves.{rateToHz}
 use Rattle.lfo.proofs.rate_to_hz.Statement.{statement}
 use Rattle.lfo.proofs.rate_to_hz.Tie as tie
 

@@ -1,5 +1,5 @@
-use Rattle.common.specs.Memo.{recall1}
 use borrow.Author.Needs.{needs}
+use Rattle.common.specs.Memo.{recall1}
 use Rattle.lfo.proofs.recall.Statement.{statement}
 use Rattle.lfo.proofs.recall.Tie as tie
 

@@ -1,5 +1,5 @@
-use Rattle.lfo.specs.Waves.{sineOf}
 use borrow.Author.Needs.{needs}
+use Rattle.lfo.specs.Waves.{sineOf}
 use Rattle.lfo.proofs.sine.Statement.{statement}
 use Rattle.lfo.proofs.sine.Tie as tie
 

@@ -1,5 +1,5 @@
-use Rattle.lfo.specs.Waves.{triWave}
 use borrow.Author.Needs.{needs}
+use Rattle.lfo.specs.Waves.{triWave}
 use Rattle.lfo.proofs.tri.Statement.{statement}
 use Rattle.lfo.proofs.tri.Tie as tie
 

@@ -1,3 +1,4 @@
+-- bipolar: twice what draw ensures, less 1.
 use borrow.Author.Needs.{needs}
 use Rattle.numeric.specs.Draw.{bipolarOf}
 use Rattle.numeric.proofs.bipolar.Statement.{statement}

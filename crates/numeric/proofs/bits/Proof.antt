@@ -1,19 +1,15 @@
-use mathlib.Core.Bool.{false, not}
-use mathlib.Core.Path.{_≡_, refl, sym, ap, subst}
+-- bits: `x != x` holds of the NaN alone, so `to_bits` is asked of a number.
+use mathlib.Core.Path.{_∙_, ap, refl, subst, sym}
 use lib.Dec.{T}
-use lib.Ieee.{Float, binary64, isNan, nan, inf, fin, toBits, ne}
+use lib.Ieee.{binary64, isNan, toBits}
 use lib.Ieee.Compare.{differs-from-itself}
+use Rattle.laws.proofs.Order.{nan-test}
+use Rattle.laws.proofs.Tests.{of-false}
 use Rattle.numeric.proofs.bits.Statement.{statement}
 use Rattle.numeric.proofs.bits.Tie as tie
 
-number : (x : Float) → ne x x ≡ false → T (not (isNan x))
-unfolding ne isNan
-number nan h = subst T h tt
-number (inf s) h = tt
-number (fin s m e) h = tt
-
 float-to-bits-result : tie.Need-float-to-bits-result
-float-to-bits-result c = number (c .before .args .x) (c .if1 .left)
+float-to-bits-result c = of-false (isNan (c .before .args .x)) (sym (nan-test (c .before .args .x)) ∙ c .if1 .left)
 
 returns : tie.Need-returns
 unfolding toBits

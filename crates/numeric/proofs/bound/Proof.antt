@@ -1,3 +1,4 @@
+-- bound: each branch is a case of boundOf.
 use borrow.Author.Needs.{needs}
 use Rattle.numeric.specs.Trig.{boundOf}
 use Rattle.numeric.proofs.bound.Statement.{statement}

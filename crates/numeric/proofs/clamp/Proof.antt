@@ -1,3 +1,4 @@
+-- clamp: each branch is a case of clampOf.
 use Rattle.numeric.specs.Basic.{clampOf}
 use Rattle.numeric.proofs.clamp.Statement.{statement}
 use Rattle.numeric.proofs.clamp.Tie as tie

@@ -1,3 +1,4 @@
+-- cos: near what kernel_cos ensures, else what far does.
 use borrow.Author.Needs.{needs}
 use Rattle.numeric.specs.Trig.{cosOf}
 use Rattle.numeric.proofs.cos.Statement.{statement}

@@ -1,3 +1,4 @@
+-- draw: what of_u64 ensures, times 2 ^ -53.
 use borrow.Author.Needs.{needs}
 use Rattle.numeric.specs.Draw.{drawOf}
 use Rattle.numeric.proofs.draw.Statement.{statement}

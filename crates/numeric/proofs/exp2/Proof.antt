@@ -1,7 +1,7 @@
-use mathlib.Core.Bool.{false}
-use lib.Ieee.{binary64, ofBits, div}
-use lib.IntN.{pos}
-use Rattle.laws.proofs.Number.{sub-number, lt-number}
+-- exp2: each branch is a case of exp2Of; what is compared is a number, as mid asks.
+use lib.Ieee.{binary64, div, ofBits}
+use Rattle.laws.proofs.Number.{lt-number, sub-number}
+use Rattle.laws.specs.Float.{one}
 use Rattle.numeric.specs.Power.{exp2Of}
 use Rattle.numeric.proofs.exp2.Statement.{statement}
 use Rattle.numeric.proofs.exp2.Tie as tie
@@ -11,7 +11,7 @@ mid-requires c κs = lt-number (c .before .before .args .x) (ofBits binary64 0x4
 
 mid-requires-2 : tie.Need-mid-requires-2
 unfolding ofBits
-mid-requires-2 c κs = sub-number (c .before .before .args .x) false 1 (pos 0) (lt-number (c .before .before .args .x) (ofBits binary64 0x4090000000000000) (c .if3 .taken))
+mid-requires-2 c κs = sub-number (c .before .before .args .x) one tt (lt-number (c .before .before .args .x) (ofBits binary64 0x4090000000000000) (c .if3 .taken))
 
 returns : tie.Need-returns
 unfolding exp2Of ofBits div

@@ -1,3 +1,4 @@
+-- fabs: x above 0 is its own size, and any other is taken off 0.
 use lib.Ieee.{binary64, fits}
 use Rattle.laws.proofs.Tests.{of-true}
 use Rattle.numeric.proofs.BasicLaws.{fabs-kept, fabs-turned}

@@ -1,4 +1,5 @@
-use lib.Ieee.{binary64, ofBits, div}
+-- far: each branch is a case of farOf; what is compared is a number, as turned asks.
+use lib.Ieee.{binary64, div, ofBits}
 use Rattle.laws.proofs.Number.{le-number}
 use Rattle.numeric.specs.Trig.{farOf}
 use Rattle.numeric.proofs.far.Statement.{statement}

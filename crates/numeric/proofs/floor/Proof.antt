@@ -1,9 +1,9 @@
-use mathlib.Core.Path.{sym, _∙_}
+-- floor: the four ways of MagicFloor.
+use mathlib.Core.Path.{_∙_, sym}
 use lib.Ieee.{binary64, fits}
 use borrow.Author.Needs.{needs}
 use Rattle.laws.proofs.Tests.{of-true}
-use types.Kit.{pick}
-use Rattle.numeric.proofs.MagicFloor.{floor-up, floor-down, floor-high, floor-low}
+use Rattle.numeric.proofs.MagicFloor.{floor-down, floor-high, floor-low, floor-up}
 use Rattle.numeric.proofs.floor.Statement.{statement}
 use Rattle.numeric.proofs.floor.Tie as tie
 

@@ -1,10 +1,9 @@
-use lib.Ieee.{ofBits}
+-- is_finite: x - x is 0 exactly where x is finite.
 use Rattle.numeric.proofs.BasicLaws.{finite-test}
 use Rattle.numeric.proofs.is_finite.Statement.{statement}
 use Rattle.numeric.proofs.is_finite.Tie as tie
 
 returns : tie.Need-returns
-unfolding ofBits
 returns c = finite-test (c .args .x)
 
 pub is-finite-spec : {M : Type 1} → statement M

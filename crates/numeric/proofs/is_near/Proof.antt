@@ -1,3 +1,4 @@
+-- is_near: each branch is a case of isNear.
 use Rattle.numeric.specs.Trig.{isNear}
 use Rattle.numeric.proofs.is_near.Statement.{statement}
 use Rattle.numeric.proofs.is_near.Tie as tie

@@ -1,3 +1,4 @@
+-- kernel_cos: what pairs ensures, times z, off 1.
 use borrow.Author.Needs.{needs}
 use Rattle.numeric.specs.Trig.{kernelCos}
 use Rattle.numeric.proofs.kernel_cos.Statement.{statement}

@@ -1,3 +1,4 @@
+-- kernel_sin: what pairs ensures, times z and r, off r.
 use borrow.Author.Needs.{needs}
 use Rattle.numeric.specs.Trig.{kernelSin}
 use Rattle.numeric.proofs.kernel_sin.Statement.{statement}

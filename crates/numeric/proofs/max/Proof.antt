@@ -1,4 +1,5 @@
-use mathlib.Core.Path.{sym, _∙_}
+-- max: each branch is a case of maxOf, `b != b` being the test for a NaN.
+use mathlib.Core.Path.{_∙_, sym}
 use Rattle.laws.proofs.Order.{nan-test}
 use Rattle.numeric.specs.Basic.{maxOf}
 use Rattle.numeric.proofs.max.Statement.{statement}

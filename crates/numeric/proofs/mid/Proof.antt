@@ -1,9 +1,8 @@
-use mathlib.Core.Bool.{false}
+-- mid: what exp_part and scale ensure; x plus the bias is a number, as scale asks.
 use lib.Ieee.{ofBits}
-use lib.IntN.{pos}
 use borrow.Author.Needs.{needs}
 use Rattle.laws.proofs.Number.{add-number}
-use Rattle.numeric.specs.Power.{scaledOf, midOf}
+use Rattle.numeric.specs.Power.{biased, midOf, scaledOf}
 use Rattle.numeric.proofs.mid.Statement.{statement}
 use Rattle.numeric.proofs.mid.Tie as tie
 
@@ -12,7 +11,7 @@ exp-part-requires c κs = search needs
 
 scale-requires : tie.Need-scale-requires
 unfolding ofBits
-scale-requires c κs = add-number (c .before .args .x) false 6755399441056767 (pos 0) (c .before .pre)
+scale-requires c κs = add-number (c .before .args .x) biased tt (c .before .pre)
 
 returns : tie.Need-returns
 unfolding midOf scaledOf

@@ -1,4 +1,5 @@
-use mathlib.Core.Path.{sym, _∙_}
+-- min: each branch is a case of minOf, `b != b` being the test for a NaN.
+use mathlib.Core.Path.{_∙_, sym}
 use Rattle.laws.proofs.Order.{nan-test}
 use Rattle.numeric.specs.Basic.{minOf}
 use Rattle.numeric.proofs.min.Statement.{statement}

@@ -1,6 +1,7 @@
+-- of_bits: up to infinity the pattern is no NaN's, beyond it is one.
 use mathlib.Core.Path.{refl}
-use lib.Ieee.{ofBits, div}
-use Rattle.numeric.proofs.BasicLaws.{quiet-bits, nan-bits}
+use lib.Ieee.{div, ofBits}
+use Rattle.numeric.proofs.BasicLaws.{nan-bits, quiet-bits}
 use Rattle.numeric.proofs.of_bits.Statement.{statement}
 use Rattle.numeric.proofs.of_bits.Tie as tie
 

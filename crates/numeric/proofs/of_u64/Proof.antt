@@ -1,3 +1,4 @@
+-- of_u64: what the library's conversion ensures.
 use borrow.Author.Needs.{needs}
 use Rattle.numeric.proofs.of_u64.Statement.{statement}
 use Rattle.numeric.proofs.of_u64.Tie as tie

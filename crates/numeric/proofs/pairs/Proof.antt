@@ -1,3 +1,4 @@
+-- pairs: the same operations in the same order.
 use mathlib.Core.Path.{refl}
 use Rattle.numeric.specs.Trig.{pairsOf}
 use Rattle.numeric.proofs.pairs.Statement.{statement}

@@ -1,3 +1,4 @@
+-- pick: each branch is a case of its contract.
 use Rattle.numeric.proofs.pick.Statement.{statement}
 use Rattle.numeric.proofs.pick.Tie as tie
 

@@ -1,3 +1,4 @@
+-- pow3000: 3000 at 1, else what exp2 ensures.
 use borrow.Author.Needs.{needs}
 use Rattle.numeric.specs.Power.{pow3000Of}
 use Rattle.numeric.proofs.pow3000.Statement.{statement}

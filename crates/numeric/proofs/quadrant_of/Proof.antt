@@ -1,5 +1,6 @@
+-- quadrant_of: each branch is a case of quadrant.
 use borrow.Author.Needs.{needs}
-use Rattle.laws.proofs.Tests.{eqb-yes, eqb-no}
+use Rattle.laws.proofs.Tests.{eqb-no, eqb-yes}
 use Rattle.numeric.specs.Trig.{quadrant}
 use Rattle.numeric.proofs.quadrant_of.Statement.{statement}
 use Rattle.numeric.proofs.quadrant_of.Tie as tie

@@ -1,3 +1,4 @@
+-- rest: the same operations in the same order.
 use mathlib.Core.Path.{refl}
 use Rattle.numeric.specs.Trig.{restOf}
 use Rattle.numeric.proofs.rest.Statement.{statement}

@@ -1,3 +1,4 @@
+-- scale: a multiple of 2 ^ 52 is no NaN's pattern.
 use mathlib.Core.Path.{refl}
 use borrow.Author.Needs.{needs}
 use Rattle.laws.proofs.Values.{no-nan-bits}

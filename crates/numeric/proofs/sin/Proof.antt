@@ -1,3 +1,4 @@
+-- sin: near what kernel_sin ensures, else what far does.
 use borrow.Author.Needs.{needs}
 use Rattle.numeric.specs.Trig.{sinOf}
 use Rattle.numeric.proofs.sin.Statement.{statement}

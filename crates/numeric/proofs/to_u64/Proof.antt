@@ -1,8 +1,9 @@
-use mathlib.Core.Path.{sym, subst}
+-- to_u64: between the tests the library's cast, outside them an end of the range.
+use mathlib.Core.Path.{subst, sym}
 use lib.Dec.{T}
-use lib.Ieee.{ofBits, neg}
+use lib.Ieee.{neg, ofBits}
 use borrow.Author.Needs.{needs}
-use Rattle.numeric.proofs.BasicLaws.{low-is, high-is}
+use Rattle.numeric.proofs.BasicLaws.{high-is, low-is}
 use Rattle.numeric.proofs.to_u64.Statement.{statement}
 use Rattle.numeric.proofs.to_u64.Tie as tie
 

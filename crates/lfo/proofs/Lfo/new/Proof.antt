@@ -1,5 +1,5 @@
-use Rattle.lfo.specs.Lfo.{lfoNewOf, newLfo}
 use borrow.Author.Needs.{needs}
+use Rattle.lfo.specs.Lfo.{newLfo, lfoNewOf}
 use Rattle.lfo.proofs.Lfo.new.Statement.{statement}
 use Rattle.lfo.proofs.Lfo.new.Tie as tie
 

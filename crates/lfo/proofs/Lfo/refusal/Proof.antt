@@ -1,5 +1,5 @@
-use Rattle.lfo.specs.Lfo.{lfoRefusalOf}
 use borrow.Author.Needs.{needs}
+use Rattle.lfo.specs.Lfo.{lfoRefusalOf}
 use Rattle.lfo.proofs.Lfo.refusal.Statement.{statement}
 use Rattle.lfo.proofs.Lfo.refusal.Tie as tie
 

@@ -1,6 +1,6 @@
-use borrow.Author.Tests.{eq-eqb, ne-eqb}
-use Rattle.lfo.specs.Lfo.{lfoResetOf, madeUnless}
 use borrow.Author.Needs.{needs}
+use borrow.Author.Tests.{ne-eqb, eq-eqb}
+use Rattle.lfo.specs.Lfo.{madeUnless, lfoResetOf}
 use Rattle.lfo.proofs.Lfo.reset.Statement.{statement}
 use Rattle.lfo.proofs.Lfo.reset.Tie as tie
 

@@ -1,6 +1,6 @@
-use borrow.Author.Tests.{eq-eqb, ne-eqb}
-use Rattle.lfo.specs.Lfo.{lfoSetSampleRateOf, madeUnless}
 use borrow.Author.Needs.{needs}
+use borrow.Author.Tests.{ne-eqb, eq-eqb}
+use Rattle.lfo.specs.Lfo.{madeUnless, lfoSetSampleRateOf}
 use Rattle.lfo.proofs.Lfo.set_sample_rate.Statement.{statement}
 use Rattle.lfo.proofs.Lfo.set_sample_rate.Tie as tie
 

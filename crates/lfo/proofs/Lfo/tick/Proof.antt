@@ -1,6 +1,6 @@
-use borrow.Author.Tests.{eq-eqb, ne-eqb}
-use Rattle.lfo.specs.Lfo.{lfoTickOf}
 use borrow.Author.Needs.{needs}
+use borrow.Author.Tests.{ne-eqb, eq-eqb}
+use Rattle.lfo.specs.Lfo.{lfoTickOf}
 use Rattle.lfo.proofs.Lfo.tick.Statement.{statement}
 use Rattle.lfo.proofs.Lfo.tick.Tie as tie
 

@@ -1,0 +1,26 @@
+-- What is stored is read back, and each contract, being one equation, settles what it speaks of.
+use mathlib.Core.Bool.{Bool, true, false, not, cond}
+use mathlib.Core.Path.{_≡_, refl}
+use lib.Dec.{eqb}
+use Rattle.exports_lfo.specs.Calls.{lfoNewAt, lfoResetAt, lfoSetSampleRateAt, lfoTickAt}
+use Rattle.exports_lfo.specs.Promises.{Read-back, Settled}
+use Rattle.exports_lfo.specs.State.{stateOf, floatsOf, wholesOf}
+use Rattle.laws.proofs.Settled as laws
+use Rattle.lfo.specs.declared.Lfo.{Lfo}
+
+flag : (b : Bool) → not (eqb (cond b 1 0) 0) ≡ b
+flag true = refl
+flag false = refl
+
+pub read-back : Read-back
+unfolding stateOf floatsOf wholesOf
+read-back s = simp flag
+
+pub settled : Settled
+settled =
+    record {
+      new = λ rate f w. laws.settled (lfoNewAt rate f w);
+      tick = λ rate depth reset wanted f w o. laws.settled (lfoTickAt rate depth reset wanted f w o);
+      reset = λ f w. laws.settled (lfoResetAt f w);
+      «set_sample_rate» = λ rate f w. laws.settled (lfoSetSampleRateAt rate f w);
+    }

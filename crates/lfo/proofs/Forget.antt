@@ -1,0 +1,61 @@
+-- Demand 3: the tick that takes the reset edge leaves what a new Lfo would, and answers what it would.
+use mathlib.Core.Bool.{true}
+use mathlib.Core.List.{_∷_}
+use mathlib.Core.Logic.{inl}
+use mathlib.Core.Path.{_≡_, refl, sym, ap, _∙_}
+use Prim.Native.Nat.{ℕ}
+use lib.Ieee.{Float, lt, le, ofBits}
+use Rattle.common.proofs.EdgeLaws.{rises-new, gate-above}
+use Rattle.common.proofs.MemoLaws.{recall1-is}
+use Rattle.common.specs.Consts.{gateThreshold, five}
+use Rattle.common.specs.Edge.{risesAbove, risingAboveOf, risingOf}
+use Rattle.common.specs.Memo.{newMemo1}
+use Rattle.laws.specs.Float.{F64}
+use Rattle.laws.specs.Machine.{replies, more}
+use Rattle.lfo.proofs.Reached.{Good, tick-sounds, good-new, good, never-refused}
+use Rattle.lfo.specs.Calls.{after, reply, Tick, Ticked}
+use Rattle.lfo.specs.Lfo.{newLfo, lfoNewOf, lfoSoundOf, lfoTickOf}
+use Rattle.lfo.specs.Promises.{takesEdge, Forgets, Edge-comes}
+use Rattle.lfo.specs.Waves.{rateToHz, restartOf}
+use Rattle.common.specs.declared.EdgeDetector.{EdgeDetector}
+use Rattle.lfo.specs.declared.Lfo.{Lfo}
+use Rattle.lfo.specs.declared.LfoControls.{LfoControls}
+use Rattle.lfo.specs.declared.LfoTicked.{LfoTicked}
+
+struck : (s : Lfo) (c : LfoControls) (w : ℕ) → Good s → F64 (c .rate) → takesEdge s c ≡ true → lfoSoundOf s c w ≡ lfoSoundOf (newLfo (s .«sample_rate»)) c w
+unfolding lfoSoundOf newLfo risingOf risingAboveOf restartOf
+struck s c w g f e =
+    simp (recall1-is rateToHz (s .«freq_memo») (g .memo) (c .rate) f, recall1-is rateToHz newMemo1 (inl refl) (c .rate) f, e, rises-new gateThreshold (s .«reset_edge» .prev) (c .reset) gate-above e)
+
+struck-tick : (s : Lfo) (c : LfoControls) (w : ℕ) → Good s → F64 (c .rate) → takesEdge s c ≡ true → lfoTickOf s c w ≡ lfoTickOf (newLfo (s .«sample_rate»)) c w
+struck-tick s c w g f e =
+    tick-sounds s c w g ∙ struck s c w g f e ∙ sym (tick-sounds (newLfo (s .«sample_rate»)) c w (good-new (s .«sample_rate») (g .rate)))
+
+pub forgets : Forgets
+unfolding replies after reply
+forgets s h c w f a e =
+    let g = good h in
+    record {
+      new = unfold lfoNewOf in simp (g .rate);
+      same = λ cs. ap (λ (t : LfoTicked). Ticked (t .answer) ∷ replies after reply (t .lfo) cs) (struck-tick s c w g f e);
+    }
+
+-- ---- an edge can be had
+five-above : lt gateThreshold five ≡ true
+unfolding lt ofBits
+five-above = refl
+
+held : (s : Lfo) (c : LfoControls) (w : ℕ) → lfoSoundOf s c w .lfo .«reset_edge» ≡ record { prev = c .reset }
+unfolding lfoSoundOf risingOf risingAboveOf
+held s c w = refl
+
+rises : (edge : EdgeDetector) (prev v : Float) → edge ≡ record { prev = prev } → le prev gateThreshold ≡ true → v ≡ five → risingOf edge v .rising ≡ true
+unfolding risingOf risingAboveOf risesAbove
+rises edge prev v e l q = simp (e, q, l, five-above)
+
+pub edge-comes : Edge-comes
+unfolding after
+edge-comes s h c d v w f l e = (
+  never-refused (after s (Tick c v)) (more h (Tick c v) f) .ticks d w,
+  rises (lfoTickOf s c v .lfo .«reset_edge») (c .reset) (d .reset) (ap (λ (t : LfoTicked). t .lfo .«reset_edge») (tick-sounds s c v (good h)) ∙ held s c v) l e,
+)

@@ -1,0 +1,94 @@
+-- What every reached Lfo has: a good rate, a phase in [0, 1), and a memo that holds what it would compute. So no call refuses it.
+use mathlib.Core.Bool.{Bool, true, false, cond}
+use mathlib.Core.Logic.{inl}
+use mathlib.Core.Path.{_≡_, refl, sym, subst}
+use Prim.Native.Nat.{ℕ}
+use native.Mathlib.Omega.{arith}
+use lib.Ieee.{binary64, lt, le, ofBits, eq}
+use lib.Ieee.Fits.{add-fits}
+use Rattle.answer.proofs.Laws.{mark-says}
+use Rattle.answer.specs.Answer.{accepted}
+use Rattle.common.proofs.MemoLaws.{recalled1}
+use Rattle.common.proofs.PhaseLaws.{wrap-in}
+use Rattle.common.specs.Phase.{turns}
+use Rattle.common.specs.Promises.{Coherent1}
+use Rattle.common.specs.Tests.{rateOk, phaseOk}
+use Rattle.laws.proofs.Always.{always}
+use Rattle.laws.specs.Float.{zer, F64}
+use Rattle.lfo.specs.Calls.{Call, keptOr, toldOf, after, reply, FitCall, First, ReachedLfo, Tick, Reset, SetSampleRate, Done, Refused}
+use Rattle.lfo.specs.Lfo.{newLfo, lfoRefusalOf, lfoNewOf, lfoSoundOf, lfoTickOf, madeUnless, lfoResetOf, rated, lfoSetSampleRateOf}
+use Rattle.lfo.specs.Promises.{Never-refused}
+use Rattle.lfo.specs.Waves.{rateToHz}
+use Rattle.common.specs.declared.Hertz.{Hertz}
+use Rattle.lfo.specs.declared.Lfo.{Lfo}
+use Rattle.lfo.specs.declared.LfoControls.{LfoControls}
+use Rattle.lfo.specs.declared.LfoTicked.{LfoTicked}
+use Rattle.lfo.specs.declared.LfoMade.the-variants as made
+
+pub record Good (s : Lfo) : Type 0 where
+  pub rate : rateOk (s .«sample_rate») ≡ true
+  pub phase : phaseOk (s .phase) ≡ true
+  pub memo : Coherent1 rateToHz (s .«freq_memo»)
+
+-- ---- a good state is refused by nothing
+unrefused : (s : Lfo) → Good s → lfoRefusalOf s ≡ 0
+unfolding lfoRefusalOf
+unrefused s g = simp (g .rate, g .phase)
+
+pub tick-sounds : (s : Lfo) (c : LfoControls) (w : ℕ) → Good s → lfoTickOf s c w ≡ lfoSoundOf s c w
+unfolding lfoTickOf
+tick-sounds s c w g = simp (unrefused s g)
+
+pub sound-accepted : (s : Lfo) (c : LfoControls) (w : ℕ) → accepted (lfoSoundOf s c w .answer) ≡ true
+unfolding lfoSoundOf
+sound-accepted s c w = mark-says _ _ _ _ .is-accepted
+
+-- ---- it stays good
+zero-ok : phaseOk (turns zer) ≡ true
+unfolding phaseOk le lt eq ofBits
+zero-ok = refl
+
+pub good-new : (r : Hertz) → rateOk r ≡ true → Good (newLfo r)
+unfolding newLfo
+good-new r h = record { rate = h; phase = zero-ok; memo = inl refl }
+
+first-good : (s : Lfo) → First s → Good s
+unfolding lfoNewOf
+first-good s f = go (rateOk (f .0)) refl (f .1)
+  where
+    go : (b : Bool) → rateOk (f .0) ≡ b → cond b (made.Made (newLfo (f .0))) (made.Refused 1) ≡ made.Made s → Good s
+    go true e h = subst Good (cc) (good-new (f .0) e)
+    go false e h = absurd (let z : _≡_ {A = ℕ} 0 1 = cc in omega arith)
+
+sound-good : (s : Lfo) (c : LfoControls) (w : ℕ) → Good s → F64 (c .rate) → Good (lfoSoundOf s c w .lfo)
+unfolding lfoSoundOf
+sound-good s c w g f = record { rate = g .rate; phase = wrap-in _ (add-fits binary64 _ _); memo = recalled1 rateToHz (s .«freq_memo») (g .memo) (c .rate) f }
+
+after-good : (s : Lfo) (c : Call) → Good s → FitCall c → Good (after s c)
+unfolding after
+after-good s (Tick c w) g f = subst (λ (t : LfoTicked). Good (t .lfo)) (sym (tick-sounds s c w g)) (sound-good s c w g f)
+after-good s Reset g f = unfold lfoResetOf madeUnless in simp (unrefused s g) (record { rate = g .rate; phase = zero-ok; memo = g .memo })
+after-good s (SetSampleRate r) g f = unfold lfoSetSampleRateOf madeUnless in go (rateOk r) refl
+  where
+    go : (b : Bool) → rateOk r ≡ b → Good (keptOr s (cond b (madeUnless (lfoRefusalOf s) (rated s r)) (made.Refused 1)))
+    go true e = unfold madeUnless in simp (unrefused s g) (record { rate = e; phase = g .phase; memo = g .memo })
+    go false e = g
+
+pub good : {s : Lfo} → ReachedLfo s → Good s
+good = always Good first-good after-good
+
+-- ---- the promise
+pub never-refused : Never-refused
+unfolding reply
+never-refused s h =
+    let g = good h in
+    record {
+      phase = g .phase;
+      ticks = λ c w. rw (tick-sounds s c w g) (sound-accepted s c w);
+      resets = unfold lfoResetOf madeUnless in simp (unrefused s g);
+      rates = λ r. unfold lfoSetSampleRateOf madeUnless in rates r (rateOk r);
+    }
+  where
+    rates : (r : Hertz) (b : Bool) → toldOf (cond b (madeUnless (lfoRefusalOf s) (rated s r)) (made.Refused 1)) ≡ cond b Done (Refused 1)
+    rates r true = unfold madeUnless in simp (unrefused s (good h))
+    rates r false = refl

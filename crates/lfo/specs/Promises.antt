@@ -1,0 +1,64 @@
+-- Theorems about the Lfo: the statements. proofs/ proves each under the same name in small letters.
+use mathlib.Core.Bool.{Bool, true, cond}
+use mathlib.Core.List.{List, _∷_}
+use mathlib.Core.Path.{_≡_}
+use Prim.Native.Nat.{ℕ}
+use lib.Ieee.{binary64, le, div}
+use Rattle.answer.specs.Answer.{voltsOf, accepted}
+use Rattle.answer.specs.Mark.{allFinite}
+use Rattle.common.specs.Consts.{gateThreshold, five}
+use Rattle.common.specs.Edge.{risingOf}
+use Rattle.common.specs.Tests.{rateOk, phaseOk}
+use Rattle.laws.specs.Float.{F64}
+use Rattle.laws.specs.Machine.{replies, Settles}
+use Rattle.lfo.specs.Calls.{Call, after, reply, ReachedLfo, Tick, Reset, SetSampleRate, Done, Refused}
+use Rattle.lfo.specs.Consts.{ten}
+use Rattle.lfo.specs.Lfo.{newLfo, lfoNewOf, lfoTickOf, lfoResetOf, lfoSetSampleRateOf}
+use Rattle.lfo.specs.Small.{isSmall}
+use Rattle.common.specs.declared.Hertz.{Hertz}
+use Rattle.lfo.specs.declared.Lfo.{Lfo}
+use Rattle.lfo.specs.declared.LfoControls.{LfoControls}
+use Rattle.lfo.specs.declared.LfoTicked.{LfoTicked}
+use Rattle.lfo.specs.declared.LfoMade.{LfoMade}
+use Rattle.lfo.specs.declared.LfoMade.the-variants as made
+
+-- ---- a reached state refuses no call but for the call's own input
+pub record Accepting (s : Lfo) : Type 0 where
+  pub phase : phaseOk (s .phase) ≡ true
+  pub ticks : (c : LfoControls) (wanted : ℕ) → accepted (lfoTickOf s c wanted .answer) ≡ true
+  pub resets : reply s Reset ≡ Done
+  pub rates : (r : Hertz) → reply s (SetSampleRate r) ≡ cond (rateOk r) Done (Refused 1)
+
+abbrev pub Never-refused : Type 0
+Never-refused = (s : Lfo) → ReachedLfo s → Accepting s
+
+-- ---- demand 3
+-- the tick takes the reset edge
+abbrev pub takesEdge : Lfo → LfoControls → Bool
+takesEdge s c = risingOf (s .«reset_edge») (c .reset) .rising
+
+-- a new one at that rate is to be had, and fed this tick and then any calls it answers the same
+pub record Forgetting (s : Lfo) (c : LfoControls) (wanted : ℕ) : Type 0 where
+  pub new : lfoNewOf (s .«sample_rate») ≡ made.Made (newLfo (s .«sample_rate»))
+  pub same : (cs : List Call) → replies after reply s (Tick c wanted ∷ cs) ≡ replies after reply (newLfo (s .«sample_rate»)) (Tick c wanted ∷ cs)
+
+abbrev pub Forgets : Type 0
+Forgets = (s : Lfo) → ReachedLfo s → (c : LfoControls) (wanted : ℕ) → F64 (c .rate)
+    → accepted (lfoTickOf s c wanted .answer) ≡ true → takesEdge s c ≡ true → Forgetting s c wanted
+
+-- and such a tick is always to be had: after one with reset not above the threshold, one with reset at 5 V
+abbrev pub Edge-comes : Type 0
+Edge-comes = (s : Lfo) → ReachedLfo s → (c d : LfoControls) (v w : ℕ) → F64 (c .rate) → le (c .reset) gateThreshold ≡ true → d .reset ≡ five
+    → (accepted (lfoTickOf (after s (Tick c v)) d w .answer) ≡ true) × (takesEdge (after s (Tick c v)) d ≡ true)
+
+-- ---- a small depth sounds finite: in an accepted tick no output overflows, wanted or not
+abbrev pub Small-finite : Type 0
+Small-finite = (s : Lfo) (c : LfoControls) (wanted : ℕ) → isSmall (div binary64 (c .depth) ten) ≡ true
+    → accepted (lfoTickOf s c wanted .answer) ≡ true → allFinite (voltsOf (lfoTickOf s c wanted .answer)) ≡ true
+
+-- ---- each contract settles its answer
+pub record Settled : Type 0 where
+  pub new : (r : Hertz) → Settles (λ (a : LfoMade). a ≡ lfoNewOf r)
+  pub tick : (s : Lfo) (c : LfoControls) (wanted : ℕ) → Settles (λ (a : LfoTicked). a ≡ lfoTickOf s c wanted)
+  pub reset : (s : Lfo) → Settles (λ (a : LfoMade). a ≡ lfoResetOf s)
+  pub «set_sample_rate» : (s : Lfo) (r : Hertz) → Settles (λ (a : LfoMade). a ≡ lfoSetSampleRateOf s r)

@@ -1,0 +1,4 @@
+pub mod SplitLaws
+pub mod WordLaws
+pub mod JudgeLaws
+pub mod ReportLaws

@@ -1,0 +1,5 @@
+pub mod Split
+pub mod Words
+pub mod Table
+pub mod Judge
+pub mod Report

@@ -1,0 +1,31 @@
+-- Stretches of a text.
+use mathlib.Core.Bool.{Bool, true, false, cond}
+use mathlib.Core.List.{List, [], _∷_}
+use Prim.Native.Nat.{ℕ, suc}
+use lib.Dec.{eqb}
+
+-- how many bytes stand before the first mark, or in all
+unfoldable pub untilOf : ℕ → List ℕ → ℕ
+untilOf mark [] = 0
+untilOf mark (b ∷ bs) = cond (eqb b mark) 0 (suc (untilOf mark bs))
+
+unfoldable pub sameOf : List ℕ → List ℕ → Bool
+sameOf [] [] = true
+sameOf [] (b ∷ u) = false
+sameOf (a ∷ t) [] = false
+sameOf (a ∷ t) (b ∷ u) = cond (eqb a b) (sameOf t u) false
+
+-- a byte before lines belongs to the first of them
+abbrev pub inFront : ℕ → List (List ℕ) → List (List ℕ)
+inFront b [] = (b ∷ []) ∷ []
+inFront b (l ∷ ls) = (b ∷ l) ∷ ls
+
+-- the lines of a text, without their line feeds; the last may lack its own
+unfoldable pub linesOf : List ℕ → List (List ℕ)
+linesOf [] = []
+linesOf (b ∷ bs) = cond (eqb b 10) ([] ∷ linesOf bs) (inFront b (linesOf bs))
+
+-- the place of the first that is the name, or how many there are
+unfoldable pub placeIn : List ℕ → List (List ℕ) → ℕ
+placeIn name [] = 0
+placeIn name (l ∷ ls) = cond (sameOf l name) 0 (suc (placeIn name ls))

@@ -1,0 +1,72 @@
+-- The names that a case can have, and what is run for each.
+use mathlib.Core.Bool.{cond}
+use mathlib.Core.List.{List, [], _∷_, map}
+use Prim.Native.Nat.{ℕ, _+_}
+use lib.Dec.{eqb}
+use lib.Ieee.{Float, binary64, ofBits, toBits}
+use lib.ListN.{length, drop}
+use Rattle.laws.specs.Float.{isFin}
+use Rattle.numeric.specs.Basic.{fabsOf, clampOf, minOf, maxOf, wholeOf, realOf}
+use Rattle.numeric.specs.Draw.{drawOf, bipolarOf}
+use Rattle.numeric.specs.Floor.{floorOf}
+use Rattle.numeric.specs.Power.{exp2Of, pow3000Of}
+use Rattle.numeric.specs.Trig.{sinOf, cosOf}
+use Rattle.replay.specs.Split.{placeIn}
+use Rattle.replay.specs.Words.{countOf, valueAt, sameFrom}
+use Rattle.replay.specs.declared.table.Verdict.{Verdict}
+use Rattle.replay.specs.declared.table.Verdict.the-variants.{Same, Differs, Malformed}
+
+-- a name, how many words go in, and the words that must come out, of the words by their place
+pub record Row : Type 0 where
+  pub name : List ℕ
+  pub inputs : ℕ
+  pub answers : (ℕ → ℕ) → List ℕ
+
+abbrev pub row : List ℕ → ℕ → ((ℕ → ℕ) → List ℕ) → Row
+row n i f = record { name = n; inputs = i; answers = f }
+
+-- the float that the k-th word stands for, and the words of an answer that is one float
+abbrev pub floatAt : (ℕ → ℕ) → ℕ → Float
+floatAt w k = ofBits binary64 (w k)
+
+abbrev pub answer : Float → List ℕ
+answer x = toBits binary64 x ∷ []
+
+unfoldable pub rows : List Row
+rows =
+    row (115 ∷ 105 ∷ 110 ∷ []) 1 (λ w. answer (sinOf (floatAt w 0)))  -- sin
+    ∷ row (99 ∷ 111 ∷ 115 ∷ []) 1 (λ w. answer (cosOf (floatAt w 0)))  -- cos
+    ∷ row (101 ∷ 120 ∷ 112 ∷ 50 ∷ []) 1 (λ w. answer (exp2Of (floatAt w 0)))  -- exp2
+    ∷ row (112 ∷ 111 ∷ 119 ∷ 51 ∷ 48 ∷ 48 ∷ 48 ∷ []) 1 (λ w. answer (pow3000Of (floatAt w 0)))  -- pow3000
+    ∷ row (102 ∷ 108 ∷ 111 ∷ 111 ∷ 114 ∷ []) 1 (λ w. answer (floorOf (floatAt w 0)))  -- floor
+    ∷ row (102 ∷ 97 ∷ 98 ∷ 115 ∷ []) 1 (λ w. answer (fabsOf (floatAt w 0)))  -- fabs
+    ∷ row (105 ∷ 115 ∷ 95 ∷ 102 ∷ 105 ∷ 110 ∷ 105 ∷ 116 ∷ 101 ∷ []) 1 (λ w. cond (isFin (floatAt w 0)) 1 0 ∷ [])  -- is_finite
+    ∷ row (99 ∷ 108 ∷ 97 ∷ 109 ∷ 112 ∷ []) 3 (λ w. answer (clampOf (floatAt w 0) (floatAt w 1) (floatAt w 2)))  -- clamp
+    ∷ row (109 ∷ 105 ∷ 110 ∷ []) 2 (λ w. answer (minOf (floatAt w 0) (floatAt w 1)))  -- min
+    ∷ row (109 ∷ 97 ∷ 120 ∷ []) 2 (λ w. answer (maxOf (floatAt w 0) (floatAt w 1)))  -- max
+    ∷ row (116 ∷ 111 ∷ 95 ∷ 117 ∷ 54 ∷ 52 ∷ []) 1 (λ w. wholeOf (floatAt w 0) ∷ [])  -- to_u64
+    ∷ row (111 ∷ 102 ∷ 95 ∷ 117 ∷ 54 ∷ 52 ∷ []) 1 (λ w. answer (realOf (w 0)))  -- of_u64
+    ∷ row (98 ∷ 105 ∷ 116 ∷ 115 ∷ []) 1 (λ w. answer (floatAt w 0))  -- bits
+    ∷ row (100 ∷ 114 ∷ 97 ∷ 119 ∷ []) 1 (λ w. answer (drawOf (w 0)))  -- draw
+    ∷ row (98 ∷ 105 ∷ 112 ∷ 111 ∷ 108 ∷ 97 ∷ 114 ∷ []) 1 (λ w. answer (bipolarOf (w 0)))  -- bipolar
+    ∷ []
+
+unfoldable pub names : List (List ℕ)
+names = map (λ (r : Row). r .name) rows
+
+-- a name's place among them
+unfoldable pub numberOf : List ℕ → ℕ
+numberOf name = placeIn name names
+
+-- the words are so many inputs and then the answers
+unfoldable pub heldOf : ℕ → List ℕ → ℕ → List ℕ → Verdict
+heldOf k words inputs answers =
+    cond (eqb (countOf words) (inputs + length answers)) (cond (sameFrom words inputs answers) (Same k) (Differs k)) Malformed
+
+abbrev pub runIn : ℕ → List ℕ → List Row → Verdict
+runIn k words [] = Malformed
+runIn k words (r ∷ rs) = heldOf k words (r .inputs) (r .answers (valueAt words))
+
+-- the case of the k-th name
+unfoldable pub runOf : ℕ → List ℕ → Verdict
+runOf k words = runIn k words (drop k rows)

@@ -1,0 +1,75 @@
+-- `text::put_hex`: the digits d have been put, and k are left.
+use mathlib.Core.List.{List, [], _∷_, _++_}
+use mathlib.Core.Path.{_≡_, refl}
+use Prim.Native.Nat.{ℕ, _≤_}
+use native.Mathlib.Omega.{arith}
+use borrow.Author.Needs.{needs}
+use Rattle.text.specs.Hex.{hexFrom, hexText}
+use Rattle.text.specs.Promises.{Put}
+use Rattle.text.specs.Put.{placeOf}
+use Rattle.text.proofs.HexLaws.{hex-next, hex-end}
+use Rattle.text.proofs.PutLaws.{after, within}
+use Rattle.text.proofs.put_hex.Statement.{statement}
+use Rattle.text.proofs.put_hex.Tie as tie
+
+abbrev Inv-loop : tie.InvT-loop
+Inv-loop out₀ at x to₀ k₀ out to k = (k ≤ 16) × ((d : List ℕ) × ((d ++ hexFrom k x ≡ hexText x) × Put out₀ at d to out))
+
+abbrev μ-loop : tie.MeasureT-loop
+μ-loop out₀ at x to₀ k₀ out to k = k
+
+least-requires : tie.Need-least-requires Inv-loop μ-loop
+least-requires c κs = search needs
+
+loop-holds : tie.Need-loop-holds Inv-loop μ-loop
+unfolding placeOf hexText
+loop-holds c = (omega arith, ([], (refl, (omega arith, refl))))
+
+sub-k : tie.Need-sub-k Inv-loop μ-loop
+sub-k c = search needs
+
+mul-digit : tie.Need-mul-digit Inv-loop μ-loop
+mul-digit c = search needs
+
+shr-digit : tie.Need-shr-digit Inv-loop μ-loop
+shr-digit c = search needs
+
+digit-requires : tie.Need-digit-requires Inv-loop μ-loop
+digit-requires c κs = search needs
+
+put-byte-requires : tie.Need-put-byte-requires Inv-loop μ-loop
+put-byte-requires c κs = search needs
+
+loop-less : tie.Need-loop-less Inv-loop μ-loop
+loop-less c = search needs
+
+loop-again : tie.Need-loop-again Inv-loop μ-loop
+loop-again c =
+    let (d, (e, p)) = c .before .before .before .before .before .before .loop .inv .1 in
+    (omega arith, (d ++ (c .before .before .before .digit .result ∷ []), (rw (c .before .before .before .digit .ensures) (hex-next d _ _ _ (c .before .before .before .before .before .loop-test .taken) e), after _ _ d _ p (c .before .before .put-byte .ensures))))
+
+same-length : tie.Need-same-length Inv-loop μ-loop
+same-length c = within _ _ _ (c .before .loop .inv .1 .1 .1) .1
+
+returns : tie.Need-returns Inv-loop μ-loop
+returns c =
+    let (d, (e, p)) = c .before .loop .inv .1 in
+    rw (← hex-end d _ _ _ (c .loop-test .left) e) p
+
+pub put-hex-spec : {M : Type 1} → statement M
+put-hex-spec =
+    tie.close
+    (tie.spec
+    Inv-loop
+    μ-loop
+    least-requires
+    loop-holds
+    sub-k
+    mul-digit
+    shr-digit
+    digit-requires
+    put-byte-requires
+    loop-less
+    loop-again
+    same-length
+    returns)

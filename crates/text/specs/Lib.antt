@@ -1,0 +1,4 @@
+pub mod Put
+pub mod Hex
+pub mod Decimal
+pub mod Promises

@@ -1,0 +1,96 @@
+-- Document 01's printed frame. Of the powers and the sine it uses only that 2 ^ 0 is 1 and the sine of 0 is 0.
+use mathlib.Core.Bool.{true, false}
+use mathlib.Core.Path.{_≡_, refl, ap, _∙_}
+use lib.Dec.{lit≤}
+use lib.IntN.{pos}
+use lib.Ieee.{fin, binary64, add, sub, mul, div, neg, lt, le, eq, ofInt, ofBits}
+use Rattle.laws.specs.Float.{zer, one, isFin}
+use Rattle.numeric.specs.Basic.{fabsOf, clampOf}
+use Rattle.numeric.specs.Floor.{floorOf}
+use Rattle.numeric.specs.Power.{exp2Of}
+use Rattle.numeric.proofs.PowerLaws.{exp2-whole}
+use Rattle.numeric.proofs.TrigLaws.{sin-zero}
+use Rattle.common.specs.Consts.{c4, five, half, tau}
+use Rattle.common.specs.Pitch.{voctToHz}
+use Rattle.common.specs.Phase.{polyblepOf, polyblampOf}
+use Rattle.common.specs.Memo.{hits3, filled3, recall3}
+use Rattle.common.specs.Edge.{risesAbove, crossedAboveOf, crossedOf}
+use Rattle.common.specs.Tests.{rateOk}
+use Rattle.common.specs.declared.Crossing.the-variants.{Nowhere}
+use Rattle.answer.specs.Answer.{answerOf}
+use Rattle.answer.specs.Mark.{allFinite, markOf, ruleOf}
+use Rattle.answer.specs.declared.Volts.{Volts}
+use Rattle.answer.specs.declared.Answer.the-variants as answer
+use Rattle.vco.specs.Consts.{pwLow, pwHigh}
+use Rattle.vco.specs.Waves.{outOf, sineOf, sawOf, levelOf, pwEdgeOf, sqrOf, cornerHalfOf, triOf, steppedOf}
+use Rattle.vco.specs.Vco.{newVco, frequencyOf, restartOf, vcoVoltsOf, vcoAnswerOf, vcoSoundOf}
+use Rattle.vco.specs.Promises.{frameRate, frameControls, First-frame}
+use Rattle.vco.proofs.Reached.{good-new, tick-sound}
+use Rattle.vco.specs.declared.VcoTicked.{VcoTicked}
+
+exp2-zero : exp2Of zer ≡ one
+exp2-zero = let z : zer ≡ ofInt binary64 (pos 0) = unfold ofInt ofBits in refl in let o : fin false 1 (pos 0) ≡ one = unfold ofBits in refl in ap exp2Of z ∙ exp2-whole (pos 0) (lit≤ tt) ∙ o
+
+-- the two FMs cancel: nothing moves
+base : voctToHz (record { 0 = zer }) ≡ record { 0 = c4 }
+unfolding voctToHz
+base = let z : clampOf zer (neg (ofBits binary64 0x4040000000000000)) (ofBits binary64 0x4040000000000000) ≡ zer = unfold clampOf lt neg ofBits in refl in
+    rw (z, exp2-zero) (unfold mul ofBits in refl)
+
+still : frequencyOf zer zer (neg five) ≡ record { 0 = zer }
+unfolding frequencyOf
+still = rw (base, exp2-zero) (unfold add mul div neg ofBits in refl)
+
+no-step : div binary64 zer (frameRate .0) ≡ zer
+unfolding div ofBits
+no-step = refl
+
+-- so the tick is one without an edge, from phase 0 by 0
+frame-answer : vcoSoundOf (newVco frameRate) frameControls 15 .answer ≡ vcoAnswerOf Nowhere zer zer half zer 15
+unfolding vcoSoundOf newVco crossedOf crossedAboveOf restartOf recall3 hits3 filled3
+frame-answer = let n : risesAbove (ofBits binary64 0x4004000000000000) zer zer ≡ false = unfold risesAbove lt ofBits in refl in simp (n, still, no-step)
+
+silent : sineOf true zer ≡ zer
+unfolding sineOf
+silent = let z : mul binary64 zer tau ≡ zer = unfold mul ofBits in refl in rw (z, sin-zero) (unfold mul ofBits in refl)
+
+abbrev frameVolts : Volts
+frameVolts = vcoVoltsOf Nowhere zer zer (clampOf half pwLow pwHigh) (fabsOf zer) 15
+
+frame-sin : frameVolts .p10 ≡ zer
+unfolding vcoVoltsOf
+frame-sin = silent
+
+frame-tri : frameVolts .p11 ≡ ofBits binary64 0xc014000000000000
+unfolding vcoVoltsOf ofBits add sub mul neg lt fabsOf polyblampOf outOf cornerHalfOf triOf
+frame-tri = refl
+
+frame-saw : frameVolts .p12 ≡ ofBits binary64 0xc014000000000000
+unfolding vcoVoltsOf ofBits add sub mul neg lt fabsOf polyblepOf outOf sawOf steppedOf
+frame-saw = refl
+
+frame-sqr : frameVolts .p13 ≡ ofBits binary64 0x4014000000000000
+unfolding vcoVoltsOf ofBits ofInt add sub mul neg lt fabsOf clampOf floorOf polyblepOf outOf levelOf pwEdgeOf sqrOf steppedOf
+frame-sqr = refl
+
+frame-last : frameVolts .p14 ≡ zer
+unfolding vcoVoltsOf
+frame-last = refl
+
+pub first-frame : First-frame
+first-frame = ap (λ (t : VcoTicked). t .answer) (tick-sound (newVco frameRate) (good-new frameRate rate) frameControls 15) ∙ frame-answer ∙ clean
+  where
+    rate : rateOk frameRate ≡ true
+    rate = unfold rateOk le lt eq ofBits in refl
+
+    printed : Volts
+    printed = record { p10 = ofBits binary64 0; p11 = ofBits binary64 0xc014000000000000; p12 = ofBits binary64 0xc014000000000000; p13 = ofBits binary64 0x4014000000000000; p14 = zer }
+
+    volts : frameVolts ≡ printed
+    volts = λ i. record { p10 = frame-sin i; p11 = frame-tri i; p12 = frame-saw i; p13 = frame-sqr i; p14 = frame-last i }
+
+    marked : markOf printed false true (isFin (add binary64 zer zer)) ≡ answer.Clean printed
+    marked = unfold markOf ruleOf answerOf allFinite add ofBits in refl
+
+    clean : vcoAnswerOf Nowhere zer zer half zer 15 ≡ answer.Clean printed
+    clean = unfold vcoAnswerOf in rw volts marked

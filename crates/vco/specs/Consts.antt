@@ -1,0 +1,10 @@
+-- The ends of the pulse width, by their bits.
+use lib.Ieee.{Float, binary64, ofBits}
+
+-- 0.05
+abbrev pub pwLow : Float
+pwLow = ofBits binary64 0x3fa999999999999a
+
+-- 0.95
+abbrev pub pwHigh : Float
+pwHigh = ofBits binary64 0x3fee666666666666

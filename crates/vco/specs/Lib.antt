@@ -1,0 +1,5 @@
+pub mod Consts
+pub mod Waves
+pub mod Vco
+pub mod Calls
+pub mod Promises

@@ -1,0 +1,78 @@
+-- Theorems about the Vco: the statements. The proofs of the same names in small letters stand in proofs/.
+use mathlib.Core.Path.{_≡_}
+use mathlib.Core.Bool.{Bool, true, cond}
+use mathlib.Core.List.{List}
+use Prim.Native.Nat.{ℕ}
+use lib.Dec.{T}
+use lib.Ieee.{binary64, le, neg, ofBits}
+use Rattle.laws.specs.Float.{zer}
+use Rattle.laws.specs.Machine.{replies, Settles}
+use Rattle.common.specs.Consts.{gateThreshold, five, half}
+use Rattle.common.specs.Edge.{risesAbove}
+use Rattle.common.specs.Tests.{rateOk, phaseOk}
+use Rattle.common.specs.declared.Hertz.{Hertz}
+use Rattle.answer.specs.Answer.{accepted, voltsOf}
+use Rattle.answer.specs.declared.Answer.the-variants as answer
+use Rattle.vco.specs.Vco.{newVco, vcoNewOf, vcoTickOf, vcoResetOf, vcoSetSampleRateOf}
+use Rattle.vco.specs.Calls.{Call, Tick, Reset, SetSampleRate, Done, Refused, Fit, after, reply, ReachedVco}
+use Rattle.vco.specs.declared.Vco.{Vco}
+use Rattle.vco.specs.declared.VcoControls.{VcoControls}
+use Rattle.vco.specs.declared.VcoTicked.{VcoTicked}
+use Rattle.vco.specs.declared.VcoMade.{VcoMade}
+
+-- ---- no call refuses but for its own input
+pub record Accepts (s : Vco) : Type 0 where
+  pub tick : (c : VcoControls) (wanted : ℕ) → accepted (vcoTickOf s c wanted .answer) ≡ true
+  pub reset : reply s Reset ≡ Done
+  pub rate : (r : Hertz) → reply s (SetSampleRate r) ≡ cond (rateOk r) Done (Refused 1)
+  pub phase : phaseOk (s .phase) ≡ true
+
+abbrev pub Never-refused : Type 0
+Never-refused = (s : Vco) → ReachedVco s → Accepts s
+
+-- ---- a Vco forgets at its sync edge
+-- whether a tick with these controls takes the edge
+abbrev pub taken : Vco → VcoControls → Bool
+taken s c = risesAbove gateThreshold (s .«sync_edge» .prev) (c .sync)
+
+-- what a new one at this rate does, fed this tick first
+pub record Forgotten (s : Vco) (c : VcoControls) (wanted : ℕ) : Type 0 where
+  -- it accepts the tick
+  pub accepts : accepted (vcoTickOf (newVco (s .«sample_rate»)) c wanted .answer) ≡ true
+  -- in the edge tick: all but saw, square and mark
+  pub sin : voltsOf (vcoTickOf s c wanted .answer) .p10 ≡ voltsOf (vcoTickOf (newVco (s .«sample_rate»)) c wanted .answer) .p10
+  pub tri : voltsOf (vcoTickOf s c wanted .answer) .p11 ≡ voltsOf (vcoTickOf (newVco (s .«sample_rate»)) c wanted .answer) .p11
+  -- and every call after it
+  pub later : (cs : List Call) → replies after reply (after s (Tick c wanted)) cs ≡ replies after reply (after (newVco (s .«sample_rate»)) (Tick c wanted)) cs
+
+abbrev pub Forgets : Type 0
+Forgets = (s : Vco) → ReachedVco s → (c : VcoControls) (wanted : ℕ) → Fit c → accepted (vcoTickOf s c wanted .answer) ≡ true → taken s c ≡ true → Forgotten s c wanted
+
+-- such a tick is there: one with the gate low, then one at 5.0 V
+pub record Comes (s : Vco) (c d : VcoControls) (wanted : ℕ) : Type 0 where
+  pub first : accepted (vcoTickOf s c wanted .answer) ≡ true
+  pub second : accepted (vcoTickOf (after s (Tick c wanted)) d wanted .answer) ≡ true
+  pub edge : taken (after s (Tick c wanted)) d ≡ true
+
+abbrev pub Edge-comes : Type 0
+Edge-comes = (s : Vco) → ReachedVco s → (c d : VcoControls) (wanted : ℕ) → T (le (c .sync) gateThreshold) → d .sync ≡ five → Comes s c d wanted
+
+-- ---- each contract settles its answer
+pub record Settled : Type 0 where
+  pub new : (r : Hertz) → Settles (λ (m : VcoMade). m ≡ vcoNewOf r)
+  pub tick : (s : Vco) (c : VcoControls) (wanted : ℕ) → Settles (λ (t : VcoTicked). t ≡ vcoTickOf s c wanted)
+  pub reset : (s : Vco) → Settles (λ (m : VcoMade). m ≡ vcoResetOf s)
+  pub rate : (s : Vco) (r : Hertz) → Settles (λ (m : VcoMade). m ≡ vcoSetSampleRateOf s r)
+
+-- ---- document 01's example 10: the frame that `render` prints
+-- 48,000 Hz; voct 0, fm 0, pw 0.5, sync 0 and fm_lin -5 V
+abbrev pub frameRate : Hertz
+frameRate = record { 0 = ofBits binary64 0x40e7700000000000 }
+
+abbrev pub frameControls : VcoControls
+frameControls = record { voct = record { 0 = zer }; fm = record { 0 = zer }; pw = half; sync = zer; «fm_lin» = neg five }
+
+abbrev pub First-frame : Type 0
+First-frame =
+    vcoTickOf (newVco frameRate) frameControls 15 .answer
+    ≡ answer.Clean (record { p10 = ofBits binary64 0; p11 = ofBits binary64 0xc014000000000000; p12 = ofBits binary64 0xc014000000000000; p13 = ofBits binary64 0x4014000000000000; p14 = zer })

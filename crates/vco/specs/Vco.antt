@@ -1,0 +1,111 @@
+-- The Vco's calls, written from oscillators.rs line by line, with document 01's marks and refusals.
+use mathlib.Core.Bool.{Bool, true, false, cond, not}
+use Prim.Native.Nat.{ℕ}
+use lib.Bits.{bitAnd}
+use lib.Dec.{eqb}
+use lib.Ieee.{Float, binary64, add, sub, mul, div, neg}
+use Rattle.laws.specs.Float.{zer, one, two, isFin}
+use Rattle.numeric.specs.Basic.{fabsOf, clampOf}
+use Rattle.numeric.specs.Power.{exp2Of}
+use Rattle.common.specs.Consts.{four, five}
+use Rattle.common.specs.Pitch.{voctToHz}
+use Rattle.common.specs.Phase.{turns, wrapOf, polyblepOf, polyblampOf}
+use Rattle.common.specs.Memo.{newMemo3, recall3}
+use Rattle.common.specs.Edge.{newEdge, crossedOf}
+use Rattle.common.specs.Tests.{rateOk, phaseOk}
+use Rattle.answer.specs.Mark.{markOf}
+use Rattle.vco.specs.Consts.{pwLow, pwHigh}
+use Rattle.vco.specs.Waves.{outOf, sineOf, sawOf, levelOf, pwEdgeOf, sqrOf, cornerHalfOf, triOf, steppedOf}
+use Rattle.common.specs.declared.Hertz.{Hertz}
+use Rattle.common.specs.declared.Turns.{Turns}
+use Rattle.common.specs.declared.Crossing.{Crossing}
+use Rattle.common.specs.declared.Crossing.the-variants.{Nowhere, At}
+use Rattle.answer.specs.declared.Volts.{Volts}
+use Rattle.answer.specs.declared.Answer.{Answer}
+use Rattle.answer.specs.declared.Answer.the-variants as answer
+use Rattle.vco.specs.declared.Vco.{Vco}
+use Rattle.vco.specs.declared.VcoControls.{VcoControls}
+use Rattle.vco.specs.declared.VcoTicked.{VcoTicked}
+use Rattle.vco.specs.declared.VcoMade.{VcoMade}
+use Rattle.vco.specs.declared.VcoMade.the-variants as made
+
+-- Vco::new
+unfoldable pub newVco : Hertz → Vco
+newVco r = record { phase = turns zer; «sample_rate» = r; «sync_edge» = newEdge; «freq_memo» = newMemo3 }
+
+-- the memo's closure: base_freq * pow(2.0, fm), and (fm_lin / 5.0) * base_freq added
+unfoldable pub frequencyOf : Float → Float → Float → Hertz
+frequencyOf voct fm fmLin =
+    let base = voctToHz (record { 0 = voct }) .0 in
+    record { 0 = add binary64 (mul binary64 base (exp2Of fm)) (mul binary64 (div binary64 fmLin five) base) }
+
+-- the phase after the hard sync
+unfoldable pub restartOf : Turns → Crossing → Turns
+restartOf p Nowhere = p
+restartOf p (At frac) = turns zer
+
+-- wanted & bit != 0
+abbrev pub wants : ℕ → ℕ → Bool
+wants wanted bit = not (eqb (bitAnd wanted bit) 0)
+
+-- the four outputs
+unfoldable pub vcoVoltsOf : Crossing → Float → Float → Float → Float → ℕ → Volts
+vcoVoltsOf at p old pw dt wanted =
+    let wrap = polyblepOf p dt in
+    let fall = polyblepOf (pwEdgeOf p pw) dt in
+    let lower = mul binary64 (mul binary64 four dt) (polyblampOf p dt) in
+    let upper = mul binary64 (mul binary64 four dt) (polyblampOf (cornerHalfOf p) dt) in
+    let sawStep = mul binary64 (neg two) old in
+    let sqrStep = sub binary64 one (levelOf old pw) in
+    record {
+      p10 = sineOf (wants wanted 1) p;
+      p11 = outOf (wants wanted 2) (triOf p lower upper);
+      p12 = outOf (wants wanted 4) (steppedOf at (sawOf p wrap) sawStep dt);
+      p13 = outOf (wants wanted 8) (steppedOf at (sqrOf p pw wrap fall) sqrStep dt);
+      p14 = zer;
+    }
+
+-- with their mark: no tick is cleared, no output has a clamp, and a tick is lost where phase + dt isn't finite
+unfoldable pub vcoAnswerOf : Crossing → Float → Float → Float → Float → ℕ → Answer
+vcoAnswerOf at p old pw dt wanted = markOf (vcoVoltsOf at p old (clampOf pw pwLow pwHigh) (fabsOf dt) wanted) false true (isFin (add binary64 p dt))
+
+-- Vco::tick_wanted
+unfoldable pub vcoSoundOf : Vco → VcoControls → ℕ → VcoTicked
+vcoSoundOf s c wanted =
+    let memo = recall3 frequencyOf (s .«freq_memo») (c .voct .0) (c .fm .0) (c .«fm_lin») in
+    let dt = div binary64 (memo .val .0) (s .«sample_rate» .0) in
+    let crossed = crossedOf (s .«sync_edge») (c .sync) in
+    let phase = restartOf (s .phase) (crossed .at) in
+    record {
+      answer = vcoAnswerOf (crossed .at) (phase .0) (s .phase .0) (c .pw) dt wanted;
+      vco = record { phase = turns (wrapOf (add binary64 (phase .0) dt)); «sample_rate» = s .«sample_rate»; «sync_edge» = crossed .edge; «freq_memo» = memo };
+    }
+
+-- what refuses a state: 1 its rate, 2 its phase; else 0
+unfoldable pub vcoRefusalOf : Vco → ℕ
+vcoRefusalOf s = cond (rateOk (s .«sample_rate»)) (cond (phaseOk (s .phase)) 0 2) 1
+
+-- a rate change tests 1 on the old rate and the new
+unfoldable pub vcoRateRefusalOf : Vco → Hertz → ℕ
+vcoRateRefusalOf s r = cond (rateOk r) (vcoRefusalOf s) 1
+
+unfoldable pub vcoNewOf : Hertz → VcoMade
+vcoNewOf r = cond (rateOk r) (made.Made (newVco r)) (made.Refused 1)
+
+-- a refused call leaves the state as it stood
+unfoldable pub vcoTickOf : Vco → VcoControls → ℕ → VcoTicked
+vcoTickOf s c wanted = cond (eqb (vcoRefusalOf s) 0) (vcoSoundOf s c wanted) (record { answer = answer.Refused (vcoRefusalOf s); vco = s })
+
+-- phase = 0.0; sync_edge.reset()
+unfoldable pub restarted : Vco → Vco
+restarted s = record { phase = turns zer; «sample_rate» = s .«sample_rate»; «sync_edge» = newEdge; «freq_memo» = s .«freq_memo» }
+
+unfoldable pub vcoResetOf : Vco → VcoMade
+vcoResetOf s = cond (eqb (vcoRefusalOf s) 0) (made.Made (restarted s)) (made.Refused (vcoRefusalOf s))
+
+-- self.sample_rate = sample_rate
+unfoldable pub rated : Vco → Hertz → Vco
+rated s r = record { phase = s .phase; «sample_rate» = r; «sync_edge» = s .«sync_edge»; «freq_memo» = s .«freq_memo» }
+
+unfoldable pub vcoSetSampleRateOf : Vco → Hertz → VcoMade
+vcoSetSampleRateOf s r = cond (eqb (vcoRateRefusalOf s r) 0) (made.Made (rated s r)) (made.Refused (vcoRateRefusalOf s r))

@@ -1,0 +1,343 @@
+// The Vco of oscillators.rs: sine, triangle, saw and square of one phase, with hard sync and two kinds of FM.
+// In an answer's volts p10 is sin, p11 tri, p12 saw and p13 sqr.
+use answer::Answer;
+use answer::Volts;
+use common::Crossing;
+use common::EdgeDetector;
+use common::Hertz;
+use common::Memo3;
+use common::Turns;
+use common::VoltsPerOctave;
+ghost use mathlib.Core.Path.{_≡_};
+ghost use mathlib.Core.Bool.{true};
+ghost use Rattle.numeric.specs.Basic.{fabsOf};
+ghost use Rattle.common.specs.Phase.{turns};
+ghost use Rattle.common.specs.Memo.{recall3};
+ghost use Rattle.common.specs.Tests.{phaseOk};
+ghost use Rattle.vco.specs.Waves.{outOf, sineOf, sawOf, levelOf, Width, pwEdgeOf, sqrOf, cornerHalfOf, triOf, steppedOf, Quiet};
+ghost use Rattle.vco.specs.Vco.{frequencyOf, restartOf, vcoAnswerOf, vcoSoundOf, vcoRefusalOf, vcoRateRefusalOf, vcoNewOf, vcoTickOf, vcoResetOf, vcoSetSampleRateOf};
+
+pub struct Vco {
+    pub phase: Turns,
+    pub sample_rate: Hertz,
+    pub sync_edge: EdgeDetector,
+    pub freq_memo: Memo3,
+}
+
+// A volt of fm is an octave; 5 V of fm_lin are the pitch's whole frequency.
+pub struct VcoControls {
+    pub voct: VoltsPerOctave,
+    pub fm: VoltsPerOctave,
+    pub pw: f64,
+    pub sync: f64,
+    pub fm_lin: f64,
+}
+
+pub struct VcoTicked {
+    pub answer: Answer,
+    pub vco: Vco,
+}
+
+// A state, or the number that refused the call.
+pub enum VcoMade {
+    Made(Vco),
+    Refused(u32),
+}
+
+// The memo's closure. Linear FM may take the frequency below 0.
+fn frequency(voct: VoltsPerOctave, fm: VoltsPerOctave, fm_lin: f64) -> Hertz
+    ensures { λ r. ⌜ r ≡ frequencyOf (voct .0) (fm .0) «fm_lin» ⌝ }
+{
+    let base_freq = common::voct_to_hz(voct);
+    let freq = base_freq.0 * numeric::exp2(fm.0);
+    Hertz(freq + fm_lin / 5.0 * base_freq.0)
+}
+
+// The Rust's get_or_compute([voct, fm, fm_lin], ..); its answer is the new memo's val.
+fn tuned(memo: Memo3, voct: VoltsPerOctave, fm: VoltsPerOctave, fm_lin: f64) -> Memo3
+    ensures { λ r. ⌜ r ≡ recall3 frequencyOf memo (voct .0) (fm .0) «fm_lin» ⌝ }
+{
+    if memo.hits(voct.0, fm.0, fm_lin) {
+        memo
+    } else {
+        let freq = frequency(voct, fm, fm_lin);
+        Memo3::filled(voct.0, fm.0, fm_lin, freq)
+    }
+}
+
+// The phase that the waveforms see: a sync edge puts it to 0.
+fn restart(phase: Turns, at: Crossing) -> Turns
+    ensures { λ r. ⌜ r ≡ restartOf phase at ⌝ }
+{
+    match at {
+        Crossing::At(_) => Turns(0.0),
+        Crossing::Nowhere => phase,
+    }
+}
+
+// Scaled to ±5 V. What isn't wanted reads 0.0.
+fn out(want: bool, x: f64) -> f64
+    ensures { λ r. ⌜ r ≡ outOf want x ⌝ }
+{
+    if want { x * 5.0 } else { 0.0 }
+}
+
+fn sine(want: bool, phase: Turns) -> f64
+    ensures { λ r. ⌜ r ≡ sineOf want (phase .0) ⌝ }
+{
+    if want {
+        numeric::sin(phase.0 * 6.283185307179586) * 5.0
+    } else {
+        0.0
+    }
+}
+
+// A ramp, smoothed at the wrap.
+fn saw(phase: Turns, wrap: f64) -> f64
+    ensures { λ r. ⌜ r ≡ sawOf (phase .0) wrap ⌝ }
+{
+    2.0 * phase.0 - 1.0 - wrap
+}
+
+fn level(phase: Turns, pw: f64) -> f64
+    ensures { λ r. ⌜ r ≡ levelOf (phase .0) pw ⌝ }
+{
+    if phase.0 < pw { 1.0 } else { -1.0 }
+}
+
+// The phase seen from the pulse's falling edge. x is above 0 and below 2, so its floor is a test.
+fn pw_edge(phase: Turns, pw: f64) -> Turns
+    requires { ⌜ (phaseOk phase ≡ true) × Width pw ⌝ }
+    ensures { λ r. ⌜ r ≡ turns (pwEdgeOf (phase .0) pw) ⌝ }
+{
+    let x = phase.0 + (1.0 - pw);
+    if x < 1.0 { Turns(x) } else { Turns(x - 1.0) }
+}
+
+// A pulse, smoothed at the wrap and at its falling edge.
+fn square(phase: Turns, pw: f64, wrap: f64, fall: f64) -> f64
+    ensures { λ r. ⌜ r ≡ sqrOf (phase .0) pw wrap fall ⌝ }
+{
+    level(phase, pw) + wrap - fall
+}
+
+// The phase seen from the triangle's upper corner.
+fn corner_half(phase: Turns) -> Turns
+    ensures { λ r. ⌜ r ≡ turns (cornerHalfOf (phase .0)) ⌝ }
+{
+    let x = phase.0 - 0.5;
+    if x < 0.0 { Turns(x + 1.0) } else { Turns(x) }
+}
+
+// Two slopes, smoothed at both corners.
+fn triangle(phase: Turns, lower: f64, upper: f64) -> f64
+    ensures { λ r. ⌜ r ≡ triOf (phase .0) lower upper ⌝ }
+{
+    1.0 - 4.0 * numeric::fabs(phase.0 - 0.5) + lower - upper
+}
+
+// x smoothed once more where a sync edge made it step.
+fn stepped(at: Crossing, x: f64, step: f64, dt_abs: Turns) -> f64
+    ensures { λ r. ⌜ r ≡ steppedOf at x step («dt_abs» .0) ⌝ }
+{
+    match at {
+        Crossing::At(frac) => {
+            let equiv = Turns((1.0 - frac) * dt_abs.0);
+            x + step / 2.0 * common::polyblep(equiv, dt_abs)
+        }
+        Crossing::Nowhere => x,
+    }
+}
+
+// Whether this tick is away from every corner and takes no edge: then nothing is smoothed. Nearly every tick is.
+// half is how far the phase is from the triangle's upper corner, and what it lacks of 0.5 how far from the wrap.
+fn quiet(at: Crossing, phase: Turns, edge: Turns, dt_abs: Turns) -> bool
+    requires { ⌜ (phaseOk phase ≡ true) × (fabsOf («dt_abs» .0) ≡ «dt_abs» .0) ⌝ }
+    ensures { λ r. ⌜ (r ≡ true → Quiet at (phase .0) (edge .0) («dt_abs» .0)) ⌝ }
+{
+    match at {
+        Crossing::At(_) => false,
+        Crossing::Nowhere => {
+            let half = numeric::fabs(phase.0 - 0.5);
+            if half >= dt_abs.0 {
+                if half < 0.5 - dt_abs.0 {
+                    edge.0 >= dt_abs.0 && edge.0 <= 1.0 - dt_abs.0
+                } else {
+                    false
+                }
+            } else {
+                false
+            }
+        }
+    }
+}
+
+impl Vco {
+    // The bits of `wanted`, in port order.
+    const WANT_SIN: u32 = 1 << 0;
+
+    const WANT_TRI: u32 = 1 << 1;
+
+    const WANT_SAW: u32 = 1 << 2;
+
+    const WANT_SQR: u32 = 1 << 3;
+
+    pub fn new(sample_rate: Hertz) -> VcoMade
+        ensures { λ r. ⌜ r ≡ vcoNewOf «sample_rate» ⌝ }
+    {
+        if common::rate_ok(sample_rate) {
+            VcoMade::Made(Vco {
+                phase: Turns(0.0),
+                sample_rate,
+                sync_edge: EdgeDetector::new(),
+                freq_memo: Memo3::new(),
+            })
+        } else {
+            VcoMade::Refused(1)
+        }
+    }
+
+    // 0, or what refuses this state: 1 its rate, 2 its phase.
+    fn refusal(self) -> u32
+        ensures { λ r. ⌜ r ≡ vcoRefusalOf self ⌝ }
+    {
+        let sample_rate = self.sample_rate;
+        let phase = self.phase;
+        if common::rate_ok(sample_rate) {
+            if common::phase_ok(phase) { 0 } else { 2 }
+        } else {
+            1
+        }
+    }
+
+    // The samples with their mark. A quiet tick's are finite.
+    fn heard(at: Crossing, phase: Turns, p_old: Turns, pw: f64, dt: Turns, wanted: u32) -> Answer
+        requires { ⌜ phaseOk phase ≡ true ⌝ }
+        ensures { λ r. ⌜ r ≡ vcoAnswerOf at (phase .0) («p_old» .0) pw (dt .0) wanted ⌝ }
+    {
+        let pw = numeric::clamp(pw, 0.05, 0.95);
+        let dt_abs = Turns(numeric::fabs(dt.0));
+        let sin = sine(wanted & Self::WANT_SIN != 0, phase);
+        let edge = pw_edge(phase, pw);
+        if quiet(at, phase, edge, dt_abs) {
+            Answer::Clean(Volts {
+                p10: sin,
+                p11: out(wanted & Self::WANT_TRI != 0, triangle(phase, 0.0, 0.0)),
+                p12: out(wanted & Self::WANT_SAW != 0, saw(phase, 0.0)),
+                p13: out(wanted & Self::WANT_SQR != 0, square(phase, pw, 0.0, 0.0)),
+                p14: 0.0,
+            })
+        } else {
+            let wrap = common::polyblep(phase, dt_abs);
+            let fall = common::polyblep(edge, dt_abs);
+            let lower = 4.0 * dt_abs.0 * common::polyblamp(phase, dt_abs);
+            let upper = 4.0 * dt_abs.0 * common::polyblamp(corner_half(phase), dt_abs);
+            let tri = triangle(phase, lower, upper);
+            let saw = stepped(at, saw(phase, wrap), -2.0 * p_old.0, dt_abs);
+            let sqr_step = 1.0 - level(p_old, pw);
+            let sqr = stepped(at, square(phase, pw, wrap, fall), sqr_step, dt_abs);
+            let volts = Volts {
+                p10: sin,
+                p11: out(wanted & Self::WANT_TRI != 0, tri),
+                p12: out(wanted & Self::WANT_SAW != 0, saw),
+                p13: out(wanted & Self::WANT_SQR != 0, sqr),
+                p14: 0.0,
+            };
+            answer::mark(volts, false, true, numeric::is_finite(phase.0 + dt.0))
+        }
+    }
+
+    // An accepted tick.
+    fn sound(self, c: VcoControls, wanted: u32) -> VcoTicked
+        requires { ⌜ phaseOk (self .phase) ≡ true ⌝ }
+        ensures { λ r. ⌜ r ≡ vcoSoundOf self c wanted ⌝ }
+    {
+        let p_old = self.phase;
+        let sample_rate = self.sample_rate;
+        let edge = self.sync_edge;
+        let memo = self.freq_memo;
+        let voct = c.voct;
+        let fm = c.fm;
+        let freq_memo = tuned(memo, voct, fm, c.fm_lin);
+        let freq = freq_memo.val;
+        let dt = Turns(freq.0 / sample_rate.0);
+        let crossed = edge.rising_frac(c.sync);
+        let at = crossed.at;
+        let sync_edge = crossed.edge;
+        let phase = restart(p_old, at);
+        VcoTicked {
+            answer: Self::heard(at, phase, p_old, c.pw, dt, wanted),
+            vco: Vco {
+                phase: common::wrap_phase(Turns(phase.0 + dt.0)),
+                sample_rate,
+                sync_edge,
+                freq_memo,
+            },
+        }
+    }
+
+    pub fn tick(self, c: VcoControls, wanted: u32) -> VcoTicked
+        ensures { λ r. ⌜ r ≡ vcoTickOf self c wanted ⌝ }
+    {
+        let refusal = self.refusal();
+        if refusal == 0 {
+            self.sound(c, wanted)
+        } else {
+            VcoTicked {
+                answer: Answer::Refused(refusal),
+                vco: self,
+            }
+        }
+    }
+
+    // The memo is kept.
+    pub fn reset(self) -> VcoMade
+        ensures { λ r. ⌜ r ≡ vcoResetOf self ⌝ }
+    {
+        let refusal = self.refusal();
+        if refusal == 0 {
+            let sample_rate = self.sample_rate;
+            let edge = self.sync_edge;
+            let freq_memo = self.freq_memo;
+            VcoMade::Made(Vco {
+                phase: Turns(0.0),
+                sample_rate,
+                sync_edge: edge.reset(),
+                freq_memo,
+            })
+        } else {
+            VcoMade::Refused(refusal)
+        }
+    }
+
+    // The same of a rate change: a bad new rate is 1 too, and comes before 2.
+    fn rate_refusal(self, sample_rate: Hertz) -> u32
+        ensures { λ r. ⌜ r ≡ vcoRateRefusalOf self «sample_rate» ⌝ }
+    {
+        if common::rate_ok(sample_rate) {
+            self.refusal()
+        } else {
+            1
+        }
+    }
+
+    // The memo is kept: no frequency depends on the rate.
+    pub fn set_sample_rate(self, sample_rate: Hertz) -> VcoMade
+        ensures { λ r. ⌜ r ≡ vcoSetSampleRateOf self «sample_rate» ⌝ }
+    {
+        let refusal = self.rate_refusal(sample_rate);
+        if refusal == 0 {
+            let phase = self.phase;
+            let sync_edge = self.sync_edge;
+            let freq_memo = self.freq_memo;
+            VcoMade::Made(Vco {
+                phase,
+                sample_rate,
+                sync_edge,
+                freq_memo,
+            })
+        } else {
+            VcoMade::Refused(refusal)
+        }
+    }
+}
