@@ -27,7 +27,9 @@ impl Pair for Vco {
     fn invent(&self, controls: &[f64], draw: &mut Draw) -> ([f64; 4], [u64; 4]) {
         let [a, b, c] = draw.keys([controls[0], controls[1], controls[4]]);
         let val = under(&[a, b, c], draw.hertz());
-        ([draw.phase(), draw.state_rate(), draw.previous(), val], [a, b, c, draw.valid()])
+        // now and then right where the square falls
+        let phase = if draw.one_in(8) { controls[2].clamp(0.05, 0.95) } else { draw.phase() };
+        ([phase, draw.state_rate(), draw.previous(), val], [a, b, c, draw.valid()])
     }
 
     fn refusal([phase, rate, ..]: &[f64; 4], _: &[u64; 4]) -> u32 {
