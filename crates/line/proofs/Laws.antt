@@ -86,15 +86,15 @@ rest-of s at = take-all (length s - at) (drop at s) (omega (arith, length-drop a
 pub drop-back : (s : List ℕ) (k : ℕ) → drop (length s - length (drop k s)) s ≡ drop k s
 drop-back s k = tests (leb k (length s)) refl
   where
-  tests : (b : Bool) → leb k (length s) ≡ b → drop (length s - length (drop k s)) s ≡ drop k s
-  tests true e =
-      let h : k ≤ length s = leb-true k (length s) e in
-      let i : length s - length (drop k s) ≡ k = omega (arith, length-drop k s) in
-      ap (λ (j : ℕ). drop j s) i
-  tests false e =
-      let h : length s < k = leb-false k (length s) e in
-      let i : length s ≤ length s - length (drop k s) = omega (arith, length-drop k s) in
-      drop-of-length-le s i ∙ sym (drop-of-length-le s {i = k} (omega arith))
+    tests : (b : Bool) → leb k (length s) ≡ b → drop (length s - length (drop k s)) s ≡ drop k s
+    tests true e =
+        let h : k ≤ length s = leb-true k (length s) e in
+        let i : length s - length (drop k s) ≡ k = omega (arith, length-drop k s) in
+        ap (λ (j : ℕ). drop j s) i
+    tests false e =
+        let h : length s < k = leb-false k (length s) e in
+        let i : length s ≤ length s - length (drop k s) = omega (arith, length-drop k s) in
+        drop-of-length-le s i ∙ sym (drop-of-length-le s {i = k} (omega arith))
 
 -- the parts before and after a byte, by how many stand before it
 module _ (x b : ℕ) (bs : List ℕ) where

@@ -3,7 +3,9 @@ use Prim.Native.Nat.{ℕ, _-_}
 use mathlib.Core.List.{List}
 use mathlib.Core.Bool.{Bool, false, cond}
 use lib.ListN.{length, drop}
+use denote.Ref.{now}
 use Rattle.line.specs.Bytes.{sameOf, hasOf, untilOf, pastOf}
+use Rattle.line.specs.declared.Reader.{Reader}
 
 -- the text's first line, without its line feed, and the text after it
 unfoldable pub lineOf : List ℕ → List ℕ
@@ -26,3 +28,7 @@ isLine key text = cond (hasOf 10 text) (cond (hasOf 61 (lineOf text)) (sameOf (k
 -- the place of the line after the one at `at`: where the text after it begins
 unfoldable pub nextOf : List ℕ → ℕ → ℕ
 nextOf text at = length text - length (restOf (drop at text))
+
+-- the reader at the next line of the same text
+abbrev pub movedOn : Reader → Reader
+movedOn r = record { text = r .text; at = nextOf (now (r .text)) (r .at) }

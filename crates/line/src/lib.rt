@@ -2,7 +2,7 @@
 ghost use mathlib.Core.Path.{_≡_};
 ghost use lib.ListN.{length, drop};
 ghost use Rattle.line.specs.Bytes.{sameOf, hasOf, untilOf, pastOf};
-ghost use Rattle.line.specs.Line.{valueOf, isLine, nextOf};
+ghost use Rattle.line.specs.Line.{valueOf, isLine, nextOf, movedOn};
 ghost use Rattle.line.specs.Number.{digitsOf, negativeOf, wholeOf, numberOf};
 
 // ---- parts of a text, uncopied
@@ -11,11 +11,7 @@ ghost use Rattle.line.specs.Number.{digitsOf, negativeOf, wholeOf, numbe
 fn from(t: &[u8], at: usize) -> &[u8]
     ensures { λ r. ⌜ now r ≡ drop at (now (t .entry)) ⌝ }
 {
-    if at <= t.len() {
-        &t[at..]
-    } else {
-        &t[0..0]
-    }
+    if at <= t.len() { &t[at..] } else { &t[0..0] }
 }
 
 // How many bytes stand before the first `byte`: all of them where there is none.
@@ -76,7 +72,11 @@ pub fn is_line(text: &[u8], at: usize, key: &[u8]) -> bool
     let rest = from(text, at);
     if has(rest, b'\n') {
         let line = until(rest, b'\n');
-        if has(line, b'=') { same(until(line, b'='), key) } else { false }
+        if has(line, b'=') {
+            same(until(line, b'='), key)
+        } else {
+            false
+        }
     } else {
         false
     }
@@ -94,6 +94,46 @@ fn line_end(text: &[u8], at: usize) -> usize
     ensures { λ r. ⌜ r ≡ nextOf (now (text .entry)) at ⌝ }
 {
     text.len() - past(from(text, at), b'\n').len()
+}
+
+// ---- a reader, which keeps the text together with its place
+
+pub struct Reader<'a> {
+    pub text: &'a [u8],
+    pub at: usize,
+}
+
+impl<'a> Reader<'a> {
+    // The value of the line here, a part of the text.
+    pub fn value(self) -> &'a [u8]
+        ensures { λ v. ⌜ now v ≡ valueOf (drop (self .entry .at) (now (self .entry .text))) ⌝ }
+    {
+        line_value(self.text, self.at)
+    }
+
+    // The reader at the next line.
+    pub fn next(self) -> Reader<'a>
+        ensures { λ r. ⌜ r ≡ movedOn (self .entry) ⌝ }
+    {
+        let at = line_end(self.text, self.at);
+        Reader {
+            text: self.text,
+            at,
+        }
+    }
+}
+
+// What a reader hands out at a place, and where it is next. Whoever calls these needs no reader.
+pub fn value_at(text: &[u8], at: usize) -> &[u8]
+    ensures { λ v. ⌜ now v ≡ valueOf (drop at (now (text .entry))) ⌝ }
+{
+    Reader { text, at }.value()
+}
+
+pub fn next_at(text: &[u8], at: usize) -> usize
+    ensures { λ r. ⌜ r ≡ nextOf (now (text .entry)) at ⌝ }
+{
+    Reader { text, at }.next().at
 }
 
 // ---- numbers
@@ -116,7 +156,10 @@ fn digits_of(v: &[u8]) -> Number
     }
     if v[0] == b'0' {
         if v.len() == 1 {
-            return Number::Whole { minus: false, size: 0 };
+            return Number::Whole {
+                minus: false,
+                size: 0,
+            };
         }
         return Number::Malformed;
     }
@@ -169,5 +212,9 @@ fn whole_of(v: &[u8]) -> Number
 pub fn number_of(v: &[u8]) -> Number
     ensures { λ r. ⌜ r ≡ numberOf (now (v .entry)) ⌝ }
 {
-    if same(v, b"nan") { Number::Nan } else { whole_of(v) }
+    if same(v, b"nan") {
+        Number::Nan
+    } else {
+        whole_of(v)
+    }
 }

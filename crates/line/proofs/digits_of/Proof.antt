@@ -69,10 +69,13 @@ loop-less : tie.Need-loop-less Inv-loop μ-loop
 loop-less c = search needs
 
 loop-again : tie.Need-loop-again Inv-loop μ-loop
-loop-again c = 
-    (omega arith,
-    (ten-fold _ _ _ (c .before .before .before .before .loop .inv .1 .0) (omega arith),
-    c .before .before .before .before .loop .inv .1 .1 ∙ digits-next _ _ (c .before .before .before .loop-test .taken) _ (c .before .if5 .left) (c .if6 .left)))
+loop-again c = (
+  omega arith,
+  (
+    ten-fold _ _ _ (c .before .before .before .before .loop .inv .1 .0) (omega arith),
+    c .before .before .before .before .loop .inv .1 .1 ∙ digits-next _ _ (c .before .before .before .loop-test .taken) _ (c .before .if5 .left) (c .if6 .left),
+  ),
+)
 
 returns-7 : tie.Need-returns-7 Inv-loop μ-loop
 returns-7 c = sym (c .before .loop .inv .1 .1 ∙ digits-end _ _ _ (c .loop-test .left))
