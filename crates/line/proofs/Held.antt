@@ -43,6 +43,10 @@ L κs = T′.the-laws (namedLft 1 0 tt κs)
 abbrev pub slice : RefT (List ℕ) → Val
 slice s = sliceVal (s .ptr) (length (s .now))
 
+-- a reader of a text at a place
+abbrev pub made : RefT (List ℕ) → ℕ → Reader
+made s n = record { text = s; at = n }
+
 -- what a reader owns, and what its text owns
 abbrev pub Own : Lft → Reader → Fml
 Own κ d = B (κ, tt) .own d (T′.lowered d ∷ [])
@@ -69,3 +73,13 @@ module _ {M : Type 1} (𝓤 : URA M) (H : Heap 𝓤) (A : Atoms 𝓤) (W : Given
         -- [what text owns; what at owns; what the reader owns; the token]
         move ! (1 ∷ []) $ drop ! $ nothing ! $ owned ! usize (Is usize) (uint-makes 𝓤 H A W w64) (d .at) _ (refl, fits) $ fjoin ! $ move ! (1 ∷ 0 ∷ []) $ fjoin ! $
         move ! (2 ∷ 0 ∷ []) $ join ! $ frame ! $ done !)
+
+  -- what a text owns, with a place, gives what a reader of the two owns, and is kept
+  pub together : (s : RefT (List ℕ)) (n : ℕ) (q : Share) → n < 2 ^ 64 → ent 𝓤 (⋆ 𝓤 H A ((‵ (flft κ q) ⊛ ‵ ftrue) ∷ ‵ (owns (ShrSlice (named 0) κ u8 ∷ usize ∷ []) (s, (n, tt)) (slice s ∷ [], (vint w64 n ∷ [], tt))) ∷ []))
+      (sep 𝓤 (⋆ 𝓤 H A ((‵ (flft κ q) ⊛ ‵ ftrue) ∷ ‵ (owns (B (κ, tt) ∷ []) (made s n, tt) (T′.lowered (made s n) ∷ [], tt)) ∷ [])) (sem 𝓤 H A (OwnText κ s)))
+  together s n q fits =
+      qed W ((‵ (flft κ q) ⊛ ‵ ftrue) ∷ ‵ (owns (ShrSlice (named 0) κ u8 ∷ usize ∷ []) (s, (n, tt)) (slice s ∷ [], (vint w64 n ∷ [], tt))) ∷ []) ∵
+      move ! (1 ∷ []) $ fsplit ! $ move ! (1 ∷ []) $ drop ! $ use1 W (‵ (OwnText κ s) ⊛ ‵ (OwnText κ s)) (shr-slice-copy 𝓤 H A W (named 0) κ u8 .twice s (slice s ∷ [])) $ split ! $
+      nothing ! $ owned ! usize (Is usize) (uint-makes 𝓤 H A W w64) n _ (refl, fits) $ fjoin ! $ move ! (1 ∷ 0 ∷ []) $ fjoin ! $
+      use1 W (‵ (Own κ (made s n))) (own-shut 𝓤 H A W (D (κ, tt)) (L (κ, tt)) (s, (n, tt))) $ nothing ! $ move ! (1 ∷ 0 ∷ []) $ fjoin ! $
+      move ! (2 ∷ 0 ∷ []) $ join ! $ frame ! $ done !
