@@ -1,0 +1,4 @@
+pub mod Control
+pub mod Lines
+pub mod Score
+pub mod Places
