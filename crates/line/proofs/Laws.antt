@@ -11,7 +11,7 @@ use lib.ListN.{length, getD, take, drop, length-drop, length-take, drop-of-lengt
 use lib.Seq.{drop-cons, drop-drop, take-all}
 use borrow.Author.Tests.{lt-ltb, le-ltb, leb-true, leb-false, ne-eqb, eq-eqb}
 use Rattle.line.specs.Bytes.{sameOf, hasOf, untilOf, pastOf}
-use Rattle.line.specs.Line.{restOf, nextOf}
+use Rattle.line.specs.Line.{afterLine, nextOf}
 use Rattle.line.specs.Number.{digitsFrom}
 use Rattle.line.specs.declared.Number.{Number}
 use Rattle.line.specs.declared.Number.the-variants.{Whole, Nan, Malformed}
@@ -140,12 +140,12 @@ has-until x [] = refl
 has-until x (b ∷ bs) = has-step x b bs (eqb b x) (has-until x bs)
 
 -- the text after a line is the text from the next place on
-next-rest : (s : List ℕ) (at : ℕ) → drop (nextOf s at) s ≡ restOf (drop at s)
-unfolding nextOf restOf
+next-rest : (s : List ℕ) (at : ℕ) → drop (nextOf s at) s ≡ afterLine (drop at s)
+unfolding nextOf afterLine
 next-rest s at =
     let n : ℕ = suc (length (untilOf 10 (drop at s))) in
     let e : drop (at + n) s ≡ pastOf 10 (drop at s) = sym (drop-drop n at s) ∙ past-drop 10 (drop at s) in
     ap (λ (l : List ℕ). drop (length s - length l) s) (sym e) ∙ drop-back s (at + n) ∙ e
 
-pub after-line : (s : List ℕ) (at n : ℕ) → n ≡ nextOf s at → restOf (drop at s) ≡ drop n s
+pub after-line : (s : List ℕ) (at n : ℕ) → n ≡ nextOf s at → afterLine (drop at s) ≡ drop n s
 after-line s at n e = sym (next-rest s at) ∙ ap (λ (i : ℕ). drop i s) (sym e)

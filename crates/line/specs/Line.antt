@@ -11,8 +11,8 @@ use Rattle.line.specs.declared.Reader.{Reader}
 unfoldable pub lineOf : List ℕ → List ℕ
 lineOf text = untilOf 10 text
 
-unfoldable pub restOf : List ℕ → List ℕ
-restOf text = pastOf 10 text
+unfoldable pub afterLine : List ℕ → List ℕ
+afterLine text = pastOf 10 text
 
 -- the first line's key and value: the stretches before and after its first equals sign
 unfoldable pub keyOf : List ℕ → List ℕ
@@ -27,7 +27,7 @@ isLine key text = cond (hasOf 10 text) (cond (hasOf 61 (lineOf text)) (sameOf (k
 
 -- the place of the line after the one at `at`: where the text after it begins
 unfoldable pub nextOf : List ℕ → ℕ → ℕ
-nextOf text at = length text - length (restOf (drop at text))
+nextOf text at = length text - length (afterLine (drop at text))
 
 -- the reader at the next line of the same text
 abbrev pub movedOn : Reader → Reader

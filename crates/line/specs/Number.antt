@@ -28,8 +28,8 @@ negativeOf (Whole minus size) = cond (eqb size 0) Malformed (Whole true size)
 negativeOf Nan = Malformed
 negativeOf Malformed = Malformed
 
-unfoldable pub wholeOf : List ℕ → Number
-wholeOf v = cond (eqb (length v) 0) Malformed (cond (eqb (getD v 0 0) 45) (negativeOf (digitsOf (drop 1 v))) (digitsOf v))
+unfoldable pub signedOf : List ℕ → Number
+signedOf v = cond (eqb (length v) 0) Malformed (cond (eqb (getD v 0 0) 45) (negativeOf (digitsOf (drop 1 v))) (digitsOf v))
 
 unfoldable pub numberOf : List ℕ → Number
-numberOf v = cond (sameOf v (ascii "nan")) Nan (wholeOf v)
+numberOf v = cond (sameOf v (ascii "nan")) Nan (signedOf v)

@@ -3,7 +3,7 @@ ghost use mathlib.Core.Path.{_≡_};
 ghost use lib.ListN.{length, drop};
 ghost use Rattle.line.specs.Bytes.{sameOf, hasOf, untilOf, pastOf};
 ghost use Rattle.line.specs.Line.{valueOf, isLine, nextOf, movedOn};
-ghost use Rattle.line.specs.Number.{digitsOf, negativeOf, wholeOf, numberOf};
+ghost use Rattle.line.specs.Number.{digitsOf, negativeOf, signedOf, numberOf};
 
 // ---- parts of a text, uncopied
 
@@ -196,8 +196,8 @@ fn negative_of(n: Number) -> Number
     }
 }
 
-fn whole_of(v: &[u8]) -> Number
-    ensures { λ r. ⌜ r ≡ wholeOf (now (v .entry)) ⌝ }
+fn signed_of(v: &[u8]) -> Number
+    ensures { λ r. ⌜ r ≡ signedOf (now (v .entry)) ⌝ }
 {
     if v.len() == 0 {
         return Number::Malformed;
@@ -215,6 +215,6 @@ pub fn number_of(v: &[u8]) -> Number
     if same(v, b"nan") {
         Number::Nan
     } else {
-        whole_of(v)
+        signed_of(v)
     }
 }

@@ -6,7 +6,7 @@ use mathlib.Core.List.{List}
 use native.Mathlib.Omega.{arith}
 use lib.ListN.{drop}
 use Rattle.line.specs.Bytes.{ascii}
-use Rattle.line.specs.Line.{restOf, nextOf}
+use Rattle.line.specs.Line.{afterLine, nextOf}
 use Rattle.line.proofs.Laws.{after-line}
 use Rattle.score.specs.Lines.{controlLine}
 use Rattle.score.specs.Score.{onControl, control}
@@ -28,7 +28,7 @@ text-left at n h e = omega arith
 
 module _ (s : List ℕ) where
   module _ (key : String) (k : Control → List ℕ → Reading) where
-    input-at : (at : ℕ) (x : ControlLine) → onControl x (λ (c : Control). k c (restOf (drop at s))) ≡ from s (takenOf x (nextOf s at) .place) (k (takenOf x (nextOf s at) .control))
+    input-at : (at : ℕ) (x : ControlLine) → onControl x (λ (c : Control). k c (afterLine (drop at s))) ≡ from s (takenOf x (nextOf s at) .place) (k (takenOf x (nextOf s at) .control))
     unfolding from
     input-at at (CL.Read c) = ap (k c) (after-line s at (nextOf s at) refl)
     input-at at (CL.Refused n) = refl

@@ -29,11 +29,11 @@ oscOf value =
     (OL.Refused 21))))
 
 -- a whole number from least to most
-unfoldable pub wholeOf : ℕ → ℕ → Number → WholeLine
-wholeOf least most (Whole minus size) =
+unfoldable pub withinOf : ℕ → ℕ → Number → WholeLine
+withinOf least most (Whole minus size) =
     cond minus (WL.Refused 23) (cond (ltb size least) (WL.Refused 23) (cond (ltb most size) (WL.Refused 23) (WL.Read size)))
-wholeOf least most Nan = WL.Refused 22
-wholeOf least most Malformed = WL.Refused 22
+withinOf least most Nan = WL.Refused 22
+withinOf least most Malformed = WL.Refused 22
 
 -- an input: microvolts from -10000000 to 10000000, or nan
 unfoldable pub controlOf : Number → ControlLine
@@ -46,7 +46,7 @@ unfoldable pub oscLine : List ℕ → OscLine
 oscLine text = cond (isLine (ascii "osc") text) (oscOf (valueOf text)) (OL.Refused 21)
 
 unfoldable pub wholeLine : List ℕ → ℕ → ℕ → List ℕ → WholeLine
-wholeLine key least most text = cond (isLine key text) (wholeOf least most (numberOf (valueOf text))) (WL.Refused 21)
+wholeLine key least most text = cond (isLine key text) (withinOf least most (numberOf (valueOf text))) (WL.Refused 21)
 
 unfoldable pub controlLine : List ℕ → List ℕ → ControlLine
 controlLine key text = cond (isLine key text) (controlOf (numberOf (valueOf text))) (CL.Refused 21)

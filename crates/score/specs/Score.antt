@@ -7,7 +7,7 @@ use mathlib.Core.Bool.{cond}
 use lib.ListN.{length}
 use lib.Dec.{ltb, eqb}
 use Rattle.line.specs.Bytes.{ascii}
-use Rattle.line.specs.Line.{restOf}
+use Rattle.line.specs.Line.{afterLine}
 use Rattle.score.specs.Lines.{oscLine, wholeLine, controlLine}
 use Rattle.score.specs.declared.Control.{Control}
 use Rattle.score.specs.declared.Osc.{Osc}
@@ -39,13 +39,13 @@ onControl (CL.Refused n) k = Refused n
 
 -- the text's first line is read, and the text after it goes on
 unfoldable pub osc : List ℕ → (Osc → List ℕ → Reading) → Reading
-osc text k = onOsc (oscLine text) (λ (o : Osc). k o (restOf text))
+osc text k = onOsc (oscLine text) (λ (o : Osc). k o (afterLine text))
 
 unfoldable pub whole : String → ℕ → ℕ → List ℕ → (ℕ → List ℕ → Reading) → Reading
-whole key least most text k = onWhole (wholeLine (ascii key) least most text) (λ (n : ℕ). k n (restOf text))
+whole key least most text k = onWhole (wholeLine (ascii key) least most text) (λ (n : ℕ). k n (afterLine text))
 
 unfoldable pub control : String → List ℕ → (Control → List ℕ → Reading) → Reading
-control key text k = onControl (controlLine (ascii key) text) (λ (c : Control). k c (restOf text))
+control key text k = onControl (controlLine (ascii key) text) (λ (c : Control). k c (afterLine text))
 
 -- nothing stands after the last line
 unfoldable pub endOf : Score → List ℕ → Reading

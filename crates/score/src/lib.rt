@@ -2,7 +2,7 @@
 ghost use mathlib.Core.Path.{_≡_};
 ghost use lib.ListN.{drop};
 ghost use Rattle.score.specs.Control.{voltsOf};
-ghost use Rattle.score.specs.Lines.{oscOf, wholeOf, controlOf, oscLine, wholeLine, controlLine};
+ghost use Rattle.score.specs.Lines.{oscOf, withinOf, controlOf, oscLine, wholeLine, controlLine};
 ghost use Rattle.score.specs.Score.{endOf, vcoOf, lfoOf, supersawOf, formantOf, inputsOf, framesOf, hzOf, scoreOf};
 ghost use Rattle.score.specs.Places.{from, takeOf};
 use line::Number;
@@ -113,8 +113,8 @@ fn osc_of(value: &[u8]) -> OscLine
     OscLine::Refused(21)
 }
 
-fn whole_of(n: Number, least: u32, most: u32) -> WholeLine
-    ensures { λ r. ⌜ r ≡ wholeOf least most n ⌝ }
+fn within(n: Number, least: u32, most: u32) -> WholeLine
+    ensures { λ r. ⌜ r ≡ withinOf least most n ⌝ }
 {
     match n {
         Number::Whole { minus, size } => {
@@ -171,7 +171,7 @@ fn whole_line(text: &[u8], at: usize, key: &[u8], least: u32, most: u32) -> Whol
     ensures { λ r. ⌜ r ≡ wholeLine (now (key .entry)) least most (drop at (now (text .entry))) ⌝ }
 {
     if line::is_line(text, at, key) {
-        whole_of(line::number_of(line::value_at(text, at)), least, most)
+        within(line::number_of(line::value_at(text, at)), least, most)
     } else {
         WholeLine::Refused(21)
     }

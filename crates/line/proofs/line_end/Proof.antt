@@ -5,7 +5,7 @@ use lib.ListN.{length, drop, length-drop}
 use borrow.Author.Needs.{needs}
 use Rattle.line.proofs.Laws.{past-short}
 use Rattle.line.specs.Bytes.{pastOf}
-use Rattle.line.specs.Line.{restOf, nextOf}
+use Rattle.line.specs.Line.{afterLine, nextOf}
 use Rattle.line.proofs.line_end.Statement.{statement}
 use Rattle.line.proofs.line_end.Tie as tie
 
@@ -16,8 +16,8 @@ past-requires : tie.Need-past-requires
 past-requires c κs = search needs
 
 -- the text after the line
-rest : (c : tie.After-past) → c .past .result .now ≡ restOf (drop (c .before .before .before .args .at) (c .before .before .before .args .text .now))
-unfolding restOf
+rest : (c : tie.After-past) → c .past .result .now ≡ afterLine (drop (c .before .before .before .args .at) (c .before .before .before .args .text .now))
+unfolding afterLine
 rest c = c .past .ensures ∙ ap (pastOf 10) (c .before .from .ensures)
 
 sub-result : tie.Need-sub-result

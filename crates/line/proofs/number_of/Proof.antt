@@ -11,8 +11,8 @@ slice-aggregate-same c = search needs
 same-requires : tie.Need-same-requires
 same-requires c κs = search needs
 
-whole-of-requires : tie.Need-whole-of-requires
-whole-of-requires c κs = search needs
+signed-of-requires : tie.Need-signed-of-requires
+signed-of-requires c κs = search needs
 
 returns : tie.Need-returns
 unfolding numberOf
@@ -20,8 +20,8 @@ returns c = simp (sym (c .before .same .ensures) ∙ c .if1 .taken)
 
 returns-2 : tie.Need-returns-2
 unfolding numberOf
-returns-2 c = simp (sym (c .before .before .same .ensures) ∙ c .before .if1 .left, c .whole-of .ensures)
+returns-2 c = simp (sym (c .before .before .same .ensures) ∙ c .before .if1 .left, c .signed-of .ensures)
 
 pub number-of-spec : {M : Type 1} → statement M
 number-of-spec =
-    tie.close (tie.spec slice-aggregate-same same-requires whole-of-requires returns returns-2)
+    tie.close (tie.spec slice-aggregate-same same-requires signed-of-requires returns returns-2)

@@ -14,12 +14,12 @@ value-at-requires c κs = search needs
 number-of-requires : tie.Need-number-of-requires
 number-of-requires c κs = search needs
 
-whole-of-requires : tie.Need-whole-of-requires
-whole-of-requires c κs = search needs
+within-requires : tie.Need-within-requires
+within-requires c κs = search needs
 
 returns : tie.Need-returns
 unfolding wholeLine
-returns c = simp (sym (c .before .before .before .before .is-line .ensures) ∙ c .before .before .before .if1 .taken, sym (c .before .before .value-at .ensures), sym (c .before .number-of .ensures), c .whole-of .ensures)
+returns c = simp (sym (c .before .before .before .before .is-line .ensures) ∙ c .before .before .before .if1 .taken, sym (c .before .before .value-at .ensures), sym (c .before .number-of .ensures), c .within .ensures)
 
 returns-2 : tie.Need-returns-2
 unfolding wholeLine
@@ -32,6 +32,6 @@ whole-line-spec =
     is-line-requires
     value-at-requires
     number-of-requires
-    whole-of-requires
+    within-requires
     returns
     returns-2)

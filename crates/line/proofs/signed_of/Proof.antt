@@ -1,14 +1,14 @@
--- `line::whole_of` meets its contract. Assumes nothing.
+-- `line::signed_of` meets its contract. Assumes nothing.
 use mathlib.Core.Path.{sym, ap, _∙_}
 use borrow.Author.Needs.{needs}
 use borrow.Author.Tests.{ne-eqb, eq-eqb}
 use Rattle.line.proofs.Laws.{rest-of}
-use Rattle.line.specs.Number.{digitsOf, wholeOf}
-use Rattle.line.proofs.whole_of.Statement.{statement}
-use Rattle.line.proofs.whole_of.Tie as tie
+use Rattle.line.specs.Number.{digitsOf, signedOf}
+use Rattle.line.proofs.signed_of.Statement.{statement}
+use Rattle.line.proofs.signed_of.Tie as tie
 
 returns : tie.Need-returns
-unfolding wholeOf
+unfolding signedOf
 returns c = simp (eq-eqb _ _ (c .if1 .taken))
 
 shared-slice-read-if2 : tie.Need-shared-slice-read-if2
@@ -33,15 +33,15 @@ digits-of-requires-2 : tie.Need-digits-of-requires-2
 digits-of-requires-2 c κs = search needs
 
 returns-2 : tie.Need-returns-2
-unfolding wholeOf
+unfolding signedOf
 returns-2 c = simp (ne-eqb _ _ (c .before .before .before .before .before .if1 .left), eq-eqb _ _ (c .before .before .before .if2 .taken), ap digitsOf (sym (rest-of (c .before .before .before .before .before .before .before .args .v .now) 1)) ∙ sym (c .before .digits-of .ensures), c .negative-of .ensures)
 
 returns-3 : tie.Need-returns-3
-unfolding wholeOf
+unfolding signedOf
 returns-3 c = simp (ne-eqb _ _ (c .before .before .before .if1 .left), ne-eqb _ _ (c .before .if2 .left), c .digits-of2 .ensures)
 
-pub whole-of-spec : {M : Type 1} → statement M
-whole-of-spec =
+pub signed-of-spec : {M : Type 1} → statement M
+signed-of-spec =
     tie.close
     (tie.spec
     returns

@@ -1,9 +1,9 @@
--- `score::whole_of` meets its contract. Assumes nothing.
+-- `score::within` meets its contract. Assumes nothing.
 use borrow.Author.Needs.{needs}
 use borrow.Author.Tests.{lt-ltb, le-ltb}
-use Rattle.score.specs.Lines.{wholeOf}
-use Rattle.score.proofs.whole_of.Statement.{statement}
-use Rattle.score.proofs.whole_of.Tie as tie
+use Rattle.score.specs.Lines.{withinOf}
+use Rattle.score.proofs.within.Statement.{statement}
+use Rattle.score.proofs.within.Tie as tie
 
 enum-known-n : tie.Need-enum-known-n
 enum-known-n c = search needs
@@ -18,31 +18,31 @@ enum-told-2 : tie.Need-enum-told-2
 enum-told-2 c = search needs
 
 returns : tie.Need-returns
-unfolding wholeOf
+unfolding withinOf
 returns c = simp (c .before .before .n .given .1, c .if1 .taken)
 
 returns-2 : tie.Need-returns-2
-unfolding wholeOf
+unfolding withinOf
 returns-2 c = simp (c .before .before .before .n .given .1, c .before .if1 .left, lt-ltb _ _ (c .if2 .taken))
 
 returns-3 : tie.Need-returns-3
-unfolding wholeOf
+unfolding withinOf
 returns-3 c = simp (c .before .before .before .before .n .given .1, c .before .before .if1 .left, le-ltb _ _ (c .before .if2 .left), lt-ltb _ _ (c .if3 .taken))
 
 returns-4 : tie.Need-returns-4
-unfolding wholeOf
+unfolding withinOf
 returns-4 c = simp (c .before .before .before .before .n .given .1, c .before .before .if1 .left, le-ltb _ _ (c .before .if2 .left), le-ltb _ _ (c .if3 .left))
 
 returns-5 : tie.Need-returns-5
-unfolding wholeOf
+unfolding withinOf
 returns-5 c = simp (c .enum-told .given .1)
 
 returns-6 : tie.Need-returns-6
-unfolding wholeOf
+unfolding withinOf
 returns-6 c = simp (c .enum-told2 .given .1)
 
-pub whole-of-spec : {M : Type 1} → statement M
-whole-of-spec =
+pub within-spec : {M : Type 1} → statement M
+within-spec =
     tie.close
     (tie.spec
     enum-known-n
