@@ -2,3 +2,4 @@ pub mod Control
 pub mod Lines
 pub mod Score
 pub mod Places
+pub mod Examples
