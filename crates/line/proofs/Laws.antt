@@ -9,7 +9,7 @@ use native.Mathlib.Omega.{arith}
 use lib.Dec.{leb, leb·suc-suc, ltb, eqb}
 use lib.ListN.{length, getD, take, drop, length-drop, length-take, drop-of-length-le}
 use lib.Seq.{drop-cons, drop-drop, take-all}
-use borrow.Author.Tests.{lt-ltb, le-ltb, leb-true, leb-false, ne-eqb, eq-eqb}
+use borrow.Author.Tests.{lt-ltb, le-ltb, leb-true, leb-false, eqb-true, ne-eqb, eq-eqb}
 use Rattle.line.specs.Bytes.{sameOf, hasOf, untilOf, pastOf}
 use Rattle.line.specs.Line.{afterLine, nextOf}
 use Rattle.line.specs.Number.{digitsFrom}
@@ -59,6 +59,9 @@ module _ (s t : List ℕ) (i : ℕ) (h : i < length s) (g : i < length t) where
   unfolding sameOf
   same-next e = simp (add-one, drop-cons s i 0 h, drop-cons t i 0 g, eq-eqb (getD s i 0) (getD t i 0) e)
 
+no : false ≡ true → ⊥
+no p = let z : _≡_ {A = ℕ} 0 1 = cc in omega arith
+
 -- a test whose arms are both false
 either : {x : Bool} (b : Bool) → x ≡ false → cond b x false ≡ false
 either true e = e
@@ -71,6 +74,18 @@ same-lengths [] [] h = absurd (h refl)
 same-lengths [] (b ∷ bs) h = refl
 same-lengths (b ∷ bs) [] h = refl
 same-lengths (b ∷ bs) (c ∷ cs) h = either (eqb b c) (same-lengths bs cs (λ e. h (ap suc e)))
+
+-- what is the same is equal
+both : {b c : ℕ} {bs cs : List ℕ} (t : Bool) → eqb b c ≡ t → (sameOf bs cs ≡ true → bs ≡ cs) → cond t (sameOf bs cs) false ≡ true → b ∷ bs ≡ c ∷ cs
+both {b} {c} {bs} {cs} true e f p = ap (λ (x : ℕ). x ∷ bs) (eqb-true b c e) ∙ ap (λ (l : List ℕ). c ∷ l) (f p)
+both false e f p = absurd (no p)
+
+pub same-equal : (s t : List ℕ) → sameOf s t ≡ true → s ≡ t
+unfolding sameOf
+same-equal [] [] p = refl
+same-equal [] (c ∷ cs) p = absurd (no p)
+same-equal (b ∷ bs) [] p = absurd (no p)
+same-equal (b ∷ bs) (c ∷ cs) p = both (eqb b c) refl (same-equal bs cs) p
 
 -- 12 digits stay below 10 ^ 12
 pub ten-fold : (n d i : ℕ) → n < 10 ^ i → d ≤ 9 → n * 10 + d < 10 ^ (i + 1)

@@ -33,3 +33,18 @@ signedOf v = cond (eqb (length v) 0) Malformed (cond (eqb (getD v 0 0) 45) (nega
 
 unfoldable pub numberOf : List ℕ → Number
 numberOf v = cond (sameOf v (ascii "nan")) Nan (signedOf v)
+
+-- the decimal digits of n, at most k of them
+unfoldable pub decimalOf : ℕ → ℕ → List ℕ
+decimalOf zero n = []
+decimalOf (suc k) n = cond (ltb n 10) ((48 + n) ∷ []) (decimalOf k (n / 10) ++ ((48 + n % 10) ∷ []))
+
+-- the text of a number
+unfoldable pub numberText : Number → List ℕ
+numberText (Whole minus size) = cond minus (45 ∷ decimalOf 12 size) (decimalOf 12 size)
+numberText Nan = ascii "nan"
+numberText Malformed = []
+
+-- a value that is a number is the text of that number, so no two texts are the same number
+abbrev pub Number-text : Type 0
+Number-text = (v : List ℕ) → (numberOf v ≡ Malformed → ⊥) → numberText (numberOf v) ≡ v
