@@ -9,7 +9,7 @@ use lib.Dec.{ltb, eqb}
 use borrow.Author.Tests.{lt-ltb, le-ltb, ltb-true, ltb-false, eqb-true, eqb-false}
 use Rattle.line.specs.Bytes.{ascii, sameOf}
 use Rattle.line.specs.Number.{digitsFrom, digitsOf, negativeOf, signedOf, numberOf, decimalOf, numberText, Number-text}
-use Rattle.line.proofs.Laws.{same-equal}
+use Rattle.line.proofs.Laws.{empty, same-equal}
 use Rattle.line.specs.declared.Number.{Number}
 use Rattle.line.specs.declared.Number.the-variants.{Whole, Nan, Malformed}
 
@@ -54,13 +54,6 @@ after k m (b ∷ bs) h = byte k m b bs h (digitsFrom (m * 10 + (b - 48)) bs) (lt
 data Digits (v : List ℕ) : Number → Type 0 where
   digits : (n : ℕ) → decimalOf 12 n ≡ v → Digits v (Whole false n)
   none : Digits v Malformed
-
-empty : (l : List ℕ) → length l ≡ 0 → l ≡ []
-empty [] e = refl
-empty (b ∷ bs) e = absurd (no e)
-  where
-    no : suc (length bs) ≡ 0 → ⊥
-    no e = omega arith
 
 module _ (b : ℕ) (bs : List ℕ) where
   -- the first digit isn't 0, and at most 11 follow
@@ -135,3 +128,13 @@ told bad h = absurd (h refl)
 pub number-text : Number-text
 unfolding numberOf
 number-text v h = told (nan-or v (sameOf v (ascii "nan")) refl) h
+
+-- no value is -0
+pub no-minus-zero : (v : List ℕ) → numberOf v ≡ Whole true 0 → ⊥
+unfolding numberOf numberText decimalOf signedOf digitsOf negativeOf sameOf
+no-minus-zero v p =
+    let e : 45 ∷ 48 ∷ [] ≡ v = ap numberText (sym p) ∙ number-text v (λ q. contradiction (sym p ∙ q)) in
+    contradiction (sym p ∙ ap numberOf (sym e))
+  where
+    contradiction : Whole true 0 ≡ Malformed → ⊥
+    contradiction q = let z : _≡_ {A = ℕ} 0 1 = cc in omega arith

@@ -1,6 +1,6 @@
 -- One step of each definition that a loop follows, and parts of a text. Assumes nothing.
 use mathlib.Core.Bool.{Bool, true, false, cond}
-use mathlib.Core.List.{List, [], _∷_}
+use mathlib.Core.List.{List, [], _∷_, _++_, append-assoc}
 use mathlib.Core.Path.{_≡_, refl, sym, ap, _∙_}
 use Prim.Native.Nat.{ℕ, _+_, _≤_, _-_, suc, _<_, _^_, _*_}
 use native.Mathlib.Nat.{pow-succ', pow-le-pow-right}
@@ -11,7 +11,7 @@ use lib.ListN.{length, getD, take, drop, length-drop, length-take, drop-of-lengt
 use lib.Seq.{drop-cons, drop-drop, take-all}
 use borrow.Author.Tests.{lt-ltb, le-ltb, leb-true, leb-false, eqb-true, ne-eqb, eq-eqb}
 use Rattle.line.specs.Bytes.{sameOf, hasOf, untilOf, pastOf}
-use Rattle.line.specs.Line.{afterLine, nextOf}
+use Rattle.line.specs.Line.{lineOf, afterLine, keyOf, valueOf, isLine, nextOf}
 use Rattle.line.specs.Number.{digitsFrom}
 use Rattle.line.specs.declared.Number.{Number}
 use Rattle.line.specs.declared.Number.the-variants.{Whole, Nan, Malformed}
@@ -44,6 +44,13 @@ digits-end s i n h = simp (drop-of-length-le s h)
 pub until-end : (s : List ℕ) (i x : ℕ) → length s ≤ i → untilOf x (drop i s) ≡ []
 unfolding untilOf
 until-end s i x h = simp (drop-of-length-le s h)
+
+pub empty : (l : List ℕ) → length l ≡ 0 → l ≡ []
+empty [] e = refl
+empty (b ∷ bs) e = absurd (none e)
+  where
+    none : suc (length bs) ≡ 0 → ⊥
+    none e = omega arith
 
 -- `same` passes equal bytes
 pub same-end : (s t : List ℕ) (i : ℕ) → length s ≤ i → length t ≤ i → sameOf (drop i s) (drop i t) ≡ true
@@ -164,3 +171,27 @@ next-rest s at =
 
 pub after-line : (s : List ℕ) (at n : ℕ) → n ≡ nextOf s at → afterLine (drop at s) ≡ drop n s
 after-line s at n e = sym (next-rest s at) ∙ ap (λ (i : ℕ). drop i s) (sym e)
+
+-- the parts of a text that has the byte make the text
+split-step : (x b : ℕ) (bs : List ℕ) (e : Bool) → eqb b x ≡ e → (hasOf x bs ≡ true → untilOf x bs ++ (x ∷ pastOf x bs) ≡ bs) → cond e true (hasOf x bs) ≡ true → cond e [] (b ∷ untilOf x bs) ++ (x ∷ cond e bs (pastOf x bs)) ≡ b ∷ bs
+split-step x b bs true e f p = ap (λ (i : ℕ). i ∷ bs) (sym (eqb-true b x e))
+split-step x b bs false e f p = ap (λ (l : List ℕ). b ∷ l) (f p)
+
+split : (x : ℕ) (t : List ℕ) → hasOf x t ≡ true → untilOf x t ++ (x ∷ pastOf x t) ≡ t
+unfolding hasOf untilOf pastOf
+split x [] p = absurd (no p)
+split x (b ∷ bs) p = split-step x b bs (eqb b x) refl (split x bs) p
+
+-- a line and the text after it make the text
+pub line-split : (key t : List ℕ) → isLine key t ≡ true → key ++ (61 ∷ (valueOf t ++ (10 ∷ afterLine t))) ≡ t
+unfolding isLine keyOf valueOf lineOf afterLine
+line-split key t p = tests (hasOf 10 t) (hasOf 61 (untilOf 10 t)) refl refl p
+  where
+    tests : (a b : Bool) → hasOf 10 t ≡ a → hasOf 61 (untilOf 10 t) ≡ b → cond a (cond b (sameOf (untilOf 61 (untilOf 10 t)) key) false) false ≡ true → key ++ (61 ∷ (pastOf 61 (untilOf 10 t) ++ (10 ∷ pastOf 10 t))) ≡ t
+    tests true true ea eb p =
+        ap (λ (l : List ℕ). l ++ (61 ∷ (pastOf 61 (untilOf 10 t) ++ (10 ∷ pastOf 10 t)))) (sym (same-equal (untilOf 61 (untilOf 10 t)) key p))
+        ∙ sym (append-assoc (untilOf 61 (untilOf 10 t)) (61 ∷ pastOf 61 (untilOf 10 t)) (10 ∷ pastOf 10 t))
+        ∙ ap (λ (l : List ℕ). l ++ (10 ∷ pastOf 10 t)) (split 61 (untilOf 10 t) eb)
+        ∙ split 10 t ea
+    tests true false ea eb p = absurd (no p)
+    tests false b ea eb p = absurd (no p)

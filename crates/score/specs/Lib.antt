@@ -3,3 +3,4 @@ pub mod Lines
 pub mod Score
 pub mod Places
 pub mod Examples
+pub mod Text
