@@ -10,7 +10,7 @@ use Rattle.line.specs.Line.{afterLine, nextOf}
 use Rattle.line.proofs.Laws.{after-line}
 use Rattle.score.specs.Lines.{controlLine}
 use Rattle.score.specs.Score.{onControl, control}
-use Rattle.score.specs.Places.{from, takenOf, takeOf}
+use Rattle.score.specs.Places.{from, beginOf, takenOf, takeOf}
 use Rattle.score.specs.declared.Control.{Control}
 use Rattle.score.specs.declared.ControlLine.{ControlLine}
 use Rattle.score.specs.declared.ControlLine.the-variants as CL
@@ -41,6 +41,6 @@ module _ (s : List ℕ) where
     pub input-step : (p : Place) (x : Taken) → x ≡ takeOf s (ascii key) p → from s p (λ (t : List ℕ). control key t k) ≡ from s (x .place) (k (x .control))
     input-step p x e = input-from p ∙ ap (λ (y : Taken). from s (y .place) (k (y .control))) (sym e)
 
-    pub first-step : (at : ℕ) (x : Taken) → x ≡ takeOf s (ascii key) (P.At at) → control key (drop at s) k ≡ from s (x .place) (k (x .control))
-    unfolding from
-    first-step at x e = input-step (P.At at) x e
+  pub first-step : (f : List ℕ → Reading) (at : ℕ) (x : Taken) → x ≡ beginOf at → f (drop at s) ≡ from s (x .place) f
+  unfolding from beginOf
+  first-step f at x e = ap (λ (y : Taken). from s (y .place) f) (sym e)

@@ -18,6 +18,10 @@ unfoldable pub from : List ℕ → Place → (List ℕ → Reading) → Reading
 from text (P.At at) read = read (drop at text)
 from text (P.Refused n) read = Refused n
 
+-- before the first input line
+unfoldable pub beginOf : ℕ → Taken
+beginOf at = record { control = Nan; place = P.At at }
+
 -- what a line gives, with the place of the next one
 abbrev pub takenOf : ControlLine → ℕ → Taken
 takenOf (CL.Read c) next = record { control = c; place = P.At next }

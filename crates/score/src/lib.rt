@@ -4,7 +4,7 @@ ghost use lib.ListN.{drop};
 ghost use Rattle.score.specs.Control.{voltsOf};
 ghost use Rattle.score.specs.Lines.{oscOf, withinOf, controlOf, oscLine, wholeLine, controlLine};
 ghost use Rattle.score.specs.Score.{endOf, vcoOf, lfoOf, supersawOf, formantOf, inputsOf, framesOf, hzOf, scoreOf};
-ghost use Rattle.score.specs.Places.{from, takeOf};
+ghost use Rattle.score.specs.Places.{from, beginOf, takeOf};
 use line::Number;
 
 // ---- what a score says
@@ -189,20 +189,31 @@ fn control_line(text: &[u8], at: usize, key: &[u8]) -> ControlLine
 
 // ---- the inputs, one line after the other
 
-// Where the reading stands. After a refusal nothing more is read, and what was taken doesn't count.
 enum Place {
     At(usize),
     Refused(u32),
 }
 
+// What an input line held, and the place of the next line. After a refusal nothing more is read, and what is held doesn't count.
 struct Taken {
     control: Control,
     place: Place,
 }
 
-fn take(text: &[u8], key: &[u8], place: Place) -> Taken
-    ensures { λ r. ⌜ r ≡ takeOf (now (text .entry)) (now (key .entry)) place ⌝ }
+fn begin(at: usize) -> Taken
+    ensures { λ r. ⌜ r ≡ beginOf at ⌝ }
 {
+    Taken {
+        control: Control::Nan,
+        place: Place::At(at),
+    }
+}
+
+// The line after the one that was taken before.
+fn take(text: &[u8], key: &[u8], before: Taken) -> Taken
+    ensures { λ r. ⌜ r ≡ takeOf (now (text .entry)) (now (key .entry)) (before .place) ⌝ }
+{
+    let place = before.place;
     match place {
         Place::At(at) => match control_line(text, at, key) {
             ControlLine::Read(control) => Taken {
@@ -221,10 +232,17 @@ fn take(text: &[u8], key: &[u8], place: Place) -> Taken
     }
 }
 
-// The values, where nothing stands after the last line.
-fn end(text: &[u8], place: Place, score: Score) -> Reading
-    ensures { λ r. ⌜ r ≡ from (now (text .entry)) place (endOf score) ⌝ }
+fn held(taken: Taken) -> Control
+    ensures { λ r. ⌜ r ≡ taken .control ⌝ }
 {
+    taken.control
+}
+
+// The values, where nothing stands after the last line.
+fn end(text: &[u8], last: Taken, score: Score) -> Reading
+    ensures { λ r. ⌜ r ≡ from (now (text .entry)) (last .place) (endOf score) ⌝ }
+{
+    let place = last.place;
     match place {
         Place::At(at) => {
             if text.len() <= at {
@@ -240,85 +258,95 @@ fn end(text: &[u8], place: Place, score: Score) -> Reading
 fn read_vco(text: &[u8], at: usize, hz: u32, frames: u32) -> Reading
     ensures { λ r. ⌜ r ≡ vcoOf hz frames (drop at (now (text .entry))) ⌝ }
 {
-    let taken = take(text, b"voct", Place::At(at));
-    let voct = taken.control;
-    let place = taken.place;
-    let taken = take(text, b"fm", place);
-    let fm = taken.control;
-    let place = taken.place;
-    let taken = take(text, b"pw", place);
-    let pw = taken.control;
-    let place = taken.place;
-    let taken = take(text, b"sync", place);
-    let sync = taken.control;
-    let place = taken.place;
-    let taken = take(text, b"fm_lin", place);
-    let fm_lin = taken.control;
-    let place = taken.place;
-    let inputs = Inputs::Vco(VcoInputs {
-        voct,
-        fm,
-        pw,
-        sync,
+    let voct = take(text, b"voct", begin(at));
+    let fm = take(text, b"fm", voct);
+    let pw = take(text, b"pw", fm);
+    let sync = take(text, b"sync", pw);
+    let fm_lin = take(text, b"fm_lin", sync);
+    let inputs = VcoInputs {
+        voct: held(voct),
+        fm: held(fm),
+        pw: held(pw),
+        sync: held(sync),
+        fm_lin: held(fm_lin),
+    };
+    end(
+        text,
         fm_lin,
-    });
-    end(text, place, Score { hz, frames, inputs })
+        Score {
+            hz,
+            frames,
+            inputs: Inputs::Vco(inputs),
+        },
+    )
 }
 
 fn read_lfo(text: &[u8], at: usize, hz: u32, frames: u32) -> Reading
     ensures { λ r. ⌜ r ≡ lfoOf hz frames (drop at (now (text .entry))) ⌝ }
 {
-    let taken = take(text, b"rate", Place::At(at));
-    let rate = taken.control;
-    let place = taken.place;
-    let taken = take(text, b"depth", place);
-    let depth = taken.control;
-    let place = taken.place;
-    let taken = take(text, b"reset", place);
-    let reset = taken.control;
-    let place = taken.place;
-    let inputs = Inputs::Lfo(LfoInputs { rate, depth, reset });
-    end(text, place, Score { hz, frames, inputs })
+    let rate = take(text, b"rate", begin(at));
+    let depth = take(text, b"depth", rate);
+    let reset = take(text, b"reset", depth);
+    let inputs = LfoInputs {
+        rate: held(rate),
+        depth: held(depth),
+        reset: held(reset),
+    };
+    end(
+        text,
+        reset,
+        Score {
+            hz,
+            frames,
+            inputs: Inputs::Lfo(inputs),
+        },
+    )
 }
 
 fn read_supersaw(text: &[u8], at: usize, hz: u32, frames: u32) -> Reading
     ensures { λ r. ⌜ r ≡ supersawOf hz frames (drop at (now (text .entry))) ⌝ }
 {
-    let taken = take(text, b"voct", Place::At(at));
-    let voct = taken.control;
-    let place = taken.place;
-    let taken = take(text, b"detune", place);
-    let detune = taken.control;
-    let place = taken.place;
-    let taken = take(text, b"mix", place);
-    let mix = taken.control;
-    let place = taken.place;
-    let inputs = Inputs::Supersaw(SupersawInputs { voct, detune, mix });
-    end(text, place, Score { hz, frames, inputs })
+    let voct = take(text, b"voct", begin(at));
+    let detune = take(text, b"detune", voct);
+    let mix = take(text, b"mix", detune);
+    let inputs = SupersawInputs {
+        voct: held(voct),
+        detune: held(detune),
+        mix: held(mix),
+    };
+    end(
+        text,
+        mix,
+        Score {
+            hz,
+            frames,
+            inputs: Inputs::Supersaw(inputs),
+        },
+    )
 }
 
 fn read_formant(text: &[u8], at: usize, hz: u32, frames: u32) -> Reading
     ensures { λ r. ⌜ r ≡ formantOf hz frames (drop at (now (text .entry))) ⌝ }
 {
-    let taken = take(text, b"v_oct", Place::At(at));
-    let v_oct = taken.control;
-    let place = taken.place;
-    let taken = take(text, b"vowel", place);
-    let vowel = taken.control;
-    let place = taken.place;
-    let taken = take(text, b"formant_shift", place);
-    let formant_shift = taken.control;
-    let place = taken.place;
-    let taken = take(text, b"vibrato", place);
-    let vibrato = taken.control;
-    let place = taken.place;
-    let inputs = Inputs::Formant(FormantInputs {
-        v_oct,
-        vowel,
-        formant_shift,
+    let v_oct = take(text, b"v_oct", begin(at));
+    let vowel = take(text, b"vowel", v_oct);
+    let formant_shift = take(text, b"formant_shift", vowel);
+    let vibrato = take(text, b"vibrato", formant_shift);
+    let inputs = FormantInputs {
+        v_oct: held(v_oct),
+        vowel: held(vowel),
+        formant_shift: held(formant_shift),
+        vibrato: held(vibrato),
+    };
+    end(
+        text,
         vibrato,
-    });
-    end(text, place, Score { hz, frames, inputs })
+        Score {
+            hz,
+            frames,
+            inputs: Inputs::Formant(inputs),
+        },
+    )
 }
 
 // ---- the lines before them

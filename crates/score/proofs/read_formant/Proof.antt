@@ -9,6 +9,9 @@ use Rattle.score.proofs.read_formant.Tie as tie
 slice-aggregate-take : tie.Need-slice-aggregate-take
 slice-aggregate-take c = search needs
 
+begin-requires : tie.Need-begin-requires
+begin-requires c κs = search needs
+
 take-requires : tie.Need-take-requires
 take-requires c κs = search needs
 
@@ -30,18 +33,31 @@ slice-aggregate-take-4 c = search needs
 take-requires-4 : tie.Need-take-requires-4
 take-requires-4 c κs = search needs
 
+held-requires : tie.Need-held-requires
+held-requires c κs = search needs
+
+held-requires-2 : tie.Need-held-requires-2
+held-requires-2 c κs = search needs
+
+held-requires-3 : tie.Need-held-requires-3
+held-requires-3 c κs = search needs
+
+held-requires-4 : tie.Need-held-requires-4
+held-requires-4 c κs = search needs
+
 end-requires : tie.Need-end-requires
 end-requires c κs = search needs
 
 returns : tie.Need-returns
 unfolding formantOf
-returns c = c .end .ensures ∙ sym (first-step _ "v_oct" _ _ _ (c .before .before .before .before .before .before .before .take .ensures) ∙ input-step _ "vowel" _ _ _ (c .before .before .before .before .before .take2 .ensures) ∙ input-step _ "formant_shift" _ _ _ (c .before .before .before .take3 .ensures) ∙ input-step _ "vibrato" _ _ _ (c .before .take4 .ensures))
+returns c = simp (c .before .before .before .before .held .ensures, c .before .before .before .held2 .ensures, c .before .before .held3 .ensures, c .before .held4 .ensures) at (c .end .ensures) ∙ sym (first-step _ _ _ _ (c .before .before .before .before .before .before .before .before .before .before .before .before .begin .ensures) ∙ input-step _ "v_oct" _ _ _ (c .before .before .before .before .before .before .before .before .before .before .before .take .ensures) ∙ input-step _ "vowel" _ _ _ (c .before .before .before .before .before .before .before .before .before .take2 .ensures) ∙ input-step _ "formant_shift" _ _ _ (c .before .before .before .before .before .before .before .take3 .ensures) ∙ input-step _ "vibrato" _ _ _ (c .before .before .before .before .before .take4 .ensures))
 
 pub read-formant-spec : {M : Type 1} → statement M
 read-formant-spec =
     tie.close
     (tie.spec
     slice-aggregate-take
+    begin-requires
     take-requires
     slice-aggregate-take-2
     take-requires-2
@@ -49,5 +65,9 @@ read-formant-spec =
     take-requires-3
     slice-aggregate-take-4
     take-requires-4
+    held-requires
+    held-requires-2
+    held-requires-3
+    held-requires-4
     end-requires
     returns)
