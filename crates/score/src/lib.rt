@@ -263,22 +263,14 @@ fn read_vco(text: &[u8], at: usize, hz: u32, frames: u32) -> Reading
     let pw = take(text, b"pw", fm);
     let sync = take(text, b"sync", pw);
     let fm_lin = take(text, b"fm_lin", sync);
-    let inputs = VcoInputs {
+    let inputs = Inputs::Vco(VcoInputs {
         voct: held(voct),
         fm: held(fm),
         pw: held(pw),
         sync: held(sync),
         fm_lin: held(fm_lin),
-    };
-    end(
-        text,
-        fm_lin,
-        Score {
-            hz,
-            frames,
-            inputs: Inputs::Vco(inputs),
-        },
-    )
+    });
+    end(text, fm_lin, Score { hz, frames, inputs })
 }
 
 fn read_lfo(text: &[u8], at: usize, hz: u32, frames: u32) -> Reading
@@ -287,20 +279,12 @@ fn read_lfo(text: &[u8], at: usize, hz: u32, frames: u32) -> Reading
     let rate = take(text, b"rate", begin(at));
     let depth = take(text, b"depth", rate);
     let reset = take(text, b"reset", depth);
-    let inputs = LfoInputs {
+    let inputs = Inputs::Lfo(LfoInputs {
         rate: held(rate),
         depth: held(depth),
         reset: held(reset),
-    };
-    end(
-        text,
-        reset,
-        Score {
-            hz,
-            frames,
-            inputs: Inputs::Lfo(inputs),
-        },
-    )
+    });
+    end(text, reset, Score { hz, frames, inputs })
 }
 
 fn read_supersaw(text: &[u8], at: usize, hz: u32, frames: u32) -> Reading
@@ -309,20 +293,12 @@ fn read_supersaw(text: &[u8], at: usize, hz: u32, frames: u32) -> Reading
     let voct = take(text, b"voct", begin(at));
     let detune = take(text, b"detune", voct);
     let mix = take(text, b"mix", detune);
-    let inputs = SupersawInputs {
+    let inputs = Inputs::Supersaw(SupersawInputs {
         voct: held(voct),
         detune: held(detune),
         mix: held(mix),
-    };
-    end(
-        text,
-        mix,
-        Score {
-            hz,
-            frames,
-            inputs: Inputs::Supersaw(inputs),
-        },
-    )
+    });
+    end(text, mix, Score { hz, frames, inputs })
 }
 
 fn read_formant(text: &[u8], at: usize, hz: u32, frames: u32) -> Reading
@@ -332,21 +308,13 @@ fn read_formant(text: &[u8], at: usize, hz: u32, frames: u32) -> Reading
     let vowel = take(text, b"vowel", v_oct);
     let formant_shift = take(text, b"formant_shift", vowel);
     let vibrato = take(text, b"vibrato", formant_shift);
-    let inputs = FormantInputs {
+    let inputs = Inputs::Formant(FormantInputs {
         v_oct: held(v_oct),
         vowel: held(vowel),
         formant_shift: held(formant_shift),
         vibrato: held(vibrato),
-    };
-    end(
-        text,
-        vibrato,
-        Score {
-            hz,
-            frames,
-            inputs: Inputs::Formant(inputs),
-        },
-    )
+    });
+    end(text, vibrato, Score { hz, frames, inputs })
 }
 
 // ---- the lines before them
