@@ -1,0 +1,57 @@
+use Rattle.karplus_strong.proofs.blank.Statement.{statement}
+use Rattle.karplus_strong.proofs.blank.Tie as tie
+use Rattle.karplus_strong.proofs.blank.Reads as reads
+use Rattle.karplus_strong.proofs.blank.Lts as lts
+
+abbrev Inv-loop : tie.InvT-loop
+Inv-loop line₀ from to i₀ line i = ?
+
+abbrev μ-loop : tie.MeasureT-loop
+μ-loop line₀ from to i₀ line i = ?
+
+-- src/lib.rt:108:5
+loop-holds : tie.Need-loop-holds Inv-loop μ-loop
+loop-holds c = ?
+
+-- src/lib.rt:109:9
+mul-line : tie.Need-mul-line Inv-loop μ-loop
+mul-line c = ?
+
+-- src/lib.rt:109:9
+slice-write-line : tie.Need-slice-write-line Inv-loop μ-loop
+slice-write-line c = ?
+
+-- src/lib.rt:110:9
+add-i : tie.Need-add-i Inv-loop μ-loop
+add-i c = ?
+
+-- src/lib.rt:108:5
+loop-less : tie.Need-loop-less Inv-loop μ-loop
+loop-less c = ?
+
+-- src/lib.rt:108:5
+loop-again : tie.Need-loop-again Inv-loop μ-loop
+loop-again c = ?
+
+-- src/lib.rt:103:1
+same-length : tie.Need-same-length Inv-loop μ-loop
+same-length c = ?
+
+-- src/lib.rt:103:1
+returns : tie.Need-returns Inv-loop μ-loop
+returns c = ?
+
+pub blank-spec : {M : Type 1} → statement M
+blank-spec =
+    tie.close
+    (tie.spec
+    Inv-loop
+    μ-loop
+    loop-holds
+    mul-line
+    slice-write-line
+    add-i
+    loop-less
+    loop-again
+    same-length
+    returns)
