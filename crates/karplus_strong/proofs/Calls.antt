@@ -2,12 +2,13 @@
 use mathlib.Core.Bool.{Bool, true, false, cond, not, _&&_, true≢false}
 use mathlib.Core.List.{List}
 use mathlib.Core.Path.{_≡_, refl, sym, ap, _∙_, subst}
-use Prim.Native.Nat.{ℕ, zero, suc, _+_, _-_, _≤_, _<_, min}
+use Prim.Native.Nat.{ℕ, zero, suc, _+_, _-_, _%_, _≤_, _<_, min}
 use native.Mathlib.Nat.{le-trans, le-of-eq}
 use native.Mathlib.Omega.{arith}
-use lib.Dec.{T, leb, ltb}
-use lib.ListN.{length, set}
-use lib.Ieee.{Float, nan, inf, fin, binary64, sub, mul, div, neg, lt, le, eq, fits, isNan, ofBits}
+use lib.Dec.{T, leb, ltb, le→leb, lit≤}
+use lib.IntN.{pos}
+use lib.ListN.{length, getD, set}
+use lib.Ieee.{Float, nan, inf, fin, binary64, add, sub, mul, div, neg, inFloat, lt, le, eq, fits, isNan, ofBits}
 use lib.Ieee.Fits.{cond-fits, div-fits, sub-fits}
 use lib.Ieee.Bits.{is-false}
 use borrow.Author.Tests.{le-leb, lt-leb, lt-ltb, leb-true, ltb-true}
@@ -29,10 +30,14 @@ use Rattle.common.specs.declared.EdgeDetector.{EdgeDetector}
 use Rattle.common.specs.declared.Hertz.{Hertz}
 use Rattle.common.specs.declared.Memo1.{Memo1}
 use Rattle.common.specs.declared.Risen.{Risen}
+use Rattle.answer.specs.Answer.{answerOf}
+use Rattle.answer.specs.Mark.{allFinite, ruleOf, markOf}
+use Rattle.answer.specs.declared.Volts.{Volts}
+use Rattle.answer.specs.declared.Answer.the-variants as answer
 use Rattle.karplus_strong.specs.Consts.{twenty, loopLeak}
 use Rattle.karplus_strong.specs.Ranges.{Cut}
 use Rattle.karplus_strong.specs.Line.{blankOf, excitedOf, sumTo, meanOf, levelOf, struckOf, drawsOk}
-use Rattle.karplus_strong.specs.Step.{filterCoefOf, apCoefOf, filterDelayOf, apDelayOf, targetDelayOf, restOf, Ticking, stepOf}
+use Rattle.karplus_strong.specs.Step.{filterCoefOf, apCoefOf, filterDelayOf, apDelayOf, targetDelayOf, offsetOne, offsetTwo, tapOf, filteredOf, stretchedOf, outOf, heardOf, restOf, Ticking, stepOf}
 use Rattle.karplus_strong.specs.KarplusStrong.{maxLenOf, lineOk, roomOf, karplusStrongRefusalOf, rateRefusalOf, Making, madeUnless, newKarplusStrong, karplusStrongNewOf, karplusStrongResetOf, resizedString, karplusStrongSetSampleRateOf, finiteOr, periodOf, struckLen, drawsRefusalOf, Striking, strikeOf, strikeIf, heardString, refusedTick, tickUnless, karplusStrongSoundOf, karplusStrongTickOf}
 use Rattle.karplus_strong.specs.declared.KarplusStrong.{KarplusStrong}
 use Rattle.karplus_strong.specs.declared.KarplusStrongControls.{KarplusStrongControls}
@@ -59,6 +64,11 @@ max-len-range r e =
     let l = rate-ends r e in
     let w = rate-whole (r .0) (l .0) (l .1) in
     (omega arith, omega arith)
+
+-- a whole number of this size is an f64
+pub held : (n : ℕ) → n ≤ 9610 → T (inFloat binary64 (pos n))
+unfolding inFloat
+held n h = le→leb n 9007199254740992 (le-trans h (lit≤ tt))
 
 -- ---- periods: whatever number the memo holds, a period is an index of the line
 quotient : (r f : Hertz) → rateOk r ≡ true → T (not (isNan (f .0))) → T (not (isNan (div binary64 (r .0) (f .0))))
@@ -113,7 +123,7 @@ half-fin : isFin half ≡ true
 unfolding ofBits
 half-fin = refl
 
-zer-fin : isFin zer ≡ true
+pub zer-fin : isFin zer ≡ true
 unfolding ofBits
 zer-fin = refl
 
@@ -154,13 +164,16 @@ hz-number v q =
     simp (float-mul-comm c4 (exp2Of (clampOf v (neg maxVoct) maxVoct)))
     (mul-number (exp2Of (clampOf v (neg maxVoct) maxVoct)) c4 (unfold ofBits in tt) (exp2-number (clampOf v (neg maxVoct) maxVoct) (le-numbers (clampOf v (neg maxVoct) maxVoct) maxVoct (clamp-range v (neg maxVoct) maxVoct (unfold le lt eq neg ofBits in tt) q .1) .0)))
 
-pub memo-number : (m : Memo1) (v : Float) → T (not (isNan (m .val .0))) → T (not (isNan (recall1 voctToHzAt m (finiteOr v zer) .val .0)))
+memo-recalled : (m : Memo1) (v : Float) → T (not (isNan (m .val .0))) → T (not (isNan (recall1 voctToHzAt m (finiteOr v zer) .val .0)))
 unfolding recall1 filled1
-memo-number m v h = go (hits1 m (finiteOr v zer))
+memo-recalled m v h = go (hits1 m (finiteOr v zer))
   where
     go : (b : Bool) → T (not (isNan (cond b m (filled1 (finiteOr v zer) (voctToHzAt (finiteOr v zer))) .val .0)))
     go true = h
     go false = hz-number (finiteOr v zer) (finite-number v zer zer-fin)
+
+pub memo-number : (m : Memo1) (v x : Float) (r : Memo1) → T (not (isNan (m .val .0))) → x ≡ finiteOr v zer → r ≡ recall1 voctToHzAt m x → T (not (isNan (r .val .0)))
+memo-number m v x r h ex er = rw (er, ex) (memo-recalled m v h)
 
 -- ---- refusals
 module _ (s : KarplusStrong) (n : ℕ) where
@@ -216,7 +229,7 @@ pub sound-line : (s : KarplusStrong) → Sound s → lineOk s (maxLenOf (s .«sa
 unfolding lineOk
 sound-line s a = simp (le-leb 4 (s .len) (a .least), le-leb (s .len) (maxLenOf (s .«sample_rate») + 1) (a .most), lt-ltb (s .«write_pos») (s .len) (a .place), is-false (isNan (s .«freq_memo» .val .0)) (a .value))
 
-room-of : (r : Hertz) (n : ℕ) → roomOf r n ≡ 0 → maxLenOf r + 2 ≤ n
+pub room-of : (r : Hertz) (n : ℕ) → roomOf r n ≡ 0 → maxLenOf r + 2 ≤ n
 unfolding roomOf
 room-of r n e = go (leb (maxLenOf r + 2) n) refl e
   where
@@ -282,6 +295,10 @@ module _ (s : KarplusStrong) (r : Hertz) (l : List Float) (k : ℕ) (e : k ≡ r
   rate-made h n a t en ea et = rw (← e, h, et, ea, en)
 
 -- ---- the strike
+pub cut-room : (p : Float) (w n : ℕ) → w ≡ wholeOf p → struckLen p ≤ n → w + 2 ≤ n
+unfolding struckLen
+cut-room p w n e h = rw e h
+
 pub struck-by : (n : ℕ) (b : Float) (d : List ℕ) (l x y : List Float) (t r : Float) → x ≡ excitedOf n b d l → t ≡ sumTo x n → r ≡ realOf n → y ≡ levelOf n (div binary64 t r) x → y ≡ struckOf n b d l
 unfolding struckOf meanOf
 struck-by n b d l x y t r ex et er ey = rw (ey, et, er, ex)
@@ -325,6 +342,53 @@ pub struck-ready : (rising : Bool) (s : KarplusStrong) (p b : Float) (d : List �
 unfolding strikeIf strikeOf struckLen
 struck-ready true s p b d l n h k g = (omega arith, g)
 struck-ready false s p b d l n h k g = (h, k)
+
+-- a struck line has room
+pub struck-room : (r f : Hertz) (p : Float) (n : ℕ) → p ≡ periodOf r f → rateOk r ≡ true → T (not (isNan (f .0))) → maxLenOf r + 2 ≤ n → struckLen p ≤ n
+unfolding struckLen
+struck-room r f p n ep e q h =
+    let w = period-range r f e q in
+    rw ep (room (wholeOf (periodOf r f)) (maxLenOf r) (w .1) h)
+  where
+    room : (w m : ℕ) → w + 1 ≤ m → m + 2 ≤ n → w + 2 ≤ n
+    room w m h k = omega arith
+
+-- and what the step asks of it holds
+pub sound-ready : (s t u : KarplusStrong) (edge : EdgeDetector) (memo : Memo1) (p b x y damping stretch : Float) (rising : Bool) (d : List ℕ) (l : List Float) (n k : ℕ)
+    → Sound s → maxLenOf (s .«sample_rate») + 2 ≤ n → T (not (isNan (memo .val .0))) → p ≡ periodOf (s .«sample_rate») (memo .val) → t ≡ heardString s edge memo → u ≡ strikeIf rising t p b d l .out → k ≡ n
+    → damping ≡ clampOf (finiteOr x half) zer one → stretch ≡ clampOf (finiteOr y zer) (neg one) one
+    → (u .«write_pos» < u .len) × (u .len ≤ k) × (wholeOf (targetDelayOf p (filterCoefOf damping) (apCoefOf stretch)) ≤ 9610)
+sound-ready s t u edge memo p b x y damping stretch rising d l n k a h q ep et eu ek ed es =
+    let m = a .most in
+    let z = a .place in
+    let r = struck-ready rising (heardString s edge memo) p b d l n z (omega arith) (struck-room (s .«sample_rate») (memo .val) p n ep (a .rate) q h) in
+    (rw (eu, et) (r .0), rw (ek, eu, et) (r .1), rw (ed, es, ep) (delay-range (s .«sample_rate») (memo .val) x y (a .rate) q))
+
+-- ---- the loop
+pub tap-by : (l : List Float) (from len : ℕ) (delay : Float) (w a b : ℕ) → w ≡ wholeOf delay → a ≡ (from + (len - w)) % len → b ≡ (from + (len - (w + 1))) % len
+    → add binary64 (mul binary64 (getD l a nan) (sub binary64 one (sub binary64 delay (realOf w)))) (mul binary64 (getD l b nan) (sub binary64 delay (realOf w))) ≡ tapOf l from len delay
+unfolding tapOf offsetOne offsetTwo
+tap-by l from len delay w a b ew ea eb =
+    let e : len - (w + 1) ≡ len - w - 1 = omega arith in
+    rw (ea, eb, e, ew)
+
+heard-clean : (v : Float) → isFin v ≡ true → answer.Clean (outOf v) ≡ heardOf v false
+unfolding heardOf markOf allFinite ruleOf answerOf ofBits
+heard-clean v e = rw e
+
+heard-cleared : answer.Cleared (outOf zer) ≡ heardOf zer true
+unfolding heardOf markOf allFinite ruleOf answerOf ofBits
+heard-cleared = refl
+
+module _ (s : KarplusStrong) (p d t : Float) (l : List Float) (delay sample : Float) (ed : delay ≡ targetDelayOf p (filterCoefOf d) (apCoefOf t)) (es : sample ≡ tapOf l (s .«write_pos») (s .len) delay) where
+  pub step-clean : isFin (mul binary64 (stretchedOf s (filteredOf s sample (filterCoefOf d)) (apCoefOf t)) loopLeak) ≡ true → (next : ℕ) (v : Volts) → next ≡ (s .«write_pos» + 1) % s .len → v ≡ outOf (mul binary64 (stretchedOf s (filteredOf s sample (filterCoefOf d)) (apCoefOf t)) loopLeak)
+      → record { out = record { answer = answer.Clean v; «karplus_strong» = record { len = s .len; «write_pos» = next; «sample_rate» = s .«sample_rate»; «lp_state» = filteredOf s sample (filterCoefOf d); «ap_x1» = filteredOf s sample (filterCoefOf d); «ap_y1» = stretchedOf s (filteredOf s sample (filterCoefOf d)) (apCoefOf t); «trigger_edge» = s .«trigger_edge»; «freq_memo» = s .«freq_memo» } }; line = set l (s .«write_pos») (mul binary64 (stretchedOf s (filteredOf s sample (filterCoefOf d)) (apCoefOf t)) loopLeak) } ≡ stepOf s p d t l
+  unfolding stepOf
+  step-clean h next v en ev = rw (← ed, ← es, h, en, ev, heard-clean (mul binary64 (stretchedOf s (filteredOf s sample (filterCoefOf d)) (apCoefOf t)) loopLeak) h)
+
+  pub step-cleared : isFin (mul binary64 (stretchedOf s (filteredOf s sample (filterCoefOf d)) (apCoefOf t)) loopLeak) ≡ false → (v : Volts) (u : KarplusStrong) → v ≡ outOf zer → u ≡ restOf s (s .len) (s .«trigger_edge») → record { out = record { answer = answer.Cleared v; «karplus_strong» = u }; line = blankOf 0 (s .len) l } ≡ stepOf s p d t l
+  unfolding stepOf
+  step-cleared h v u ev eu = rw (← ed, ← es, h, ev, eu, heard-cleared)
 
 -- ---- the tick
 tick-no : (k : ℕ) (s : KarplusStrong) (l : List Float) (t : Ticking) → (k ≡ 0 → ⊥) → record { out = refusedTick s k; line = l } ≡ tickUnless k s l t

@@ -6,7 +6,7 @@ use native.Mathlib.Nat.{mod-lt, mod-eq-of-lt, le-trans, le-of-eq, lt-of-not-le, 
 use lib.Dec.{T, eqb, leb, ltb, ltb→lt, lit≤, lit<, nleb→lt}
 use lib.IntN.{pos}
 use lib.Pow.{pow-pos, pow-mono}
-use lib.Ieee.{Float, nan, inf, fin, binary64, lt, le, odd, isNan, ofBits, ofFields, toBits}
+use lib.Ieee.{Float, nan, inf, fin, binary64, lt, le, odd, isNan, ofBits, ofFields, toBits, toUnsigned}
 use lib.Bits.{bitAnd, bitOr}
 use lib.Ieee.Bits.{ofBits-toBits, is-true}
 use lib.Ieee.Exact.{HasValue, odd-sign}
@@ -17,6 +17,7 @@ use Rattle.laws.proofs.Tests.{of-false}
 use Rattle.laws.specs.Float.{F64, one}
 use Rattle.std.proofs.num.Truncating.{two-to, at-least-one, is-no-nan, down-by, cut-down}
 use Rattle.numeric.specs.Basic.{wholeOf}
+use Rattle.numeric.proofs.RangeLaws.{whole-monotone}
 use Rattle.karplus_strong.specs.Ranges.{Cut}
 
 abbrev top : Float
@@ -89,3 +90,6 @@ module _ (x : Float) (f : F64 x) (h : Cut x) where
 
   pub cut-whole : bitOr (bitAnd (toBits binary64 x) (2 ^ 52 - 1)) (2 ^ 52) / 2 ^ (1075 - toBits binary64 x / 2 ^ 52) ≡ wholeOf x
   cut-whole = cut-down x f at-one below-64 cut-exponent
+
+  pub cut-small : wholeOf x ≤ 4503599627370496
+  cut-small = le-trans (whole-monotone x top (le-of-lt-true x top (h .1))) (le-of-eq (unfold toUnsigned ofBits in refl))

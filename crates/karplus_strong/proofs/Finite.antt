@@ -1,8 +1,11 @@
 -- Numbers that are finite, and controls brought into their range.
-use mathlib.Core.Bool.{Bool, true, false, cond, true≢false, false≢true}
+use mathlib.Core.Bool.{Bool, true, false, cond, not, _&&_, _||_, true≢false, false≢true, Bool·beq}
 use mathlib.Core.Path.{_≡_, refl, sym, ap, _∙_}
-use lib.Dec.{T}
-use lib.Ieee.{Float, nan, inf, fin, binary64, sub, add, neg, eq, lt, le}
+use Prim.Native.Nat.{ℕ, _*_}
+use lib.Dec.{T, eqb, eqb-refl}
+use lib.Ieee.{Float, nan, inf, fin, binary64, up, down, sub, add, neg, eq, lt, le, isNan}
+use lib.Ieee.Bits.{is-true}
+use lib.Ieee.Fits.{and-i}
 use Rattle.laws.proofs.Order.{lt-false}
 use Rattle.laws.proofs.Tests.{of-true}
 use Rattle.laws.proofs.Values.{sub-self-zero}
@@ -35,3 +38,15 @@ between-fin (fin s m e) lo hi l h a b = refl
 pub within-is : (x d lo hi : Float) → isFin lo ≡ true → isFin hi ≡ true → le lo x ≡ true → le x hi ≡ true → x ≡ clampOf (finiteOr x d) lo hi
 unfolding clampOf finiteOr
 within-is x d lo hi l h a b = simp (between-fin x lo hi l h a b, lt-false x lo (of-true (le lo x) a), lt-false hi x (of-true (le x hi) b))
+
+-- a NaN alone differs from itself
+pub number-test : (x : Float) → eq x x ≡ not (isNan x)
+unfolding eq isNan
+number-test nan = refl
+number-test (inf true) = refl
+number-test (inf false) = refl
+number-test (fin s m e) = is-true (eq (fin s m e) (fin s m e)) (eq-same s (m * up e * down e))
+  where
+    eq-same : (s : Bool) (n : ℕ) → T (eqb n n && (Bool·beq s s || eqb n 0))
+    eq-same true n = and-i (eqb n n) true (eqb-refl n) tt
+    eq-same false n = and-i (eqb n n) true (eqb-refl n) tt

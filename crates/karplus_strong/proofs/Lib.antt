@@ -4,4 +4,5 @@ pub mod Orders
 pub mod Cuts
 pub mod Periods
 pub mod Delays
+pub mod Draws
 pub mod Calls

@@ -1,7 +1,7 @@
 -- Places on a ring of len cells: a remainder without a division.
 use mathlib.Core.Path.{_≡_, refl, sym, ap, _∙_}
 use Prim.Native.Nat.{ℕ, _+_, _-_, _%_, _≤_, _<_}
-use native.Mathlib.Nat.{mod-eq-of-lt, mod-self, add-mod-right}
+use native.Mathlib.Nat.{mod-lt, mod-eq-of-lt, mod-self, add-mod-right}
 use native.Mathlib.Omega.{arith}
 
 pub next-place : (pos len : ℕ) → pos + 1 < len → pos + 1 ≡ (pos + 1) % len
@@ -25,3 +25,9 @@ pub back-oldest : (pos len delay : ℕ) → pos < len → len ≤ delay → pos 
 back-oldest pos len delay h k =
     let e : pos + (len - delay) ≡ pos = omega arith in
     rw e (sym (mod-eq-of-lt h))
+
+-- a place is an index
+pub in-line : (r x pos len n : ℕ) → r ≡ x % len → pos < len → len ≤ n → r < n
+in-line r x pos len n e h k =
+    let q : x % len < len = mod-lt x {m = len} (omega arith) in
+    omega arith

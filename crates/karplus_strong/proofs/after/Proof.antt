@@ -1,24 +1,17 @@
-
 use Rattle.karplus_strong.proofs.Ring.{next-place, first-place}
 use borrow.Author.Needs.{needs}
 use Rattle.karplus_strong.proofs.after.Statement.{statement}
 use Rattle.karplus_strong.proofs.after.Tie as tie
-use Rattle.karplus_strong.proofs.after.Reads as reads
-use Rattle.karplus_strong.proofs.after.Lts as lts
 
--- src/lib.rt:213:8
 add-if1 : tie.Need-add-if1
 add-if1 c = search needs
 
--- src/lib.rt:213:24
 add-result : tie.Need-add-result
 add-result c = search needs
 
--- src/lib.rt:209:1
 returns : tie.Need-returns
 returns c = next-place _ _ (c .if1 .taken)
 
--- src/lib.rt:209:1
 returns-2 : tie.Need-returns-2
 returns-2 c = first-place _ _ (c .before .pre) (c .if1 .left)
 

@@ -1,28 +1,20 @@
-
 use Rattle.karplus_strong.proofs.Ring.{back-near, back-round, back-oldest}
 use borrow.Author.Needs.{needs}
 use Rattle.karplus_strong.proofs.behind.Statement.{statement}
 use Rattle.karplus_strong.proofs.behind.Tie as tie
-use Rattle.karplus_strong.proofs.behind.Reads as reads
-use Rattle.karplus_strong.proofs.behind.Lts as lts
 
--- src/lib.rt:237:16
 sub-result : tie.Need-sub-result
 sub-result c = search needs
 
--- src/lib.rt:237:9
 add-result : tie.Need-add-result
 add-result c = search needs
 
--- src/lib.rt:230:1
 returns : tie.Need-returns
 returns c = back-near _ _ _ (c .before .pre) (c .if1 .taken)
 
--- src/lib.rt:230:1
 returns-2 : tie.Need-returns-2
 returns-2 c = back-round _ _ _ (c .before .if1 .left) (c .if2 .taken)
 
--- src/lib.rt:230:1
 returns-3 : tie.Need-returns-3
 returns-3 c = back-oldest _ _ _ (c .before .before .pre) (c .if2 .left)
 

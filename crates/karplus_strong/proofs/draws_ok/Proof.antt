@@ -1,45 +1,46 @@
+use mathlib.Core.Bool.{true}
+use mathlib.Core.Path.{_≡_, refl, sym, ap, _∙_}
+use Prim.Native.Nat.{_≤_, _-_}
+use native.Mathlib.Nat.{le-antisymm}
+use native.Mathlib.Numerals.{add-one}
+use native.Mathlib.Omega.{arith}
+use borrow.Author.Tests.{lt-ltb}
+use Rattle.karplus_strong.specs.Line.{drawsOk}
+use Rattle.karplus_strong.proofs.Draws.{draws-bad}
 use Rattle.karplus_strong.proofs.draws_ok.Statement.{statement}
 use Rattle.karplus_strong.proofs.draws_ok.Tie as tie
-use Rattle.karplus_strong.proofs.draws_ok.Reads as reads
-use Rattle.karplus_strong.proofs.draws_ok.Lts as lts
 
 abbrev Inv-loop : tie.InvT-loop
-Inv-loop draws n i₀ i = ?
+Inv-loop draws n i₀ i = (i ≤ n) × (drawsOk draws i ≡ true)
 
 abbrev μ-loop : tie.MeasureT-loop
-μ-loop draws n i₀ i = ?
+μ-loop draws n i₀ i = n - i
 
--- src/lib.rt:178:5
 loop-holds : tie.Need-loop-holds Inv-loop μ-loop
-loop-holds c = ?
+unfolding drawsOk
+loop-holds c = (omega arith, refl)
 
--- src/lib.rt:179:12
 mul-if1 : tie.Need-mul-if1 Inv-loop μ-loop
-mul-if1 c = ?
+mul-if1 c = omega arith
 
--- src/lib.rt:179:12
 shared-slice-read-if1 : tie.Need-shared-slice-read-if1 Inv-loop μ-loop
-shared-slice-read-if1 c = ?
+shared-slice-read-if1 c = omega arith
 
--- src/lib.rt:180:13
 returns : tie.Need-returns Inv-loop μ-loop
-returns c = ?
+returns c = sym (draws-bad _ _ _ (c .before .before .loop-test .taken) (c .if1 .taken))
 
--- src/lib.rt:182:9
 add-i : tie.Need-add-i Inv-loop μ-loop
-add-i c = ?
+add-i c = omega arith
 
--- src/lib.rt:178:5
 loop-less : tie.Need-loop-less Inv-loop μ-loop
-loop-less c = ?
+loop-less c = omega arith
 
--- src/lib.rt:178:5
 loop-again : tie.Need-loop-again Inv-loop μ-loop
-loop-again c = ?
+unfolding drawsOk
+loop-again c = let s = c .before .before .before .loop .inv in (omega arith, rw (add-one, s .1) (lt-ltb _ _ (c .if1 .left)))
 
--- src/lib.rt:173:1
 returns-2 : tie.Need-returns-2 Inv-loop μ-loop
-returns-2 c = ?
+returns-2 c = let s = c .before .loop .inv in sym (s .1) ∙ ap (λ k. drawsOk (c .before .before .args .draws .now) k) (le-antisymm (s .0) (c .loop-test .left))
 
 pub draws-ok-spec : {M : Type 1} → statement M
 draws-ok-spec =

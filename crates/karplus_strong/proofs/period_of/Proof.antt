@@ -1,34 +1,28 @@
+use Rattle.karplus_strong.specs.KarplusStrong.{periodOf}
+use Rattle.karplus_strong.proofs.Calls.{held, max-len-range, period-high, period-two}
+use Rattle.karplus_strong.proofs.Calls.{period-high, period-two}
 use borrow.Author.Needs.{needs}
 use Rattle.karplus_strong.proofs.period_of.Statement.{statement}
 use Rattle.karplus_strong.proofs.period_of.Tie as tie
-use Rattle.karplus_strong.proofs.period_of.Reads as reads
-use Rattle.karplus_strong.proofs.period_of.Lts as lts
-use Rattle.karplus_strong.proofs.KarplusStrong.max_len_for.Reads as max-len-for-reads
-use Rattle.numeric.proofs.clamp.Reads as clamp-reads
 
--- src/lib.rt:273:13
 max-len-for-requires : tie.Need-max-len-for-requires
 max-len-for-requires c κs = search needs
 
--- src/lib.rt:274:38
 int-to-float-clamp : tie.Need-int-to-float-clamp
-int-to-float-clamp c = ?
+int-to-float-clamp c = held _ (rw (c .before .max-len-for .ensures) (max-len-range _ (c .before .before .before .before .before .before .pre .0) .1))
 
--- src/lib.rt:274:9
 clamp-requires : tie.Need-clamp-requires
 clamp-requires c κs = search needs
 
--- src/lib.rt:265:1
 returns : tie.Need-returns
-returns c = ?
+returns c = period-high _ _ (c .before .before .before .before .before .pre .0) (c .before .if1 .taken) (c .if2 .taken)
 
--- src/lib.rt:265:1
 returns-2 : tie.Need-returns-2
-returns-2 c = ?
+returns-2 c = period-two _ _ (c .before .before .before .before .before .pre .0) (c .before .before .before .before .before .pre .1) (c .if2 .left)
 
--- src/lib.rt:265:1
 returns-3 : tie.Need-returns-3
-returns-3 c = ?
+unfolding periodOf
+returns-3 c = simp (c .clamp .ensures, c .before .before .max-len-for .ensures)
 
 pub period-of-spec : {M : Type 1} → statement M
 period-of-spec =

@@ -1,17 +1,12 @@
-
 use borrow.Author.Tests.{lt-ltb, le-ltb}
 use Rattle.karplus_strong.specs.KarplusStrong.{placeOf}
 use Rattle.karplus_strong.proofs.placed.Statement.{statement}
 use Rattle.karplus_strong.proofs.placed.Tie as tie
-use Rattle.karplus_strong.proofs.placed.Reads as reads
-use Rattle.karplus_strong.proofs.placed.Lts as lts
 
--- src/lib.rt:217:1
 returns : tie.Need-returns
 unfolding placeOf
 returns c = simp (lt-ltb _ _ (c .if1 .taken))
 
--- src/lib.rt:217:1
 returns-2 : tie.Need-returns-2
 unfolding placeOf
 returns-2 c = simp (le-ltb _ _ (c .if1 .left))

@@ -1,41 +1,40 @@
+use mathlib.Core.Path.{_≡_, refl, sym, ap, _∙_}
+use Prim.Native.Nat.{_≤_, _-_}
+use native.Mathlib.Nat.{le-antisymm}
+use native.Mathlib.Numerals.{add-one}
+use native.Mathlib.Omega.{arith}
+use Rattle.karplus_strong.specs.Line.{sumTo}
 use Rattle.karplus_strong.proofs.sum.Statement.{statement}
 use Rattle.karplus_strong.proofs.sum.Tie as tie
-use Rattle.karplus_strong.proofs.sum.Reads as reads
-use Rattle.karplus_strong.proofs.sum.Lts as lts
 
 abbrev Inv-loop : tie.InvT-loop
-Inv-loop line n sum₀ i₀ sum i = ?
+Inv-loop line n sum₀ i₀ sum i = (i ≤ n) × (sum ≡ sumTo line i)
 
 abbrev μ-loop : tie.MeasureT-loop
-μ-loop line n sum₀ i₀ sum i = ?
+μ-loop line n sum₀ i₀ sum i = n - i
 
--- src/lib.rt:144:5
 loop-holds : tie.Need-loop-holds Inv-loop μ-loop
-loop-holds c = ?
+unfolding sumTo
+loop-holds c = (omega arith, refl)
 
--- src/lib.rt:145:21
 mul-sum : tie.Need-mul-sum Inv-loop μ-loop
-mul-sum c = ?
+mul-sum c = omega arith
 
--- src/lib.rt:145:21
 shared-slice-read-sum : tie.Need-shared-slice-read-sum Inv-loop μ-loop
-shared-slice-read-sum c = ?
+shared-slice-read-sum c = omega arith
 
--- src/lib.rt:146:9
 add-i : tie.Need-add-i Inv-loop μ-loop
-add-i c = ?
+add-i c = omega arith
 
--- src/lib.rt:144:5
 loop-less : tie.Need-loop-less Inv-loop μ-loop
-loop-less c = ?
+loop-less c = omega arith
 
--- src/lib.rt:144:5
 loop-again : tie.Need-loop-again Inv-loop μ-loop
-loop-again c = ?
+unfolding sumTo
+loop-again c = let s = c .before .before .loop .inv in (omega arith, rw (add-one, s .1))
 
--- src/lib.rt:138:1
 returns : tie.Need-returns Inv-loop μ-loop
-returns c = ?
+returns c = let s = c .before .loop .inv in s .1 ∙ ap (λ k. sumTo (c .before .before .args .line .now) k) (le-antisymm (s .0) (c .loop-test .left))
 
 pub sum-spec : {M : Type 1} → statement M
 sum-spec =

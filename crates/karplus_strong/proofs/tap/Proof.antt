@@ -1,50 +1,39 @@
+use native.Mathlib.Omega.{arith}
+use Rattle.karplus_strong.proofs.Ring.{in-line}
+use Rattle.karplus_strong.proofs.Calls.{held, tap-by}
 use borrow.Author.Needs.{needs}
 use Rattle.karplus_strong.proofs.tap.Statement.{statement}
 use Rattle.karplus_strong.proofs.tap.Tie as tie
-use Rattle.karplus_strong.proofs.tap.Reads as reads
-use Rattle.karplus_strong.proofs.tap.Lts as lts
-use Rattle.karplus_strong.proofs.behind.Reads as behind-reads
-use Rattle.numeric.proofs.to_usize.Reads as to-usize-reads
 
--- src/lib.rt:248:9
 to-usize-requires : tie.Need-to-usize-requires
 to-usize-requires c κs = search needs
 
--- src/lib.rt:249:31
 int-to-float-delay-frac : tie.Need-int-to-float-delay-frac
-int-to-float-delay-frac c = ?
+int-to-float-delay-frac c = held _ (rw (c .before .to-usize .ensures) (c .before .before .before .pre .2))
 
--- src/lib.rt:250:9
 behind-requires : tie.Need-behind-requires
 behind-requires c κs = search needs
 
--- src/lib.rt:251:34
 add-behind : tie.Need-add-behind
 add-behind c = search needs
 
--- src/lib.rt:251:9
 behind-requires-2 : tie.Need-behind-requires-2
 behind-requires-2 c κs = search needs
 
--- src/lib.rt:252:5
 mul-result : tie.Need-mul-result
-mul-result c = ?
+mul-result c = let q = in-line _ _ _ _ _ (c .before .behind .ensures) (c .before .before .before .before .before .pre .0) (c .before .before .before .before .before .pre .1) in omega arith
 
--- src/lib.rt:252:5
 shared-slice-read-result : tie.Need-shared-slice-read-result
-shared-slice-read-result c = ?
+shared-slice-read-result c = in-line _ _ _ _ _ (c .before .before .behind .ensures) (c .before .before .before .before .before .before .pre .0) (c .before .before .before .before .before .before .pre .1)
 
--- src/lib.rt:252:39
 mul-result-2 : tie.Need-mul-result-2
-mul-result-2 c = ?
+mul-result-2 c = let q = in-line _ _ _ _ _ (c .before .behind2 .ensures) (c .before .before .before .before .before .before .pre .0) (c .before .before .before .before .before .before .pre .1) in omega arith
 
--- src/lib.rt:252:39
 shared-slice-read-result-2 : tie.Need-shared-slice-read-result-2
-shared-slice-read-result-2 c = ?
+shared-slice-read-result-2 c = in-line _ _ _ _ _ (c .before .before .behind2 .ensures) (c .before .before .before .before .before .before .before .pre .0) (c .before .before .before .before .before .before .before .pre .1)
 
--- src/lib.rt:244:1
 returns : tie.Need-returns
-returns c = ?
+returns c = tap-by _ _ _ _ _ _ _ (c .before .before .before .before .before .to-usize .ensures) (c .before .before .before .behind .ensures) (c .before .before .behind2 .ensures)
 
 pub tap-spec : {M : Type 1} → statement M
 tap-spec =

@@ -3,22 +3,16 @@ use lib.Dec.{T}
 use Rattle.karplus_strong.proofs.Cuts.{cut-number, cut-exponent, cut-shift, cut-whole}
 use Rattle.karplus_strong.proofs.whole.Statement.{statement}
 use Rattle.karplus_strong.proofs.whole.Tie as tie
-use Rattle.karplus_strong.proofs.whole.Reads as reads
-use Rattle.karplus_strong.proofs.whole.Lts as lts
 
--- src/lib.rt:63:21
 float-to-bits-bits : tie.Need-float-to-bits-bits
 float-to-bits-bits c = cut-number (c .args .x) (subst T (sym (c .good .0 .1)) tt) (c .pre)
 
--- src/lib.rt:66:17
 sub-result : tie.Need-sub-result
 sub-result c = cut-exponent (c .args .x) (subst T (sym (c .good .0 .1)) tt) (c .pre)
 
--- src/lib.rt:66:6
 shr-result : tie.Need-shr-result
 shr-result c = cut-shift (c .args .x) (subst T (sym (c .good .0 .1)) tt) (c .pre)
 
--- src/lib.rt:59:1
 returns : tie.Need-returns
 returns c = cut-whole (c .args .x) (subst T (sym (c .good .0 .1)) tt) (c .pre)
 

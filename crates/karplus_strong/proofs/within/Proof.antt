@@ -2,36 +2,25 @@ use Rattle.karplus_strong.proofs.Finite.{within-is}
 use borrow.Author.Needs.{needs}
 use Rattle.karplus_strong.proofs.within.Statement.{statement}
 use Rattle.karplus_strong.proofs.within.Tie as tie
-use Rattle.karplus_strong.proofs.within.Reads as reads
-use Rattle.karplus_strong.proofs.within.Lts as lts
-use Rattle.karplus_strong.proofs.finite_or.Reads as finite-or-reads
-use Rattle.numeric.proofs.clamp.Reads as clamp-reads
 
--- src/lib.rt:93:28
 finite-or-requires : tie.Need-finite-or-requires
 finite-or-requires c κs = search needs
 
--- src/lib.rt:93:13
 clamp-requires : tie.Need-clamp-requires
 clamp-requires c κs = search needs
 
--- src/lib.rt:96:24
 finite-or-requires-2 : tie.Need-finite-or-requires-2
 finite-or-requires-2 c κs = search needs
 
--- src/lib.rt:96:9
 clamp-requires-2 : tie.Need-clamp-requires-2
 clamp-requires-2 c κs = search needs
 
--- src/lib.rt:85:1
 returns : tie.Need-returns
 returns c = within-is _ _ _ _ (c .before .before .pre .0) (c .before .before .pre .1) (c .before .if1 .taken) (c .if2 .taken)
 
--- src/lib.rt:85:1
 returns-2 : tie.Need-returns-2
 returns-2 c = simp (c .clamp .ensures, c .before .finite-or .ensures)
 
--- src/lib.rt:85:1
 returns-3 : tie.Need-returns-3
 returns-3 c = simp (c .clamp2 .ensures, c .before .finite-or2 .ensures)
 

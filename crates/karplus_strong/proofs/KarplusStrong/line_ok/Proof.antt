@@ -1,28 +1,28 @@
+use borrow.Author.Tests.{le-leb, lt-leb, lt-ltb, le-ltb}
+use Rattle.karplus_strong.specs.KarplusStrong.{lineOk}
+use Rattle.karplus_strong.proofs.Finite.{number-test}
 use borrow.Author.Needs.{needs}
 use Rattle.karplus_strong.proofs.KarplusStrong.line_ok.Statement.{statement}
 use Rattle.karplus_strong.proofs.KarplusStrong.line_ok.Tie as tie
-use Rattle.karplus_strong.proofs.KarplusStrong.line_ok.Reads as reads
-use Rattle.karplus_strong.proofs.KarplusStrong.line_ok.Lts as lts
 
--- src/lib.rt:324:30
 add-if2 : tie.Need-add-if2
 add-if2 c = search needs
 
--- src/lib.rt:316:5
 returns : tie.Need-returns
-returns c = ?
+unfolding lineOk
+returns c = simp (lt-leb _ _ (c .if1 .taken))
 
--- src/lib.rt:316:5
 returns-2 : tie.Need-returns-2
-returns-2 c = ?
+unfolding lineOk
+returns-2 c = simp (le-leb _ _ (c .before .before .if1 .left), lt-leb _ _ (c .if2 .taken))
 
--- src/lib.rt:316:5
 returns-3 : tie.Need-returns-3
-returns-3 c = ?
+unfolding lineOk
+returns-3 c = simp (le-leb _ _ (c .before .before .before .before .if1 .left), le-leb _ _ (c .before .before .if2 .left), le-ltb _ _ (c .if3 .taken))
 
--- src/lib.rt:316:5
 returns-4 : tie.Need-returns-4
-returns-4 c = ?
+unfolding lineOk
+returns-4 c = simp (le-leb _ _ (c .before .before .before .before .before .if1 .left), le-leb _ _ (c .before .before .before .if2 .left), lt-ltb _ _ (c .before .if3 .left), number-test)
 
 pub line-ok-spec : {M : Type 1} → statement M
 line-ok-spec = tie.close (tie.spec add-if2 returns returns-2 returns-3 returns-4)

@@ -1,20 +1,19 @@
+use native.Mathlib.Omega.{arith}
+use Rattle.karplus_strong.specs.KarplusStrong.{maxLenOf}
+use Rattle.karplus_strong.proofs.Calls.{rate-in, max-len-range}
 use Rattle.karplus_strong.proofs.KarplusStrong.max_len_for.Statement.{statement}
 use Rattle.karplus_strong.proofs.KarplusStrong.max_len_for.Tie as tie
-use Rattle.karplus_strong.proofs.KarplusStrong.max_len_for.Reads as reads
-use Rattle.karplus_strong.proofs.KarplusStrong.max_len_for.Lts as lts
-use Rattle.karplus_strong.proofs.whole.Reads as whole-reads
 
--- src/lib.rt:300:9
 whole-requires : tie.Need-whole-requires
-whole-requires c κs = ?
+whole-requires c κs = rate-in _ (c .before .pre)
 
--- src/lib.rt:300:9
 add-result : tie.Need-add-result
-add-result c = ?
+unfolding maxLenOf
+add-result c = let m = max-len-range _ (c .before .before .pre) in let w = c .whole .ensures in omega arith
 
--- src/lib.rt:296:5
 returns : tie.Need-returns
-returns c = ?
+unfolding maxLenOf
+returns c = simp (c .whole .ensures)
 
 pub max-len-for-spec : {M : Type 1} → statement M
 max-len-for-spec = tie.close (tie.spec whole-requires add-result returns)

@@ -1,54 +1,39 @@
+use mathlib.Core.Path.{sym, ap, _∙_}
+use native.Mathlib.Omega.{arith}
+use Rattle.karplus_strong.proofs.Calls.{room-of, new-made, new-room, new-rate}
 use borrow.Author.Needs.{needs}
 use Rattle.karplus_strong.proofs.KarplusStrong.new.Statement.{statement}
 use Rattle.karplus_strong.proofs.KarplusStrong.new.Tie as tie
-use Rattle.karplus_strong.proofs.KarplusStrong.new.Reads as reads
-use Rattle.karplus_strong.proofs.KarplusStrong.new.Lts as lts
-use Rattle.common.proofs.EdgeDetector.new.Reads as EdgeDetector-new-reads
-use Rattle.common.proofs.Memo1.new.Reads as Memo1-new-reads
-use Rattle.common.proofs.rate_ok.Reads as rate-ok-reads
-use Rattle.karplus_strong.proofs.KarplusStrong.max_len_for.Reads as max-len-for-reads
-use Rattle.karplus_strong.proofs.KarplusStrong.room.Reads as room-reads
-use Rattle.karplus_strong.proofs.blank.Reads as blank-reads
 
--- src/lib.rt:352:12
 rate-ok-requires : tie.Need-rate-ok-requires
 rate-ok-requires c κs = search needs
 
--- src/lib.rt:353:17
 room-requires : tie.Need-room-requires
-room-requires c κs = ?
+room-requires c κs = sym (c .before .rate-ok .ensures) ∙ c .if1 .taken
 
--- src/lib.rt:355:21
 max-len-for-requires : tie.Need-max-len-for-requires
-max-len-for-requires c κs = ?
+max-len-for-requires c κs = sym (c .before .before .before .rate-ok .ensures) ∙ c .before .before .if1 .taken
 
--- src/lib.rt:356:17
 blank-requires : tie.Need-blank-requires
-blank-requires c κs = ?
+blank-requires c κs = let m = room-of _ _ (sym (c .before .before .before .room .ensures) ∙ c .before .before .if2 .taken) in let w = c .before .max-len-for .ensures in (omega arith, omega arith)
 
--- src/lib.rt:357:21
 new-requires : tie.Need-new-requires
 new-requires c κs = search needs
 
--- src/lib.rt:358:21
 new-requires-2 : tie.Need-new-requires-2
 new-requires-2 c κs = search needs
 
--- src/lib.rt:349:5
 same-length : tie.Need-same-length
 same-length c = search needs
 
--- src/lib.rt:349:5
 returns : tie.Need-returns
-returns c = ?
+returns c = let e = new-made _ _ _ (sym (c .before .before .before .before .before .before .before .before .before .before .rate-ok .ensures) ∙ c .before .before .before .before .before .before .before .before .before .if1 .taken) (c .before .before .before .before .before .before .before .before .room .ensures) (c .before .before .before .before .before .before .before .if2 .taken) _ _ _ (c .before .before .before .before .before .before .max-len-for .ensures) (c .before .new .ensures) (c .new2 .ensures) in (ap (λ x. x .out) e, c .before .before .before .before .blank .ensures ∙ ap (λ x. x .line) e)
 
--- src/lib.rt:349:5
 returns-2 : tie.Need-returns-2
-returns-2 c = ?
+returns-2 c = let e = new-room _ _ _ (sym (c .before .before .before .rate-ok .ensures) ∙ c .before .before .if1 .taken) (c .before .room .ensures) (c .if2 .left) in (ap (λ x. x .out) e, ap (λ x. x .line) e)
 
--- src/lib.rt:349:5
 returns-3 : tie.Need-returns-3
-returns-3 c = ?
+returns-3 c = let e = new-rate _ _ (sym (c .before .rate-ok .ensures) ∙ c .if1 .left) in (ap (λ x. x .out) e, ap (λ x. x .line) e)
 
 pub new-spec : {M : Type 1} → statement M
 new-spec =

@@ -1,40 +1,30 @@
+use mathlib.Core.Path.{sym, ap, _∙_}
+use native.Mathlib.Omega.{arith}
+use Rattle.karplus_strong.proofs.Calls.{accepted, reset-made, reset-no}
 use borrow.Author.Needs.{needs}
 use Rattle.karplus_strong.proofs.KarplusStrong.reset.Statement.{statement}
 use Rattle.karplus_strong.proofs.KarplusStrong.reset.Tie as tie
-use Rattle.karplus_strong.proofs.KarplusStrong.reset.Reads as reads
-use Rattle.karplus_strong.proofs.KarplusStrong.reset.Lts as lts
-use Rattle.common.proofs.EdgeDetector.reset.Reads as reset-reads
-use Rattle.karplus_strong.proofs.KarplusStrong.at_rest.Reads as at-rest-reads
-use Rattle.karplus_strong.proofs.KarplusStrong.refusal.Reads as refusal-reads
-use Rattle.karplus_strong.proofs.blank.Reads as blank-reads
 
--- src/lib.rt:538:13
 refusal-requires : tie.Need-refusal-requires
 refusal-requires c κs = search needs
 
--- src/lib.rt:542:13
 blank-requires : tie.Need-blank-requires
-blank-requires c κs = ?
+blank-requires c κs = let a = accepted _ _ (sym (c .before .before .before .refusal .ensures) ∙ c .before .before .if1 .taken) in let m = a .0 .most in let q = a .1 in (omega arith, omega arith)
 
--- src/lib.rt:543:55
 reset-requires : tie.Need-reset-requires
 reset-requires c κs = search needs
 
--- src/lib.rt:543:37
 at-rest-requires : tie.Need-at-rest-requires
 at-rest-requires c κs = search needs
 
--- src/lib.rt:535:5
 same-length : tie.Need-same-length
 same-length c = search needs
 
--- src/lib.rt:535:5
 returns : tie.Need-returns
-returns c = ?
+returns c = let e = reset-made _ _ _ (c .before .before .before .before .before .before .before .before .refusal .ensures) (c .before .before .before .before .before .before .before .if1 .taken) _ _ (c .before .reset .ensures) (c .at-rest .ensures) in (ap (λ x. x .out) e, c .before .before .before .before .blank .ensures ∙ ap (λ x. x .line) e)
 
--- src/lib.rt:535:5
 returns-2 : tie.Need-returns-2
-returns-2 c = ?
+returns-2 c = let e = reset-no _ _ _ (c .before .refusal .ensures) (c .if1 .left) in (ap (λ x. x .out) e, ap (λ x. x .line) e)
 
 pub reset-spec : {M : Type 1} → statement M
 reset-spec =

@@ -1,25 +1,24 @@
+use native.Mathlib.Omega.{arith}
+use borrow.Author.Tests.{le-leb, lt-leb}
+use Rattle.karplus_strong.specs.KarplusStrong.{roomOf}
+use Rattle.karplus_strong.proofs.Calls.{max-len-range}
 use borrow.Author.Needs.{needs}
 use Rattle.karplus_strong.proofs.KarplusStrong.room.Statement.{statement}
 use Rattle.karplus_strong.proofs.KarplusStrong.room.Tie as tie
-use Rattle.karplus_strong.proofs.KarplusStrong.room.Reads as reads
-use Rattle.karplus_strong.proofs.KarplusStrong.room.Lts as lts
-use Rattle.karplus_strong.proofs.KarplusStrong.max_len_for.Reads as max-len-for-reads
 
--- src/lib.rt:308:16
 max-len-for-requires : tie.Need-max-len-for-requires
 max-len-for-requires c κs = search needs
 
--- src/lib.rt:308:16
 add-if1 : tie.Need-add-if1
-add-if1 c = ?
+add-if1 c = let m = max-len-range _ (c .before .pre) in let w = c .max-len-for .ensures in omega arith
 
--- src/lib.rt:304:5
 returns : tie.Need-returns
-returns c = ?
+unfolding roomOf
+returns c = simp (← c .before .max-len-for .ensures, lt-leb _ _ (c .if1 .taken))
 
--- src/lib.rt:304:5
 returns-2 : tie.Need-returns-2
-returns-2 c = ?
+unfolding roomOf
+returns-2 c = simp (← c .before .max-len-for .ensures, le-leb _ _ (c .if1 .left))
 
 pub room-spec : {M : Type 1} → statement M
 room-spec = tie.close (tie.spec max-len-for-requires add-if1 returns returns-2)

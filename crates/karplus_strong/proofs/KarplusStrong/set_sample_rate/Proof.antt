@@ -1,45 +1,33 @@
+use mathlib.Core.Path.{sym, ap, _∙_}
+use native.Mathlib.Omega.{arith}
+use Rattle.karplus_strong.proofs.Calls.{rate-accepted, rate-made, rate-no}
 use borrow.Author.Needs.{needs}
 use Rattle.karplus_strong.proofs.KarplusStrong.set_sample_rate.Statement.{statement}
 use Rattle.karplus_strong.proofs.KarplusStrong.set_sample_rate.Tie as tie
-use Rattle.karplus_strong.proofs.KarplusStrong.set_sample_rate.Reads as reads
-use Rattle.karplus_strong.proofs.KarplusStrong.set_sample_rate.Lts as lts
-use Rattle.karplus_strong.proofs.KarplusStrong.max_len_for.Reads as max-len-for-reads
-use Rattle.karplus_strong.proofs.KarplusStrong.rate_refusal.Reads as rate-refusal-reads
-use Rattle.karplus_strong.proofs.KarplusStrong.resized.Reads as resized-reads
-use Rattle.karplus_strong.proofs.blank.Reads as blank-reads
-use Rattle.karplus_strong.proofs.lesser.Reads as lesser-reads
 
--- src/lib.rt:591:13
 rate-refusal-requires : tie.Need-rate-refusal-requires
 rate-refusal-requires c κs = search needs
 
--- src/lib.rt:593:17
 max-len-for-requires : tie.Need-max-len-for-requires
-max-len-for-requires c κs = ?
+max-len-for-requires c κs = rate-accepted _ _ _ (sym (c .before .rate-refusal .ensures) ∙ c .if1 .taken) .1
 
--- src/lib.rt:594:25
 lesser-requires : tie.Need-lesser-requires
 lesser-requires c κs = search needs
 
--- src/lib.rt:594:13
 blank-requires : tie.Need-blank-requires
-blank-requires c κs = ?
+blank-requires c κs = let a = rate-accepted _ _ _ (sym (c .before .before .before .before .rate-refusal .ensures) ∙ c .before .before .before .if1 .taken) .2 in let w = c .before .before .max-len-for .ensures in let m = c .lesser .ensures in (omega arith, omega arith)
 
--- src/lib.rt:595:37
 resized-requires : tie.Need-resized-requires
 resized-requires c κs = search needs
 
--- src/lib.rt:588:5
 same-length : tie.Need-same-length
 same-length c = search needs
 
--- src/lib.rt:588:5
 returns : tie.Need-returns
-returns c = ?
+returns c = let e = rate-made _ _ _ _ (c .before .before .before .before .before .before .before .before .rate-refusal .ensures) (c .before .before .before .before .before .before .before .if1 .taken) _ _ _ (c .before .before .before .before .before .before .max-len-for .ensures) (c .before .before .before .before .lesser .ensures) (c .resized .ensures) in (ap (λ x. x .out) e, c .before .before .before .blank .ensures ∙ ap (λ x. x .line) e)
 
--- src/lib.rt:588:5
 returns-2 : tie.Need-returns-2
-returns-2 c = ?
+returns-2 c = let e = rate-no _ _ _ _ (c .before .rate-refusal .ensures) (c .if1 .left) in (ap (λ x. x .out) e, ap (λ x. x .line) e)
 
 pub set-sample-rate-spec : {M : Type 1} → statement M
 set-sample-rate-spec =
