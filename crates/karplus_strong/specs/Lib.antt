@@ -1,5 +1,0 @@
-pub mod Consts
-pub mod Ranges
-pub mod Line
-pub mod Step
-pub mod KarplusStrong
