@@ -3,10 +3,12 @@
 ghost use mathlib.Core.Path.{_≡_};
 ghost use mathlib.Core.Bool.{cond};
 ghost use mathlib.Core.List.{[], _∷_};
+ghost use Prim.Native.Nat.{_+_, _≤_};
+ghost use lib.ListN.{length};
+ghost use Rattle.replay.specs.Words.{sameFrom};
 ghost use Rattle.replay.specs.Table.{numberOf, heldOf, runOf};
 use crate::split::place_of;
 use crate::words::real;
-use crate::words::same_words;
 use crate::words::value;
 use numeric::bits;
 
@@ -26,6 +28,21 @@ pub fn number_of(name: &[u8]) -> usize
     ensures { λ r. ⌜ r ≡ numberOf (now (name .entry)) ⌝ }
 {
     place_of(&NAMES, name)
+}
+
+// The words from one on are the answers.
+fn same_words(words: &[u8], from: usize, answers: &[u64]) -> bool
+    requires { ⌜ from + length (now answers) ≤ length (now words) ⌝ }
+    ensures { λ r. ⌜ r ≡ sameFrom (now (words .entry)) from (now (answers .entry)) ⌝ }
+{
+    let mut i = 0;
+    while i < answers.len() {
+        if value(words, from + i) != answers[i] {
+            return false;
+        }
+        i += 1;
+    }
+    true
 }
 
 // A case's words are the inputs and then the answers.

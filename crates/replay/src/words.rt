@@ -1,9 +1,7 @@
 // The words of a case: each a space and 16 hexadecimal digits, 17 bytes.
 ghost use mathlib.Core.Path.{_≡_};
-ghost use Prim.Native.Nat.{_+_, _≤_};
-ghost use lib.ListN.{length};
 ghost use lib.Ieee.{binary64, ofBits};
-ghost use Rattle.replay.specs.Words.{wordAt, valueAt, wellFormed, sameFrom};
+ghost use Rattle.replay.specs.Words.{wordAt, valueAt, wellFormed};
 use text::Word;
 
 // The k-th word.
@@ -51,21 +49,6 @@ pub fn well_formed(words: &[u8]) -> bool
             Word::Bits(_) => {}
             Word::Malformed => return false,
         }
-    }
-    true
-}
-
-// The words from one on are the answers.
-pub fn same_words(words: &[u8], from: usize, answers: &[u64]) -> bool
-    requires { ⌜ from + length (now answers) ≤ length (now words) ⌝ }
-    ensures { λ r. ⌜ r ≡ sameFrom (now (words .entry)) from (now (answers .entry)) ⌝ }
-{
-    let mut i = 0;
-    while i < answers.len() {
-        if value(words, from + i) != answers[i] {
-            return false;
-        }
-        i += 1;
     }
     true
 }
