@@ -1,11 +1,10 @@
 -- General facts on the order of floats.
 use mathlib.Core.Bool.{Bool, true, false, _||_, false≢true}
-use mathlib.Core.Path.{_≡_, refl, sym, subst}
+use mathlib.Core.Path.{_≡_, refl, subst}
 use Prim.Native.Nat.{ℕ, _*_, _≤_, _<_}
 use native.Mathlib.Nat.{lt-of-not-le, zero-lt-suc}
 use native.Mathlib.Omega.{arith}
 use lib.Dec.{T, not-T}
-use lib.IntN.{pos}
 use lib.Ieee.{Float, nan, inf, fin, binary64, round, lt, le, eq, ofBits}
 use lib.Ieee.Order.{round-mono}
 use Rattle.laws.proofs.Order.{lt-of-le-not-ge, lt-not-ge, float-le-trans}

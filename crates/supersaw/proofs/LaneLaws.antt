@@ -1,18 +1,18 @@
 -- The code's lanes give what the Rust's loop gives: the loop's lines done for all at once, and a quiet tick's shortcut.
-use mathlib.Core.Bool.{Bool, true, false, cond, _&&_}
+use mathlib.Core.Bool.{Bool, true, _&&_}
 use mathlib.Core.List.{List, [], _∷_, _++_}
 use mathlib.Core.Logic.{⊎-elim}
 use mathlib.Core.Path.{_≡_, refl, sym, ap, _∙_, subst}
-use Prim.Native.Nat.{ℕ, zero, suc, _≤_, _<_}
+use Prim.Native.Nat.{ℕ, zero, suc, _<_}
 use native.Mathlib.Nat.{le-of-suc-le-suc, eq-or-lt-of-le}
 use native.Mathlib.Omega.{arith}
-use lib.Dec.{T, eqb, lit<}
+use lib.Dec.{T, lit<}
 use lib.ListN.{length, List·getD-append}
-use lib.Ieee.{Float, nan, binary64, round, add, sub, mul, div, lt, le, eq, ofBits}
+use lib.Ieee.{Float, nan, binary64, round, add, sub, mul, div, lt, le, ofBits}
 use lib.Ieee.Bits.{is-true}
 use Rattle.laws.proofs.Over.{length-tab, tab-ext, getD-tab}
 use Rattle.laws.proofs.Tests.{of-true}
-use Rattle.laws.specs.Float.{zer, one, two, F64, isFin}
+use Rattle.laws.specs.Float.{zer, one, two, isFin}
 use Rattle.laws.specs.Lists.{tab}
 use Rattle.numeric.specs.Basic.{clampOf}
 use Rattle.common.specs.Consts.{rateLow, rateHigh}

@@ -1,5 +1,5 @@
 -- A reached Supersaw has a good rate and good phases, so that no call on it is refused but for its own input.
-use mathlib.Core.Bool.{Bool, true, false, cond, _&&_, true≢false}
+use mathlib.Core.Bool.{Bool, true, false, cond}
 use mathlib.Core.List.{List}
 use mathlib.Core.Path.{_≡_, refl, sym, ap, _∙_, subst}
 use Prim.Native.Nat.{ℕ, zero, suc, _≤_, _<_}
@@ -7,11 +7,11 @@ use native.Mathlib.Nat.{le-refl, le-of-lt}
 use lib.Dec.{eqb}
 use lib.ListN.{length, length-set, set}
 use lib.Seq.{getD-set-same, getD-set-other}
-use lib.Ieee.{Float, nan, binary64, add, div, round, lt, le, eq, ofBits, ofInt}
+use lib.Ieee.{Float, nan, binary64, div, round, lt, le, eq, ofBits, ofInt}
 use lib.Ieee.Fits.{add-fits}
 use borrow.Author.Tests.{eqb-true, eqb-false}
 use Rattle.laws.proofs.Always.{always}
-use Rattle.laws.specs.Float.{zer, isFin}
+use Rattle.laws.specs.Float.{zer}
 use Rattle.laws.specs.Lists.{tab}
 use Rattle.common.proofs.PhaseLaws.{wrap-in}
 use Rattle.common.specs.Phase.{turns}
@@ -124,11 +124,11 @@ unfolding reply
 never-refused s h =
     let g = good h in
     record {
-      tick = λ c. ap (λ (t : SupersawTicked). accepted (t .answer)) (tick-is s g c) ∙ sound-accepted s c;
-      reset = ap (λ (m : SupersawMade). replyOf (m .outcome)) (reset-is s g) ∙ (unfold replyOf in refl);
-      rate = λ r. ap (λ (m : SupersawMade). replyOf (m .outcome)) (rate-is s g r) ∙ told r (rateOk r);
       phases = g .phases .ok;
-      low = g .low;
+      «sub_phase» = g .low;
+      ticks = λ c. ap (λ (t : SupersawTicked). accepted (t .answer)) (tick-is s g c) ∙ sound-accepted s c;
+      resets = ap (λ (m : SupersawMade). replyOf (m .outcome)) (reset-is s g) ∙ (unfold replyOf in refl);
+      rates = λ r. ap (λ (m : SupersawMade). replyOf (m .outcome)) (rate-is s g r) ∙ told r (rateOk r);
     }
   where
     told : (r : Hertz) (b : Bool) → replyOf (cond b (done (record { phases = s .phases; «sub_phase» = s .«sub_phase»; «sample_rate» = r; «freq_memo» = s .«freq_memo» })) (record { outcome = outcome.Refused 1; supersaw = s }) .outcome) ≡ cond b Done (Refused 1)

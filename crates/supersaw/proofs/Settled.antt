@@ -9,5 +9,5 @@ settled =
       new = λ r. laws.settled (supersawNewOf r);
       tick = λ s c. laws.settled (supersawTickOf s c);
       reset = λ s. laws.settled (supersawResetOf s);
-      rate = λ s r. laws.settled (supersawSetSampleRateOf s r);
+      «set_sample_rate» = λ s r. laws.settled (supersawSetSampleRateOf s r);
     }

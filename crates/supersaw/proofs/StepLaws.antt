@@ -1,6 +1,6 @@
 -- A phase more than an increment above its step and below the next one: in [0, 1), with no residual, and its sum needs no wrap.
-use mathlib.Core.Bool.{Bool, true, false, cond, _&&_, true≢false, false≢true}
-use mathlib.Core.Path.{_≡_, refl, sym, ap, _∙_, subst}
+use mathlib.Core.Bool.{true, false, _&&_, true≢false, false≢true}
+use mathlib.Core.Path.{_≡_, refl, sym, _∙_, subst}
 use Prim.Native.Nat.{ℕ, _+_, _-_, _*_, _≤_, _<_}
 use native.Mathlib.Nat.{zero-lt-suc, mul-pos, mul-comm, mul-sub, mul-le-mul-right, le-of-mul-le-mul-right}
 use native.Mathlib.Omega.{arith}
@@ -9,7 +9,7 @@ use lib.IntN.{ℤ, pos}
 use lib.Ieee.{Float, nan, inf, fin, binary64, up, down, round, sum, add, sub, lt, le, ofBits, fits}
 use lib.Ieee.Bits.{is-true}
 use lib.Ieee.Fits.{down-pos, add-fits}
-use lib.Ieee.Order.{le-of-values, round-mono}
+use lib.Ieee.Order.{round-mono}
 use lib.Ieee.Positive.{first-pos}
 use Rattle.laws.proofs.Order.{lt-false, lt-by-values}
 use Rattle.laws.proofs.Tests.{of-true}

@@ -1,6 +1,6 @@
 -- Calls on a Supersaw, one after another.
 use mathlib.Core.Path.{_≡_}
-use mathlib.Core.Bool.{Bool, true, false}
+use mathlib.Core.Bool.{true}
 use Prim.Native.Nat.{ℕ}
 use Rattle.laws.specs.Machine.{Reached}
 use Rattle.common.specs.Tests.{rateOk}

@@ -1,6 +1,6 @@
 -- What the code does for eight oscillators at once, the seven voices and the sub oscillator. The public contracts don't
 -- cite it: they cite Supersaw.antt, and proofs/LaneLaws.antt has that the two agree.
-use mathlib.Core.Bool.{Bool, true, false, cond, _&&_}
+use mathlib.Core.Bool.{Bool, true, false, _&&_}
 use mathlib.Core.List.{List, [], _∷_, _++_}
 use Prim.Native.Nat.{ℕ, zero, suc}
 use lib.Ieee.{Float, binary64, add, sub, mul, div, lt, ofBits, fits}

@@ -1,6 +1,6 @@
 -- The Supersaw's calls, written from oscillators.rs, with document 01's refusals and marks.
 use mathlib.Core.Bool.{Bool, true, false, cond, _&&_}
-use mathlib.Core.List.{List, [], _∷_}
+use mathlib.Core.List.{List}
 use Prim.Native.Nat.{ℕ, zero, suc}
 use lib.Dec.{eqb}
 use lib.Ieee.{Float, binary64, add, sub, mul, div}
