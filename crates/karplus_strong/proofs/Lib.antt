@@ -5,4 +5,7 @@ pub mod Cuts
 pub mod Periods
 pub mod Delays
 pub mod Draws
-pub mod Calls
+pub mod Parts
+pub mod Alike
+pub mod Reached
+pub mod Promised

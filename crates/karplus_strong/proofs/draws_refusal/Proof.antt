@@ -2,7 +2,7 @@ use mathlib.Core.Path.{sym, _∙_, subst}
 use native.Mathlib.Omega.{arith}
 use lib.Dec.{T}
 use Rattle.karplus_strong.proofs.Cuts.{cut-small}
-use Rattle.karplus_strong.proofs.Calls.{draws-few, draws-good, draws-large}
+use Rattle.karplus_strong.proofs.Parts.{draws-few, draws-good, draws-large}
 use borrow.Author.Needs.{needs}
 use Rattle.karplus_strong.proofs.draws_refusal.Statement.{statement}
 use Rattle.karplus_strong.proofs.draws_refusal.Tie as tie

@@ -1,4 +1,4 @@
-use Rattle.karplus_strong.proofs.Calls.{struck-by}
+use Rattle.karplus_strong.proofs.Parts.{struck-by}
 use borrow.Author.Needs.{needs}
 use Rattle.karplus_strong.proofs.excite.Statement.{statement}
 use Rattle.karplus_strong.proofs.excite.Tie as tie

@@ -1,6 +1,6 @@
 use Rattle.karplus_strong.specs.KarplusStrong.{periodOf}
-use Rattle.karplus_strong.proofs.Calls.{held, max-len-range, period-high, period-two}
-use Rattle.karplus_strong.proofs.Calls.{period-high, period-two}
+use Rattle.karplus_strong.proofs.Parts.{held, max-len-range, period-high, period-two}
+use Rattle.karplus_strong.proofs.Parts.{period-high, period-two}
 use borrow.Author.Needs.{needs}
 use Rattle.karplus_strong.proofs.period_of.Statement.{statement}
 use Rattle.karplus_strong.proofs.period_of.Tie as tie

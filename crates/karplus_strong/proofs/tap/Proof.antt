@@ -1,6 +1,6 @@
 use native.Mathlib.Omega.{arith}
 use Rattle.karplus_strong.proofs.Ring.{in-line}
-use Rattle.karplus_strong.proofs.Calls.{held, tap-by}
+use Rattle.karplus_strong.proofs.Parts.{held, tap-by}
 use borrow.Author.Needs.{needs}
 use Rattle.karplus_strong.proofs.tap.Statement.{statement}
 use Rattle.karplus_strong.proofs.tap.Tie as tie

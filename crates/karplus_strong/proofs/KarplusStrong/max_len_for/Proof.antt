@@ -1,6 +1,6 @@
 use native.Mathlib.Omega.{arith}
 use Rattle.karplus_strong.specs.KarplusStrong.{maxLenOf}
-use Rattle.karplus_strong.proofs.Calls.{rate-in, max-len-range}
+use Rattle.karplus_strong.proofs.Parts.{rate-in, max-len-range}
 use Rattle.karplus_strong.proofs.KarplusStrong.max_len_for.Statement.{statement}
 use Rattle.karplus_strong.proofs.KarplusStrong.max_len_for.Tie as tie
 

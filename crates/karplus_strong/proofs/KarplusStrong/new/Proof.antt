@@ -1,6 +1,6 @@
 use mathlib.Core.Path.{sym, ap, _∙_}
 use native.Mathlib.Omega.{arith}
-use Rattle.karplus_strong.proofs.Calls.{room-of, new-made, new-room, new-rate}
+use Rattle.karplus_strong.proofs.Parts.{room-of, new-made, new-room, new-rate}
 use borrow.Author.Needs.{needs}
 use Rattle.karplus_strong.proofs.KarplusStrong.new.Statement.{statement}
 use Rattle.karplus_strong.proofs.KarplusStrong.new.Tie as tie

@@ -1,5 +1,5 @@
 use mathlib.Core.Path.{sym, _∙_}
-use Rattle.karplus_strong.proofs.Calls.{max-len-range, rate-old, rate-new, rate-line, rate-room}
+use Rattle.karplus_strong.proofs.Parts.{max-len-range, rate-old, rate-new, rate-line, rate-room}
 use borrow.Author.Needs.{needs}
 use Rattle.karplus_strong.proofs.KarplusStrong.rate_refusal.Statement.{statement}
 use Rattle.karplus_strong.proofs.KarplusStrong.rate_refusal.Tie as tie

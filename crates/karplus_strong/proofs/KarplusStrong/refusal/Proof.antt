@@ -1,5 +1,5 @@
 use mathlib.Core.Path.{sym, _∙_}
-use Rattle.karplus_strong.proofs.Calls.{max-len-range, refusal-rate, refusal-line, refusal-room}
+use Rattle.karplus_strong.proofs.Parts.{max-len-range, refusal-rate, refusal-line, refusal-room}
 use borrow.Author.Needs.{needs}
 use Rattle.karplus_strong.proofs.KarplusStrong.refusal.Statement.{statement}
 use Rattle.karplus_strong.proofs.KarplusStrong.refusal.Tie as tie

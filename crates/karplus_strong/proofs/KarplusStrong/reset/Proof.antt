@@ -1,6 +1,6 @@
 use mathlib.Core.Path.{sym, ap, _∙_}
 use native.Mathlib.Omega.{arith}
-use Rattle.karplus_strong.proofs.Calls.{accepted, reset-made, reset-no}
+use Rattle.karplus_strong.proofs.Parts.{accepted, reset-made, reset-no}
 use borrow.Author.Needs.{needs}
 use Rattle.karplus_strong.proofs.KarplusStrong.reset.Statement.{statement}
 use Rattle.karplus_strong.proofs.KarplusStrong.reset.Tie as tie

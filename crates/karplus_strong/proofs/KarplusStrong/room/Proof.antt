@@ -1,7 +1,7 @@
 use native.Mathlib.Omega.{arith}
 use borrow.Author.Tests.{le-leb, lt-leb}
 use Rattle.karplus_strong.specs.KarplusStrong.{roomOf}
-use Rattle.karplus_strong.proofs.Calls.{max-len-range}
+use Rattle.karplus_strong.proofs.Parts.{max-len-range}
 use borrow.Author.Needs.{needs}
 use Rattle.karplus_strong.proofs.KarplusStrong.room.Statement.{statement}
 use Rattle.karplus_strong.proofs.KarplusStrong.room.Tie as tie

@@ -1,6 +1,6 @@
 use mathlib.Core.Path.{sym, ap, _∙_}
 use native.Mathlib.Omega.{arith}
-use Rattle.karplus_strong.proofs.Calls.{rate-accepted, rate-made, rate-no}
+use Rattle.karplus_strong.proofs.Parts.{rate-accepted, rate-made, rate-no}
 use borrow.Author.Needs.{needs}
 use Rattle.karplus_strong.proofs.KarplusStrong.set_sample_rate.Statement.{statement}
 use Rattle.karplus_strong.proofs.KarplusStrong.set_sample_rate.Tie as tie

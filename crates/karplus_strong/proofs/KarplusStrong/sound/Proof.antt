@@ -1,5 +1,5 @@
 use mathlib.Core.Path.{sym, ap, _∙_}
-use Rattle.karplus_strong.proofs.Calls.{zer-fin, one-fin, minus-one-fin, accepted, memo-number, period-cut, struck-room, sound-ready, sound-by, sound-no}
+use Rattle.karplus_strong.proofs.Parts.{zer-fin, one-fin, minus-one-fin, accepted, memo-number, period-cut, struck-room, sound-ready, sound-by, sound-no}
 use borrow.Author.Needs.{needs}
 use Rattle.karplus_strong.proofs.KarplusStrong.sound.Statement.{statement}
 use Rattle.karplus_strong.proofs.KarplusStrong.sound.Tie as tie

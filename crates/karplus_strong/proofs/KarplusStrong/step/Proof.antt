@@ -1,6 +1,6 @@
 use mathlib.Core.Path.{sym, ap, _∙_}
 use Rattle.karplus_strong.specs.Step.{filterCoefOf, apCoefOf, filteredOf, stretchedOf}
-use Rattle.karplus_strong.proofs.Calls.{step-clean, step-cleared}
+use Rattle.karplus_strong.proofs.Parts.{step-clean, step-cleared}
 use borrow.Author.Needs.{needs}
 use Rattle.karplus_strong.proofs.KarplusStrong.step.Statement.{statement}
 use Rattle.karplus_strong.proofs.KarplusStrong.step.Tie as tie

@@ -2,7 +2,7 @@ use mathlib.Core.Path.{sym, ap, subst}
 use native.Mathlib.Omega.{arith}
 use lib.Dec.{T}
 use Rattle.karplus_strong.proofs.Cuts.{cut-small}
-use Rattle.karplus_strong.proofs.Calls.{cut-room, strike-by}
+use Rattle.karplus_strong.proofs.Parts.{cut-room, strike-by}
 use borrow.Author.Needs.{needs}
 use Rattle.karplus_strong.proofs.KarplusStrong.strike.Statement.{statement}
 use Rattle.karplus_strong.proofs.KarplusStrong.strike.Tie as tie

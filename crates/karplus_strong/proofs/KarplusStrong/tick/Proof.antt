@@ -1,5 +1,5 @@
 use mathlib.Core.Path.{sym, ap, _∙_}
-use Rattle.karplus_strong.proofs.Calls.{tick-sound, tick-refused}
+use Rattle.karplus_strong.proofs.Parts.{tick-sound, tick-refused}
 use borrow.Author.Needs.{needs}
 use Rattle.karplus_strong.proofs.KarplusStrong.tick.Statement.{statement}
 use Rattle.karplus_strong.proofs.KarplusStrong.tick.Tie as tie

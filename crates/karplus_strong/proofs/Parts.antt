@@ -372,11 +372,11 @@ tap-by l from len delay w a b ew ea eb =
     let e : len - (w + 1) ≡ len - w - 1 = omega arith in
     rw (ea, eb, e, ew)
 
-heard-clean : (v : Float) → isFin v ≡ true → answer.Clean (outOf v) ≡ heardOf v false
+pub heard-clean : (v : Float) → isFin v ≡ true → answer.Clean (outOf v) ≡ heardOf v false
 unfolding heardOf markOf allFinite ruleOf answerOf ofBits
 heard-clean v e = rw e
 
-heard-cleared : answer.Cleared (outOf zer) ≡ heardOf zer true
+pub heard-cleared : answer.Cleared (outOf zer) ≡ heardOf zer true
 unfolding heardOf markOf allFinite ruleOf answerOf ofBits
 heard-cleared = refl
 
