@@ -49,7 +49,8 @@ getD-over f n l i h =
 alike-over : (f g : ℕ → Float) (n : ℕ) (l m : List Float) → n ≤ length l → length l ≡ length m → ((i : ℕ) → i < n → f i ≡ g i) → Alike n (over f n l) (over g n m)
 alike-over f g n l m h e k = record {
   size = length-over f n l h ∙ e ∙ sym (length-over g n m (omega arith));
-  cells = λ i q. getD-over f n l i q ∙ k i q ∙ sym (getD-over g n m i q) }
+  cells = λ i q. getD-over f n l i q ∙ k i q ∙ sym (getD-over g n m i q);
+}
 
 pub alike-blank : (a n : ℕ) (l m : List Float) → n ≤ length l → length l ≡ length m → ((i : ℕ) → i < a → getD l i nan ≡ getD m i nan) → Alike n (blankOf a n l) (blankOf a n m)
 unfolding blankOf blankAt
@@ -83,7 +84,8 @@ tap-alike l m from len x h k =
 alike-set : (n i : ℕ) (v : Float) (l m : List Float) → i < length l → Alike n l m → Alike n (set l i v) (set m i v)
 alike-set n i v l m h k = record {
   size = length-set l i v ∙ k .size ∙ sym (length-set m i v);
-  cells = λ j q. go j q (ℕ-discrete j i) }
+  cells = λ j q. go j q (ℕ-discrete j i);
+}
   where
     go : (j : ℕ) → j < n → Dec (j ≡ i) → getD (set l i v) j nan ≡ getD (set m i v) j nan
     go j q (yes e) = rw e (getD-set-same l i v nan h ∙ sym (getD-set-same m i v nan (let z = k .size in omega arith)))

@@ -8,4 +8,7 @@ pub mod Draws
 pub mod Parts
 pub mod Alike
 pub mod Reached
+pub mod Ticks
 pub mod Promised
+pub mod Forget
+pub mod Settled

@@ -1,125 +1,39 @@
 -- The promises of a reached string: no call refuses but for its own input, and an edge can always be had.
-use mathlib.Core.Bool.{Bool, true, false, cond, not, _&&_, true≢false}
+use mathlib.Core.Bool.{Bool, _&&_, true, false, cond}
 use mathlib.Core.List.{List}
-use mathlib.Core.Logic.{_⊎_, inl, inr, ⊎-elim}
-use mathlib.Core.Path.{_≡_, refl, sym, ap, _∙_, subst}
-use Prim.Native.Nat.{ℕ, zero, suc, _+_, _≤_, _<_}
-use native.Mathlib.Nat.{le-trans, eq-or-lt-of-le, le-of-suc-le-suc, not-suc-le-zero}
+use mathlib.Core.Logic.{⊎-elim}
+use mathlib.Core.Path.{_≡_, refl, ap, _∙_}
+use Prim.Native.Nat.{ℕ, _≤_, zero, suc, _<_}
+use native.Mathlib.Nat.{not-suc-le-zero, eq-or-lt-of-le, le-of-suc-le-suc, le-trans}
 use native.Mathlib.Omega.{arith}
-use lib.Dec.{T, leb, ltb}
+use lib.Dec.{ltb}
+use lib.Ieee.{Float, binary64, lt, le, mul, ofBits, eq, neg, low}
 use lib.ListN.{length, getD}
-use lib.Ieee.{Float, binary64, mul, neg, lt, le, eq, ofBits}
 use borrow.Author.Tests.{le-leb}
-use Rattle.laws.specs.Float.{zer, one, isFin}
-use Rattle.numeric.specs.Basic.{clampOf, wholeOf}
-use Rattle.common.specs.Consts.{half, five, gateThreshold}
-use Rattle.common.specs.Edge.{newEdge, risesAbove, risingAboveOf, risingOf}
+use Rattle.answer.specs.Answer.{refusalOf, accepted}
+use Rattle.common.specs.Consts.{five, half}
+use Rattle.common.specs.Edge.{risesAbove, risingAboveOf, risingOf}
 use Rattle.common.specs.Memo.{recall1, voctToHzAt}
 use Rattle.common.specs.Tests.{rateOk}
+use Rattle.laws.specs.Float.{zer, one, isFin}
+use Rattle.numeric.specs.Basic.{clampOf}
+use Rattle.karplus_strong.proofs.Parts.{max-len-range, period-range, memo-number, Sound, sound-line}
+use Rattle.karplus_strong.proofs.Reached.{Good, after-good, reached-good}
+use Rattle.karplus_strong.proofs.Ticks.{heard-number, heard-accepted, struckStep, soundRefusal, struck-heard, unless-number, twice-heard, twice-left, tick-is, good-refusal, good-room, good-none, good-tick}
+use Rattle.karplus_strong.specs.Calls.{Strung, madeReply, after, reply, Tick, Reset, SetSampleRate, Done}
+use Rattle.karplus_strong.specs.Consts.{loopLeak}
+use Rattle.karplus_strong.specs.KarplusStrong.{roomOf, karplusStrongRefusalOf, rateRefusalOf, madeUnless, karplusStrongNewOf, karplusStrongResetOf, karplusStrongSetSampleRateOf, finiteOr, struckLen, drawsRefusalOf, strikeOf, strikeIf, heardString, tickUnless, karplusStrongTickOf}
+use Rattle.karplus_strong.specs.Line.{drawsOk}
+use Rattle.karplus_strong.specs.Promises.{periodAt, risesAt, doneOr, Never-refused, New-there, Edge-comes, Clean-or-cleared, Refused-leaves}
+use Rattle.karplus_strong.specs.Step.{filterCoefOf, apCoefOf, targetDelayOf, tapOf, filteredOf, stretchedOf, Ticking, wroteOf, clearedOf, stepOf}
 use Rattle.common.specs.declared.EdgeDetector.{EdgeDetector}
 use Rattle.common.specs.declared.Hertz.{Hertz}
 use Rattle.common.specs.declared.Memo1.{Memo1}
-use Rattle.answer.specs.Answer.{markNumber, voltsOf, refusalOf, accepted, answerOf}
-use Rattle.answer.specs.Mark.{allFinite, ruleOf, markOf}
 use Rattle.answer.specs.declared.Answer.{Answer}
 use Rattle.answer.specs.declared.Answer.the-variants as answer
-use Rattle.karplus_strong.specs.Consts.{loopLeak}
-use Rattle.karplus_strong.specs.Line.{blankOf, drawsOk}
-use Rattle.karplus_strong.specs.Step.{filterCoefOf, apCoefOf, targetDelayOf, tapOf, filteredOf, stretchedOf, Ticking, outOf, heardOf, restOf, wroteOf, clearedOf, stepOf}
-use Rattle.karplus_strong.specs.KarplusStrong.{maxLenOf, lineOk, roomOf, karplusStrongRefusalOf, rateRefusalOf, Making, madeUnless, newKarplusStrong, karplusStrongNewOf, karplusStrongResetOf, karplusStrongSetSampleRateOf, finiteOr, periodOf, struckLen, drawsRefusalOf, strikeOf, strikeIf, heardString, tickUnless, karplusStrongSoundOf, karplusStrongTickOf}
-use Rattle.karplus_strong.specs.Calls.{Strung, Tick, Reset, SetSampleRate, Reply, Done, Refused, madeReply, after, reply, First, ReachedString}
-use Rattle.karplus_strong.specs.Promises.{periodAt, risesAt, doneOr, Ready, Never-refused, New-there, Strikes, Edge-comes, Clean-or-cleared, Refused-leaves}
 use Rattle.karplus_strong.specs.declared.KarplusStrong.{KarplusStrong}
 use Rattle.karplus_strong.specs.declared.KarplusStrongControls.{KarplusStrongControls}
 use Rattle.karplus_strong.specs.declared.KarplusStrongMade.the-variants as made
-use Rattle.karplus_strong.proofs.Parts.{Sound, sound-line, heard-clean, heard-cleared, max-len-range, period-range, memo-number}
-use Rattle.karplus_strong.proofs.Reached.{Good, after-good, reached-good}
-
--- ---- what a step answers
--- an accepted answer: clean and finite, or cleared and 0.0
-abbrev Heard : Answer → Type 0
-Heard a = ((markNumber a ≡ 4) × (isFin (voltsOf a .p10) ≡ true)) ⊎ ((markNumber a ≡ 1) × (voltsOf a ≡ outOf zer))
-
-pub step-heard : (s : KarplusStrong) (p d t : Float) (l : List Float) → Heard (stepOf s p d t l .out .answer)
-unfolding stepOf
-step-heard s p d t l = go v refl
-  where
-    y : Float
-    y = filteredOf s (tapOf l (s .«write_pos») (s .len) (targetDelayOf p (filterCoefOf d) (apCoefOf t))) (filterCoefOf d)
-
-    z : Float
-    z = stretchedOf s y (apCoefOf t)
-
-    v : Float
-    v = mul binary64 z loopLeak
-
-    pick : (b : Bool) (v : Float) → isFin v ≡ b → Heard (cond b (wroteOf s y z v l) (clearedOf s l) .out .answer)
-    pick true v e = subst Heard (heard-clean v e) (inl (unfold markNumber in refl, unfold voltsOf in e))
-    pick false v e = subst Heard heard-cleared (inr (unfold markNumber in refl, unfold voltsOf in refl))
-
-    go : (x : Float) → v ≡ x → Heard (cond (isFin x) (wroteOf s y z x l) (clearedOf s l) .out .answer)
-    go x e = pick (isFin x) x refl
-
-heard-number : (a : Answer) → Heard a → refusalOf a ≡ 0
-unfolding markNumber refusalOf
-heard-number (answer.Clean v) h = refl
-heard-number (answer.Cleared v) h = refl
-heard-number (answer.NotFinite v) h = refl
-heard-number (answer.Lost v) h = refl
-heard-number (answer.Refused n) (inl h) = absurd (let q = h .0 in omega arith)
-heard-number (answer.Refused n) (inr h) = absurd (let q = h .0 in omega arith)
-
-heard-accepted : (a : Answer) → Heard a → accepted a ≡ true
-unfolding markNumber accepted
-heard-accepted (answer.Clean v) h = refl
-heard-accepted (answer.Cleared v) h = refl
-heard-accepted (answer.NotFinite v) h = refl
-heard-accepted (answer.Lost v) h = refl
-heard-accepted (answer.Refused n) (inl h) = absurd (let q = h .0 in omega arith)
-heard-accepted (answer.Refused n) (inr h) = absurd (let q = h .0 in omega arith)
-
--- ---- what a tick answers: the step's, unless it is refused
-struckStep : KarplusStrong → KarplusStrongControls → List ℕ → List Float → Ticking
-struckStep s c draws l =
-    let struck = strikeIf (risesAt s c) (heardString s (risingOf (s .«trigger_edge») (c .trigger) .edge) (recall1 voctToHzAt (s .«freq_memo») (finiteOr (c .voct .0) zer))) (periodAt s c) (clampOf (finiteOr (c .brightness) half) zer one) draws l in
-    stepOf (struck .out) (periodAt s c) (clampOf (finiteOr (c .damping) half) zer one) (clampOf (finiteOr (c .stretch) zer) (neg one) one) (struck .line)
-
--- the numbers of both tests
-soundRefusal : KarplusStrong → KarplusStrongControls → List ℕ → ℕ
-soundRefusal s c draws = cond (risesAt s c) (drawsRefusalOf (struckLen (periodAt s c)) draws) 0
-
-sound-is : (s : KarplusStrong) (c : KarplusStrongControls) (draws : List ℕ) (l : List Float) → karplusStrongSoundOf s c draws l ≡ tickUnless (soundRefusal s c draws) s l (struckStep s c draws l)
-unfolding karplusStrongSoundOf soundRefusal struckStep
-sound-is s c draws l = refl
-
-struck-heard : (s : KarplusStrong) (c : KarplusStrongControls) (draws : List ℕ) (l : List Float) → Heard (struckStep s c draws l .out .answer)
-unfolding struckStep
-struck-heard s c draws l =
-    let struck = strikeIf (risesAt s c) (heardString s (risingOf (s .«trigger_edge») (c .trigger) .edge) (recall1 voctToHzAt (s .«freq_memo») (finiteOr (c .voct .0) zer))) (periodAt s c) (clampOf (finiteOr (c .brightness) half) zer one) draws l in
-    step-heard (struck .out) (periodAt s c) (clampOf (finiteOr (c .damping) half) zer one) (clampOf (finiteOr (c .stretch) zer) (neg one) one) (struck .line)
-
-unless-number : (k : ℕ) (s : KarplusStrong) (l : List Float) (t : Ticking) → refusalOf (t .out .answer) ≡ 0 → refusalOf (tickUnless k s l t .out .answer) ≡ k
-unfolding tickUnless refusalOf
-unless-number zero s l t h = h
-unless-number (suc k) s l t h = refl
-
--- an accepted tick went on to the step, and a refused one leaves everything
-twice-heard : (k j : ℕ) (s : KarplusStrong) (l : List Float) (t : Ticking) → Heard (t .out .answer) → accepted (tickUnless k s l (tickUnless j s l t) .out .answer) ≡ true → Heard (tickUnless k s l (tickUnless j s l t) .out .answer)
-unfolding tickUnless accepted
-twice-heard zero zero s l t h e = h
-twice-heard zero (suc j) s l t h e = absurd (true≢false (sym e))
-twice-heard (suc k) j s l t h e = absurd (true≢false (sym e))
-
-twice-left : (k j : ℕ) (s : KarplusStrong) (l : List Float) (t : Ticking) → Heard (t .out .answer) → accepted (tickUnless k s l (tickUnless j s l t) .out .answer) ≡ false
-    → (tickUnless k s l (tickUnless j s l t) .out .«karplus_strong» ≡ s) × (tickUnless k s l (tickUnless j s l t) .line ≡ l)
-unfolding tickUnless
-twice-left zero zero s l t h e = absurd (true≢false (sym (heard-accepted (t .out .answer) h) ∙ e))
-twice-left zero (suc j) s l t h e = (refl, refl)
-twice-left (suc k) j s l t h e = (refl, refl)
-
-tick-is : (s : KarplusStrong) (c : KarplusStrongControls) (draws : List ℕ) (l : List Float) → karplusStrongTickOf s c draws l ≡ tickUnless (karplusStrongRefusalOf s (length l)) s l (tickUnless (soundRefusal s c draws) s l (struckStep s c draws l))
-unfolding karplusStrongTickOf
-tick-is s c draws l = ap (tickUnless (karplusStrongRefusalOf s (length l)) s l) (sound-is s c draws l)
 
 pub clean-or-cleared : Clean-or-cleared
 clean-or-cleared s c draws l e = rw (tick-is s c draws l) (twice-heard (karplusStrongRefusalOf s (length l)) (soundRefusal s c draws) s l (struckStep s c draws l) (struck-heard s c draws l) (rw (tick-is s c draws l) at e))
@@ -128,21 +42,6 @@ pub refused-leaves : Refused-leaves
 refused-leaves s c draws l e = rw (tick-is s c draws l) (twice-left (karplusStrongRefusalOf s (length l)) (soundRefusal s c draws) s l (struckStep s c draws l) (struck-heard s c draws l) (rw (tick-is s c draws l) at e))
 
 -- ---- a reached string is ready
-good-refusal : (s : KarplusStrong) (n m : ℕ) → Good s n → karplusStrongRefusalOf s m ≡ roomOf (s .«sample_rate») m
-unfolding karplusStrongRefusalOf
-good-refusal s n m g = simp (g .sound .rate, sound-line s (g .sound))
-
-good-room : (s : KarplusStrong) (n : ℕ) → Good s n → roomOf (s .«sample_rate») n ≡ 0
-unfolding roomOf
-good-room s n g = simp (le-leb (maxLenOf (s .«sample_rate») + 2) n (g .room))
-
-good-none : (s : KarplusStrong) (n : ℕ) → Good s n → karplusStrongRefusalOf s n ≡ 0
-good-none s n g = good-refusal s n n g ∙ good-room s n g
-
-good-tick : (s : KarplusStrong) (c : KarplusStrongControls) (draws : List ℕ) (l : List Float) → Good s (length l) → karplusStrongTickOf s c draws l ≡ tickUnless (soundRefusal s c draws) s l (struckStep s c draws l)
-unfolding tickUnless
-good-tick s c draws l g = tick-is s c draws l ∙ ap (λ (k : ℕ). tickUnless k s l (tickUnless (soundRefusal s c draws) s l (struckStep s c draws l))) (good-none s (length l) g)
-
 good-number : (s : KarplusStrong) (c : KarplusStrongControls) (draws : List ℕ) (l : List Float) → Good s (length l) → refusalOf (karplusStrongTickOf s c draws l .out .answer) ≡ cond (risesAt s c) (drawsRefusalOf (struckLen (periodAt s c)) draws) 0
 unfolding soundRefusal
 good-number s c draws l g = ap (λ (t : Ticking). refusalOf (t .out .answer)) (good-tick s c draws l g) ∙ unless-number (soundRefusal s c draws) s l (struckStep s c draws l) (heard-number (struckStep s c draws l .out .answer) (struck-heard s c draws l))
@@ -158,7 +57,8 @@ never-refused x h = record {
   room = good-room (x .string) (length (x .line)) g;
   tick = λ c draws. good-number (x .string) c draws (x .line) g;
   reset = reset-says;
-  rate = rate-says }
+  rate = rate-says;
+}
   where
     g : Good (x .string) (length (x .line))
     g = reached-good x h
@@ -177,7 +77,8 @@ pub new-there : New-there
 new-there x h l e = record {
   rate = x .string .«sample_rate»;
   lent = l;
-  is-new = unfold karplusStrongNewOf madeUnless in simp (g .sound .rate, e, good-room (x .string) (length (x .line)) g) }
+  is-new = unfold karplusStrongNewOf madeUnless in simp (g .sound .rate, e, good-room (x .string) (length (x .line)) g);
+}
   where
     g : Good (x .string) (length (x .line))
     g = reached-good x h

@@ -66,16 +66,20 @@ step-good s p d t l g =
       state = record {
         sound = record { rate = a .rate; least = a .least; most = a .most; place = mod-lt (s .«write_pos» + 1) {m = s .len} (let q = a .least in omega arith); value = a .value };
         room = g .room;
-        memo = g .memo };
-      line = length-set l (s .«write_pos») v }
+        memo = g .memo;
+      };
+      line = length-set l (s .«write_pos») v;
+    }
     go false y z v = record {
       state = record {
         sound = record { rate = a .rate; least = a .least; most = a .most; place = (let q = a .least in omega arith); value = a .value };
         room = g .room;
-        memo = g .memo };
-      line = length-blank 0 (s .len) l (let q = a .most in let r = g .room in omega arith) }
+        memo = g .memo;
+      };
+      line = length-blank 0 (s .len) l (let q = a .most in let r = g .room in omega arith);
+    }
 
-fits-or : (x : Float) → F64 x → F64 (finiteOr x zer)
+pub fits-or : (x : Float) → F64 x → F64 (finiteOr x zer)
 unfolding finiteOr fits ofBits
 fits-or nan h = tt
 fits-or (inf s) h = tt
@@ -144,7 +148,8 @@ new-good r l e h =
     record {
       sound = record { rate = e; least = omega arith; most = omega arith; place = omega arith; value = unfold isNan ofBits in tt };
       room = omega arith;
-      memo = inl refl }
+      memo = inl refl;
+    }
 
 reset-good : (s : KarplusStrong) (l : List Float) → Good s (length l) → Good (restOf s (s .len) newEdge) (length (blankOf 0 (s .len) l))
 reset-good s l g =
@@ -196,7 +201,7 @@ first-is x f =
     let t = new-taken (f .rate) (length (f .lent)) (m .0) in
     (t .0, t .1, m .1, m .2)
 
-first-good : (x : Strung) → First x → Good (x .string) (length (x .line))
+pub first-good : (x : Strung) → First x → Good (x .string) (length (x .line))
 first-good x f = let i = first-is x f in rw (i .2, i .3) (new-good (f .rate) (f .lent) (i .0) (i .1))
 
 pub after-good : (x : Strung) (c : Call) → Good (x .string) (length (x .line)) → FitCall c → Good (after x c .string) (length (after x c .line))
