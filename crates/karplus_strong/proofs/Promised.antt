@@ -24,7 +24,7 @@ use Rattle.karplus_strong.specs.Calls.{Strung, madeReply, after, reply, 
 use Rattle.karplus_strong.specs.Consts.{loopLeak}
 use Rattle.karplus_strong.specs.KarplusStrong.{roomOf, karplusStrongRefusalOf, rateRefusalOf, madeUnless, karplusStrongNewOf, karplusStrongResetOf, karplusStrongSetSampleRateOf, finiteOr, struckLen, drawsRefusalOf, strikeOf, strikeIf, heardString, tickUnless, karplusStrongTickOf}
 use Rattle.karplus_strong.specs.Line.{drawsOk}
-use Rattle.karplus_strong.specs.Promises.{periodAt, risesAt, doneOr, Never-refused, New-there, Edge-comes, Clean-or-cleared, Refused-leaves}
+use Rattle.karplus_strong.specs.Promises.{periodAt, risesAt, doneOr, Never-refused, New-there, Edge-comes, Clean-or-cleared, Refused-leaves, Keeps-rate}
 use Rattle.karplus_strong.specs.Step.{filterCoefOf, apCoefOf, targetDelayOf, tapOf, filteredOf, stretchedOf, Ticking, wroteOf, clearedOf, stepOf}
 use Rattle.common.specs.declared.EdgeDetector.{EdgeDetector}
 use Rattle.common.specs.declared.Hertz.{Hertz}
@@ -102,10 +102,10 @@ good-accepted : (s : KarplusStrong) (c : KarplusStrongControls) (draws : List �
 unfolding tickUnless
 good-accepted s c draws l g e = ap (λ (t : Ticking). accepted (t .out .answer)) (good-tick s c draws l g ∙ ap (λ (k : ℕ). tickUnless k s l (struckStep s c draws l)) e) ∙ heard-accepted (struckStep s c draws l .out .answer) (struck-heard s c draws l)
 
--- a step leaves the edge record
-step-edge : (s : KarplusStrong) (p d t : Float) (l : List Float) → stepOf s p d t l .out .«karplus_strong» .«trigger_edge» ≡ s .«trigger_edge»
+-- a step and a strike leave the rate and the edge record
+step-keeps : (s : KarplusStrong) (p d t : Float) (l : List Float) → (stepOf s p d t l .out .«karplus_strong» .«sample_rate» ≡ s .«sample_rate») × (stepOf s p d t l .out .«karplus_strong» .«trigger_edge» ≡ s .«trigger_edge»)
 unfolding stepOf
-step-edge s p d t l = go (isFin v) y z v
+step-keeps s p d t l = go (isFin v) y z v
   where
     y : Float
     y = filteredOf s (tapOf l (s .«write_pos») (s .len) (targetDelayOf p (filterCoefOf d) (apCoefOf t))) (filterCoefOf d)
@@ -116,24 +116,40 @@ step-edge s p d t l = go (isFin v) y z v
     v : Float
     v = mul binary64 z loopLeak
 
-    go : (b : Bool) (y z v : Float) → cond b (wroteOf s y z v l) (clearedOf s l) .out .«karplus_strong» .«trigger_edge» ≡ s .«trigger_edge»
-    go true y z v = refl
-    go false y z v = refl
+    go : (b : Bool) (y z v : Float) → (cond b (wroteOf s y z v l) (clearedOf s l) .out .«karplus_strong» .«sample_rate» ≡ s .«sample_rate») × (cond b (wroteOf s y z v l) (clearedOf s l) .out .«karplus_strong» .«trigger_edge» ≡ s .«trigger_edge»)
+    go true y z v = (refl, refl)
+    go false y z v = (refl, refl)
 
--- so after a tick it holds that tick's trigger
-struck-edge : (rising : Bool) (t : KarplusStrong) (p b : Float) (draws : List ℕ) (l : List Float) → strikeIf rising t p b draws l .out .«trigger_edge» ≡ t .«trigger_edge»
+struck-keeps : (rising : Bool) (t : KarplusStrong) (p b : Float) (draws : List ℕ) (l : List Float) → (strikeIf rising t p b draws l .out .«sample_rate» ≡ t .«sample_rate») × (strikeIf rising t p b draws l .out .«trigger_edge» ≡ t .«trigger_edge»)
 unfolding strikeIf strikeOf
-struck-edge true t p b draws l = refl
-struck-edge false t p b draws l = refl
+struck-keeps true t p b draws l = (refl, refl)
+struck-keeps false t p b draws l = (refl, refl)
 
-good-edge : (s : KarplusStrong) (c : KarplusStrongControls) (draws : List ℕ) (l : List Float) → Good s (length l) → soundRefusal s c draws ≡ 0 → karplusStrongTickOf s c draws l .out .«karplus_strong» .«trigger_edge» ≡ risingOf (s .«trigger_edge») (c .trigger) .edge
-unfolding tickUnless struckStep
-good-edge s c draws l g e =
+-- so both together leave the rate, and the edge record of the tick's trigger
+struck-step-keeps : (s : KarplusStrong) (c : KarplusStrongControls) (draws : List ℕ) (l : List Float)
+    → (struckStep s c draws l .out .«karplus_strong» .«sample_rate» ≡ s .«sample_rate») × (struckStep s c draws l .out .«karplus_strong» .«trigger_edge» ≡ risingOf (s .«trigger_edge») (c .trigger) .edge)
+unfolding struckStep
+struck-step-keeps s c draws l =
     let t = heardString s (risingOf (s .«trigger_edge») (c .trigger) .edge) (recall1 voctToHzAt (s .«freq_memo») (finiteOr (c .voct .0) zer)) in
     let struck = strikeIf (risesAt s c) t (periodAt s c) (clampOf (finiteOr (c .brightness) half) zer one) draws l in
+    let a = step-keeps (struck .out) (periodAt s c) (clampOf (finiteOr (c .damping) half) zer one) (clampOf (finiteOr (c .stretch) zer) (neg one) one) (struck .line) in
+    let b = struck-keeps (risesAt s c) t (periodAt s c) (clampOf (finiteOr (c .brightness) half) zer one) draws l in
+    (a .0 ∙ b .0, a .1 ∙ b .1)
+
+twice-rate : (k j : ℕ) (s : KarplusStrong) (l : List Float) (t : Ticking) → t .out .«karplus_strong» .«sample_rate» ≡ s .«sample_rate» → tickUnless k s l (tickUnless j s l t) .out .«karplus_strong» .«sample_rate» ≡ s .«sample_rate»
+unfolding tickUnless
+twice-rate zero zero s l t h = h
+twice-rate zero (suc j) s l t h = refl
+twice-rate (suc k) j s l t h = refl
+
+pub keeps-rate : Keeps-rate
+keeps-rate s c draws l = rw (tick-is s c draws l) (twice-rate (karplusStrongRefusalOf s (length l)) (soundRefusal s c draws) s l (struckStep s c draws l) (struck-step-keeps s c draws l .0))
+
+good-edge : (s : KarplusStrong) (c : KarplusStrongControls) (draws : List ℕ) (l : List Float) → Good s (length l) → soundRefusal s c draws ≡ 0 → karplusStrongTickOf s c draws l .out .«karplus_strong» .«trigger_edge» ≡ risingOf (s .«trigger_edge») (c .trigger) .edge
+unfolding tickUnless
+good-edge s c draws l g e =
     ap (λ (t : Ticking). t .out .«karplus_strong» .«trigger_edge») (good-tick s c draws l g ∙ ap (λ (k : ℕ). tickUnless k s l (struckStep s c draws l)) e)
-    ∙ step-edge (struck .out) (periodAt s c) (clampOf (finiteOr (c .damping) half) zer one) (clampOf (finiteOr (c .stretch) zer) (neg one) one) (struck .line)
-    ∙ struck-edge (risesAt s c) t (periodAt s c) (clampOf (finiteOr (c .brightness) half) zer one) draws l
+    ∙ struck-step-keeps s c draws l .1
 
 -- 0.0 V is no edge, and 5.0 V after it is one
 low-rises : (s : KarplusStrong) (c : KarplusStrongControls) → c .trigger ≡ zer → risesAt s c ≡ false

@@ -92,6 +92,10 @@ abbrev pub Refused-leaves : Type 0
 Refused-leaves = (s : KarplusStrong) (c : KarplusStrongControls) (draws : List ℕ) (l : List Float) → accepted (karplusStrongTickOf s c draws l .out .answer) ≡ false
     → (karplusStrongTickOf s c draws l .out .«karplus_strong» ≡ s) × (karplusStrongTickOf s c draws l .line ≡ l)
 
+-- and every tick the rate
+abbrev pub Keeps-rate : Type 0
+Keeps-rate = (s : KarplusStrong) (c : KarplusStrongControls) (draws : List ℕ) (l : List Float) → karplusStrongTickOf s c draws l .out .«karplus_strong» .«sample_rate» ≡ s .«sample_rate»
+
 -- ---- each contract settles the answer and the line
 abbrev pub New-settled : Type 0
 New-settled = (rate : Hertz) (l : List Float) → Settles (λ (r : Making). (r .out ≡ karplusStrongNewOf rate l .out) × (r .line ≡ karplusStrongNewOf rate l .line))
