@@ -9,7 +9,7 @@ use lib.IntN.{pos}
 use lib.Ieee.Bits.{is-true}
 use lib.Ieee.{Float, nan, inf, fin, binary64, lt, le, eq, add, sub, mul, neg, round, up, down, ofBits}
 use lib.Ieee.Exact.{HasValue}
-use lib.Ieee.Fits.{and-r, down-pos}
+use lib.Ieee.Fits.{and-l, and-r, down-pos}
 use Rattle.laws.specs.Float.{zer, one, two, F64, isFin}
 use Rattle.laws.proofs.Order.{lt-false, float-le-trans, values-le}
 use Rattle.laws.proofs.Tests.{of-true}
@@ -43,14 +43,17 @@ unfolding phaseOk
 below-one p h = lt-le p one (is-true (lt p one) (and-r (le zer p) (lt p one) (of-true (le zer p && lt p one) h)))
 
 pub quiet-of : (at : Crossing) (p edge w : Float) → F64 p → F64 w → phaseOk (turns p) ≡ true → fabsOf w ≡ w → at ≡ Nowhere
-    → le w (fabsOf (sub binary64 p half)) ≡ true → lt (fabsOf (sub binary64 p half)) (sub binary64 half w) ≡ true → le w edge ≡ true → le edge (sub binary64 one w) ≡ true → Quiet at p edge w
-quiet-of at p edge w t u h m n l k i j =
-    let a = away p w t u h m (of-true (le w (fabsOf (sub binary64 p half))) l) (of-true (lt (fabsOf (sub binary64 p half)) (sub binary64 half w)) k) in
+    → (le w (fabsOf (sub binary64 p half)) && lt (fabsOf (sub binary64 p half)) (sub binary64 half w)) ≡ true → (le w edge && le edge (sub binary64 one w)) ≡ true → Quiet at p edge w
+quiet-of at p edge w t u h m n l k =
+    let x = fabsOf (sub binary64 p half) in
+    let i : T (le w x && lt x (sub binary64 half w)) = of-true (le w x && lt x (sub binary64 half w)) l in
+    let j : T (le w edge && le edge (sub binary64 one w)) = of-true (le w edge && le edge (sub binary64 one w)) k in
+    let a = away p w t u h m (and-l (le w x) (lt x (sub binary64 half w)) i) (and-r (le w x) (lt x (sub binary64 half w)) i) in
     let c = calm p w (a .above) (a .below) in
     record {
       nowhere = n;
       wrap = c .0;
-      fall = calm edge w (of-true (le w edge) i) (of-true (le edge (sub binary64 one w)) j) .0;
+      fall = calm edge w (and-l (le w edge) (le edge (sub binary64 one w)) j) (and-r (le w edge) (le edge (sub binary64 one w)) j) .0;
       lower = c .1;
       upper = calm (cornerHalfOf p) w (a .half-above) (a .half-below) .1;
       small = float-le-trans w p one (a .above) (below-one p h);

@@ -9,8 +9,12 @@ use common::Memo3;
 use common::Turns;
 use common::VoltsPerOctave;
 ghost use mathlib.Core.Path.{_≡_};
-ghost use mathlib.Core.Bool.{true};
+ghost use mathlib.Core.Bool.{true, _&&_};
+ghost use lib.Ieee as Ieee;
+ghost use lib.Ieee.{binary64};
+ghost use Rattle.laws.specs.Float.{one};
 ghost use Rattle.numeric.specs.Basic.{fabsOf};
+ghost use Rattle.common.specs.Consts as Consts;
 ghost use Rattle.common.specs.Phase.{turns};
 ghost use Rattle.common.specs.Memo.{recall3};
 ghost use Rattle.common.specs.Tests.{phaseOk};
@@ -149,8 +153,21 @@ fn stepped(at: Crossing, x: f64, step: f64, dt_abs: Turns) -> f64
     }
 }
 
-// Whether this tick is away from every corner and takes no edge: then nothing is smoothed. Nearly every tick is.
-// half is how far the phase is from the triangle's upper corner, and what it lacks of 0.5 how far from the wrap.
+// A tick away from the triangle's upper corner, which half is off, and from the wrap, which is 0.5 less half off.
+fn apart(half: f64, dt_abs: f64) -> bool
+    ensures { λ r. ⌜ r ≡ (Ieee.le «dt_abs» half && Ieee.lt half (Ieee.sub binary64 Consts.half «dt_abs»)) ⌝ }
+{
+    half >= dt_abs && half < 0.5 - dt_abs
+}
+
+// A tick away from the wrap.
+fn calm(t: f64, dt_abs: f64) -> bool
+    ensures { λ r. ⌜ r ≡ (Ieee.le «dt_abs» t && Ieee.le t (Ieee.sub binary64 one «dt_abs»)) ⌝ }
+{
+    t >= dt_abs && t <= 1.0 - dt_abs
+}
+
+// Whether a tick takes no edge and is away from every corner: then nothing is smoothed. Nearly every tick is so.
 fn quiet(at: Crossing, phase: Turns, edge: Turns, dt_abs: Turns) -> bool
     requires { ⌜ (phaseOk phase ≡ true) × (fabsOf («dt_abs» .0) ≡ «dt_abs» .0) ⌝ }
     ensures { λ r. ⌜ (r ≡ true → Quiet at (phase .0) (edge .0) («dt_abs» .0)) ⌝ }
@@ -158,13 +175,8 @@ fn quiet(at: Crossing, phase: Turns, edge: Turns, dt_abs: Turns) -> bool
     match at {
         Crossing::At(_) => false,
         Crossing::Nowhere => {
-            let half = numeric::fabs(phase.0 - 0.5);
-            if half >= dt_abs.0 {
-                if half < 0.5 - dt_abs.0 {
-                    edge.0 >= dt_abs.0 && edge.0 <= 1.0 - dt_abs.0
-                } else {
-                    false
-                }
+            if apart(numeric::fabs(phase.0 - 0.5), dt_abs.0) {
+                calm(edge.0, dt_abs.0)
             } else {
                 false
             }
