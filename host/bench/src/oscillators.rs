@@ -13,33 +13,57 @@ const TICKS: usize = 8192;
 /// Runs of either side.
 const RUNS: usize = 60;
 
-pub fn rows() {
+/// Prints the lines of every oscillator, or of those that are named.
+pub fn rows(named: &[String]) {
     println!("{:<16} {:<10} {:>7} {:>7} {:>7}", "ns a tick", "controls", "ours", "Rust's", "ratio");
+    let all: [(&str, fn()); 6] = [
+        ("vco", vco),
+        ("lfo", lfo),
+        ("supersaw", supersaw),
+        ("wavetable", wavetable),
+        ("formant", formant),
+        ("karplus_strong", karplus_strong),
+    ];
+    for (name, rows) in all {
+        if named.is_empty() || named.iter().any(|word| word == name) {
+            rows();
+        }
+    }
+}
 
+fn vco() {
     let mut state = vco::Vco::new(RATE).unwrap();
     let ours = move |&[voct, fm, pw, sync, fm_lin]: &[f64; 5]| {
         state.tick(&vco::Controls { voct, fm, pw, sync, fm_lin }, vco::Vco::WANT_ALL).unwrap().volts
     };
     row("vco", [0.25, 0.0, 0.5, 0.0, 0.0], [true, true, true, false, true], ours, theirs::vco());
+}
 
+fn lfo() {
     let mut state = lfo::Lfo::new(RATE).unwrap();
     let ours = move |&[rate, depth, reset]: &[f64; 3]| {
         state.tick(&lfo::Controls { rate, depth, reset }, lfo::Lfo::WANT_ALL).unwrap().volts
     };
     row("lfo", [0.5, 10.0, 0.0], [true, true, false], ours, theirs::lfo());
+}
 
+fn supersaw() {
     let mut state = supersaw::Supersaw::new(RATE).unwrap();
     let ours =
         move |&[voct, detune, mix]: &[f64; 3]| state.tick(&supersaw::Controls { voct, detune, mix }).unwrap().volts;
     row("supersaw", [0.25, 0.5, 0.7], [true; 3], ours, theirs::supersaw());
+}
 
+fn wavetable() {
     let mut state = wavetable::Wavetable::new(RATE).unwrap();
     let bank: Vec<f64> = (0..wavetable::Wavetable::BANK).map(|cell| (cell as f64).sin()).collect();
     let ours = move |&[v_oct, table, morph, sync]: &[f64; 4]| {
         state.tick(&wavetable::Controls { v_oct, table, morph, sync }, &bank).unwrap().volts
     };
     row("wavetable", [0.25, 0.4, 0.3, 0.0], [true, true, true, false], ours, theirs::wavetable());
+}
 
+fn formant() {
     for (name, vibrato) in [("formant", 0.0), ("formant, vibrato", 0.5)] {
         let mut state = formant_osc::FormantOsc::new(RATE).unwrap();
         let ours = move |&[v_oct, vowel, formant_shift, vibrato]: &[f64; 4]| {
@@ -47,7 +71,9 @@ pub fn rows() {
         };
         row(name, [0.25, 0.3, 0.5, vibrato], [true, true, true, vibrato > 0.0], ours, theirs::formant_osc());
     }
+}
 
+fn karplus_strong() {
     let mut line = vec![0.0; karplus_strong::KarplusStrong::cells(RATE)];
     let mut random = Random::new(1);
     let draws: Vec<u64> = line.iter().map(|_| random.bits() >> 11).collect();
