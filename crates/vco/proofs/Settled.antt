@@ -1,13 +1,13 @@
 -- Each contract is one equation, so it settles its answer.
-use Rattle.laws.proofs.Settled.{settled}
+use Rattle.laws.proofs.Settled as laws
 use Rattle.vco.specs.Vco.{vcoNewOf, vcoTickOf, vcoResetOf, vcoSetSampleRateOf}
 use Rattle.vco.specs.Promises.{Settled}
 
-pub settles : Settled
-settles =
+pub settled : Settled
+settled =
     record {
-      new = λ r. settled (vcoNewOf r);
-      tick = λ s c wanted. settled (vcoTickOf s c wanted);
-      reset = λ s. settled (vcoResetOf s);
-      rate = λ s r. settled (vcoSetSampleRateOf s r);
+      new = λ r. laws.settled (vcoNewOf r);
+      tick = λ s c wanted. laws.settled (vcoTickOf s c wanted);
+      reset = λ s. laws.settled (vcoResetOf s);
+      rate = λ s r. laws.settled (vcoSetSampleRateOf s r);
     }

@@ -1,0 +1,20 @@
+-- Each exported contract gives the number and every slice by a definition, so it settles them.
+use mathlib.Core.Path.{sym, _∙_}
+use Rattle.laws.specs.Machine.{Settles}
+use Rattle.exports_vco.specs.Calls.{Kept, Heard, newAt, resetAt, setSampleRateAt, tickAt}
+use Rattle.exports_vco.specs.Promises.{Left, Told, Settled}
+
+kept : (k : Kept) → Settles (Left k)
+kept k x y p q = λ i. record { code = (p .0 ∙ sym (q .0)) i; floats = (p .1 ∙ sym (q .1)) i; wholes = (p .2 ∙ sym (q .2)) i }
+
+heard : (h : Heard) → Settles (Told h)
+heard h x y p q = λ i. record { code = (p .0 ∙ sym (q .0)) i; floats = (p .1 ∙ sym (q .1)) i; wholes = (p .2 ∙ sym (q .2)) i; samples = (p .3 ∙ sym (q .3)) i }
+
+pub settled : Settled
+settled =
+    record {
+      new = λ rate f w. kept (newAt rate f w);
+      reset = λ f w. kept (resetAt f w);
+      rate = λ rate f w. kept (setSampleRateAt rate f w);
+      tick = λ c wanted f w o. heard (tickAt c wanted f w o);
+    }

@@ -1,0 +1,5 @@
+pub mod Consts
+pub mod Ranges
+pub mod Line
+pub mod Step
+pub mod KarplusStrong

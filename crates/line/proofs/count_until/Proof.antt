@@ -1,0 +1,50 @@
+use mathlib.Core.Path.{_≡_, ap}
+use Prim.Native.Nat.{_+_, _≤_, _-_}
+use native.Mathlib.Omega.{arith}
+use lib.ListN.{length, drop}
+use borrow.Author.Needs.{needs}
+use Rattle.line.proofs.Laws.{until-here, until-next, until-end}
+use Rattle.line.specs.Bytes.{untilOf}
+use Rattle.line.proofs.count_until.Statement.{statement}
+use Rattle.line.proofs.count_until.Tie as tie
+
+abbrev Inv-loop : tie.InvT-loop
+Inv-loop t byte i₀ i = (i ≤ length t) × (i + length (untilOf byte (drop i t)) ≡ length (untilOf byte t))
+
+abbrev μ-loop : tie.MeasureT-loop
+μ-loop t byte i₀ i = length t - i
+
+loop-holds : tie.Need-loop-holds Inv-loop μ-loop
+loop-holds c = omega arith
+
+shared-slice-read-if1 : tie.Need-shared-slice-read-if1 Inv-loop μ-loop
+shared-slice-read-if1 c = search needs
+
+returns : tie.Need-returns Inv-loop μ-loop
+returns c = omega (arith, ap length (until-here (c .before .before .before .before .args .t .now) (c .before .before .before .loop .i) (c .before .before .loop-test .taken) (c .before .before .before .before .args .byte) (c .if1 .taken)))
+
+add-i : tie.Need-add-i Inv-loop μ-loop
+add-i c = search needs
+
+loop-less : tie.Need-loop-less Inv-loop μ-loop
+loop-less c = search needs
+
+loop-again : tie.Need-loop-again Inv-loop μ-loop
+loop-again c = omega (arith, ap length (until-next (c .before .before .before .before .args .t .now) (c .before .before .before .loop .i) (c .before .before .loop-test .taken) (c .before .before .before .before .args .byte) (c .if1 .left)))
+
+returns-2 : tie.Need-returns-2 Inv-loop μ-loop
+returns-2 c = omega (arith, ap length (until-end (c .before .before .args .t .now) (c .before .loop .i) (c .before .before .args .byte) (c .loop-test .left)))
+
+pub count-until-spec : {M : Type 1} → statement M
+count-until-spec =
+    tie.close
+    (tie.spec
+    Inv-loop
+    μ-loop
+    loop-holds
+    shared-slice-read-if1
+    returns
+    add-i
+    loop-less
+    loop-again
+    returns-2)

@@ -1,0 +1,4 @@
+pub mod Signed
+pub mod Steps
+pub mod Examples
+pub mod Text

@@ -1,0 +1,61 @@
+-- `score::control_of` meets its contract. Assumes nothing.
+use borrow.Author.Needs.{needs}
+use borrow.Author.Tests.{lt-ltb, le-ltb}
+use Rattle.score.proofs.Signed.{plus-value, minus-fits, minus-value}
+use Rattle.score.specs.Lines.{controlOf}
+use Rattle.score.proofs.control_of.Statement.{statement}
+use Rattle.score.proofs.control_of.Tie as tie
+
+enum-known-n : tie.Need-enum-known-n
+enum-known-n c = search needs
+
+cast-t9 : tie.Need-cast-t9
+cast-t9 c = search needs
+
+sub-t10 : tie.Need-sub-t10
+sub-t10 c = minus-fits _ (c .before .if1 .left)
+
+cast-t12 : tie.Need-cast-t12
+cast-t12 c = search needs
+
+enum-told : tie.Need-enum-told
+enum-told c = search needs
+
+enum-told-2 : tie.Need-enum-told-2
+enum-told-2 c = search needs
+
+returns : tie.Need-returns
+unfolding controlOf
+returns c = simp (c .before .before .n .given .1, lt-ltb _ _ (c .if1 .taken))
+
+returns-2 : tie.Need-returns-2
+unfolding controlOf
+returns-2 c = simp (c .before .before .before .n .given .1, le-ltb _ _ (c .before .if1 .left), c .if2 .taken, minus-value _ (c .before .if1 .left))
+
+returns-3 : tie.Need-returns-3
+unfolding controlOf
+returns-3 c = simp (c .before .before .before .n .given .1, le-ltb _ _ (c .before .if1 .left), c .if2 .left, plus-value _ (c .before .if1 .left))
+
+returns-4 : tie.Need-returns-4
+unfolding controlOf
+returns-4 c = simp (c .enum-told .given .1)
+
+returns-5 : tie.Need-returns-5
+unfolding controlOf
+returns-5 c = simp (c .enum-told2 .given .1)
+
+pub control-of-spec : {M : Type 1} → statement M
+control-of-spec =
+    tie.close
+    (tie.spec
+    enum-known-n
+    cast-t9
+    sub-t10
+    cast-t12
+    enum-told
+    enum-told-2
+    returns
+    returns-2
+    returns-3
+    returns-4
+    returns-5)

@@ -1,0 +1,118 @@
+-- Texts and what they read as: one table and a single theorem. Assumes nothing.
+use Prim.Native.Nat.{ℕ}
+use Prim.Native.String.{String, _++_}
+use mathlib.Core.Path.{_≡_}
+use mathlib.Core.List.{List, [], _∷_, map, replicate}
+use lib.IntN.{pos, negsuc}
+use lib.Ieee as Ieee
+use lib.Ieee.{Float, nan, binary64}
+use Rattle.line.specs.Bytes.{ascii}
+use Rattle.score.specs.Control.{voltsOf}
+use Rattle.score.specs.Score.{scoreOf}
+use Rattle.score.specs.declared.Control.{Control}
+use Rattle.score.specs.declared.Control.the-variants.{Microvolts, Nan}
+use Rattle.score.specs.declared.Inputs.the-variants.{Vco, Lfo}
+use Rattle.score.specs.declared.Reading.{Reading}
+use Rattle.score.specs.declared.Reading.the-variants.{Values, Refused}
+
+-- the worked example of the paper
+abbrev worked : String
+worked = "osc=vco\nhz=48000\nframes=1\nvoct=0\nfm=0\npw=500000\nsync=0\nfm_lin=-5000000\n"
+
+abbrev workedValues : Reading
+workedValues =
+    Values (record {
+      hz = 48000;
+      frames = 1;
+      inputs = Vco (record {
+        voct = Microvolts (pos 0);
+        fm = Microvolts (pos 0);
+        pw = Microvolts (pos 500000);
+        sync = Microvolts (pos 0);
+        «fm_lin» = Microvolts (negsuc 4999999);
+      });
+    })
+
+-- an Lfo of one hz, frames and rate, with a reset that is nan
+abbrev lfo : String → String → String → String
+lfo hz frames rate = "osc=lfo\nhz=" ++ hz ++ "\nframes=" ++ frames ++ "\nrate=" ++ rate ++ "\ndepth=0\nreset=nan\n"
+
+abbrev lfoValues : ℕ → ℕ → Control → Reading
+lfoValues hz frames rate = Values (record { hz = hz; frames = frames; inputs = Lfo (record { rate = rate; depth = Microvolts (pos 0); reset = Nan }) })
+
+pub record Row : Type 0 where
+  pub text : List ℕ
+  pub reads : Reading
+
+abbrev row : String → Reading → Row
+row text reads = record { text = ascii text; reads = reads }
+
+abbrev pub table : List Row
+table =
+    row worked workedValues
+    -- the ends of the ranges, and nan
+    ∷ row (lfo "1000" "1" "-10000000") (lfoValues 1000 1 (Microvolts (negsuc 9999999)))
+    ∷ row (lfo "192000" "480000" "10000000") (lfoValues 192000 480000 (Microvolts (pos 10000000)))
+    ∷ row (lfo "48000" "1" "nan") (lfoValues 48000 1 Nan)
+    -- one past each end; a number less than 0; 12 digits
+    ∷ row (lfo "999" "1" "0") (Refused 23)
+    ∷ row (lfo "192001" "1" "0") (Refused 23)
+    ∷ row (lfo "48000" "0" "0") (Refused 23)
+    ∷ row (lfo "48000" "480001" "0") (Refused 23)
+    ∷ row (lfo "48000" "1" "-10000001") (Refused 23)
+    ∷ row (lfo "48000" "1" "10000001") (Refused 23)
+    ∷ row (lfo "-48000" "1" "0") (Refused 23)
+    ∷ row (lfo "48000" "1" "-123456789012") (Refused 23)
+    -- the form of a number: 13 digits, a leading zero, -0, a plus sign, a sign alone, nothing, nan where it can't be, other bytes
+    ∷ row (lfo "48000" "1" "1234567890123") (Refused 22)
+    ∷ row (lfo "048000" "1" "0") (Refused 22)
+    ∷ row (lfo "48000" "1" "00") (Refused 22)
+    ∷ row (lfo "48000" "1" "-01") (Refused 22)
+    ∷ row (lfo "48000" "1" "-0") (Refused 22)
+    ∷ row (lfo "48000" "1" "+1") (Refused 22)
+    ∷ row (lfo "48000" "1" "-") (Refused 22)
+    ∷ row (lfo "" "1" "0") (Refused 22)
+    ∷ row (lfo "nan" "1" "0") (Refused 22)
+    ∷ row (lfo "48000" "1" "-nan") (Refused 22)
+    ∷ row (lfo "48000" "1" "NaN") (Refused 22)
+    ∷ row (lfo "48000" "1" " 0") (Refused 22)
+    ∷ row (lfo "5=5" "1" "0") (Refused 22)
+    ∷ row (lfo "48000\r" "1" "0") (Refused 22)
+    ∷ row (lfo "48000\u{80}" "1" "0") (Refused 22)
+    -- a line feed that is missing between two lines, and at the end, where the number is bad too
+    ∷ row "osc=lfo\nhz=48000frames=1\n" (Refused 22)
+    ∷ row "osc=vcohz=48000\n" (Refused 21)
+    ∷ row "osc=lfo\nhz=x" (Refused 21)
+    -- a wrong, a missing and an extra line, and an unknown oscillator
+    ∷ row "" (Refused 21)
+    ∷ row "osc=lfo\n" (Refused 21)
+    ∷ row "osc\n" (Refused 21)
+    ∷ row "osc=\n" (Refused 21)
+    ∷ row "osc=VCO\n" (Refused 21)
+    ∷ row "osc=wavetable\n" (Refused 21)
+    ∷ row "osc=vco\r\n" (Refused 21)
+    ∷ row "osc=lfo\nHz=x\n" (Refused 21)
+    ∷ row "osc=lfo\nhz =48000\n" (Refused 21)
+    ∷ row (worked ++ "\n") (Refused 21)
+    ∷ row (worked ++ "fm_lin=0\n") (Refused 21)
+    ∷ row (worked ++ "x") (Refused 21)
+    -- the first line that is refused decides
+    ∷ row "osc=lfo\nhz=1\nframes=x\n" (Refused 23)
+    ∷ row "osc=lfo\nhz=x\nframes=0\n" (Refused 22)
+    ∷ row "osc=lfo\nhz=48000\nframes=1\nvoct=0\n" (Refused 21)
+    -- the length of the text before all
+    ∷ record { text = replicate 1024 120; reads = Refused 21 }
+    ∷ record { text = replicate 1025 120; reads = Refused 20 }
+    ∷ []
+
+abbrev pub volts : List Control
+volts = Microvolts (pos 500000) ∷ Microvolts (negsuc 4999999) ∷ Microvolts (pos 1) ∷ Nan ∷ []
+
+-- 0.5, -5.0, the f64 nearest to a millionth, and NaN
+abbrev pub voltsBits : List ℕ
+voltsBits = 0x3fe0000000000000 ∷ 0xc014000000000000 ∷ 0x3eb0c6f7a0b5ed8d ∷ 0x7ff8000000000000 ∷ []
+
+abbrev pub Score-examples : Type 0
+Score-examples =
+    (map (λ (r : Row). scoreOf (r .text)) table ≡ map (λ (r : Row). r .reads) table)
+    × (map (λ (c : Control). Ieee.toBits binary64 (voltsOf c)) volts ≡ voltsBits)

@@ -1,0 +1,6 @@
+pub mod Control
+pub mod Lines
+pub mod Score
+pub mod Places
+pub mod Examples
+pub mod Text

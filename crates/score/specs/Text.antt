@@ -1,0 +1,68 @@
+-- The text of a score: what is accepted determines it. Assumes nothing.
+use Prim.Native.Nat.{ℕ, suc}
+use Prim.Native.String.{String}
+use mathlib.Core.Path.{_≡_}
+use mathlib.Core.List.{List, [], _∷_, _++_}
+use mathlib.Core.Bool.{true, false}
+use lib.IntN.{pos, negsuc}
+use Rattle.line.specs.Bytes.{ascii}
+use Rattle.line.specs.Number.{numberText}
+use Rattle.line.specs.declared.Number.the-variants.{Whole, Nan}
+use Rattle.score.specs.Score.{scoreOf}
+use Rattle.score.specs.declared.Control.{Control}
+use Rattle.score.specs.declared.Control.the-variants as C
+use Rattle.score.specs.declared.Inputs.{Inputs}
+use Rattle.score.specs.declared.Inputs.the-variants.{Vco, Lfo, Supersaw, Formant}
+use Rattle.score.specs.declared.Score.{Score}
+use Rattle.score.specs.declared.Reading.the-variants.{Values}
+
+-- the value of an input line, and of a line of a whole number
+abbrev pub controlText : Control → List ℕ
+controlText (C.Microvolts (pos n)) = numberText (Whole false n)
+controlText (C.Microvolts (negsuc n)) = numberText (Whole true (suc n))
+controlText C.Nan = numberText Nan
+
+abbrev pub wholeText : ℕ → List ℕ
+wholeText n = numberText (Whole false n)
+
+-- key, equals sign, value, line feed
+abbrev pub lineText : String → List ℕ → List ℕ
+lineText key value = ascii key ++ (61 ∷ (value ++ (10 ∷ [])))
+
+abbrev pub oscText : Inputs → List ℕ
+oscText (Vco i) = ascii "vco"
+oscText (Lfo i) = ascii "lfo"
+oscText (Supersaw i) = ascii "supersaw"
+oscText (Formant i) = ascii "formant"
+
+abbrev pub inputsText : Inputs → List ℕ
+inputsText (Vco i) =
+    lineText "voct" (controlText (i .voct))
+    ++ (lineText "fm" (controlText (i .fm))
+    ++ (lineText "pw" (controlText (i .pw))
+    ++ (lineText "sync" (controlText (i .sync))
+    ++ (lineText "fm_lin" (controlText (i .«fm_lin»)) ++ []))))
+inputsText (Lfo i) =
+    lineText "rate" (controlText (i .rate))
+    ++ (lineText "depth" (controlText (i .depth))
+    ++ (lineText "reset" (controlText (i .reset)) ++ []))
+inputsText (Supersaw i) =
+    lineText "voct" (controlText (i .voct))
+    ++ (lineText "detune" (controlText (i .detune))
+    ++ (lineText "mix" (controlText (i .mix)) ++ []))
+inputsText (Formant i) =
+    lineText "v_oct" (controlText (i .«v_oct»))
+    ++ (lineText "vowel" (controlText (i .vowel))
+    ++ (lineText "formant_shift" (controlText (i .«formant_shift»))
+    ++ (lineText "vibrato" (controlText (i .vibrato)) ++ [])))
+
+unfoldable pub textOf : Score → List ℕ
+textOf s =
+    lineText "osc" (oscText (s .inputs))
+    ++ (lineText "hz" (wholeText (s .hz))
+    ++ (lineText "frames" (wholeText (s .frames))
+    ++ inputsText (s .inputs)))
+
+-- a text that is accepted is the text of its values, so no two texts have the same values
+abbrev pub Score-text : Type 0
+Score-text = (text : List ℕ) (score : Score) → scoreOf text ≡ Values score → textOf score ≡ text
