@@ -1,9 +1,9 @@
--- The one form of a number: digits with no leading zero, at most 12 of them, and a minus sign before one that isn't 0; or `nan`.
+-- The one form of a number: no leading zero (0 itself is `0`), no plus sign, no -0, at most 12 digits; or `nan`.
 -- Assumes nothing.
 use Prim.Native.Nat.{ℕ, zero, suc, _+_, _-_, _*_, _/_, _%_}
 use mathlib.Core.Path.{_≡_}
 use mathlib.Core.List.{List, [], _∷_, _++_}
-use mathlib.Core.Bool.{Bool, true, false, cond}
+use mathlib.Core.Bool.{true, false, cond}
 use lib.ListN.{length, drop, getD}
 use lib.Dec.{ltb, eqb}
 use Rattle.line.specs.Bytes.{ascii, sameOf}
@@ -28,9 +28,11 @@ negativeOf (Whole minus size) = cond (eqb size 0) Malformed (Whole true size)
 negativeOf Nan = Malformed
 negativeOf Malformed = Malformed
 
+-- with or without a minus sign
 unfoldable pub signedOf : List ℕ → Number
 signedOf v = cond (eqb (length v) 0) Malformed (cond (eqb (getD v 0 0) 45) (negativeOf (digitsOf (drop 1 v))) (digitsOf v))
 
+-- a number, or `nan`
 unfoldable pub numberOf : List ℕ → Number
 numberOf v = cond (sameOf v (ascii "nan")) Nan (signedOf v)
 

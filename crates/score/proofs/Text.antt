@@ -1,5 +1,5 @@
 -- What was accepted, line by line, is the text of its values. Assumes nothing.
-use Prim.Native.Nat.{ℕ, zero, suc, _<_}
+use Prim.Native.Nat.{ℕ, zero, suc}
 use Prim.Native.String.{String}
 use mathlib.Core.Path.{_≡_, refl, ap, sym, _∙_}
 use mathlib.Core.List.{List, [], _∷_, _++_, append-assoc}
@@ -7,7 +7,6 @@ use mathlib.Core.Bool.{Bool, true, false, cond}
 use native.Mathlib.Omega.{arith}
 use lib.ListN.{length}
 use lib.Dec.{ltb, eqb}
-use lib.IntN.{pos, negsuc}
 use borrow.Author.Tests.{eqb-true}
 use Rattle.line.specs.Bytes.{ascii, sameOf}
 use Rattle.line.specs.Line.{valueOf, isLine, afterLine}
@@ -22,15 +21,11 @@ use Rattle.score.specs.Score.{onOsc, onWhole, onControl, osc, whole, con
 use Rattle.score.specs.Text.{controlText, wholeText, lineText, oscText, inputsText, textOf, Score-text}
 use Rattle.score.specs.declared.Control.{Control}
 use Rattle.score.specs.declared.Control.the-variants as C
-use Rattle.score.specs.declared.ControlLine.{ControlLine}
 use Rattle.score.specs.declared.ControlLine.the-variants as CL
-use Rattle.score.specs.declared.WholeLine.{WholeLine}
 use Rattle.score.specs.declared.WholeLine.the-variants as WL
 use Rattle.score.specs.declared.Osc.{Osc}
 use Rattle.score.specs.declared.Osc.the-variants as O
-use Rattle.score.specs.declared.OscLine.{OscLine}
 use Rattle.score.specs.declared.OscLine.the-variants as OL
-use Rattle.score.specs.declared.Inputs.{Inputs}
 use Rattle.score.specs.declared.Score.{Score}
 use Rattle.score.specs.declared.Reading.{Reading}
 use Rattle.score.specs.declared.Reading.the-variants.{Values, Refused}

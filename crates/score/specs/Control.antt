@@ -1,4 +1,4 @@
--- What an input holds: whole microvolts, or nan. Assumes nothing.
+-- What an input holds, whole microvolts or nan, and the volts that it stands for. Assumes nothing.
 use mathlib.Core.Bool.{Bool, cond}
 use Prim.Native.Nat.{ℕ}
 use lib.IntN.{ℤ, pos, negℤ}

@@ -5,7 +5,7 @@ use mathlib.Core.Path.{_≡_}
 use mathlib.Core.List.{List, [], _∷_, map, replicate}
 use lib.IntN.{pos, negsuc}
 use lib.Ieee as Ieee
-use lib.Ieee.{Float, nan, binary64}
+use lib.Ieee.{binary64}
 use Rattle.line.specs.Bytes.{ascii}
 use Rattle.score.specs.Control.{voltsOf}
 use Rattle.score.specs.Score.{scoreOf}
@@ -15,7 +15,7 @@ use Rattle.score.specs.declared.Inputs.the-variants.{Vco, Lfo}
 use Rattle.score.specs.declared.Reading.{Reading}
 use Rattle.score.specs.declared.Reading.the-variants.{Values, Refused}
 
--- the worked example of the paper
+-- document 01's score
 abbrev worked : String
 worked = "osc=vco\nhz=48000\nframes=1\nvoct=0\nfm=0\npw=500000\nsync=0\nfm_lin=-5000000\n"
 

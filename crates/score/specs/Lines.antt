@@ -1,8 +1,9 @@
--- One line of a score: what its value says, or the number of its refusal: 21 where the line isn't this one, 22 for a bad number form, 23 for a number out of range.
+-- One line of a score: what its value says, or the number of its refusal. Document 01, "The score and its program":
+-- 21 for a wrong or missing line or an unknown oscillator, 22 for a bad number form, 23 for a number out of range, in this order.
 -- Assumes nothing.
 use Prim.Native.Nat.{ℕ}
 use mathlib.Core.List.{List}
-use mathlib.Core.Bool.{true, false, cond}
+use mathlib.Core.Bool.{cond}
 use lib.Dec.{ltb}
 use Rattle.line.specs.Bytes.{ascii, sameOf}
 use Rattle.line.specs.Line.{valueOf, isLine}

@@ -1,4 +1,5 @@
--- What a score reads as: its values, or the number of its refusal. Line by line, so the first line that is refused decides.
+-- What a score reads as: its values, or the number of its refusal. Document 01, "The score and its program".
+-- Line by line: the first line that is refused decides.
 -- Assumes nothing.
 use Prim.Native.Nat.{ℕ}
 use Prim.Native.String.{String}
@@ -18,13 +19,12 @@ use Rattle.score.specs.declared.WholeLine.{WholeLine}
 use Rattle.score.specs.declared.WholeLine.the-variants as WL
 use Rattle.score.specs.declared.ControlLine.{ControlLine}
 use Rattle.score.specs.declared.ControlLine.the-variants as CL
-use Rattle.score.specs.declared.Inputs.{Inputs}
 use Rattle.score.specs.declared.Inputs.the-variants as I
 use Rattle.score.specs.declared.Score.{Score}
 use Rattle.score.specs.declared.Reading.{Reading}
 use Rattle.score.specs.declared.Reading.the-variants.{Values, Refused}
 
--- a line's value goes on to what follows; a line's refusal is the answer
+-- what a line says goes on to the rest of the reading; a line's refusal is the answer
 abbrev pub onOsc : OscLine → (Osc → Reading) → Reading
 onOsc (OL.Read osc) k = k osc
 onOsc (OL.Refused n) k = Refused n
@@ -37,7 +37,7 @@ abbrev pub onControl : ControlLine → (Control → Reading) → Reading
 onControl (CL.Read c) k = k c
 onControl (CL.Refused n) k = Refused n
 
--- the text's first line is read, and the text after it goes on
+-- the text's first line, and then the text after it
 unfoldable pub osc : List ℕ → (Osc → List ℕ → Reading) → Reading
 osc text k = onOsc (oscLine text) (λ (o : Osc). k o (afterLine text))
 
@@ -47,11 +47,11 @@ whole key least most text k = onWhole (wholeLine (ascii key) least most text) (�
 unfoldable pub control : String → List ℕ → (Control → List ℕ → Reading) → Reading
 control key text k = onControl (controlLine (ascii key) text) (λ (c : Control). k c (afterLine text))
 
--- nothing stands after the last line
+-- nothing stands after the last line: another line, or bytes without a line feed, is an extra line
 unfoldable pub endOf : Score → List ℕ → Reading
 endOf score text = cond (eqb (length text) 0) (Values score) (Refused 21)
 
--- the inputs, in the Rust's port order and names
+-- the inputs, in the Rust's port order and names; nan for sync or reset is one like the others
 unfoldable pub vcoOf : ℕ → ℕ → List ℕ → Reading
 vcoOf hz frames t =
     control "voct" t λ voct t₁. control "fm" t₁ λ fm t₂. control "pw" t₂ λ pw t₃. control "sync" t₃ λ sync t₄. control "fm_lin" t₄ λ lin t₅.
