@@ -1,6 +1,7 @@
 -- The one form of a number: no leading zero (0 itself is `0`), no plus sign, no -0, at most 12 digits; or `nan`.
 -- Assumes nothing.
 use Prim.Native.Nat.{ℕ, zero, suc, _+_, _-_, _*_, _/_, _%_}
+use Prim.Native.Char.{code}
 use mathlib.Core.Path.{_≡_}
 use mathlib.Core.List.{List, [], _∷_, _++_}
 use mathlib.Core.Bool.{true, false, cond}
@@ -13,14 +14,14 @@ use Rattle.line.specs.declared.Number.the-variants.{Whole, Nan, Malforme
 -- the number that n's digits and then these make; Malformed where a byte is no digit
 unfoldable pub digitsFrom : ℕ → List ℕ → Number
 digitsFrom n [] = Whole false n
-digitsFrom n (b ∷ bs) = cond (ltb b 48) Malformed (cond (ltb 57 b) Malformed (digitsFrom (n * 10 + (b - 48)) bs))
+digitsFrom n (b ∷ bs) = cond (ltb b (code "0")) Malformed (cond (ltb (code "9") b) Malformed (digitsFrom (n * 10 + (b - code "0")) bs))
 
 -- 1 to 12 digits, of which the first is 0 only where it is the only one
 unfoldable pub digitsOf : List ℕ → Number
 digitsOf v =
     cond (eqb (length v) 0) Malformed
     (cond (ltb 12 (length v)) Malformed
-    (cond (eqb (getD v 0 0) 48) (cond (eqb (length v) 1) (Whole false 0) Malformed) (digitsFrom 0 v)))
+    (cond (eqb (getD v 0 0) (code "0")) (cond (eqb (length v) 1) (Whole false 0) Malformed) (digitsFrom 0 v)))
 
 -- a number with a minus sign before it; -0 is none
 unfoldable pub negativeOf : Number → Number
@@ -30,7 +31,7 @@ negativeOf Malformed = Malformed
 
 -- with or without a minus sign
 unfoldable pub signedOf : List ℕ → Number
-signedOf v = cond (eqb (length v) 0) Malformed (cond (eqb (getD v 0 0) 45) (negativeOf (digitsOf (drop 1 v))) (digitsOf v))
+signedOf v = cond (eqb (length v) 0) Malformed (cond (eqb (getD v 0 0) (code "-")) (negativeOf (digitsOf (drop 1 v))) (digitsOf v))
 
 -- a number, or `nan`
 unfoldable pub numberOf : List ℕ → Number
@@ -39,11 +40,11 @@ numberOf v = cond (sameOf v (ascii "nan")) Nan (signedOf v)
 -- the decimal digits of n, at most k of them
 unfoldable pub decimalOf : ℕ → ℕ → List ℕ
 decimalOf zero n = []
-decimalOf (suc k) n = cond (ltb n 10) ((48 + n) ∷ []) (decimalOf k (n / 10) ++ ((48 + n % 10) ∷ []))
+decimalOf (suc k) n = cond (ltb n 10) ((code "0" + n) ∷ []) (decimalOf k (n / 10) ++ ((code "0" + n % 10) ∷ []))
 
 -- the text of a number
 unfoldable pub numberText : Number → List ℕ
-numberText (Whole minus size) = cond minus (45 ∷ decimalOf 12 size) (decimalOf 12 size)
+numberText (Whole minus size) = cond minus (code "-" ∷ decimalOf 12 size) (decimalOf 12 size)
 numberText Nan = ascii "nan"
 numberText Malformed = []
 

@@ -1,5 +1,6 @@
 -- The text of a score: what is accepted determines it. Assumes nothing.
 use Prim.Native.Nat.{ℕ, suc}
+use Prim.Native.Char.{code}
 use Prim.Native.String.{String}
 use mathlib.Core.Path.{_≡_}
 use mathlib.Core.List.{List, [], _∷_, _++_}
@@ -27,7 +28,7 @@ wholeText n = numberText (Whole false n)
 
 -- key, equals sign, value, line feed
 abbrev pub lineText : String → List ℕ → List ℕ
-lineText key value = ascii key ++ (61 ∷ (value ++ (10 ∷ [])))
+lineText key value = ascii key ++ (code "=" ∷ (value ++ (code "\n" ∷ [])))
 
 abbrev pub oscText : Inputs → List ℕ
 oscText (Vco i) = ascii "vco"
