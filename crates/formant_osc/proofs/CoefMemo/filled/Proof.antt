@@ -1,0 +1,27 @@
+use Rattle.formant_osc.specs.Memo.{coefFilled}
+use borrow.Author.Needs.{needs}
+use Rattle.formant_osc.proofs.CoefMemo.filled.Statement.{statement}
+use Rattle.formant_osc.proofs.CoefMemo.filled.Tie as tie
+use Rattle.formant_osc.proofs.CoefMemo.filled.Reads as reads
+use Rattle.formant_osc.proofs.CoefMemo.filled.Lts as lts
+use Rattle.numeric.proofs.bits.Reads as bits-reads
+
+-- src/lib.rt:238:19
+bits-requires : tie.Need-bits-requires
+bits-requires c κs = search needs
+
+-- src/lib.rt:239:19
+bits-requires-2 : tie.Need-bits-requires-2
+bits-requires-2 c κs = search needs
+
+-- src/lib.rt:240:19
+bits-requires-3 : tie.Need-bits-requires-3
+bits-requires-3 c κs = search needs
+
+-- src/lib.rt:234:5
+returns : tie.Need-returns
+unfolding coefFilled
+returns c = simp (c .bits3 .ensures, c .before .bits2 .ensures, c .before .before .bits .ensures)
+
+pub filled-spec : {M : Type 1} → statement M
+filled-spec = tie.close (tie.spec bits-requires bits-requires-2 bits-requires-3 returns)
