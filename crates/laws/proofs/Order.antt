@@ -1,20 +1,20 @@
 -- The order of floats: what it says of their values; that it is an order of the numbers; a sign turns it round, and a NaN has no place in it.
-use mathlib.Core.Bool.{Bool, _&&_, true, false, not, true≢false, _||_, false≢true, Bool·beq}
-use mathlib.Core.Path.{_≡_, refl, sym, ap, _∙_, subst}
-use Prim.Native.Nat.{ℕ, _+_, _≤_, zero, suc, _<_, _*_, zero-le}
-use native.Mathlib.Nat.{le-antisymm, le-trans, le-of-eq, mul-pos, le-refl, le-of-lt, not-le-of-lt, zero-mul, zero-lt-suc, add-comm, lt-irrefl}
+use mathlib.Core.Bool.{Bool, Bool·beq, _&&_, _||_, false, false≢true, not, true, true≢false}
+use mathlib.Core.Path.{_∙_, _≡_, ap, refl, subst, sym}
+use Prim.Native.Nat.{_*_, _+_, _<_, _≤_, zero-le, ℕ}
+use native.Mathlib.Nat.{add-comm, le-antisymm, le-of-eq, le-of-lt, le-refl, le-trans, mul-pos, not-le-of-lt, zero-mul}
 use native.Mathlib.Omega.{arith}
-use lib.Dec.{T, ltb, eqb, eqb-refl, ltb→lt, eqb→eq, nltb→le, not-T, T-not}
-use lib.Ieee.{Float, lt, le, isNan, nan, inf, fin, eq, ne, neg, up, down, below, level}
-use lib.Ieee.Bits.{is-true, is-false}
+use lib.Dec.{T, T-not, eqb, eqb-refl, eqb→eq, ltb, ltb→lt, nltb→le, not-T}
+use lib.Ieee.{Float, below, down, eq, fin, inf, isNan, le, level, lt, nan, ne, neg, up}
+use lib.Ieee.Bits.{is-false, is-true}
 use lib.Ieee.Exact.{HasValue}
-use lib.Ieee.Fits.{up-pos, down-pos, and-l, and-r, and-i, eq→eqb}
+use lib.Ieee.Fits.{and-i, and-l, and-r, down-pos, eq→eqb, up-pos}
 use lib.Ieee.Order.{transfer}
-use lib.Ieee.Positive.{through}
+use lib.Ieee.Positive.{first-pos, through}
 use lib.IntN.{pos, ℤ}
 use borrow.Author.Tests.{lt-ltb, ltb-false}
 use Rattle.laws.proofs.Number.{le-numbers}
-use Rattle.laws.proofs.Tests.{and-true, or-left, or-case, eqb-iff, ltb-iff, zero-of}
+use Rattle.laws.proofs.Tests.{and-true, eqb-iff, ltb-iff, or-case, or-left, zero-of}
 
 -- ---- values of one sign compare as their fractions do
 pub eq-by-values : (s : Bool) (x y : Float) (a c b d : ℕ) → 0 < c → 0 < d → HasValue x s a c → HasValue y s b d → eq x y ≡ eqb (a * d) (b * c)
@@ -79,14 +79,10 @@ unfolding lt
 neg-lt-zero nan a c A C q = absurd q
 neg-lt-zero (inf t) a c A C q = absurd q
 neg-lt-zero (fin false m e) a c A C q = absurd (false≢true (q .0))
-neg-lt-zero (fin true m e) a c A C q = lt-ltb 0 (m * up e * 1 + 0 * down e) (more (m * up e) (down e) (first (m * up e) c (subst (λ (z : ℕ). 0 < z) (sym (q .1)) (mul-pos A (down-pos e)))))
+neg-lt-zero (fin true m e) a c A C q = lt-ltb 0 (m * up e * 1 + 0 * down e) (some (m * up e) (down e) (first-pos (m * up e) c (subst (λ (z : ℕ). 0 < z) (sym (q .1)) (mul-pos A (down-pos e)))))
   where
-    more : (a d : ℕ) → 0 < a → 0 < a * 1 + 0 * d
-    more a d h = omega arith
-
-    first : (n u : ℕ) → 0 < n * u → 0 < n
-    first zero u h = absurd (lt-irrefl 0 (subst (λ (z : ℕ). 0 < z) (zero-mul u) h))
-    first (suc n) u h = zero-lt-suc n
+    some : (a d : ℕ) → 0 < a → 0 < a * 1 + 0 * d
+    some a d h = omega arith
 
 -- ---- the order of two finite numbers: ±A ≤ ±B
 abbrev pub Below : Bool → ℕ → Bool → ℕ → Type 0
