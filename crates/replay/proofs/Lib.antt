@@ -1,4 +1,5 @@
 pub mod SplitLaws
 pub mod WordLaws
+pub mod TickLaws
 pub mod JudgeLaws
 pub mod ReportLaws

@@ -40,16 +40,17 @@ all-end words k h = ap (λ (n : ℕ). allWords n words) (none k h)
 pub from-start : (words : List ℕ) (from : ℕ) (answers : List ℕ) → sameFrom words from answers ≡ sameFrom words (from + 0) answers
 from-start words from answers = ap (λ (n : ℕ). sameFrom words n answers) (sym (add-zero from))
 
-module _ (words : List ℕ) (from : ℕ) (answers : List ℕ) (i : ℕ) (h : i < length answers) where
-  pub from-no : (valueAt words (from + i) ≡ getD answers i 0 → ⊥) → sameFrom words (from + i) (drop i answers) ≡ false
+-- d is what getD gives past the list's end
+module _ (d : ℕ) (words : List ℕ) (from : ℕ) (answers : List ℕ) (i : ℕ) (h : i < length answers) where
+  pub from-no : (valueAt words (from + i) ≡ getD answers i d → ⊥) → sameFrom words (from + i) (drop i answers) ≡ false
   unfolding sameFrom
-  from-no e = simp (drop-cons answers i 0 h, ne-eqb (valueAt words (from + i)) (getD answers i 0) e)
+  from-no e = simp (drop-cons answers i d h, ne-eqb (valueAt words (from + i)) (getD answers i d) e)
 
-  pub from-next : valueAt words (from + i) ≡ getD answers i 0
+  pub from-next : valueAt words (from + i) ≡ getD answers i d
       → sameFrom words (from + i) (drop i answers) ≡ sameFrom words (from + (i + 1)) (drop (i + 1) answers)
   unfolding sameFrom
   from-next e =
-      simp (drop-cons answers i 0 h, eq-eqb (valueAt words (from + i)) (getD answers i 0) e)
+      simp (drop-cons answers i d h, eq-eqb (valueAt words (from + i)) (getD answers i d) e)
       (ap (λ (n : ℕ). sameFrom words n (drop (suc i) answers)) (step from i) ∙ ap (λ (n : ℕ). sameFrom words (from + (i + 1)) (drop n answers)) (sym (add-one i)))
     where
       step : (from i : ℕ) → suc (from + i) ≡ from + (i + 1)

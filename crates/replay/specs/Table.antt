@@ -1,10 +1,9 @@
 -- The names that a case can have, and what is run for each.
 use mathlib.Core.Bool.{cond}
 use mathlib.Core.List.{List, [], _∷_, map}
-use Prim.Native.Nat.{ℕ, _+_}
-use lib.Dec.{eqb}
-use lib.Ieee.{Float, binary64, ofBits, toBits}
-use lib.ListN.{length, drop}
+use Prim.Native.Nat.{ℕ}
+use lib.Ieee.{Float, binary64, toBits}
+use lib.ListN.{drop}
 use Rattle.laws.specs.Float.{isFin}
 use Rattle.numeric.specs.Basic.{fabsOf, clampOf, minOf, maxOf, wholeOf, realOf}
 use Rattle.numeric.specs.Draw.{drawOf, bipolarOf}
@@ -12,9 +11,11 @@ use Rattle.numeric.specs.Floor.{floorOf}
 use Rattle.numeric.specs.Power.{exp2Of, pow3000Of}
 use Rattle.numeric.specs.Trig.{sinOf, cosOf}
 use Rattle.replay.specs.Split.{placeIn}
-use Rattle.replay.specs.Words.{countOf, valueAt, sameFrom}
-use Rattle.replay.specs.declared.table.Verdict.{Verdict}
-use Rattle.replay.specs.declared.table.Verdict.the-variants.{Same, Differs, Malformed}
+use Rattle.replay.specs.Held.{heldOf}
+use Rattle.replay.specs.Ticks.{floatAt, lfoWords, vcoWords}
+use Rattle.replay.specs.Words.{valueAt}
+use Rattle.replay.specs.declared.held.Verdict.{Verdict}
+use Rattle.replay.specs.declared.held.Verdict.the-variants.{Malformed}
 
 -- a name, how many words go in, and the words that must come out, of the words by their place
 pub record Row : Type 0 where
@@ -25,10 +26,7 @@ pub record Row : Type 0 where
 abbrev pub row : List ℕ → ℕ → ((ℕ → ℕ) → List ℕ) → Row
 row n i f = record { name = n; inputs = i; answers = f }
 
--- the float that the k-th word stands for, and the words of an answer that is one float
-abbrev pub floatAt : (ℕ → ℕ) → ℕ → Float
-floatAt w k = ofBits binary64 (w k)
-
+-- the words of an answer that is one float
 abbrev pub answer : Float → List ℕ
 answer x = toBits binary64 x ∷ []
 
@@ -49,6 +47,8 @@ rows =
     ∷ row (98 ∷ 105 ∷ 116 ∷ 115 ∷ []) 1 (λ w. answer (floatAt w 0))  -- bits
     ∷ row (100 ∷ 114 ∷ 97 ∷ 119 ∷ []) 1 (λ w. answer (drawOf (w 0)))  -- draw
     ∷ row (98 ∷ 105 ∷ 112 ∷ 111 ∷ 108 ∷ 97 ∷ 114 ∷ []) 1 (λ w. answer (bipolarOf (w 0)))  -- bipolar
+    ∷ row (108 ∷ 102 ∷ 111 ∷ 95 ∷ 116 ∷ 105 ∷ 99 ∷ 107 ∷ []) 10 lfoWords  -- lfo_tick
+    ∷ row (118 ∷ 99 ∷ 111 ∷ 95 ∷ 116 ∷ 105 ∷ 99 ∷ 107 ∷ []) 14 vcoWords  -- vco_tick
     ∷ []
 
 unfoldable pub names : List (List ℕ)
@@ -57,11 +57,6 @@ names = map (λ (r : Row). r .name) rows
 -- a name's place among them
 unfoldable pub numberOf : List ℕ → ℕ
 numberOf name = placeIn name names
-
--- the words are so many inputs and then the answers
-unfoldable pub heldOf : ℕ → List ℕ → ℕ → List ℕ → Verdict
-heldOf k words inputs answers =
-    cond (eqb (countOf words) (inputs + length answers)) (cond (sameFrom words inputs answers) (Same k) (Differs k)) Malformed
 
 abbrev pub runIn : ℕ → List ℕ → List Row → Verdict
 runIn k words [] = Malformed

@@ -1,8 +1,10 @@
 // Reads cases from standard input, a line each, runs each and says how many there are and how many differ.
+mod held;
 mod judge;
 mod report;
 mod split;
 mod table;
+mod ticks;
 mod words;
 
 ghost use mathlib.Core.Path.{_≡_};

@@ -3,64 +3,26 @@
 ghost use mathlib.Core.Path.{_≡_};
 ghost use mathlib.Core.Bool.{cond};
 ghost use mathlib.Core.List.{[], _∷_};
-ghost use Prim.Native.Nat.{_+_, _≤_};
-ghost use lib.ListN.{length};
-ghost use Rattle.replay.specs.Words.{sameFrom};
-ghost use Rattle.replay.specs.Table.{numberOf, heldOf, runOf};
+ghost use Rattle.replay.specs.Held.{heldOf};
+ghost use Rattle.replay.specs.Table.{numberOf, runOf};
+use crate::held::Verdict;
+use crate::held::held;
 use crate::split::place_of;
+use crate::ticks::lfo_tick;
+use crate::ticks::vco_tick;
 use crate::words::real;
 use crate::words::value;
 use numeric::bits;
 
-pub enum Verdict {
-    // The answers are those of the case; the number is the name's.
-    Same(usize),
-    Differs(usize),
-    Malformed,
-}
-
 // The names, a line each, in the order of `run`.
-pub const NAMES: [u8; 88] =
-    *b"sin\ncos\nexp2\npow3000\nfloor\nfabs\nis_finite\nclamp\nmin\nmax\nto_u64\nof_u64\nbits\ndraw\nbipolar\n";
+pub const NAMES: [u8; 106] =
+    *b"sin\ncos\nexp2\npow3000\nfloor\nfabs\nis_finite\nclamp\nmin\nmax\nto_u64\nof_u64\nbits\ndraw\nbipolar\nlfo_tick\nvco_tick\n";
 
 // A name's number; past the last for any other.
 pub fn number_of(name: &[u8]) -> usize
     ensures { λ r. ⌜ r ≡ numberOf (now (name .entry)) ⌝ }
 {
     place_of(&NAMES, name)
-}
-
-// The words from one on are the answers.
-fn same_words(words: &[u8], from: usize, answers: &[u64]) -> bool
-    requires { ⌜ from + length (now answers) ≤ length (now words) ⌝ }
-    ensures { λ r. ⌜ r ≡ sameFrom (now (words .entry)) from (now (answers .entry)) ⌝ }
-{
-    let mut i = 0;
-    while i < answers.len() {
-        if value(words, from + i) != answers[i] {
-            return false;
-        }
-        i += 1;
-    }
-    true
-}
-
-// A case's words are the inputs and then the answers.
-fn held(k: usize, words: &[u8], inputs: usize, answers: &[u64]) -> Verdict
-    ensures { λ r. ⌜ r ≡ heldOf k (now (words .entry)) inputs (now (answers .entry)) ⌝ }
-{
-    let n = words.len() / 17;
-    if n < inputs {
-        return Verdict::Malformed;
-    }
-    if n - inputs != answers.len() {
-        return Verdict::Malformed;
-    }
-    if same_words(words, inputs, answers) {
-        Verdict::Same(k)
-    } else {
-        Verdict::Differs(k)
-    }
 }
 
 // A case with one answer.
@@ -100,6 +62,8 @@ pub fn run(k: usize, words: &[u8]) -> Verdict
         12 => one(k, words, 1, bits(x)),
         13 => one(k, words, 1, bits(numeric::draw(n))),
         14 => one(k, words, 1, bits(numeric::bipolar(n))),
+        15 => lfo_tick(k, words),
+        16 => vco_tick(k, words),
         _ => Verdict::Malformed,
     }
 }

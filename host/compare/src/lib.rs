@@ -11,7 +11,7 @@ mod pair;
 pub mod script;
 pub mod vco;
 
-use script::{run, Counts, Pair};
+use script::{run, ticks, Counts, Pair};
 
 /// A run of scripts from a seed, for so many ticks; the error is the first difference.
 pub type Run = fn(u64, u64) -> Result<Counts, String>;
@@ -21,6 +21,17 @@ pub const ALL: [(&str, Run); 2] = [of::<vco::Vco>(), of::<lfo::Lfo>()];
 
 const fn of<P: Pair>() -> (&'static str, Run) {
     (P::NAME, run::<P>)
+}
+
+/// The list's lines of an oscillator, as `ticks` has them.
+fn lines<P: Pair>(n: usize) -> String {
+    let words = |case: Vec<u64>| case.iter().map(|word| format!(" {word:016X}")).collect::<String>();
+    ticks::<P>(1, n).into_iter().map(|case| format!("{}_tick{}\n", P::NAME, words(case))).collect()
+}
+
+/// The Rust's ticks in the list that the program `replay` runs.
+pub fn stored() -> String {
+    [lines::<lfo::Lfo>(200), lines::<vco::Vco>(200)].concat()
 }
 
 /// The run of the gate. It prints what was compared.

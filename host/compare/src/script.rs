@@ -96,6 +96,67 @@ pub fn run<P: Pair>(seed: u64, ticks: u64) -> Result<Counts, String> {
     Ok(counts)
 }
 
+/// So many ticks from a seed, in the words of the list that the program `replay` runs: a state, controls and the mask, and
+/// what the Rust makes of them. A state that document 01 refuses is answered by its number and left as it stood.
+pub fn ticks<P: Pair>(seed: u64, n: usize) -> Vec<Vec<u64>> {
+    const CALLS: usize = 20; // of one oscillator
+    let mut draw = Draw::new(seed);
+    let mut cases = vec![];
+    while cases.len() < n {
+        let mood = Mood { held: 3, gates: 2, rarely: 4, ..Mood::drawn(&mut draw) };
+        let mut pair = P::new(draw.rate(), &mut draw).unwrap_or_else(|n| panic!("{n}"));
+        let mut controls: Vec<f64> = P::CONTROLS.iter().map(|control| draw.usual(control)).collect();
+        for _ in 0..CALLS.min(n - cases.len()) {
+            turn::<P>(&mut controls, &mood, &mut draw);
+            cases.push(case(&mut pair, &controls, &mut draw));
+        }
+    }
+    cases
+}
+
+fn case<P: Pair>(pair: &mut P, controls: &[f64], draw: &mut Draw) -> Vec<u64> {
+    let (mut state, mut refusal) = (pair.theirs(), 0);
+    if draw.one_in(4) {
+        state = pair.invent(controls, draw);
+        refusal = P::refusal(&state.0, &state.1);
+        if refusal == 0 {
+            pair.put_theirs(&state.0, &state.1, draw);
+        }
+    }
+    let mut samples = [f64::from_bits(UNWRITTEN); 5];
+    let mut words = raw::<P>(state);
+    words.extend(controls.iter().map(|x| x.to_bits()));
+    let wanted = mask::<P>(draw);
+    if P::MASKED {
+        words.push(wanted as u64);
+    }
+    if refusal == 0 {
+        let mark = pair.theirs_tick(controls, wanted, &mut samples[..P::PORTS]);
+        words.push(mark as u64);
+        words.extend(raw::<P>(pair.theirs()).into_iter().map(one_nan));
+    } else {
+        words.push(refusal as u64);
+        words.extend(state.0.as_ref().iter().map(|x| one_nan(x.to_bits())));
+        words.extend(state.1.as_ref());
+    }
+    words.extend(samples[..P::PORTS].iter().map(|x| if x.to_bits() == UNWRITTEN { 0 } else { one_nan(x.to_bits()) }));
+    words
+}
+
+/// A state's floats, by their bits, and whole numbers.
+fn raw<P: Pair>((floats, wholes): (P::Floats, P::Wholes)) -> Vec<u64> {
+    floats.as_ref().iter().map(|x| x.to_bits()).chain(wholes.as_ref().iter().copied()).collect()
+}
+
+/// The bits of a float, of any NaN the same. Memo keys are such bits too, and other whole numbers are too small to be a NaN's.
+fn one_nan(bits: u64) -> u64 {
+    if f64::from_bits(bits).is_nan() {
+        0x7ff8_0000_0000_0000
+    } else {
+        bits
+    }
+}
+
 /// How a scene goes.
 struct Mood {
     calls: u64,

@@ -1,6 +1,5 @@
-//! Writes the list of cases that the program `replay` runs on the x86-64 code:
-//!
-//!     cargo run --offline --release -p stored > ../crates/replay/stdin
+//! Writes the first part of the list of cases that the program `replay` runs on the x86-64 code; the oscillators' ticks
+//! follow it, as `compare/src/bin/stored_ticks.rs` says, with the command that writes both.
 //!
 //! A line is a name, the inputs and the answer, each number as 16 hexadecimal digits. The answers of sine, cosine and
 //! powers are those of the proved code as this machine runs it; all the others are Rust's own operations.

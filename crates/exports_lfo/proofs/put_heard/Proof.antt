@@ -1,7 +1,7 @@
 use native.Mathlib.Omega.{arith}
 use lib.ListN.{length-set}
 use borrow.Author.Needs.{needs}
-use Rattle.exports_lfo.proofs.Slices.{stored}
+use Rattle.laws.proofs.Slices.{stored}
 use Rattle.exports_lfo.specs.State.{samplesOf}
 use Rattle.exports_lfo.proofs.put_heard.Statement.{statement}
 use Rattle.exports_lfo.proofs.put_heard.Tie as tie

@@ -1,5 +1,5 @@
 use borrow.Author.Needs.{needs}
-use Rattle.exports_lfo.proofs.Slices.{stored, byte}
+use Rattle.laws.proofs.Slices.{stored, byte}
 use Rattle.exports_lfo.specs.State.{floatsOf, wholesOf}
 use Rattle.exports_lfo.proofs.store.Statement.{statement}
 use Rattle.exports_lfo.proofs.store.Tie as tie

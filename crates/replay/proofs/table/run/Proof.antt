@@ -146,6 +146,12 @@ bits-requires-13 c κs = search needs
 one-requires-15 : tie.Need-one-requires-15
 one-requires-15 c κs = search needs
 
+lfo-tick-requires : tie.Need-lfo-tick-requires
+lfo-tick-requires c κs = search needs
+
+vco-tick-requires : tie.Need-vco-tick-requires
+vco-tick-requires c κs = search needs
+
 returns : tie.Need-returns
 unfolding runOf rows
 returns c = simp (c .one .ensures, c .before .bits .ensures, c .before .before .sin .ensures, c .before .before .before .before .before .before .real .ensures, c .before .before .before .match .keys1)
@@ -207,8 +213,16 @@ unfolding runOf rows
 returns-15 c = simp (c .one15 .ensures, c .before .bits13 .ensures, c .before .before .bipolar .ensures, c .before .before .before .before .before .before .before .value .ensures, c .before .before .before .match .keys15)
 
 returns-16 : tie.Need-returns-16
+unfolding runOf rows
+returns-16 c = simp (c .lfo-tick .ensures, c .before .match .keys16)
+
+returns-17 : tie.Need-returns-17
+unfolding runOf rows
+returns-17 c = simp (c .vco-tick .ensures, c .before .match .keys17)
+
+returns-18 : tie.Need-returns-18
 unfolding rows
-returns-16 c = run-past _ _ (other-past 15 _ (c .match .rest))
+returns-18 c = run-past _ _ (other-past 17 _ (c .match .rest))
 
 pub run-spec : {M : Type 1} → statement M
 run-spec =
@@ -261,6 +275,8 @@ run-spec =
     bipolar-requires
     bits-requires-13
     one-requires-15
+    lfo-tick-requires
+    vco-tick-requires
     returns
     returns-2
     returns-3
@@ -276,4 +292,6 @@ run-spec =
     returns-13
     returns-14
     returns-15
-    returns-16)
+    returns-16
+    returns-17
+    returns-18)

@@ -1,4 +1,4 @@
--- `table::same_words`: i answers were met, and the whole is as what is left.
+-- `held::same_words`: i answers were met, and the whole is as what is left.
 use mathlib.Core.Path.{_≡_, sym, _∙_}
 use Prim.Native.Nat.{_+_, _-_, _≤_}
 use native.Mathlib.Omega.{arith}
@@ -6,8 +6,8 @@ use lib.ListN.{length, drop}
 use borrow.Author.Needs.{needs}
 use Rattle.replay.specs.Words.{sameFrom}
 use Rattle.replay.proofs.WordLaws.{from-start, from-no, from-next, from-end}
-use Rattle.replay.proofs.table.same_words.Statement.{statement}
-use Rattle.replay.proofs.table.same_words.Tie as tie
+use Rattle.replay.proofs.held.same_words.Statement.{statement}
+use Rattle.replay.proofs.held.same_words.Tie as tie
 
 abbrev Inv-loop : tie.InvT-loop
 Inv-loop words from answers i₀ i = (i ≤ length answers) × (sameFrom words from answers ≡ sameFrom words (from + i) (drop i answers))
@@ -31,7 +31,7 @@ shared-slice-read-if1 : tie.Need-shared-slice-read-if1 Inv-loop μ-loop
 shared-slice-read-if1 c = search needs
 
 returns : tie.Need-returns Inv-loop μ-loop
-returns c = sym (c .before .before .before .before .loop .inv .1 ∙ from-no _ _ _ _ (c .before .before .before .loop-test .taken) (rw (← c .before .before .value .ensures) (c .if1 .taken)))
+returns c = sym (c .before .before .before .before .loop .inv .1 ∙ from-no 0 _ _ _ _ (c .before .before .before .loop-test .taken) (rw (← c .before .before .value .ensures) (c .if1 .taken)))
 
 add-i : tie.Need-add-i Inv-loop μ-loop
 add-i c = search needs
@@ -40,7 +40,7 @@ loop-less : tie.Need-loop-less Inv-loop μ-loop
 loop-less c = search needs
 
 loop-again : tie.Need-loop-again Inv-loop μ-loop
-loop-again c = (omega arith, c .before .before .before .before .loop .inv .1 ∙ from-next _ _ _ _ (c .before .before .before .loop-test .taken) (rw (← c .before .before .value .ensures) (c .if1 .left)))
+loop-again c = (omega arith, c .before .before .before .before .loop .inv .1 ∙ from-next 0 _ _ _ _ (c .before .before .before .loop-test .taken) (rw (← c .before .before .value .ensures) (c .if1 .left)))
 
 returns-2 : tie.Need-returns-2 Inv-loop μ-loop
 returns-2 c = sym (c .before .loop .inv .1 ∙ from-end _ _ _ _ (c .loop-test .left))

@@ -1,0 +1,110 @@
+-- Words against floats, and against what a tick leaves.
+use mathlib.Core.Bool.{Bool, true, false, cond}
+use mathlib.Core.List.{List, [], _∷_, _++_, map}
+use mathlib.Core.Path.{_≡_, refl, sym, ap, _∙_}
+use Prim.Native.Nat.{ℕ, suc, _+_, _≤_, _<_}
+use native.Mathlib.Nat.{add-zero, le-antisymm}
+use native.Mathlib.Omega.{arith}
+use lib.Dec.{eqb}
+use lib.Ieee.{Float, binary64, nan, toBits}
+use lib.ListN.{length, getD, drop, length-map, length-append, List·getD-map}
+use borrow.Author.Tests.{eq-eqb, ne-eqb}
+use Rattle.laws.specs.Lists.{tab, over}
+use Rattle.laws.proofs.Over.{over-all}
+use Rattle.exports_lfo.specs.Calls as lfo
+use Rattle.exports_vco.specs.Calls as vco
+use Rattle.replay.specs.Held.{heldOf}
+use Rattle.replay.specs.Ticks.{heardWords}
+use Rattle.replay.specs.Words.{countOf, valueAt, sameFrom}
+use Rattle.replay.specs.declared.held.Verdict.the-variants.{Same, Differs, Malformed}
+use Rattle.replay.proofs.WordLaws.{from-no, from-next, from-end}
+
+-- ---- a loop that stores every cell has stored them
+pub over-done : {A : Type 0} (f : ℕ → A) (i : ℕ) (l m : List A) → i ≤ length l → length m ≡ length l → length m ≤ i → m ≡ over f i l → m ≡ tab f (length l)
+over-done {A} f i l m a b d e = e ∙ ap (λ (k : ℕ). over f k l) (le-antisymm a (rw (← b) d)) ∙ over-all f (length l) l refl
+
+-- ---- against floats
+module _ (words : List ℕ) (from : ℕ) (xs : List Float) (i : ℕ) where
+  so-long : length (map (toBits binary64) xs) ≡ length xs
+  so-long = length-map xs (toBits binary64)
+
+  there : getD (map (toBits binary64) xs) i (toBits binary64 nan) ≡ toBits binary64 (getD xs i nan)
+  there = List·getD-map (toBits binary64) xs i nan
+
+  -- v is the word read, b the bits of the answer
+  pub real-no : i < length xs → (v b : ℕ) → v ≡ valueAt words (from + i) → b ≡ toBits binary64 (getD xs i nan) → (v ≡ b → ⊥)
+      → sameFrom words (from + i) (drop i (map (toBits binary64) xs)) ≡ false
+  real-no h v b p q e = let z = so-long in from-no (toBits binary64 nan) words from (map (toBits binary64) xs) i (omega arith) (λ y. e (p ∙ y ∙ there ∙ sym q))
+
+  pub real-next : i < length xs → (v b : ℕ) → v ≡ valueAt words (from + i) → b ≡ toBits binary64 (getD xs i nan) → v ≡ b
+      → sameFrom words (from + i) (drop i (map (toBits binary64) xs)) ≡ sameFrom words (from + (i + 1)) (drop (i + 1) (map (toBits binary64) xs))
+  real-next h v b p q e = let z = so-long in from-next (toBits binary64 nan) words from (map (toBits binary64) xs) i (omega arith) (sym p ∙ e ∙ q ∙ sym there)
+
+  pub real-end : length xs ≤ i → sameFrom words (from + i) (drop i (map (toBits binary64) xs)) ≡ true
+  real-end h = let z = so-long in from-end words (from + i) (map (toBits binary64) xs) i (omega arith)
+
+-- ---- against one list after another
+pub same-append : (words : List ℕ) (k : ℕ) (a b : List ℕ) → sameFrom words k (a ++ b) ≡ cond (sameFrom words k a) (sameFrom words (k + length a) b) false
+unfolding sameFrom
+same-append words k [] b = ap (λ (n : ℕ). sameFrom words n b) (sym (add-zero k))
+same-append words k (x ∷ a) b = go (eqb (valueAt words k) x) (same-append words (suc k) a b)
+  where
+    step : suc k + length a ≡ k + suc (length a)
+    step = omega arith
+
+    go : (t : Bool) → sameFrom words (suc k) (a ++ b) ≡ cond (sameFrom words (suc k) a) (sameFrom words (suc k + length a) b) false
+        → cond t (sameFrom words (suc k) (a ++ b)) false ≡ cond (cond t (sameFrom words (suc k) a) false) (sameFrom words (k + suc (length a)) b) false
+    go true e = e ∙ ap (λ (n : ℕ). cond (sameFrom words (suc k) a) (sameFrom words n b) false) step
+    go false e = refl
+
+module _ (words : List ℕ) (inputs code : ℕ) (f : List Float) (w : List ℕ) (o : List Float) where
+  abbrev fs : List ℕ
+  fs = map (toBits binary64) f
+
+  abbrev os : List ℕ
+  os = map (toBits binary64) o
+
+  heard-count : inputs + length (heardWords code f w o) ≡ inputs + 1 + length f + length w + length o
+  unfolding heardWords
+  heard-count =
+      let a : length (fs ++ (w ++ os)) ≡ length fs + length (w ++ os) = length-append fs (w ++ os) in
+      let b : length (w ++ os) ≡ length w + length os = length-append w os in
+      let x : length fs ≡ length f = length-map f (toBits binary64) in
+      let y : length os ≡ length o = length-map o (toBits binary64) in
+      omega arith
+
+  heard-same : sameFrom words inputs (heardWords code f w o)
+      ≡ cond (eqb (valueAt words inputs) code)
+      (cond (sameFrom words (inputs + 1) fs) (cond (sameFrom words (inputs + 1 + length f) w) (sameFrom words (inputs + 1 + length f + length w) os) false) false)
+      false
+  unfolding heardWords sameFrom
+  heard-same =
+      let a : sameFrom words (suc inputs) (fs ++ (w ++ os)) ≡ cond (sameFrom words (suc inputs) fs) (sameFrom words (suc inputs + length fs) (w ++ os)) false = same-append words (suc inputs) fs (w ++ os) in
+      let b : sameFrom words (suc inputs + length fs) (w ++ os) ≡ cond (sameFrom words (suc inputs + length fs) w) (sameFrom words (suc inputs + length fs + length w) os) false = same-append words (suc inputs + length fs) w os in
+      let x : length fs ≡ length f = length-map f (toBits binary64) in
+      let p : suc inputs ≡ inputs + 1 = omega arith in
+      rw (a, b, x, p) refl
+
+  -- so many words, or not
+  pub heard-short : (k : ℕ) → (countOf words ≡ inputs + 1 + length f + length w + length o → ⊥) → heldOf k words inputs (heardWords code f w o) ≡ Malformed
+  unfolding heldOf
+  heard-short k h = simp (ne-eqb (countOf words) (inputs + length (heardWords code f w o)) (λ e. h (e ∙ heard-count)))
+
+  pub heard-says : (k : ℕ) → countOf words ≡ inputs + 1 + length f + length w + length o → heldOf k words inputs (heardWords code f w o)
+      ≡ cond
+      (cond (eqb (valueAt words inputs) code)
+      (cond (sameFrom words (inputs + 1) fs) (cond (sameFrom words (inputs + 1 + length f) w) (sameFrom words (inputs + 1 + length f + length w) os) false) false)
+      false)
+      (Same k)
+      (Differs k)
+  unfolding heldOf
+  heard-says k h = simp (eq-eqb (countOf words) (inputs + length (heardWords code f w o)) (h ∙ sym heard-count), heard-same)
+
+-- ---- what an exported tick's contract says, as words
+pub lfo-told : (h : lfo.Heard) (code : ℕ) (f : List Float) (w : List ℕ) (o : List Float) → lfo.heard code f w o ≡ h
+    → heardWords code f w o ≡ heardWords (h .code) (h .floats) (h .wholes) (h .samples)
+lfo-told h code f w o e = ap (λ (x : lfo.Heard). heardWords (x .code) (x .floats) (x .wholes) (x .samples)) e
+
+pub vco-told : (h : vco.Heard) (code : ℕ) (f : List Float) (w : List ℕ) (o : List Float) → vco.Hears h code f w o
+    → heardWords code f w o ≡ heardWords (h .code) (h .floats) (h .wholes) (h .samples)
+vco-told h code f w o e = rw (e .0, e .1, e .2, e .3) refl

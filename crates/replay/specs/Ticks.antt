@@ -1,0 +1,40 @@
+-- Ticks of the oscillators as words: of a state and controls, what must come out.
+use mathlib.Core.List.{List, _∷_, _++_, map}
+use Prim.Native.Nat.{ℕ, _+_, _%_, _^_}
+use lib.Ieee.{Float, binary64, ofBits, toBits}
+use lib.ListN.{replicate}
+use Rattle.laws.specs.Float.{zer}
+use Rattle.laws.specs.Lists.{tab}
+use Rattle.exports_lfo.specs.Calls.{lfoTickAt}
+use Rattle.exports_vco.specs.Calls.{controlsOf, tickAt}
+
+-- the float that the k-th word stands for, and n of them from the k-th on
+abbrev pub floatAt : (ℕ → ℕ) → ℕ → Float
+floatAt w k = ofBits binary64 (w k)
+
+abbrev pub floatsAt : (ℕ → ℕ) → ℕ → ℕ → List Float
+floatsAt w k n = tab (λ (i : ℕ). floatAt w (k + i)) n
+
+abbrev pub wholesAt : (ℕ → ℕ) → ℕ → ℕ → List ℕ
+wholesAt w k n = tab (λ (i : ℕ). w (k + i)) n
+
+-- the k-th word as a u32
+abbrev pub maskAt : (ℕ → ℕ) → ℕ → ℕ
+maskAt w k = w k % 2 ^ 32
+
+-- the tick's number, the floats and whole numbers of the state after it, the samples
+unfoldable pub heardWords : ℕ → List Float → List ℕ → List Float → List ℕ
+heardWords code floats wholes samples = code ∷ (map (toBits binary64) floats ++ (wholes ++ map (toBits binary64) samples))
+
+-- four floats, two whole numbers, rate, depth, reset, wanted
+unfoldable pub lfoWords : (ℕ → ℕ) → List ℕ
+lfoWords w =
+    let h = lfoTickAt (floatAt w 6) (floatAt w 7) (floatAt w 8) (maskAt w 9) (floatsAt w 0 4) (wholesAt w 4 2) (replicate 5 zer) in
+    heardWords (h .code) (h .floats) (h .wholes) (h .samples)
+
+-- four floats, four whole numbers, voct, fm, pw, sync, fm_lin, wanted
+unfoldable pub vcoWords : (ℕ → ℕ) → List ℕ
+vcoWords w =
+    let c = controlsOf (floatAt w 8) (floatAt w 9) (floatAt w 10) (floatAt w 11) (floatAt w 12) in
+    let h = tickAt c (maskAt w 13) (floatsAt w 0 4) (wholesAt w 4 4) (replicate 4 zer) in
+    heardWords (h .code) (h .floats) (h .wholes) (h .samples)

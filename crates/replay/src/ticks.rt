@@ -1,0 +1,140 @@
+// Cases of the oscillators: a state and controls go in; the tick's number, the state after it and the samples must come out.
+ghost use mathlib.Core.Path.{_≡_};
+ghost use mathlib.Core.List.{map};
+ghost use Prim.Native.Nat.{_+_, _≤_};
+ghost use lib.ListN.{length};
+ghost use lib.Ieee.{binary64, toBits};
+ghost use Rattle.replay.specs.Words.{valueAt, sameFrom};
+ghost use Rattle.replay.specs.Held.{heldOf};
+ghost use Rattle.replay.specs.Ticks.{floatsAt, wholesAt, maskAt, heardWords, lfoWords, vcoWords};
+use crate::held::Verdict;
+use crate::held::same_words;
+use crate::words::real;
+use crate::words::value;
+use exports_lfo::gruttisol_lfo_tick;
+use exports_vco::gruttisol_vco_tick;
+use numeric::bits;
+
+// The words from one on, as many as there is room for.
+fn reals(out: &mut [f64], words: &[u8], from: usize)
+    requires { ⌜ (from ≤ 1000) × (length (now out) ≤ 1000) ⌝ }
+    ensures { λ _. ⌜ now (out .exit) ≡ floatsAt (valueAt (now (words .entry))) from (length (now (out .entry))) ⌝ }
+{
+    let mut i = 0;
+    while i < out.len() {
+        out[i] = real(words, from + i);
+        i += 1;
+    }
+}
+
+fn values(out: &mut [u64], words: &[u8], from: usize)
+    requires { ⌜ (from ≤ 1000) × (length (now out) ≤ 1000) ⌝ }
+    ensures { λ _. ⌜ now (out .exit) ≡ wholesAt (valueAt (now (words .entry))) from (length (now (out .entry))) ⌝ }
+{
+    let mut i = 0;
+    while i < out.len() {
+        out[i] = value(words, from + i);
+        i += 1;
+    }
+}
+
+// A word as a mask of outputs.
+fn mask(words: &[u8], k: usize) -> u32
+    ensures { λ r. ⌜ r ≡ maskAt (valueAt (now (words .entry))) k ⌝ }
+{
+    (value(words, k) % 4294967296) as u32
+}
+
+// The words from one on are the bits of these.
+fn same_reals(words: &[u8], from: usize, answers: &[f64]) -> bool
+    requires { ⌜ from + length (now answers) ≤ length (now words) ⌝ }
+    ensures { λ r. ⌜ r ≡ sameFrom (now (words .entry)) from (map (toBits binary64) (now (answers .entry))) ⌝ }
+{
+    let mut i = 0;
+    while i < answers.len() {
+        if value(words, from + i) != bits(answers[i]) {
+            return false;
+        }
+        i += 1;
+    }
+    true
+}
+
+// A case's words are the inputs, and then the tick's number, the floats and whole numbers of the state, and the samples.
+fn heard(
+    k: usize,
+    words: &[u8],
+    inputs: usize,
+    code: u32,
+    floats: &[f64],
+    wholes: &[u64],
+    samples: &[f64],
+) -> Verdict
+    requires { ⌜ (inputs ≤ 1000) × (length (now floats) ≤ 1000) × (length (now wholes) ≤ 1000) × (length (now samples) ≤ 1000) ⌝ }
+    ensures { λ r. ⌜ r ≡ heldOf k (now (words .entry)) inputs (heardWords code (now (floats .entry)) (now (wholes .entry)) (now (samples .entry))) ⌝ }
+{
+    let at_floats = inputs + 1;
+    let at_wholes = at_floats + floats.len();
+    let at_samples = at_wholes + wholes.len();
+    if words.len() / 17 != at_samples + samples.len() {
+        return Verdict::Malformed;
+    }
+    if value(words, inputs) != code as u64 {
+        return Verdict::Differs(k);
+    }
+    if same_reals(words, at_floats, floats) {
+        if same_words(words, at_wholes, wholes) {
+            if same_reals(words, at_samples, samples) {
+                Verdict::Same(k)
+            } else {
+                Verdict::Differs(k)
+            }
+        } else {
+            Verdict::Differs(k)
+        }
+    } else {
+        Verdict::Differs(k)
+    }
+}
+
+pub fn lfo_tick(k: usize, words: &[u8]) -> Verdict
+    ensures { λ r. ⌜ r ≡ heldOf k (now (words .entry)) 10 (lfoWords (valueAt (now (words .entry)))) ⌝ }
+{
+    let mut floats = [0.0; 4];
+    let mut wholes = [0; 2];
+    let mut samples = [0.0; 5];
+    reals(&mut floats, words, 0);
+    values(&mut wholes, words, 4);
+    let code = gruttisol_lfo_tick(
+        real(words, 6),
+        real(words, 7),
+        real(words, 8),
+        mask(words, 9),
+        &mut floats,
+        &mut wholes,
+        &mut samples,
+    );
+    heard(k, words, 10, code, &floats, &wholes, &samples)
+}
+
+pub fn vco_tick(k: usize, words: &[u8]) -> Verdict
+    ensures { λ r. ⌜ r ≡ heldOf k (now (words .entry)) 14 (vcoWords (valueAt (now (words .entry)))) ⌝ }
+{
+    let mut floats = [0.0; 4];
+    let mut wholes = [0; 4];
+    let mut samples = [0.0; 4];
+    reals(&mut floats, words, 0);
+    values(&mut wholes, words, 4);
+    let code = gruttisol_vco_tick(
+        real(words, 8),
+        real(words, 9),
+        real(words, 10),
+        real(words, 11),
+        real(words, 12),
+        mask(words, 13),
+        &mut floats,
+        &mut wholes,
+        &mut samples,
+    );
+    heard(k, words, 14, code, &floats, &wholes, &samples)
+}

@@ -1,0 +1,15 @@
+//! The list that the program `replay` runs ends with what the Rust says today.
+
+#[test]
+#[cfg_attr(not(quiver), ignore = "skipped: QUIVER_SRC not found")]
+fn the_list_is_the_rusts() {
+    #[cfg(quiver)]
+    {
+        let list = include_str!("../../../crates/replay/stdin");
+        let stored: Vec<&str> = list.lines().filter(|line| line.contains("_tick ")).collect();
+        let fresh = compare::stored();
+        assert!(stored.len() >= 400, "{} ticks", stored.len());
+        assert!(stored.iter().copied().eq(fresh.lines()), "the stored ticks are others than the Rust's");
+        println!("{} stored ticks are the Rust's", stored.len());
+    }
+}
