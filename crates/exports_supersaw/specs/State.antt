@@ -4,8 +4,9 @@ use mathlib.Core.List.{List, [], _∷_, _++_}
 use Prim.Native.Nat.{ℕ}
 use lib.Dec.{eqb}
 use lib.ListN.{getD}
-use lib.Ieee.{Float, nan}
+use lib.Ieee.{Float}
 use Rattle.laws.specs.Lists.{tab}
+use Rattle.supersaw.specs.Voices.{at}
 use Rattle.answer.specs.declared.Volts.{Volts}
 use Rattle.supersaw.specs.declared.Supersaw.{Supersaw}
 
@@ -21,14 +22,14 @@ tickSizesOf f w o = cond (eqb (sizesOf f w) 0) (cond (eqb o 2) 0 52) (sizesOf f 
 unfoldable pub stateOf : List Float → List ℕ → Supersaw
 stateOf f w =
     record {
-      phases = tab (λ i. getD f i nan) 7;
-      «sub_phase» = record { 0 = getD f 7 nan };
-      «sample_rate» = record { 0 = getD f 8 nan };
-      «freq_memo» = record { key = getD w 0 0; val = record { 0 = getD f 9 nan }; valid = not (eqb (getD w 1 0) 0) };
+      phases = tab (at f) 7;
+      «sub_phase» = record { 0 = at f 7 };
+      «sample_rate» = record { 0 = at f 8 };
+      «freq_memo» = record { key = getD w 0 0; val = record { 0 = at f 9 }; valid = not (eqb (getD w 1 0) 0) };
     }
 
 unfoldable pub floatsOf : Supersaw → List Float
-floatsOf s = tab (λ i. getD (s .phases) i nan) 7 ++ (s .«sub_phase» .0 ∷ s .«sample_rate» .0 ∷ s .«freq_memo» .val .0 ∷ [])
+floatsOf s = tab (at (s .phases)) 7 ++ (s .«sub_phase» .0 ∷ s .«sample_rate» .0 ∷ s .«freq_memo» .val .0 ∷ [])
 
 unfoldable pub wholesOf : Supersaw → List ℕ
 wholesOf s = s .«freq_memo» .key ∷ cond (s .«freq_memo» .valid) 1 0 ∷ []

@@ -1,31 +1,23 @@
 -- General facts on the order of floats.
-use mathlib.Core.Bool.{Bool, true, false, _||_, false≢true}
+use mathlib.Core.Bool.{true, false, false≢true}
 use mathlib.Core.Path.{_≡_, refl, subst}
 use Prim.Native.Nat.{ℕ, _*_, _≤_, _<_}
 use native.Mathlib.Nat.{lt-of-not-le, zero-lt-suc}
 use native.Mathlib.Omega.{arith}
 use lib.Dec.{T, not-T}
-use lib.Ieee.{Float, nan, inf, fin, binary64, round, lt, le, eq, ofBits}
+use lib.Ieee.{Float, nan, inf, fin, binary64, round, lt, le, ofBits}
 use lib.Ieee.Order.{round-mono}
-use Rattle.laws.proofs.Order.{lt-of-le-not-ge, lt-not-ge, float-le-trans}
+use Rattle.laws.proofs.Order.{le-of-lt-true, lt-of-le-not-ge, lt-not-ge, float-le-trans}
 use Rattle.laws.proofs.Tests.{of-true}
 use Rattle.laws.specs.Float.{zer, one, isFin}
 
-pub le-by-lt : (x y : Float) → T (lt x y) → T (le x y)
-unfolding le
-le-by-lt x y h = go (lt x y) (eq x y) h
-  where
-    go : (a b : Bool) → T a → T (a || b)
-    go true b t = tt
-    go false b t = absurd t
-
 pub lt-le-trans : (x y z : Float) → T (lt x y) → T (le y z) → T (lt x z)
 lt-le-trans x y z h k =
-    lt-of-le-not-ge x z (float-le-trans x y z (le-by-lt x y h) k) (not-T (le z x) (λ (l : T (le z x)). lt-not-ge x y h (float-le-trans y z x k l)))
+    lt-of-le-not-ge x z (float-le-trans x y z (le-of-lt-true x y h) k) (not-T (le z x) (λ (l : T (le z x)). lt-not-ge x y h (float-le-trans y z x k l)))
 
 pub le-lt-trans : (x y z : Float) → T (le x y) → T (lt y z) → T (lt x z)
 le-lt-trans x y z h k =
-    lt-of-le-not-ge x z (float-le-trans x y z h (le-by-lt y z k)) (not-T (le z x) (λ (l : T (le z x)). lt-not-ge y z k (float-le-trans z x y l h)))
+    lt-of-le-not-ge x z (float-le-trans x y z h (le-of-lt-true y z k)) (not-T (le z x) (λ (l : T (le z x)). lt-not-ge y z k (float-le-trans z x y l h)))
 
 -- a fraction whose rounding is below 1 is below 1
 pub below-one : (a c : ℕ) → 0 < c → lt (round binary64 false a c) one ≡ true → a < c

@@ -26,7 +26,7 @@ use Rattle.supersaw.proofs.Loops.{both-true, all-at, all-of}
 use Rattle.supersaw.proofs.Sign.{Plus, mul-plus, div-plus, above-plus, small, one-plus, clamp-small}
 use Rattle.supersaw.proofs.StepLaws.{Steady, steady-law}
 use Rattle.supersaw.specs.Consts.{detuneRatios, mixLevels}
-use Rattle.supersaw.specs.Lanes.{lanesOf, lanesOk, incsOf, sawsOf, sumsOf, wrapsOf, lanesFinite, mixTo, totalMix, blendOf, tickedOf, soundOf, steadyOf, lanesSteady, quietOf, rampsOf, glideOf}
+use Rattle.supersaw.specs.Lanes.{lanesOf, lanesOk, incsOf, sawsOf, sumsOf, wrapsOf, lanesFinite, mixTo, totalMix, blendOf, tickedOf, advancedOf, soundOf, steadyOf, lanesSteady, quietOf, rampsOf, glideOf}
 use Rattle.supersaw.specs.Supersaw.{all, supersawRefusalOf, supersawSoundOf, supersawTickOf}
 use Rattle.supersaw.specs.Voices.{at, dtOf, sawOf, Voices, voiceOf, voicesOf}
 use Rattle.supersaw.specs.declared.Supersaw.{Supersaw}
@@ -72,8 +72,8 @@ loop-is (a ∷ b ∷ c ∷ d ∷ e ∷ f ∷ g ∷ x ∷ xs) low detune base rat
     long n h = omega arith
 
 sound-is : (s : Supersaw) (c : SupersawControls) → length (s .phases) ≡ 7
-    → soundOf (lanesOf (s .phases) (s .«sub_phase»)) (incsOf (clampOf (c .detune) zer one) (recall1 voctToHzAt (s .«freq_memo») (c .voct .0) .val) (s .«sample_rate»)) (clampOf (c .mix) zer one) (s .«sample_rate») (recall1 voctToHzAt (s .«freq_memo») (c .voct .0)) ≡ supersawSoundOf s c
-unfolding soundOf supersawSoundOf tickedOf blendOf lanesOf lanesFinite all wrapsOf sumsOf sawsOf incsOf tab
+    → soundOf s (lanesOf (s .phases) (s .«sub_phase»)) (incsOf (clampOf (c .detune) zer one) (recall1 voctToHzAt (s .«freq_memo») (c .voct .0) .val) (s .«sample_rate»)) (clampOf (c .mix) zer one) (recall1 voctToHzAt (s .«freq_memo») (c .voct .0)) ≡ supersawSoundOf s c
+unfolding soundOf supersawSoundOf tickedOf advancedOf blendOf lanesOf lanesFinite all wrapsOf sumsOf sawsOf incsOf tab
 sound-is s c h =
     rw (← loop-is (s .phases) (s .«sub_phase» .0) (clampOf (c .detune) zer one) (recall1 voctToHzAt (s .«freq_memo») (c .voct .0) .val) (s .«sample_rate») h, total-is)
 
@@ -141,9 +141,9 @@ module _ (t dt : List Float) (lane : (i : ℕ) → i < 8 → Steady (at t i) (at
   unfolding lanesFinite
   sums-finite = sym (all-of (λ (i : ℕ). isFin (at (sumsOf t dt) i)) 8 (λ i l. ap isFin (sum-at i l) ∙ lane i l .finite))
 
-  glide-is : (mix : Float) (rate : Hertz) (memo : Memo1) → glideOf t dt mix rate memo ≡ soundOf t dt mix rate memo
+  glide-is : (s : Supersaw) (mix : Float) (memo : Memo1) → glideOf s t dt mix memo ≡ soundOf s t dt mix memo
   unfolding glideOf soundOf
-  glide-is mix rate memo = λ j. tickedOf (blendOf (ramps-are j) mix) (at (ramps-are j) 7) (sums-are j) (sums-finite j) rate memo
+  glide-is s mix memo = λ j. tickedOf (blendOf (ramps-are j) mix) (at (ramps-are j) 7) (sums-finite j) (advancedOf s (sums-are j) memo)
 
   all-ok : true ≡ lanesOk t
   unfolding lanesOk
@@ -151,15 +151,15 @@ module _ (t dt : List Float) (lane : (i : ℕ) → i < 8 → Steady (at t i) (at
 
 -- ---- a tick's two ways
 module _ (s : Supersaw) (c : SupersawControls) (detune mix : Float) (memo : Memo1) (t dt : List Float) (d : detune ≡ clampOf (c .detune) zer one) (x : mix ≡ clampOf (c .mix) zer one) (m : memo ≡ recall1 voctToHzAt (s .«freq_memo») (c .voct .0)) (l : (t ≡ lanesOf (s .phases) (s .«sub_phase»)) × (length (s .phases) ≡ 7)) (i : dt ≡ incsOf detune (memo .val) (s .«sample_rate»)) where
-  sounds : soundOf t dt mix (s .«sample_rate») memo ≡ supersawSoundOf s c
+  sounds : soundOf s t dt mix memo ≡ supersawSoundOf s c
   sounds = rw (i, l .0, x, d, m) (sound-is s c (l .1))
 
-  pub tick-sounds : (n : ℕ) (r : SupersawTicked) → n ≡ supersawRefusalOf s → n ≡ 0 → r ≡ soundOf t dt mix (s .«sample_rate») memo → r ≡ supersawTickOf s c
+  pub tick-sounds : (n : ℕ) (r : SupersawTicked) → n ≡ supersawRefusalOf s → n ≡ 0 → r ≡ soundOf s t dt mix memo → r ≡ supersawTickOf s c
   unfolding supersawTickOf
   tick-sounds n r h z e = e ∙ sounds ∙ rw (sym h ∙ z)
 
-  pub tick-glides : (q : Bool) (r : SupersawTicked) → q ≡ quietOf (s .«sample_rate») (memo .val) t dt → q ≡ true → r ≡ glideOf t dt mix (s .«sample_rate») memo → r ≡ supersawTickOf s c
-  tick-glides q r h y e = tick-sounds 0 r (sym free) refl (e ∙ glide-is t dt lane mix (s .«sample_rate») memo)
+  pub tick-glides : (q : Bool) (r : SupersawTicked) → q ≡ quietOf (s .«sample_rate») (memo .val) t dt → q ≡ true → r ≡ glideOf s t dt mix memo → r ≡ supersawTickOf s c
+  tick-glides q r h y e = tick-sounds 0 r (sym free) refl (e ∙ glide-is t dt lane s mix memo)
     where
       parts : (rateOk (s .«sample_rate») ≡ true) × ((lt zer (memo .val .0) ≡ true) × (lanesSteady t dt ≡ true))
       parts =

@@ -4,6 +4,7 @@ use mathlib.Core.List.{List}
 use mathlib.Core.Path.{_≡_, refl, sym, ap, _∙_, subst}
 use Prim.Native.Nat.{ℕ, zero, suc, _≤_, _<_}
 use native.Mathlib.Nat.{le-refl, le-of-lt}
+use native.Mathlib.Omega.{arith}
 use lib.Dec.{eqb}
 use lib.ListN.{length, length-set, set}
 use lib.Seq.{getD-set-same, getD-set-other}
@@ -20,9 +21,9 @@ use Rattle.common.specs.declared.Hertz.{Hertz}
 use Rattle.answer.proofs.Laws.{mark-says}
 use Rattle.answer.specs.Answer.{accepted}
 use Rattle.supersaw.proofs.Loops.{all-at, all-of}
-use Rattle.supersaw.specs.Calls.{Call, Tick, Reset, SetSampleRate, Done, Refused, replyOf, after, reply, ReachedSupersaw}
+use Rattle.supersaw.specs.Calls.{Call, Tick, Reset, SetSampleRate, Done, Refused, replyOf, after, reply, First, ReachedSupersaw}
 use Rattle.supersaw.specs.Promises.{Never-refused}
-use Rattle.supersaw.specs.Supersaw.{startPhases, newSupersaw, all, supersawRefusalOf, madeUnless, supersawSoundOf, supersawTickOf, supersawResetOf, supersawSetSampleRateOf}
+use Rattle.supersaw.specs.Supersaw.{startPhases, newSupersaw, all, supersawRefusalOf, madeUnless, supersawNewOf, supersawSoundOf, supersawTickOf, restarted, supersawResetOf, rated, supersawSetSampleRateOf}
 use Rattle.supersaw.specs.Voices.{at, voiceOf, voicesOf}
 use Rattle.supersaw.specs.declared.Supersaw.{Supersaw}
 use Rattle.supersaw.specs.declared.SupersawControls.{SupersawControls}
@@ -86,20 +87,28 @@ tick-is s h c = simp (not-refused s h)
 abbrev done : Supersaw → SupersawMade
 done s = record { outcome = outcome.Done; supersaw = s }
 
-reset-is : (s : Supersaw) → Good s → supersawResetOf s ≡ done (record { phases = startPhases; «sub_phase» = turns zer; «sample_rate» = s .«sample_rate»; «freq_memo» = s .«freq_memo» })
+abbrev refused : ℕ → Supersaw → SupersawMade
+refused n s = record { outcome = outcome.Refused n; supersaw = s }
+
+reset-is : (s : Supersaw) → Good s → supersawResetOf s ≡ done (restarted s)
 unfolding supersawResetOf madeUnless
 reset-is s h = simp (not-refused s h)
 
-rate-is : (s : Supersaw) → Good s → (r : Hertz) → supersawSetSampleRateOf s r ≡ cond (rateOk r) (done (record { phases = s .phases; «sub_phase» = s .«sub_phase»; «sample_rate» = r; «freq_memo» = s .«freq_memo» })) (record { outcome = outcome.Refused 1; supersaw = s })
+rate-is : (s : Supersaw) → Good s → (r : Hertz) → supersawSetSampleRateOf s r ≡ cond (rateOk r) (done (rated s r)) (refused 1 s)
 unfolding supersawSetSampleRateOf madeUnless
 rate-is s h r = simp (not-refused s h) (go (rateOk r))
   where
-    t : Supersaw
-    t = record { phases = s .phases; «sub_phase» = s .«sub_phase»; «sample_rate» = r; «freq_memo» = s .«freq_memo» }
-
-    go : (b : Bool) → _≡_ {A = SupersawMade} (cond (eqb (cond b 0 1) 0) (done t) (record { outcome = outcome.Refused (cond b 0 1); supersaw = s })) (cond b (done t) (record { outcome = outcome.Refused 1; supersaw = s }))
+    go : (b : Bool) → _≡_ {A = SupersawMade} (cond (eqb (cond b 0 1) 0) (done (rated s r)) (refused (cond b 0 1) s)) (cond b (done (rated s r)) (refused 1 s))
     go true = refl
     go false = refl
+
+first-good : (s : Supersaw) → First s → Good s
+unfolding supersawNewOf madeUnless
+first-good s f = go (rateOk (f .0)) refl (f .1)
+  where
+    go : (b : Bool) → rateOk (f .0) ≡ b → _≡_ {A = SupersawMade} (cond (eqb (cond b 0 1) 0) (done (newSupersaw (f .0))) (refused (cond b 0 1) (newSupersaw (f .0)))) (done s) → Good s
+    go true e h = subst Good (ap (λ (m : SupersawMade). m .supersaw) h) (good-new (f .0) e)
+    go false e h = absurd (let k : outcome.Refused 1 ≡ outcome.Done = ap (λ (m : SupersawMade). m .outcome) h in let z : _≡_ {A = ℕ} 0 1 = cc in omega arith)
 
 -- ---- so it stays one
 good-after : (s : Supersaw) (c : Call) → Good s → Good (after s c)
@@ -108,12 +117,12 @@ good-after s (Tick c) h = subst (λ (t : SupersawTicked). Good (t .supersaw)) (s
 good-after s Reset h = subst (λ (m : SupersawMade). Good (m .supersaw)) (sym (reset-is s h)) (record { rate = h .rate; phases = start; low = zero-ok })
 good-after s (SetSampleRate r) h = subst (λ (m : SupersawMade). Good (m .supersaw)) (sym (rate-is s h r)) (go (rateOk r) refl)
   where
-    go : (b : Bool) → rateOk r ≡ b → Good (cond b (done (record { phases = s .phases; «sub_phase» = s .«sub_phase»; «sample_rate» = r; «freq_memo» = s .«freq_memo» })) (record { outcome = outcome.Refused 1; supersaw = s }) .supersaw)
+    go : (b : Bool) → rateOk r ≡ b → Good (cond b (done (rated s r)) (refused 1 s) .supersaw)
     go true e = record { rate = e; phases = h .phases; low = h .low }
     go false e = h
 
 good : {s : Supersaw} → ReachedSupersaw s → Good s
-good = always Good (λ s f. subst Good (sym (f .2)) (good-new (f .0) (f .1))) (λ s c h f. good-after s c h)
+good = always Good first-good (λ s c h f. good-after s c h)
 
 sound-accepted : (s : Supersaw) (c : SupersawControls) → accepted (supersawSoundOf s c .answer) ≡ true
 unfolding supersawSoundOf
@@ -131,6 +140,6 @@ never-refused s h =
       rates = λ r. ap (λ (m : SupersawMade). replyOf (m .outcome)) (rate-is s g r) ∙ told r (rateOk r);
     }
   where
-    told : (r : Hertz) (b : Bool) → replyOf (cond b (done (record { phases = s .phases; «sub_phase» = s .«sub_phase»; «sample_rate» = r; «freq_memo» = s .«freq_memo» })) (record { outcome = outcome.Refused 1; supersaw = s }) .outcome) ≡ cond b Done (Refused 1)
+    told : (r : Hertz) (b : Bool) → replyOf (cond b (done (rated s r)) (refused 1 s) .outcome) ≡ cond b Done (Refused 1)
     told r true = unfold replyOf in refl
     told r false = unfold replyOf in refl

@@ -6,14 +6,13 @@ use native.Mathlib.Nat.{zero-lt-suc, mul-pos, mul-le-mul}
 use native.Mathlib.Omega.{arith}
 use lib.Dec.{T, eqb, eqb·suc-zero, leb, ltb, leb→le, le→leb, nltb→le, lit≤}
 use lib.IntN.{pos}
-use lib.Ieee.{Float, nan, inf, fin, binary64, up, down, low, unlike, round, sum, add, mul, div, neg, lt, le, eq, ofBits}
+use lib.Ieee.{Float, nan, inf, fin, binary64, up, down, unlike, round, sum, add, mul, div, neg, lt, ofBits}
 use lib.Ieee.Exact.{HasValue}
-use lib.Ieee.Fits.{up-pos, down-pos}
-use lib.Ieee.Order.{round-mono}
-use lib.Ieee.Scale.{finite, grid, round-val, round-under}
+use lib.Ieee.Fits.{down-pos}
 use Rattle.laws.proofs.Interval.{part-round}
+use Rattle.laws.proofs.Number.{Signed, round-signed}
 use Rattle.laws.proofs.Order.{neg-neg}
-use Rattle.laws.proofs.Values.{round-zero, neg-round, neg-value, add-round, sum-pos-neg}
+use Rattle.laws.proofs.Values.{neg-round, neg-value, add-round, sum-pos-neg}
 use Rattle.laws.specs.Float.{zer, one}
 use Rattle.numeric.specs.Basic.{clampOf}
 
@@ -23,19 +22,13 @@ Plus nan = Unit {0}
 Plus (inf s) = s ≡ false
 Plus (fin s m e) = s ≡ false
 
-round-plus : (a c : ℕ) → 0 < c → Plus (round binary64 false a c)
-round-plus a c C =
-    go (round binary64 false a c) (λ t. round-val binary64 a c (round-under binary64 a c t))
-    (subst (λ (z : Float). T (le z (round binary64 false a c))) (round-zero false 1 (zero-lt-suc 0)) (round-mono binary64 0 1 a c (zero-lt-suc 0) C (none a c)))
+round-plus : (a c : ℕ) → Plus (round binary64 false a c)
+round-plus a c = go (round binary64 false a c) (round-signed false a c)
   where
-    none : (a c : ℕ) → 0 * c ≤ a * 1
-    none a c = omega arith
-
-    go : (x : Float) → (T (finite x) → HasValue x false (grid binary64 a c) (2 ^ low binary64)) → T (le (fin false 0 (pos 0)) x) → Plus x
-    go nan v h = tt
-    go (inf true) v h = absurd (unfold le lt eq in h)
-    go (inf false) v h = refl
-    go (fin s m e) v h = v tt .0
+    go : (x : Float) → Signed false x → Plus x
+    go nan h = tt
+    go (inf s) h = h
+    go (fin s m e) h = h
 
 pub mul-plus : (x y : Float) → Plus x → Plus y → Plus (mul binary64 x y)
 unfolding mul
@@ -53,7 +46,7 @@ mul-plus (fin s m e) (inf t) p q = go (eqb m 0)
     go : (b : Bool) → Plus (cond b nan (inf (unlike s t)))
     go true = tt
     go false = rw (p, q)
-mul-plus (fin s m e) (fin t n d) p q = rw (p, q) (round-plus (m * up e * (n * up d)) (down e * down d) (mul-pos (down-pos e) (down-pos d)))
+mul-plus (fin s m e) (fin t n d) p q = rw (p, q) (round-plus (m * up e * (n * up d)) (down e * down d))
 
 pub div-plus : (x y : Float) → Plus x → Plus y → Plus (div binary64 x y)
 unfolding div
@@ -68,7 +61,7 @@ div-plus (fin s m e) (fin t zero d) p q = go (eqb m 0)
     go : (b : Bool) → Plus (cond b nan (inf (unlike s t)))
     go true = tt
     go false = rw (p, q)
-div-plus (fin s m e) (fin t (suc n) d) p q = rw (p, q, eqb·suc-zero n) (round-plus (m * up e * down d) (suc n * up d * down e) (mul-pos (mul-pos (zero-lt-suc n) (up-pos d)) (down-pos e)))
+div-plus (fin s m e) (fin t (suc n) d) p q = rw (p, q, eqb·suc-zero n) (round-plus (m * up e * down d) (suc n * up d * down e))
 
 -- what is above 0 has none
 pub above-plus : (x : Float) → lt zer x ≡ true → Plus x
@@ -101,20 +94,17 @@ one-plus-round s a c C h = go s
     d : ℕ
     d = p .1
 
-    D : 0 < 1 * d
-    D = mul-pos (zero-lt-suc 0) (p .2)
-
     go : (s : Bool) → Plus (add binary64 (fin false 1 (pos 0)) (round binary64 s a c))
     go false =
         subst Plus (sym (add-round (fin false 1 (pos 0)) (round binary64 false a c) false false 1 1 b d (zero-lt-suc 0) (p .2) (refl, refl) (p .4)))
-        (round-plus (1 * d + b * 1) (1 * d) D)
+        (round-plus (1 * d + b * 1) (1 * d))
     go true =
         subst Plus
         (sym
         (add-round (fin false 1 (pos 0)) (round binary64 true a c) false true 1 1 b d (zero-lt-suc 0) (p .2) (refl, refl)
         (subst (λ (z : Float). HasValue z true b d) (sym (sym (neg-neg (round binary64 true a c)) ∙ ap neg (neg-round a c))) (neg-value (round binary64 false a c) false b d (p .4)))
         ∙ sum-pos-neg (1 * d) (b * 1) (1 * d) (under b d (p .3))))
-        (round-plus (1 * d - b * 1) (1 * d) D)
+        (round-plus (1 * d - b * 1) (1 * d))
       where
         under : (b d : ℕ) → b * 1 ≤ d → b * 1 ≤ 1 * d
         under b d h = omega arith

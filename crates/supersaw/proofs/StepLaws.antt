@@ -11,7 +11,7 @@ use lib.Ieee.Bits.{is-true}
 use lib.Ieee.Fits.{down-pos, add-fits}
 use lib.Ieee.Order.{round-mono}
 use lib.Ieee.Positive.{first-pos}
-use Rattle.laws.proofs.Order.{lt-false, lt-by-values}
+use Rattle.laws.proofs.Order.{lt-false, lt-by-values, le-of-lt-true}
 use Rattle.laws.proofs.Tests.{of-true}
 use Rattle.laws.proofs.Unique.{round-own}
 use Rattle.laws.proofs.Values.{sub-round, sum-pos-neg}
@@ -19,7 +19,7 @@ use Rattle.laws.specs.Float.{zer, one, F64, isFin}
 use Rattle.common.proofs.PhaseLaws.{wrap-unit}
 use Rattle.common.specs.Phase.{turns, wrapOf, polyblepOf}
 use Rattle.common.specs.Tests.{phaseOk}
-use Rattle.supersaw.proofs.FloatLaws.{le-by-lt, lt-le-trans, le-lt-trans, below-one, between-finite}
+use Rattle.supersaw.proofs.FloatLaws.{lt-le-trans, le-lt-trans, below-one, between-finite}
 use Rattle.supersaw.proofs.Loops.{both-true}
 use Rattle.supersaw.proofs.Sign.{Plus}
 use Rattle.supersaw.specs.Lanes.{steadyOf}
@@ -99,8 +99,8 @@ module _ (n m : ℕ) (g e : ℤ) (F : F64 (fin false n g)) (above : m * up e * d
       let b : T (lt next one) = of-true (lt next one) below in
       let z : T (lt zer next) = lt-le-trans zer t next positive grows in
       record {
-        ok = unfold phaseOk in simp (is-true (le zer t) (le-by-lt zer t positive), is-true (lt t one) (le-lt-trans t next one grows b));
-        still = unfold polyblepOf in simp (lt-false t dt (le-by-lt dt t h), lt-false (sub binary64 one dt) t under);
+        ok = unfold phaseOk in simp (is-true (le zer t) (le-of-lt-true zer t positive), is-true (lt t one) (le-lt-trans t next one grows b));
+        still = unfold polyblepOf in simp (lt-false t dt (le-of-lt-true dt t h), lt-false (sub binary64 one dt) t under);
         kept = wrap-unit next (add-fits binary64 t dt) (is-true (lt zer next) z) below;
         finite = between-finite next (is-true (lt zer next) z) below;
       }

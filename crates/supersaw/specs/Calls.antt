@@ -1,14 +1,12 @@
 -- Calls on a Supersaw, one after another.
 use mathlib.Core.Path.{_≡_}
-use mathlib.Core.Bool.{true}
 use Prim.Native.Nat.{ℕ}
 use Rattle.laws.specs.Machine.{Reached}
-use Rattle.common.specs.Tests.{rateOk}
 use Rattle.common.specs.declared.Hertz.{Hertz}
 use Rattle.answer.specs.declared.Answer.{Answer}
 use Rattle.answer.specs.declared.Outcome.{Outcome}
 use Rattle.answer.specs.declared.Outcome.the-variants as outcome
-use Rattle.supersaw.specs.Supersaw.{newSupersaw, supersawTickOf, supersawResetOf, supersawSetSampleRateOf}
+use Rattle.supersaw.specs.Supersaw.{supersawNewOf, supersawTickOf, supersawResetOf, supersawSetSampleRateOf}
 use Rattle.supersaw.specs.declared.Supersaw.{Supersaw}
 use Rattle.supersaw.specs.declared.SupersawControls.{SupersawControls}
 
@@ -37,9 +35,9 @@ reply s (Tick c) = Ticked (supersawTickOf s c .answer)
 reply s Reset = replyOf (supersawResetOf s .outcome)
 reply s (SetSampleRate r) = replyOf (supersawSetSampleRateOf s r .outcome)
 
--- an accepted new
+-- an accepted new one
 abbrev pub First : Supersaw → Type 0
-First s = (r : Hertz) × (rateOk r ≡ true) × (s ≡ newSupersaw r)
+First s = (r : Hertz) × (supersawNewOf r ≡ record { outcome = outcome.Done; supersaw = s })
 
 -- any call, of any controls
 abbrev pub FitCall : Call → Type 0

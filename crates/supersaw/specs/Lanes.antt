@@ -15,6 +15,7 @@ use Rattle.answer.specs.Mark.{markOf}
 use Rattle.supersaw.specs.Consts.{mixLevels}
 use Rattle.supersaw.specs.Voices.{at, dtOf, sawOf}
 use Rattle.supersaw.specs.Supersaw.{all}
+use Rattle.supersaw.specs.declared.Supersaw.{Supersaw}
 use Rattle.supersaw.specs.declared.SupersawTicked.{SupersawTicked}
 
 -- the phases
@@ -52,20 +53,20 @@ totalMix = ofBits binary64 0x4014cccccccccccd
 unfoldable pub blendOf : List Float → Float → Float
 blendOf s mix = add binary64 (mul binary64 (at s 3) (sub binary64 one mix)) (mul binary64 (div binary64 (mixTo s 7) totalMix) mix)
 
--- the answer and the state from both outputs, the new phases and whether they were finite before their wrap
-unfoldable pub tickedOf : Float → Float → List Float → Bool → Hertz → Memo1 → SupersawTicked
-tickedOf out low t finite rate memo =
-    record {
-      answer = markOf (record { p10 = out; p11 = low; p12 = zer; p13 = zer; p14 = zer }) false true finite;
-      supersaw = record { phases = tab (at t) 7; «sub_phase» = turns (at t 7); «sample_rate» = rate; «freq_memo» = memo };
-    }
+-- the answer from both outputs and whether the phases were finite before their wrap, beside the state after the tick
+unfoldable pub tickedOf : Float → Float → Bool → Supersaw → SupersawTicked
+tickedOf out low finite s = record { answer = markOf (record { p10 = out; p11 = low; p12 = zer; p13 = zer; p14 = zer }) false true finite; supersaw = s }
+
+-- the state with these phases and this memo
+unfoldable pub advancedOf : Supersaw → List Float → Memo1 → Supersaw
+advancedOf s t memo = record { phases = tab (at t) 7; «sub_phase» = turns (at t 7); «sample_rate» = s .«sample_rate»; «freq_memo» = memo }
 
 -- an accepted tick
-unfoldable pub soundOf : List Float → List Float → Float → Hertz → Memo1 → SupersawTicked
-soundOf t dt mix rate memo =
+unfoldable pub soundOf : Supersaw → List Float → List Float → Float → Memo1 → SupersawTicked
+soundOf s t dt mix memo =
     let saws = sawsOf t dt in
     let next = sumsOf t dt in
-    tickedOf (blendOf saws mix) (at saws 7) (wrapsOf next) (lanesFinite next) rate memo
+    tickedOf (blendOf saws mix) (at saws 7) (lanesFinite next) (advancedOf s (wrapsOf next) memo)
 
 -- ---- the tick in which no oscillator comes near its step
 -- more than an increment above its step, and more than one below the next; every f64 fits
@@ -82,7 +83,7 @@ unfoldable pub rampsOf : List Float → List Float
 rampsOf t = tab (λ i. sub binary64 (sub binary64 (mul binary64 two (at t i)) one) zer) 8
 
 -- it has no residual and no wrap
-unfoldable pub glideOf : List Float → List Float → Float → Hertz → Memo1 → SupersawTicked
-glideOf t dt mix rate memo =
+unfoldable pub glideOf : Supersaw → List Float → List Float → Float → Memo1 → SupersawTicked
+glideOf s t dt mix memo =
     let ramps = rampsOf t in
-    tickedOf (blendOf ramps mix) (at ramps 7) (sumsOf t dt) true rate memo
+    tickedOf (blendOf ramps mix) (at ramps 7) true (advancedOf s (sumsOf t dt) memo)

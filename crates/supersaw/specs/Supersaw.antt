@@ -72,11 +72,16 @@ supersawTickOf s c =
     cond (eqb n 0) (supersawSoundOf s c) (record { answer = answer.Refused n; supersaw = s })
 
 -- reset: the rate and the memo stay
-unfoldable pub supersawResetOf : Supersaw → SupersawMade
-supersawResetOf s = madeUnless (supersawRefusalOf s) s (record { phases = startPhases; «sub_phase» = turns zer; «sample_rate» = s .«sample_rate»; «freq_memo» = s .«freq_memo» })
+abbrev pub restarted : Supersaw → Supersaw
+restarted s = record { phases = startPhases; «sub_phase» = turns zer; «sample_rate» = s .«sample_rate»; «freq_memo» = s .«freq_memo» }
 
--- set_sample_rate: 1 on the new rate and on the old, then 2
+unfoldable pub supersawResetOf : Supersaw → SupersawMade
+supersawResetOf s = madeUnless (supersawRefusalOf s) s (restarted s)
+
+-- set_sample_rate: all but the rate stays
+abbrev pub rated : Supersaw → Hertz → Supersaw
+rated s r = record { phases = s .phases; «sub_phase» = s .«sub_phase»; «sample_rate» = r; «freq_memo» = s .«freq_memo» }
+
+-- 1 on the new rate and on the old, then 2
 unfoldable pub supersawSetSampleRateOf : Supersaw → Hertz → SupersawMade
-supersawSetSampleRateOf s r =
-    madeUnless (cond (rateOk r) (supersawRefusalOf s) 1) s
-    (record { phases = s .phases; «sub_phase» = s .«sub_phase»; «sample_rate» = r; «freq_memo» = s .«freq_memo» })
+supersawSetSampleRateOf s r = madeUnless (cond (rateOk r) (supersawRefusalOf s) 1) s (rated s r)

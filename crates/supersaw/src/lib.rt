@@ -13,7 +13,7 @@ ghost use mathlib.Core.Path.{_≡_};
 ghost use lib.ListN.{length};
 ghost use Rattle.supersaw.specs.Voices.{sawOf};
 ghost use Rattle.supersaw.specs.Supersaw.{startPhases, supersawRefusalOf, supersawNewOf, supersawTickOf, supersawResetOf, supersawSetSampleRateOf};
-ghost use Rattle.supersaw.specs.Lanes.{lanesOf, lanesOk, incsOf, sawsOf, rampsOf, sumsOf, wrapsOf, lanesFinite, steadyOf, lanesSteady, mixTo, blendOf, tickedOf, soundOf, quietOf, glideOf};
+ghost use Rattle.supersaw.specs.Lanes.{lanesOf, lanesOk, incsOf, sawsOf, rampsOf, sumsOf, wrapsOf, lanesFinite, steadyOf, lanesSteady, mixTo, blendOf, tickedOf, advancedOf, soundOf, quietOf, glideOf};
 
 pub struct Supersaw {
     pub phases: [f64; 7],
@@ -158,16 +158,9 @@ fn all_steady(t: [f64; 8], dt: [f64; 8]) -> bool
     true
 }
 
-// An accepted tick from its outputs and its new phases.
-fn ticked(
-    out: f64,
-    sub: f64,
-    t: [f64; 8],
-    finite: bool,
-    sample_rate: Hertz,
-    freq_memo: Memo1,
-) -> SupersawTicked
-    ensures { λ r. ⌜ r ≡ tickedOf out sub t finite «sample_rate» «freq_memo» ⌝ }
+// An accepted tick from its outputs, whether each phase plus its increment was finite, and the state after it.
+fn ticked(out: f64, sub: f64, finite: bool, supersaw: Supersaw) -> SupersawTicked
+    ensures { λ r. ⌜ r ≡ tickedOf out sub finite supersaw ⌝ }
 {
     let volts = Volts {
         p10: out,
@@ -178,12 +171,7 @@ fn ticked(
     };
     SupersawTicked {
         answer: answer::mark(volts, false, true, finite),
-        supersaw: Supersaw {
-            phases: [t[0], t[1], t[2], t[3], t[4], t[5], t[6]],
-            sub_phase: Turns(t[7]),
-            sample_rate,
-            freq_memo,
-        },
+        supersaw,
     }
 }
 
@@ -312,42 +300,44 @@ impl Supersaw {
         }
     }
 
+    // The state after a tick that leaves the phases at t.
+    fn advanced(self, t: [f64; 8], freq_memo: Memo1) -> Supersaw
+        ensures { λ r. ⌜ r ≡ advancedOf self t «freq_memo» ⌝ }
+    {
+        let sample_rate = self.sample_rate;
+        let mut phases = self.phases;
+        let mut i = 0;
+        while i < 7 {
+            phases[i] = t[i];
+            i += 1;
+        }
+        Supersaw {
+            phases,
+            sub_phase: Turns(t[7]),
+            sample_rate,
+            freq_memo,
+        }
+    }
+
     // A quiet tick: no residual, and no wrap.
-    fn glide(
-        t: [f64; 8],
-        dt: [f64; 8],
-        mix: f64,
-        sample_rate: Hertz,
-        freq_memo: Memo1,
-    ) -> SupersawTicked
-        ensures { λ r. ⌜ r ≡ glideOf t dt mix «sample_rate» «freq_memo» ⌝ }
+    fn glide(self, t: [f64; 8], dt: [f64; 8], mix: f64, freq_memo: Memo1) -> SupersawTicked
+        ensures { λ r. ⌜ r ≡ glideOf self t dt mix «freq_memo» ⌝ }
     {
         let s = ramps(t);
         let out = Self::blend(s, mix);
-        ticked(out, s[7], sums(t, dt), true, sample_rate, freq_memo)
+        let after = self.advanced(sums(t, dt), freq_memo);
+        ticked(out, s[7], true, after)
     }
 
     // An accepted tick.
-    fn sound(
-        t: [f64; 8],
-        dt: [f64; 8],
-        mix: f64,
-        sample_rate: Hertz,
-        freq_memo: Memo1,
-    ) -> SupersawTicked
-        ensures { λ r. ⌜ r ≡ soundOf t dt mix «sample_rate» «freq_memo» ⌝ }
+    fn sound(self, t: [f64; 8], dt: [f64; 8], mix: f64, freq_memo: Memo1) -> SupersawTicked
+        ensures { λ r. ⌜ r ≡ soundOf self t dt mix «freq_memo» ⌝ }
     {
         let s = saws(t, dt);
         let out = Self::blend(s, mix);
         let next = sums(t, dt);
-        ticked(
-            out,
-            s[7],
-            wraps(next),
-            all_finite(next),
-            sample_rate,
-            freq_memo,
-        )
+        let after = self.advanced(wraps(next), freq_memo);
+        ticked(out, s[7], all_finite(next), after)
     }
 
     pub fn tick(self, c: SupersawControls) -> SupersawTicked
@@ -364,11 +354,11 @@ impl Supersaw {
         let t = lanes(phases, sub_phase);
         let dt = Self::increments(detune, base_freq, sample_rate);
         if Self::quiet(sample_rate, base_freq, t, dt) {
-            Self::glide(t, dt, mix, sample_rate, freq_memo)
+            self.glide(t, dt, mix, freq_memo)
         } else {
             let n = self.refusal();
             if n == 0 {
-                Self::sound(t, dt, mix, sample_rate, freq_memo)
+                self.sound(t, dt, mix, freq_memo)
             } else {
                 SupersawTicked {
                     answer: Answer::Refused(n),

@@ -1,7 +1,7 @@
 use mathlib.Core.Path.{sym, _∙_}
 use borrow.Author.Needs.{needs}
 use borrow.Author.Tests.{ne-eqb, eq-eqb}
-use Rattle.exports_supersaw.proofs.Slices.{sized}
+use Rattle.exports_supersaw.proofs.Lengths.{sized}
 use Rattle.exports_supersaw.specs.Calls.{keptSized, supersawNewAt}
 use Rattle.exports_supersaw.proofs.gruttisol_supersaw_new.Statement.{statement}
 use Rattle.exports_supersaw.proofs.gruttisol_supersaw_new.Tie as tie

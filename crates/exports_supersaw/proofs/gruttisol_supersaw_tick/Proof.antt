@@ -1,7 +1,7 @@
 use borrow.Author.Tests.{eq-eqb, ne-eqb}
 use mathlib.Core.Path.{sym, _∙_}
 use Rattle.exports_supersaw.specs.Calls.{supersawTickAt, heardSized}
-use Rattle.exports_supersaw.proofs.Slices.{tick-sized}
+use Rattle.exports_supersaw.proofs.Lengths.{tick-sized}
 use borrow.Author.Needs.{needs}
 use Rattle.exports_supersaw.proofs.gruttisol_supersaw_tick.Statement.{statement}
 use Rattle.exports_supersaw.proofs.gruttisol_supersaw_tick.Tie as tie

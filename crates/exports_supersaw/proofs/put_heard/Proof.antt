@@ -1,6 +1,6 @@
 use native.Mathlib.Omega.{arith}
 use lib.ListN.{length-set}
-use Rattle.exports_supersaw.proofs.Slices.{stored}
+use Rattle.laws.proofs.Slices.{stored}
 use Rattle.exports_supersaw.specs.State.{samplesOf}
 use borrow.Author.Needs.{needs}
 use Rattle.exports_supersaw.proofs.put_heard.Statement.{statement}

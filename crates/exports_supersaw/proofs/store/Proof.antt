@@ -1,7 +1,7 @@
 use native.Mathlib.Omega.{arith}
 use lib.ListN.{length-set}
 use Rattle.laws.specs.Lists.{tab}
-use Rattle.exports_supersaw.proofs.Slices.{stored, byte}
+use Rattle.laws.proofs.Slices.{stored, byte}
 use Rattle.exports_supersaw.specs.State.{floatsOf, wholesOf}
 use borrow.Author.Needs.{needs}
 use Rattle.exports_supersaw.proofs.store.Statement.{statement}

@@ -1,22 +1,12 @@
--- Every cell of a list stored, one after another; and lengths that nothing refuses.
+-- Lengths that nothing refuses.
 use mathlib.Core.Bool.{Bool, true, false, cond, true≢false}
-use mathlib.Core.List.{List, _++_, append-nil}
-use mathlib.Core.Path.{_≡_, refl, sym, ap, _∙_}
-use Prim.Native.Nat.{ℕ, _+_}
+use mathlib.Core.Path.{_≡_, refl, sym, _∙_}
+use Prim.Native.Nat.{ℕ}
 use native.Mathlib.Omega.{arith}
 use lib.Dec.{eqb}
-use lib.ListN.{length, drop-of-length-le}
-use lib.Seq.{sets, sets-eq}
 use borrow.Author.Tests.{eqb-true}
 use Rattle.laws.proofs.Tests.{eqb-yes}
-use mir.Val.{boolByte}
 use Rattle.exports_supersaw.specs.State.{sizesOf, tickSizesOf}
-
-pub stored : {A : Type 0} (l vs : List A) → length l ≡ length vs → sets l 0 vs ≡ vs
-stored {A} l vs h =
-    sets-eq vs l 0 (omega arith)
-    ∙ ap (λ (r : List A). vs ++ r) (drop-of-length-le l {i = 0 + length vs} (omega arith))
-    ∙ append-nil vs
 
 pub sized : (f w : ℕ) → sizesOf f w ≡ 0 → (f ≡ 10) × (w ≡ 2)
 unfolding sizesOf
@@ -35,8 +25,3 @@ tick-sized f w o = go (eqb (sizesOf f w) 0) (eqb o 2) refl refl
     go true true p q h = let z = sized f w (eqb-true (sizesOf f w) 0 p) in (z .0, z .1, eqb-true o 2 q)
     go true false p q h = absurd (omega arith)
     go false b p q h = absurd (true≢false (sym (eqb-yes (sizesOf f w) 0 h) ∙ p))
-
--- a bool cast to a whole number
-pub byte : (b : Bool) → boolByte b ≡ cond b 1 0
-byte true = refl
-byte false = refl
