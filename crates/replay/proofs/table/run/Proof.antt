@@ -152,6 +152,9 @@ lfo-tick-requires c κs = search needs
 vco-tick-requires : tie.Need-vco-tick-requires
 vco-tick-requires c κs = search needs
 
+supersaw-tick-requires : tie.Need-supersaw-tick-requires
+supersaw-tick-requires c κs = search needs
+
 returns : tie.Need-returns
 unfolding runOf rows
 returns c = simp (c .one .ensures, c .before .bits .ensures, c .before .before .sin .ensures, c .before .before .before .before .before .before .real .ensures, c .before .before .before .match .keys1)
@@ -221,8 +224,12 @@ unfolding runOf rows
 returns-17 c = simp (c .vco-tick .ensures, c .before .match .keys17)
 
 returns-18 : tie.Need-returns-18
+unfolding runOf rows
+returns-18 c = simp (c .supersaw-tick .ensures, c .before .match .keys18)
+
+returns-19 : tie.Need-returns-19
 unfolding rows
-returns-18 c = run-past _ _ (other-past 17 _ (c .match .rest))
+returns-19 c = run-past _ _ (other-past 18 _ (c .match .rest))
 
 pub run-spec : {M : Type 1} → statement M
 run-spec =
@@ -277,6 +284,7 @@ run-spec =
     one-requires-15
     lfo-tick-requires
     vco-tick-requires
+    supersaw-tick-requires
     returns
     returns-2
     returns-3
@@ -294,4 +302,5 @@ run-spec =
     returns-15
     returns-16
     returns-17
-    returns-18)
+    returns-18
+    returns-19)
