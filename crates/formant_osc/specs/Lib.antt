@@ -1,0 +1,5 @@
+pub mod Consts
+pub mod Coefs
+pub mod Memo
+pub mod Sound
+pub mod FormantOsc
