@@ -1,9 +1,9 @@
 -- The FormantOsc's calls, written from oscillators.rs, with document 01's refusals and marks.
-use mathlib.Core.Bool.{Bool, true, false, cond, _&&_}
-use mathlib.Core.List.{List, [], _∷_}
+use mathlib.Core.Bool.{false, cond, _&&_}
+use mathlib.Core.List.{[], _∷_}
 use Prim.Native.Nat.{ℕ}
 use lib.Dec.{eqb}
-use lib.Ieee.{Float, binary64, add, mul, div, neg}
+use lib.Ieee.{binary64, add, mul, div, neg}
 use Rattle.laws.specs.Float.{zer, one, isFin}
 use Rattle.numeric.specs.Basic.{clampOf}
 use Rattle.common.specs.Consts.{five}

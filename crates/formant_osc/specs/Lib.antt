@@ -3,3 +3,5 @@ pub mod Coefs
 pub mod Memo
 pub mod Sound
 pub mod FormantOsc
+pub mod Calls
+pub mod Promises
