@@ -10,5 +10,6 @@ pub mod Alike
 pub mod Reached
 pub mod Ticks
 pub mod Promised
+pub mod Untouched
 pub mod Forget
 pub mod Settled

@@ -187,7 +187,7 @@ made-new (suc k) t s m l x e = absurd (never (ap (λ (y : Making). y .out) e))
     never : made.Refused (suc k) ≡ made.Made s → ⊥
     never h = let z : _≡_ {A = ℕ} 0 1 = cc in omega arith
 
-new-taken : (r : Hertz) (n : ℕ) → _≡_ {A = ℕ} (cond (rateOk r) (roomOf r n) 1) 0 → (rateOk r ≡ true) × (maxLenOf r + 2 ≤ n)
+pub new-taken : (r : Hertz) (n : ℕ) → _≡_ {A = ℕ} (cond (rateOk r) (roomOf r n) 1) 0 → (rateOk r ≡ true) × (maxLenOf r + 2 ≤ n)
 new-taken r n e = go (rateOk r) refl e
   where
     go : (b : Bool) → rateOk r ≡ b → _≡_ {A = ℕ} (cond b (roomOf r n) 1) 0 → (rateOk r ≡ true) × (maxLenOf r + 2 ≤ n)

@@ -5,7 +5,7 @@ use lib.Ieee.{Float}
 use Rattle.laws.specs.Machine.{Settles}
 use Rattle.karplus_strong.specs.Step.{Ticking}
 use Rattle.karplus_strong.specs.KarplusStrong.{Making, karplusStrongNewOf, karplusStrongTickOf, karplusStrongResetOf, karplusStrongSetSampleRateOf}
-use Rattle.karplus_strong.specs.Promises.{New-settled, Tick-settled, Reset-settled, Set-sample-rate-settled}
+use Rattle.karplus_strong.specs.Promises.{Settled}
 
 ticking : (t : Ticking) → Settles (λ (r : Ticking). (r .out ≡ t .out) × (r .line ≡ t .line))
 ticking t x y p q = (λ i. record { out = (p .0 ∙ sym (q .0)) i; line = (p .1 ∙ sym (q .1)) i })
@@ -13,14 +13,11 @@ ticking t x y p q = (λ i. record { out = (p .0 ∙ sym (q .0)) i; line = (p .1 
 making : (t : Making) → Settles (λ (r : Making). (r .out ≡ t .out) × (r .line ≡ t .line))
 making t x y p q = (λ i. record { out = (p .0 ∙ sym (q .0)) i; line = (p .1 ∙ sym (q .1)) i })
 
-pub new-settled : New-settled
-new-settled rate l = making (karplusStrongNewOf rate l)
-
-pub tick-settled : Tick-settled
-tick-settled s c draws l = ticking (karplusStrongTickOf s c draws l)
-
-pub reset-settled : Reset-settled
-reset-settled s l = making (karplusStrongResetOf s l)
-
-pub set-sample-rate-settled : Set-sample-rate-settled
-set-sample-rate-settled s rate l = making (karplusStrongSetSampleRateOf s rate l)
+pub settled : Settled
+settled =
+    record {
+      new = λ rate l. making (karplusStrongNewOf rate l);
+      tick = λ s c draws l. ticking (karplusStrongTickOf s c draws l);
+      reset = λ s l. making (karplusStrongResetOf s l);
+      «set_sample_rate» = λ s rate l. making (karplusStrongSetSampleRateOf s rate l);
+    }

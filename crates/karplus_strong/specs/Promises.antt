@@ -81,6 +81,24 @@ pub record SameTick (t u : Ticking) : Type 0 where
 abbrev pub Only-its-cells : Type 0
 Only-its-cells = (s : KarplusStrong) (c : KarplusStrongControls) (draws : List ℕ) (l m : List Float) → Alike (s .len) l m → SameTick (karplusStrongTickOf s c draws l) (karplusStrongTickOf s c draws m)
 
+-- and nothing is written from cell n on
+pub record SamePast (n : ℕ) (l m : List Float) : Type 0 where
+  pub size : length m ≡ length l
+  pub cells : (i : ℕ) → n ≤ i → getD m i nan ≡ getD l i nan
+
+-- n being the length after the call
+pub record Past-untouched : Type 0 where
+  pub new : (rate : Hertz) (l : List Float) → SamePast (maxLenOf rate) l (karplusStrongNewOf rate l .line)
+  pub tick : (s : KarplusStrong) (c : KarplusStrongControls) (draws : List ℕ) (l : List Float) → SamePast (karplusStrongTickOf s c draws l .out .«karplus_strong» .len) l (karplusStrongTickOf s c draws l .line)
+  pub reset : (s : KarplusStrong) (l : List Float) → SamePast (s .len) l (karplusStrongResetOf s l .line)
+  pub «set_sample_rate» : (s : KarplusStrong) (rate : Hertz) (l : List Float) → SamePast (maxLenOf rate) l (karplusStrongSetSampleRateOf s rate l .line)
+
+-- ---- only the draws that fill the line count, and without an edge none
+pub record Only-its-draws : Type 0 where
+  pub struck : (s : KarplusStrong) (c : KarplusStrongControls) (d e : List ℕ) (l : List Float) → struckLen (periodAt s c) ≤ length d → struckLen (periodAt s c) ≤ length e → ((i : ℕ) → i < struckLen (periodAt s c) → getD d i 0 ≡ getD e i 0)
+      → karplusStrongTickOf s c d l ≡ karplusStrongTickOf s c e l
+  pub unstruck : (s : KarplusStrong) (c : KarplusStrongControls) (d e : List ℕ) (l : List Float) → risesAt s c ≡ false → karplusStrongTickOf s c d l ≡ karplusStrongTickOf s c e l
+
 -- ---- marks, for every state: clean with a finite sample, or cleared with 0.0
 abbrev pub Clean-or-cleared : Type 0
 Clean-or-cleared = (s : KarplusStrong) (c : KarplusStrongControls) (draws : List ℕ) (l : List Float) → accepted (karplusStrongTickOf s c draws l .out .answer) ≡ true
@@ -97,14 +115,8 @@ abbrev pub Keeps-rate : Type 0
 Keeps-rate = (s : KarplusStrong) (c : KarplusStrongControls) (draws : List ℕ) (l : List Float) → karplusStrongTickOf s c draws l .out .«karplus_strong» .«sample_rate» ≡ s .«sample_rate»
 
 -- ---- each contract settles the answer and the line
-abbrev pub New-settled : Type 0
-New-settled = (rate : Hertz) (l : List Float) → Settles (λ (r : Making). (r .out ≡ karplusStrongNewOf rate l .out) × (r .line ≡ karplusStrongNewOf rate l .line))
-
-abbrev pub Tick-settled : Type 0
-Tick-settled = (s : KarplusStrong) (c : KarplusStrongControls) (draws : List ℕ) (l : List Float) → Settles (λ (r : Ticking). (r .out ≡ karplusStrongTickOf s c draws l .out) × (r .line ≡ karplusStrongTickOf s c draws l .line))
-
-abbrev pub Reset-settled : Type 0
-Reset-settled = (s : KarplusStrong) (l : List Float) → Settles (λ (r : Making). (r .out ≡ karplusStrongResetOf s l .out) × (r .line ≡ karplusStrongResetOf s l .line))
-
-abbrev pub Set-sample-rate-settled : Type 0
-Set-sample-rate-settled = (s : KarplusStrong) (rate : Hertz) (l : List Float) → Settles (λ (r : Making). (r .out ≡ karplusStrongSetSampleRateOf s rate l .out) × (r .line ≡ karplusStrongSetSampleRateOf s rate l .line))
+pub record Settled : Type 0 where
+  pub new : (rate : Hertz) (l : List Float) → Settles (λ (r : Making). (r .out ≡ karplusStrongNewOf rate l .out) × (r .line ≡ karplusStrongNewOf rate l .line))
+  pub tick : (s : KarplusStrong) (c : KarplusStrongControls) (draws : List ℕ) (l : List Float) → Settles (λ (r : Ticking). (r .out ≡ karplusStrongTickOf s c draws l .out) × (r .line ≡ karplusStrongTickOf s c draws l .line))
+  pub reset : (s : KarplusStrong) (l : List Float) → Settles (λ (r : Making). (r .out ≡ karplusStrongResetOf s l .out) × (r .line ≡ karplusStrongResetOf s l .line))
+  pub «set_sample_rate» : (s : KarplusStrong) (rate : Hertz) (l : List Float) → Settles (λ (r : Making). (r .out ≡ karplusStrongSetSampleRateOf s rate l .out) × (r .line ≡ karplusStrongSetSampleRateOf s rate l .line))
