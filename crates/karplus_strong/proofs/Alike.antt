@@ -40,7 +40,7 @@ length-struck n b d l h =
     length-over (levelAt (meanOf n (over (excitedAt n b d) n l)) (over (excitedAt n b d) n l)) n (over (excitedAt n b d) n l) (omega arith) ∙ q
 
 -- ---- the passes
-getD-over : (f : ℕ → Float) (n : ℕ) (l : List Float) (i : ℕ) → i < n → getD (over f n l) i nan ≡ f i
+pub getD-over : (f : ℕ → Float) (n : ℕ) (l : List Float) (i : ℕ) → i < n → getD (over f n l) i nan ≡ f i
 unfolding over
 getD-over f n l i h =
     let q : length (tab f n) ≡ n = length-tab f n in

@@ -5,11 +5,13 @@ pub mod Cuts
 pub mod Periods
 pub mod Delays
 pub mod Draws
+pub mod Weights
 pub mod Parts
 pub mod Alike
 pub mod Reached
 pub mod Ticks
 pub mod Promised
 pub mod Untouched
+pub mod Unstretched
 pub mod Forget
 pub mod Settled

@@ -135,10 +135,10 @@ pub minus-one-fin : isFin (neg one) ≡ true
 unfolding ofBits neg
 minus-one-fin = refl
 
-damped : (x : Float) → T (le zer (clampOf (finiteOr x half) zer one)) × T (le (clampOf (finiteOr x half) zer one) one)
+pub damped : (x : Float) → T (le zer (clampOf (finiteOr x half) zer one)) × T (le (clampOf (finiteOr x half) zer one) one)
 damped x = clamp-range (finiteOr x half) zer one (unfold le lt eq ofBits in tt) (finite-number x half half-fin)
 
-stretched : (x : Float) → T (le (neg one) (clampOf (finiteOr x zer) (neg one) one)) × T (le (clampOf (finiteOr x zer) (neg one) one) one)
+pub stretched : (x : Float) → T (le (neg one) (clampOf (finiteOr x zer) (neg one) one)) × T (le (clampOf (finiteOr x zer) (neg one) one) one)
 stretched x = clamp-range (finiteOr x zer) (neg one) one (unfold le lt eq neg ofBits in tt) (finite-number x zer zer-fin)
 
 -- the delay that is left for the line is at most the period

@@ -164,7 +164,7 @@ low-sounds : (s : KarplusStrong) (c : KarplusStrongControls) (draws : List ℕ) 
 unfolding soundRefusal
 low-sounds s c draws e = simp (low-rises s c e)
 
-struck-short : (s : KarplusStrong) (c : KarplusStrongControls) → Sound s → struckLen (periodAt s c) ≤ 9611
+pub struck-short : (s : KarplusStrong) (c : KarplusStrongControls) → Sound s → struckLen (periodAt s c) ≤ 9611
 unfolding struckLen
 struck-short s c a =
     let m = recall1 voctToHzAt (s .«freq_memo») (finiteOr (c .voct .0) zer) in

@@ -5,9 +5,10 @@ use mathlib.Core.Logic.{_⊎_}
 use mathlib.Core.Path.{_≡_}
 use Prim.Native.Nat.{ℕ, zero, suc, _≤_, _<_}
 use lib.ListN.{length, getD}
-use lib.Ieee.{Float, nan}
-use Rattle.laws.specs.Float.{zer, isFin}
-use Rattle.laws.specs.Machine.{replies, Settles}
+use lib.Ieee.{Float, nan, neg}
+use Rattle.laws.specs.Float.{zer, one, isFin}
+use Rattle.laws.specs.Machine.{Reached, replies, Settles}
+use Rattle.numeric.specs.Basic.{clampOf}
 use Rattle.common.specs.Consts.{five}
 use Rattle.common.specs.Edge.{risingOf}
 use Rattle.common.specs.Memo.{recall1, voctToHzAt}
@@ -104,6 +105,16 @@ abbrev pub Clean-or-cleared : Type 0
 Clean-or-cleared = (s : KarplusStrong) (c : KarplusStrongControls) (draws : List ℕ) (l : List Float) → accepted (karplusStrongTickOf s c draws l .out .answer) ≡ true
     → ((markNumber (karplusStrongTickOf s c draws l .out .answer) ≡ 4) × (isFin (voltsOf (karplusStrongTickOf s c draws l .out .answer) .p10) ≡ true))
     ⊎ ((markNumber (karplusStrongTickOf s c draws l .out .answer) ≡ 1) × (voltsOf (karplusStrongTickOf s c draws l .out .answer) ≡ outOf zer))
+
+-- and while its stretch counts as 0.0 a string is never cleared, whatever its other controls do. With another it may be: at
+-- 48,000 Hz, voct 0.0 and damping 1.0, a stretch of -1.0 and 1.0 by turns drives the loop up until it overflows
+abbrev pub Unstretched : Call → Type 0
+Unstretched (Tick c draws) = FitCall (Tick c draws) × (clampOf (finiteOr (c .stretch) zer) (neg one) one ≡ zer)
+Unstretched Reset = Unit
+Unstretched (SetSampleRate rate) = Unit
+
+abbrev pub Never-cleared : Type 0
+Never-cleared = (x : Strung) → Reached First Unstretched after x → (c : KarplusStrongControls) (draws : List ℕ) → Unstretched (Tick c draws) → accepted (karplusStrongTickOf (x .string) c draws (x .line) .out .answer) ≡ true → markNumber (karplusStrongTickOf (x .string) c draws (x .line) .out .answer) ≡ 4
 
 -- a refused tick leaves string and line as they stood
 abbrev pub Refused-leaves : Type 0
