@@ -1,15 +1,15 @@
 -- Two lines of one size that agree below the string's length stay so through a tick, and it answers alike.
-use mathlib.Core.Bool.{Bool, true, false, cond, not, _&&_}
+use mathlib.Core.Bool.{Bool, true, false, cond}
 use mathlib.Core.List.{List}
-use mathlib.Core.Path.{_≡_, refl, sym, ap, _∙_, subst}
-use Prim.Native.Nat.{ℕ, zero, suc, _+_, _-_, _%_, _≤_, _<_}
+use mathlib.Core.Path.{_≡_, refl, sym, ap, _∙_}
+use Prim.Native.Nat.{ℕ, zero, suc, _+_, _%_, _≤_, _<_}
 use native.Mathlib.Decide.{ℕ-discrete}
 use native.Mathlib.Nat.{mod-lt, not-suc-le-zero}
 use native.Mathlib.Omega.{arith}
 use lib.Dec.{ltb}
 use lib.ListN.{length, getD, drop, set, length-set, List·getD-append}
 use lib.Seq.{getD-set-same, getD-set-other}
-use lib.Ieee.{Float, nan, binary64, add, sub, mul, div, neg}
+use lib.Ieee.{Float, nan, binary64, mul, div, neg}
 use borrow.Author.Tests.{ltb-true}
 use Rattle.laws.proofs.Over.{length-tab, length-over, getD-tab}
 use Rattle.laws.specs.Float.{zer, one, isFin}
@@ -18,11 +18,10 @@ use Rattle.numeric.specs.Basic.{clampOf, wholeOf, realOf}
 use Rattle.common.specs.Consts.{half}
 use Rattle.common.specs.Edge.{risingOf}
 use Rattle.common.specs.Memo.{recall1, voctToHzAt}
-use Rattle.common.specs.declared.Memo1.{Memo1}
 use Rattle.karplus_strong.specs.Consts.{loopLeak}
 use Rattle.karplus_strong.specs.Line.{blankAt, blankOf, excitedAt, excitedOf, sumTo, meanOf, levelAt, levelOf, struckOf}
 use Rattle.karplus_strong.specs.Step.{filterCoefOf, apCoefOf, targetDelayOf, offsetOne, offsetTwo, tapOf, filteredOf, stretchedOf, Ticking, restOf, wroteOf, clearedOf, stepOf}
-use Rattle.karplus_strong.specs.KarplusStrong.{maxLenOf, karplusStrongRefusalOf, finiteOr, periodOf, struckLen, drawsRefusalOf, strikeOf, strikeIf, heardString, tickUnless, karplusStrongSoundOf, karplusStrongTickOf}
+use Rattle.karplus_strong.specs.KarplusStrong.{maxLenOf, karplusStrongRefusalOf, finiteOr, struckLen, drawsRefusalOf, strikeOf, strikeIf, heardString, tickUnless, karplusStrongSoundOf, karplusStrongTickOf}
 use Rattle.karplus_strong.specs.Promises.{Alike, SameTick, Only-its-cells, periodAt}
 use Rattle.karplus_strong.specs.declared.KarplusStrong.{KarplusStrong}
 use Rattle.karplus_strong.specs.declared.KarplusStrongControls.{KarplusStrongControls}

@@ -1,9 +1,9 @@
 -- A number from 1 to below 2 ^ 52 has its fraction in the low digits of its bits.
-use mathlib.Core.Bool.{Bool, true, false, cond, not, _&&_}
-use mathlib.Core.Path.{_≡_, refl, sym, ap, _∙_, subst}
+use mathlib.Core.Bool.{Bool, true, false, cond, not}
+use mathlib.Core.Path.{_≡_, refl, sym, ap, subst}
 use Prim.Native.Nat.{ℕ, zero, suc, _+_, _-_, _*_, _/_, _%_, _^_, _≤_, _<_, zero-le}
-use native.Mathlib.Nat.{mod-lt, mod-eq-of-lt, le-trans, le-of-eq, lt-of-not-le, not-le-of-lt, mul-le-mul, mul-one, le-add-right}
-use lib.Dec.{T, eqb, leb, ltb, ltb→lt, lit≤, lit<, nleb→lt}
+use native.Mathlib.Nat.{mod-eq-of-lt, le-trans, le-of-eq, lt-of-not-le, not-le-of-lt, mul-le-mul, mul-one, le-add-right}
+use lib.Dec.{T, eqb, leb, ltb→lt, lit≤, lit<, nleb→lt}
 use lib.IntN.{pos}
 use lib.Pow.{pow-pos, pow-mono}
 use lib.Ieee.{Float, nan, inf, fin, binary64, lt, le, odd, isNan, ofBits, ofFields, toBits, toUnsigned}

@@ -1,18 +1,17 @@
 -- The filters take time off a period and never add any, so the delay that is left for the line isn't longer than the period.
-use mathlib.Core.Bool.{Bool, true, false, cond, not, _&&_, true≢false, Bool·beq}
-use mathlib.Core.Path.{_≡_, refl, sym, ap, _∙_, subst}
-use Prim.Native.Nat.{ℕ, zero, suc, _+_, _-_, _*_, _/_, _%_, _^_, _≤_, _<_, compare, zero-le}
-use native.Mathlib.Nat.{le-trans, le-of-eq, mul-pos, mul-le-mul-right, mul-comm, mul-one, one-mul, sub-le, le-add-right}
+use mathlib.Core.Bool.{Bool, true, false, cond, not, _&&_, true≢false}
+use mathlib.Core.Path.{_≡_, refl, sym, subst}
+use Prim.Native.Nat.{ℕ, zero, suc, _+_, _-_, _*_, _/_, _%_, _^_, _≤_, _<_, compare}
+use native.Mathlib.Nat.{mul-pos, mul-le-mul-right, sub-le, le-add-right}
 use native.Mathlib.Omega.{arith}
-use lib.Dec.{T, eqb, ltb, lit<}
+use lib.Dec.{T, eqb, ltb}
 use lib.IntN.{ℤ, pos, negsuc}
-use lib.Ieee.{Float, nan, inf, fin, binary64, up, down, add, sub, mul, div, neg, sum, round, units, odd, nearest, size, unlike, lt, le, eq, isNan, ofBits}
-use lib.Ieee.Exact.{HasValue}
+use lib.Ieee.{Float, nan, inf, fin, binary64, up, down, add, sub, mul, div, neg, sum, round, units, odd, nearest, size, lt, le, eq, isNan, ofBits}
 use lib.Ieee.Fits.{down-pos, sub-fits}
 use lib.Ieee.Order.{round-mono}
 use borrow.Author.Tests.{le-ltb}
 use Rattle.laws.proofs.Monotone.{mul-le, round-le, unit-law}
-use Rattle.laws.proofs.Order.{Below, le-below, neg-neg, le-of-lt-true, float-le-trans}
+use Rattle.laws.proofs.Order.{le-below, neg-neg, le-of-lt-true, float-le-trans}
 use Rattle.laws.proofs.Number.{le-numbers}
 use Rattle.laws.proofs.Tests.{of-true}
 use Rattle.laws.proofs.Unique.{round-own}

@@ -1,36 +1,31 @@
 -- A tick that takes the trigger's edge forgets: from it on, every call answers as it would a new string.
-use mathlib.Core.Bool.{Bool, true, false, cond, not, _&&_, true≢false}
+use mathlib.Core.Bool.{true, true≢false}
 use mathlib.Core.List.{List, [], _∷_}
-use mathlib.Core.Logic.{inl}
-use mathlib.Core.Path.{_≡_, refl, sym, ap, _∙_, subst}
-use Prim.Native.Nat.{ℕ, zero, suc, _+_, _≤_, _<_, min}
+use mathlib.Core.Path.{_≡_, refl, sym, ap, _∙_}
+use Prim.Native.Nat.{ℕ, zero, suc, _≤_, _<_, min}
 use native.Mathlib.Nat.{not-suc-le-zero}
 use native.Mathlib.Omega.{arith}
-use lib.ListN.{length, getD}
+use lib.ListN.{length}
 use lib.Ieee.{Float, neg}
-use Rattle.laws.specs.Float.{zer, one, F64}
+use Rattle.laws.specs.Float.{zer, one}
 use Rattle.laws.specs.Machine.{replies}
 use Rattle.numeric.specs.Basic.{clampOf}
 use Rattle.common.proofs.EdgeLaws.{rises-new, gate-above}
 use Rattle.common.proofs.MemoLaws.{recall1-is}
 use Rattle.common.specs.Consts.{half, gateThreshold}
 use Rattle.common.specs.Edge.{newEdge, risingAboveOf, risingOf}
-use Rattle.common.specs.Memo.{newMemo1, filled1, recall1, voctToHzAt}
-use Rattle.common.specs.Promises.{Coherent1}
-use Rattle.common.specs.declared.EdgeDetector.{EdgeDetector}
-use Rattle.common.specs.declared.Hertz.{Hertz}
-use Rattle.common.specs.declared.Memo1.{Memo1}
+use Rattle.common.specs.Memo.{recall1, voctToHzAt}
 use Rattle.answer.specs.Answer.{accepted}
 use Rattle.karplus_strong.specs.Line.{blankOf, struckOf}
 use Rattle.karplus_strong.specs.Step.{Ticking, restOf, stepOf}
-use Rattle.karplus_strong.specs.KarplusStrong.{maxLenOf, karplusStrongRefusalOf, rateRefusalOf, Making, madeUnless, newKarplusStrong, karplusStrongResetOf, resizedString, karplusStrongSetSampleRateOf, finiteOr, periodOf, struckLen, drawsRefusalOf, strikeOf, strikeIf, heardString, tickUnless, karplusStrongTickOf}
-use Rattle.karplus_strong.specs.Calls.{Strung, Call, Tick, Reset, SetSampleRate, Reply, Ticked, stringAfter, madeReply, after, reply, FitCall, First, ReachedString}
-use Rattle.karplus_strong.specs.Promises.{periodAt, risesAt, Strikes, Forgets, Alike, SameTick}
+use Rattle.karplus_strong.specs.KarplusStrong.{maxLenOf, karplusStrongRefusalOf, rateRefusalOf, madeUnless, karplusStrongResetOf, resizedString, karplusStrongSetSampleRateOf, finiteOr, struckLen, strikeOf, strikeIf, heardString, tickUnless, karplusStrongTickOf}
+use Rattle.karplus_strong.specs.Calls.{Strung, Call, Tick, Reset, SetSampleRate, Reply, Ticked, stringAfter, madeReply, after, reply}
+use Rattle.karplus_strong.specs.Promises.{periodAt, risesAt, Forgets, Alike, SameTick}
 use Rattle.karplus_strong.specs.declared.KarplusStrong.{KarplusStrong}
 use Rattle.karplus_strong.specs.declared.KarplusStrongControls.{KarplusStrongControls}
 use Rattle.karplus_strong.specs.declared.KarplusStrongTicked.{KarplusStrongTicked}
 use Rattle.karplus_strong.specs.declared.KarplusStrongMade.the-variants as made
-use Rattle.karplus_strong.proofs.Parts.{Sound, rate-accepted, struck-room, memo-number}
+use Rattle.karplus_strong.proofs.Parts.{rate-accepted, struck-room, memo-number}
 use Rattle.karplus_strong.proofs.Parts as parts
 use Rattle.karplus_strong.proofs.Alike.{alike-blank, alike-struck, alike-step, length-struck, only-its-cells}
 use Rattle.karplus_strong.proofs.Reached.{Good, fits-or, first-is, first-good, reached-good}

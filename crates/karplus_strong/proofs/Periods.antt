@@ -1,22 +1,21 @@
 -- Periods: a rate over 20 can be cut, and a rate over 20 Hz or more lies below the clamp's upper end.
-use mathlib.Core.Bool.{Bool, true, false, not}
+use mathlib.Core.Bool.{true, false, not}
 use mathlib.Core.Path.{_≡_, refl, sym, ap, _∙_, subst}
-use Prim.Native.Nat.{ℕ, suc, _+_, _-_, _*_, _/_, _%_, _≤_, _<_, min}
-use native.Mathlib.Nat.{le-trans, le-of-eq, le-of-lt, div-add-mod', mod-lt, mul-le-mul-right, mul-mul-mul-comm, mul-comm, mul-pos, add-mul}
+use Prim.Native.Nat.{ℕ, _+_, _-_, _*_, _/_, _%_, _≤_, _<_, min}
+use native.Mathlib.Nat.{le-trans, le-of-eq, div-add-mod', mod-lt, mul-le-mul-right, mul-mul-mul-comm, mul-comm, mul-pos, add-mul}
 use native.Mathlib.Omega.{arith}
-use lib.Dec.{T, not-T, lit<, ltb, lt→ltb}
-use lib.IntN.{ℤ, pos}
+use lib.Dec.{T, lit<, ltb, lt→ltb}
+use lib.IntN.{pos}
 use lib.Ieee.{Float, nan, inf, fin, binary64, up, down, lt, le, eq, sub, div, round, isNan, ofBits, toUnsigned}
 use lib.Ieee.Bits.{is-true}
-use lib.Ieee.Exact.{HasValue}
 use lib.Ieee.Fits.{down-pos}
 use lib.Ieee.Order.{round-mono, le-of-values}
 use lib.Ieee.Positive.{positive, num, den, den-pos, own-value, value-pos, le→cross, above, above-of-le, between}
 use Rattle.laws.proofs.Monotone.{div-le}
-use Rattle.laws.proofs.Order.{lt-false, lt-not-ge, lt-of-le-not-ge, lt-by-values, le-of-lt-true, float-le-trans}
-use Rattle.laws.proofs.Tests.{of-true, of-false}
+use Rattle.laws.proofs.Order.{lt-false, lt-by-values, le-of-lt-true, float-le-trans}
+use Rattle.laws.proofs.Tests.{of-true}
 use Rattle.laws.proofs.Values.{div-round, ofInt-val, round-zero}
-use Rattle.laws.specs.Float.{one, two, zer}
+use Rattle.laws.specs.Float.{one, two}
 use Rattle.numeric.specs.Basic.{clampOf, wholeOf, realOf}
 use Rattle.karplus_strong.proofs.Orders.{lt-of-le-lt}
 use Rattle.numeric.proofs.RangeLaws.{lowest, highest, twenty, rate-whole, real-less, clamp-range}

@@ -7,14 +7,16 @@ use Prim.Native.Nat.{ℕ, _≤_, zero, suc, _<_}
 use native.Mathlib.Nat.{not-suc-le-zero, eq-or-lt-of-le, le-of-suc-le-suc, le-trans}
 use native.Mathlib.Omega.{arith}
 use lib.Dec.{ltb}
-use lib.Ieee.{Float, binary64, lt, le, mul, ofBits, eq, neg, low}
+use lib.Ieee.{Float, binary64, lt, le, mul, ofBits, neg, low}
 use lib.ListN.{length, getD}
 use borrow.Author.Tests.{le-leb}
 use Rattle.answer.specs.Answer.{refusalOf, accepted}
-use Rattle.common.specs.Consts.{five, half}
+use Rattle.common.specs.Consts.{five, gateThreshold, half}
 use Rattle.common.specs.Edge.{risesAbove, risingAboveOf, risingOf}
 use Rattle.common.specs.Memo.{recall1, voctToHzAt}
 use Rattle.common.specs.Tests.{rateOk}
+use Rattle.laws.proofs.Order.{lt-false}
+use Rattle.laws.proofs.Tests.{of-true}
 use Rattle.laws.specs.Float.{zer, one, isFin}
 use Rattle.numeric.specs.Basic.{clampOf}
 use Rattle.karplus_strong.proofs.Parts.{max-len-range, period-range, memo-number, Sound, sound-line}
@@ -28,9 +30,6 @@ use Rattle.karplus_strong.specs.Promises.{periodAt, risesAt, doneOr, Nev
 use Rattle.karplus_strong.specs.Step.{filterCoefOf, apCoefOf, targetDelayOf, tapOf, filteredOf, stretchedOf, Ticking, wroteOf, clearedOf, stepOf}
 use Rattle.common.specs.declared.EdgeDetector.{EdgeDetector}
 use Rattle.common.specs.declared.Hertz.{Hertz}
-use Rattle.common.specs.declared.Memo1.{Memo1}
-use Rattle.answer.specs.declared.Answer.{Answer}
-use Rattle.answer.specs.declared.Answer.the-variants as answer
 use Rattle.karplus_strong.specs.declared.KarplusStrong.{KarplusStrong}
 use Rattle.karplus_strong.specs.declared.KarplusStrongControls.{KarplusStrongControls}
 use Rattle.karplus_strong.specs.declared.KarplusStrongMade.the-variants as made
@@ -151,16 +150,16 @@ good-edge s c draws l g e =
     ap (λ (t : Ticking). t .out .«karplus_strong» .«trigger_edge») (good-tick s c draws l g ∙ ap (λ (k : ℕ). tickUnless k s l (struckStep s c draws l)) e)
     ∙ struck-step-keeps s c draws l .1
 
--- 0.0 V is no edge, and 5.0 V after it is one
-low-rises : (s : KarplusStrong) (c : KarplusStrongControls) → c .trigger ≡ zer → risesAt s c ≡ false
-unfolding risingOf risingAboveOf risesAbove lt ofBits
-low-rises s c e = rw e
+-- what is not above the threshold is no edge, and 5.0 V after it is one
+low-rises : (s : KarplusStrong) (c : KarplusStrongControls) → le (c .trigger) gateThreshold ≡ true → risesAt s c ≡ false
+unfolding risingOf risingAboveOf risesAbove
+low-rises s c e = simp (lt-false gateThreshold (c .trigger) (of-true (le (c .trigger) gateThreshold) e))
 
-high-rises : (s : KarplusStrong) (c : KarplusStrongControls) (low : Float) → low ≡ zer → s .«trigger_edge» .prev ≡ low → c .trigger ≡ five → risesAt s c ≡ true
-unfolding risingOf risingAboveOf risesAbove le lt eq ofBits
-high-rises s c low el ep eh = rw (eh, ep, el)
+high-rises : (s : KarplusStrong) (c : KarplusStrongControls) (low : Float) → le low gateThreshold ≡ true → s .«trigger_edge» .prev ≡ low → c .trigger ≡ five → risesAt s c ≡ true
+unfolding risingOf risingAboveOf risesAbove
+high-rises s c low el ep eh = rw (eh, ep, el) (unfold lt ofBits in refl)
 
-low-sounds : (s : KarplusStrong) (c : KarplusStrongControls) (draws : List ℕ) → c .trigger ≡ zer → soundRefusal s c draws ≡ 0
+low-sounds : (s : KarplusStrong) (c : KarplusStrongControls) (draws : List ℕ) → le (c .trigger) gateThreshold ≡ true → soundRefusal s c draws ≡ 0
 unfolding soundRefusal
 low-sounds s c draws e = simp (low-rises s c e)
 

@@ -1,22 +1,22 @@
 -- What holds of every string that was made new and then called: refusals 1 to 3 let it pass, and its memo is coherent.
-use mathlib.Core.Bool.{Bool, true, false, cond, not, _&&_, true≢false}
+use mathlib.Core.Bool.{Bool, true, false, cond, not}
 use mathlib.Core.List.{List}
 use mathlib.Core.Logic.{inl}
-use mathlib.Core.Path.{_≡_, refl, sym, ap, _∙_, subst}
-use Prim.Native.Nat.{ℕ, zero, suc, _+_, _%_, _≤_, _<_, min}
-use native.Mathlib.Nat.{mod-lt, le-trans}
+use mathlib.Core.Path.{_≡_, refl, sym, ap, subst}
+use Prim.Native.Nat.{ℕ, zero, suc, _+_, _≤_, _<_, min}
+use native.Mathlib.Nat.{mod-lt}
 use native.Mathlib.Omega.{arith}
-use lib.Dec.{T, leb, ltb}
+use lib.Dec.{T, ltb}
 use lib.ListN.{length, length-set}
-use lib.Ieee.{Float, nan, inf, fin, binary64, add, sub, mul, neg, fits, isNan, ofBits}
-use borrow.Author.Tests.{le-leb, lt-ltb, ltb-true}
+use lib.Ieee.{Float, nan, inf, fin, binary64, mul, neg, fits, isNan, ofBits}
+use borrow.Author.Tests.{ltb-true}
 use Rattle.laws.proofs.Always.{always}
 use Rattle.laws.specs.Float.{zer, one, isFin, F64}
 use Rattle.numeric.specs.Basic.{clampOf, wholeOf}
 use Rattle.common.proofs.MemoLaws.{recalled1}
 use Rattle.common.specs.Consts.{half}
 use Rattle.common.specs.Edge.{newEdge, risingOf}
-use Rattle.common.specs.Memo.{newMemo1, recall1, voctToHzAt}
+use Rattle.common.specs.Memo.{recall1, voctToHzAt}
 use Rattle.common.specs.Promises.{Coherent1}
 use Rattle.common.specs.Tests.{rateOk}
 use Rattle.common.specs.declared.Hertz.{Hertz}
@@ -24,14 +24,13 @@ use Rattle.common.specs.declared.Memo1.{Memo1}
 use Rattle.karplus_strong.specs.Consts.{loopLeak}
 use Rattle.karplus_strong.specs.Line.{blankOf, struckOf}
 use Rattle.karplus_strong.specs.Step.{filterCoefOf, apCoefOf, targetDelayOf, tapOf, filteredOf, stretchedOf, Ticking, restOf, wroteOf, clearedOf, stepOf}
-use Rattle.karplus_strong.specs.KarplusStrong.{maxLenOf, lineOk, roomOf, karplusStrongRefusalOf, rateRefusalOf, Making, madeUnless, newKarplusStrong, karplusStrongNewOf, karplusStrongResetOf, placeOf, resizedString, karplusStrongSetSampleRateOf, finiteOr, periodOf, struckLen, drawsRefusalOf, strikeOf, strikeIf, heardString, tickUnless, karplusStrongSoundOf, karplusStrongTickOf}
+use Rattle.karplus_strong.specs.KarplusStrong.{maxLenOf, roomOf, karplusStrongRefusalOf, rateRefusalOf, Making, madeUnless, newKarplusStrong, karplusStrongNewOf, karplusStrongResetOf, placeOf, resizedString, karplusStrongSetSampleRateOf, finiteOr, struckLen, drawsRefusalOf, strikeOf, strikeIf, heardString, tickUnless, karplusStrongSoundOf, karplusStrongTickOf}
 use Rattle.karplus_strong.specs.Calls.{Strung, Call, Tick, Reset, SetSampleRate, stringAfter, strungAfter, after, FitCall, First, ReachedString}
 use Rattle.karplus_strong.specs.Promises.{periodAt}
 use Rattle.karplus_strong.specs.declared.KarplusStrong.{KarplusStrong}
 use Rattle.karplus_strong.specs.declared.KarplusStrongControls.{KarplusStrongControls}
-use Rattle.karplus_strong.specs.declared.KarplusStrongMade.{KarplusStrongMade}
 use Rattle.karplus_strong.specs.declared.KarplusStrongMade.the-variants as made
-use Rattle.karplus_strong.proofs.Parts.{Sound, accepted, rate-accepted, max-len-range, period-range, memo-number, struck-room, room-of}
+use Rattle.karplus_strong.proofs.Parts.{Sound, rate-accepted, max-len-range, period-range, memo-number, room-of}
 use Rattle.karplus_strong.proofs.Alike.{length-blank, length-struck}
 
 pub record Good (s : KarplusStrong) (n : ℕ) : Type 0 where

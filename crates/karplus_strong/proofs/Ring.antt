@@ -1,5 +1,5 @@
 -- Places on a ring of len cells: a remainder without a division.
-use mathlib.Core.Path.{_≡_, refl, sym, ap, _∙_}
+use mathlib.Core.Path.{_≡_, sym, _∙_}
 use Prim.Native.Nat.{ℕ, _+_, _-_, _%_, _≤_, _<_}
 use native.Mathlib.Nat.{mod-lt, mod-eq-of-lt, mod-self, add-mod-right}
 use native.Mathlib.Omega.{arith}

@@ -1,7 +1,5 @@
 -- Each contract names the answer and the line, so two that it allows are equal.
-use mathlib.Core.List.{List}
-use mathlib.Core.Path.{_≡_, refl, sym, ap, _∙_}
-use lib.Ieee.{Float}
+use mathlib.Core.Path.{_≡_, sym, _∙_}
 use Rattle.laws.specs.Machine.{Settles}
 use Rattle.karplus_strong.specs.Step.{Ticking}
 use Rattle.karplus_strong.specs.KarplusStrong.{Making, karplusStrongNewOf, karplusStrongTickOf, karplusStrongResetOf, karplusStrongSetSampleRateOf}

@@ -2,7 +2,7 @@
 use mathlib.Core.Bool.{Bool, Bool·beq, true, false, cond, not, _&&_, true≢false}
 use mathlib.Core.List.{List}
 use mathlib.Core.Logic.{⊎-elim}
-use mathlib.Core.Path.{_≡_, refl, sym, ap, _∙_, subst}
+use mathlib.Core.Path.{_≡_, refl, sym, subst}
 use Prim.Native.Nat.{ℕ, zero, suc, _+_, _-_, _*_, _/_, _%_, _^_, _≤_, _<_, min}
 use native.Mathlib.Decide.{ℕ-discrete}
 use native.Mathlib.Nat.{le-trans, le-of-eq, le-of-suc-le-suc, eq-or-lt-of-le, add-le-add, mod-lt, mul-le-mul-right, mul-one, mul-pos, not-suc-le-zero}
@@ -10,20 +10,19 @@ use native.Mathlib.Omega.{arith}
 use lib.Dec.{T, leb, ltb, lit<, lit≤}
 use lib.ListN.{length, getD, set}
 use lib.Seq.{getD-set-same, getD-set-other}
-use lib.Ieee.{Float, nan, inf, fin, binary64, add, sub, mul, div, sum, round, neg, lt, le, eq, isNan, fits, ofBits, toUnsigned}
+use lib.Ieee.{Float, nan, inf, fin, binary64, add, sub, mul, sum, round, neg, lt, le, eq, isNan, fits, ofBits, toUnsigned}
 use lib.Ieee.Bits.{is-true}
 use lib.Ieee.Exact.{HasValue}
 use lib.Ieee.Fits.{cond-fits, sub-fits}
 use lib.Ieee.Positive.{positive, above, above-of-le}
-use borrow.Author.Tests.{ltb-true, leb-true}
+use borrow.Author.Tests.{ltb-true}
 use Rattle.laws.proofs.Always.{always}
 use Rattle.laws.proofs.Interval.{Within, part-of, round-sized, sized-mul, unit-within, within-finite, within-wider, within-mul, within-add}
-use Rattle.laws.proofs.Order.{le-of-lt-true, float-le-refl, float-le-trans}
+use Rattle.laws.proofs.Order.{le-of-lt-true, float-le-trans}
 use Rattle.laws.proofs.Tests.{of-true}
 use Rattle.laws.proofs.Values.{add-round, div-round, neg-value, exact-at, ofInt-val}
 use Rattle.laws.specs.Float.{F64, zer, one, isFin}
 use Rattle.laws.specs.Lists.{over}
-use Rattle.laws.specs.Machine.{Reached}
 use Rattle.numeric.proofs.DrawLaws.{bipolar-exact}
 use Rattle.numeric.specs.Basic.{clampOf, maxOf, wholeOf, realOf}
 use Rattle.numeric.specs.Draw.{bipolarOf}
@@ -31,22 +30,21 @@ use Rattle.common.specs.Consts.{half}
 use Rattle.common.specs.Edge.{newEdge, risingOf}
 use Rattle.common.specs.Memo.{recall1, voctToHzAt}
 use Rattle.common.specs.Tests.{rateOk}
-use Rattle.common.specs.declared.EdgeDetector.{EdgeDetector}
 use Rattle.common.specs.declared.Hertz.{Hertz}
 use Rattle.common.specs.declared.Memo1.{Memo1}
 use Rattle.answer.specs.Answer.{markNumber, accepted}
 use Rattle.answer.specs.declared.Answer.{Answer}
 use Rattle.karplus_strong.specs.Consts.{loopLeak}
 use Rattle.karplus_strong.specs.Line.{blankAt, blankOf, impulseOf, pulseOf, excitedAt, excitedOf, sumTo, meanOf, levelAt, levelOf, struckOf, drawsOk}
-use Rattle.karplus_strong.specs.Step.{filterCoefOf, apCoefOf, filterDelayOf, apDelayOf, targetDelayOf, offsetOne, offsetTwo, tapOf, filteredOf, stretchedOf, Ticking, restOf, wroteOf, clearedOf, stepOf}
-use Rattle.karplus_strong.specs.KarplusStrong.{maxLenOf, karplusStrongRefusalOf, rateRefusalOf, madeUnless, newKarplusStrong, karplusStrongResetOf, resizedString, karplusStrongSetSampleRateOf, finiteOr, periodOf, struckLen, drawsRefusalOf, strikeOf, strikeIf, heardString, tickUnless, karplusStrongTickOf}
+use Rattle.karplus_strong.specs.Step.{filterCoefOf, apCoefOf, filterDelayOf, apDelayOf, targetDelayOf, offsetOne, offsetTwo, tapOf, filteredOf, stretchedOf, Ticking, restOf, stepOf}
+use Rattle.karplus_strong.specs.KarplusStrong.{maxLenOf, karplusStrongRefusalOf, rateRefusalOf, madeUnless, karplusStrongResetOf, resizedString, karplusStrongSetSampleRateOf, finiteOr, periodOf, struckLen, drawsRefusalOf, strikeOf, strikeIf, heardString, tickUnless, karplusStrongTickOf}
 use Rattle.karplus_strong.specs.Calls.{Strung, Call, Tick, Reset, SetSampleRate, stringAfter, strungAfter, after, FitCall, First}
 use Rattle.karplus_strong.specs.Promises.{periodAt, risesAt, Unstretched, Never-cleared}
 use Rattle.karplus_strong.specs.declared.KarplusStrong.{KarplusStrong}
 use Rattle.karplus_strong.specs.declared.KarplusStrongControls.{KarplusStrongControls}
 use Rattle.karplus_strong.specs.declared.KarplusStrongMade.the-variants as made
 use Rattle.karplus_strong.proofs.Alike.{getD-over, length-struck}
-use Rattle.karplus_strong.proofs.Parts.{Sound, damped, delay-range, heard-clean, memo-number, period-range, struck-room}
+use Rattle.karplus_strong.proofs.Parts.{Sound, damped, delay-range, heard-clean, memo-number, struck-room}
 use Rattle.karplus_strong.proofs.Promised.{struck-short}
 use Rattle.karplus_strong.proofs.Reached.{Good, first-is, first-good, after-good}
 use Rattle.karplus_strong.proofs.Ticks.{struckStep, soundRefusal, good-tick}

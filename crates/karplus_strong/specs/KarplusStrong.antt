@@ -1,5 +1,5 @@
 -- KarplusStrong, written from oscillators.rs. The line is lent, so each call says what it holds afterwards.
-use mathlib.Core.Bool.{Bool, true, false, cond, not, _&&_}
+use mathlib.Core.Bool.{Bool, cond, not, _&&_}
 use mathlib.Core.List.{List}
 use Prim.Native.Nat.{ℕ, zero, suc, _+_, min}
 use lib.Dec.{leb, ltb}

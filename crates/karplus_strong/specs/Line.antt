@@ -1,5 +1,5 @@
 -- The lent delay line as a list of cells: what each of the Rust's passes leaves in the first n. The other cells stay.
-use mathlib.Core.Bool.{Bool, true, false, cond, _&&_}
+use mathlib.Core.Bool.{Bool, true, cond, _&&_}
 use mathlib.Core.List.{List}
 use Prim.Native.Nat.{ℕ, zero, suc, _/_}
 use lib.Dec.{ltb}

@@ -5,11 +5,11 @@ use mathlib.Core.Logic.{_⊎_}
 use mathlib.Core.Path.{_≡_}
 use Prim.Native.Nat.{ℕ, zero, suc, _≤_, _<_}
 use lib.ListN.{length, getD}
-use lib.Ieee.{Float, nan, neg}
+use lib.Ieee.{Float, nan, le, neg}
 use Rattle.laws.specs.Float.{zer, one, isFin}
 use Rattle.laws.specs.Machine.{Reached, replies, Settles}
 use Rattle.numeric.specs.Basic.{clampOf}
-use Rattle.common.specs.Consts.{five}
+use Rattle.common.specs.Consts.{gateThreshold, five}
 use Rattle.common.specs.Edge.{risingOf}
 use Rattle.common.specs.Memo.{recall1, voctToHzAt}
 use Rattle.common.specs.Tests.{rateOk}
@@ -63,9 +63,9 @@ Forgets = (x : Strung) → ReachedString x → (c : KarplusStrongControls) (draw
 abbrev pub New-there : Type 0
 New-there = (x : Strung) → ReachedString x → (l : List Float) → length l ≡ length (x .line) → First (record { string = newKarplusStrong (x .string .«sample_rate»); line = blankOf 0 (maxLenOf (x .string .«sample_rate»)) l })
 
--- and such a tick: once the trigger was at 0.0 V, one with 5.0 V and enough draws
+-- and such a tick: after one whose trigger is not above the threshold, one with 5.0 V and enough draws
 abbrev pub Edge-comes : Type 0
-Edge-comes = (x : Strung) → ReachedString x → (low high : KarplusStrongControls) (none draws : List ℕ) → FitCall (Tick low none) → low .trigger ≡ zer → high .trigger ≡ five → 9611 ≤ length draws → drawsOk draws 9611 ≡ true
+Edge-comes = (x : Strung) → ReachedString x → (low high : KarplusStrongControls) (none draws : List ℕ) → FitCall (Tick low none) → le (low .trigger) gateThreshold ≡ true → high .trigger ≡ five → 9611 ≤ length draws → drawsOk draws 9611 ≡ true
     → (accepted (karplusStrongTickOf (x .string) low none (x .line) .out .answer) ≡ true) × Strikes (after x (Tick low none)) high draws
 
 -- ---- only the cells below the length count
