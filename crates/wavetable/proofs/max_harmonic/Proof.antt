@@ -1,4 +1,3 @@
-use mathlib.Core.Path.{_≡_, refl, sym, ap, _∙_}
 use Rattle.wavetable.specs.Harmonics.{maxHarmonic}
 use Rattle.wavetable.proofs.Counts.{one-or, more-or}
 use borrow.Author.Needs.{needs}

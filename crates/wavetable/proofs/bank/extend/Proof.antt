@@ -1,10 +1,9 @@
 use Rattle.laws.proofs.Over.{getD-tab}
 use lib.ListN.{getD}
-use lib.Ieee.{add, binary64, nan}
-use mathlib.Core.Path.{_≡_, refl, sym, ap, _∙_}
-use Prim.Native.Nat.{_≤_, _-_, _/_, _%_}
+use lib.Ieee.{nan}
+use mathlib.Core.Path.{_≡_, ap, _∙_}
+use Prim.Native.Nat.{_≤_, _-_}
 use native.Mathlib.Omega.{arith}
-use borrow.Author.Needs.{needs}
 use native.Mathlib.Numerals.{add-one}
 use native.Mathlib.Nat.{le-antisymm}
 use Rattle.wavetable.specs.Bank.{sumOf}

@@ -1,5 +1,4 @@
-use mathlib.Core.Path.{_≡_, refl, sym, ap, _∙_}
-use borrow.Author.Tests.{eq-eqb, ne-eqb, le-leb, lt-leb}
+use borrow.Author.Tests.{eq-eqb, ne-eqb}
 use Rattle.wavetable.specs.Bank.{coefOf}
 use Rattle.wavetable.specs.Columns.{factorOf}
 use borrow.Author.Needs.{needs}

@@ -1,5 +1,4 @@
-use mathlib.Core.Path.{_≡_, refl, sym, ap, _∙_}
-use native.Mathlib.Omega.{arith}
+use mathlib.Core.Path.{sym, _∙_}
 use borrow.Author.Needs.{needs}
 use Rattle.wavetable.proofs.bank.fill_part.Statement.{statement}
 use Rattle.wavetable.proofs.bank.fill_part.Tie as tie
