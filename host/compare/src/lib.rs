@@ -7,6 +7,7 @@
 pub mod common;
 pub mod draw;
 pub mod lfo;
+pub mod marked;
 mod pair;
 pub mod script;
 pub mod vco;
