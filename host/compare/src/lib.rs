@@ -9,6 +9,7 @@ pub mod draw;
 pub mod formant_osc;
 pub mod karplus_strong;
 pub mod lfo;
+pub mod marked;
 mod pair;
 pub mod script;
 pub mod supersaw;

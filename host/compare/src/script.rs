@@ -149,7 +149,7 @@ fn raw<P: Pair>((floats, wholes): (P::Floats, P::Wholes)) -> Vec<u64> {
 }
 
 /// The bits of a float, of any NaN the same. Memo keys are such bits too, and other whole numbers are too small to be a NaN's.
-fn one_nan(bits: u64) -> u64 {
+pub fn one_nan(bits: u64) -> u64 {
     if f64::from_bits(bits).is_nan() {
         0x7ff8_0000_0000_0000
     } else {

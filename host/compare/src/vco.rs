@@ -1,7 +1,8 @@
 //! The voltage-controlled oscillator on both sides.
 use crate::draw::{under, Control, Draw, GATE, OCTAVES, PITCH, UNIT, VOLTS};
-use crate::pair::{both, refusal, used, wanted_of};
-use crate::script::{mark, Counts, Pair};
+use crate::marked::Marked;
+use crate::pair::{both, refusal};
+use crate::script::{Counts, Pair};
 use gruttisol::answer::{Mark, Refused};
 use gruttisol::vco as ours;
 use quiver::modules::oscillators as rust;
@@ -45,9 +46,6 @@ impl Pair for Vco {
     }
 
     fn theirs_tick(&mut self, controls: &[f64], wanted: u32, samples: &mut [f64]) -> Mark {
-        let ([phase, _, previous, _], _) = self.theirs.flat();
-        self.theirs.body(controls.try_into().unwrap(), wanted, samples.try_into().unwrap());
-        let ([_, rate, _, freq], _) = self.theirs.flat();
-        mark(wanted_of(samples, wanted), [], [used(phase, previous, controls[3]) + freq / rate])
+        self.theirs.marked_tick(controls, wanted, samples)
     }
 }

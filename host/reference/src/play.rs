@@ -1,0 +1,77 @@
+//! A score played, and the text of it.
+use crate::score::{read, Score};
+use compare::marked::Marked;
+use compare::script::one_nan;
+use gruttisol::answer::Mark;
+use quiver::modules::oscillators as rust;
+use std::io::{self, Write};
+
+/// What `render` must print for a score.
+pub fn render(text: &[u8]) -> Vec<u8> {
+    let mut said = vec![];
+    write(text, &mut said).unwrap();
+    said
+}
+
+/// Writes what `render` must print for a score.
+pub fn write(text: &[u8], out: &mut impl Write) -> io::Result<()> {
+    match read(text) {
+        Ok(score) => play(&score, out),
+        Err(refusal) => writeln!(out, "refused={}", refusal as u32),
+    }
+}
+
+/// The Rust's new oscillator for a score.
+fn voice(score: &Score) -> Box<dyn Marked> {
+    let rate = score.hz.into();
+    match score.osc.name {
+        "vco" => Box::new(rust::Vco::new(rate)),
+        "lfo" => Box::new(rust::Lfo::new(rate)),
+        "supersaw" => Box::new(rust::Supersaw::new(rate)),
+        "formant" => Box::new(rust::FormantOsc::new(rate)),
+        name => unreachable!("{name} is no oscillator of a score"),
+    }
+}
+
+fn play(score: &Score, out: &mut impl Write) -> io::Result<()> {
+    let mut voice = voice(score);
+    let mut samples = vec![0.0; score.osc.outputs.len()];
+    let mut marks = Marks::default();
+    for n in 0..score.frames {
+        let mark = voice.marked_tick(&score.controls, u32::MAX, &mut samples);
+        marks.take(mark);
+        writeln!(out, "n={n}\nmark={}", mark.word())?;
+        for (name, sample) in score.osc.outputs.iter().zip(&samples) {
+            writeln!(out, "{name}={:016X}", one_nan(sample.to_bits()))?;
+        }
+    }
+    marks.write(score.frames, out)
+}
+
+/// How many ticks had each mark.
+#[derive(Default)]
+struct Marks {
+    finished: u32,
+    cleared: u32,
+    notfinite: u32,
+    lost: u32,
+}
+
+impl Marks {
+    fn take(&mut self, mark: Mark) {
+        *match mark {
+            Mark::Clean => &mut self.finished,
+            Mark::Cleared => &mut self.cleared,
+            Mark::NotFinite => &mut self.notfinite,
+            Mark::Lost => &mut self.lost,
+        } += 1;
+    }
+
+    fn write(&self, frames: u32, out: &mut impl Write) -> io::Result<()> {
+        let Marks { finished, cleared, notfinite, lost } = self;
+        let begun = finished + cleared + notfinite + lost;
+        let claimed = if *finished == begun && begun == frames { "yes" } else { "no" };
+        writeln!(out, "begun={begun}\nfinished={finished}\ncleared={cleared}\nnotfinite={notfinite}\nlost={lost}")?;
+        writeln!(out, "claimed={claimed}")
+    }
+}

@@ -1,0 +1,133 @@
+//! A score: `osc`, `hz`, `frames` and the oscillator's inputs, a line each.
+use Refusal::{Form, Line, Long, Range};
+
+/// Bytes that a score may have.
+pub const LIMIT: usize = 1024;
+
+/// Microvolts either way that an input may have.
+pub const LARGEST: i64 = 10_000_000;
+
+/// Why a score is refused, by document 01's numbers.
+#[derive(Clone, Copy, PartialEq, Eq, Debug)]
+pub enum Refusal {
+    /// More than `LIMIT` bytes.
+    Long = 20,
+    /// A wrong, missing or extra line, or an oscillator that isn't known.
+    Line = 21,
+    /// No number as a score writes it.
+    Form = 22,
+    /// A number out of its range.
+    Range = 23,
+}
+
+/// An oscillator's name in a score, and its ports in the Rust's order.
+#[derive(PartialEq, Debug)]
+pub struct Osc {
+    pub name: &'static str,
+    pub inputs: &'static [&'static str],
+    pub outputs: &'static [&'static str],
+}
+
+pub const VCO: Osc =
+    Osc { name: "vco", inputs: &["voct", "fm", "pw", "sync", "fm_lin"], outputs: &["sin", "tri", "saw", "sqr"] };
+pub const LFO: Osc =
+    Osc { name: "lfo", inputs: &["rate", "depth", "reset"], outputs: &["sin", "tri", "saw", "sqr", "sin_uni"] };
+pub const SUPERSAW: Osc = Osc { name: "supersaw", inputs: &["voct", "detune", "mix"], outputs: &["out", "sub"] };
+pub const FORMANT: Osc =
+    Osc { name: "formant", inputs: &["v_oct", "vowel", "formant_shift", "vibrato"], outputs: &["out"] };
+
+/// The oscillators that a score can name.
+pub static ALL: [Osc; 4] = [VCO, LFO, SUPERSAW, FORMANT];
+
+#[derive(PartialEq, Debug)]
+pub struct Score {
+    pub osc: &'static Osc,
+    pub hz: u32,
+    pub frames: u32,
+    /// Volts, in the order of the inputs.
+    pub controls: Vec<f64>,
+}
+
+/// Reads a score. The first line that is wrong decides the refusal.
+pub fn read(text: &[u8]) -> Result<Score, Refusal> {
+    if text.len() > LIMIT {
+        return Err(Long);
+    }
+    let mut lines = Lines(text);
+    let name = lines.value("osc")?;
+    let osc = ALL.iter().find(|osc| osc.name.as_bytes() == name).ok_or(Line)?;
+    let hz = within(1000, number(lines.value("hz")?)?, 192_000)? as u32;
+    let frames = within(1, number(lines.value("frames")?)?, 480_000)? as u32;
+    let controls = osc.inputs.iter().map(|key| volts(lines.value(key)?)).collect::<Result<_, _>>()?;
+    if lines.0.is_empty() {
+        Ok(Score { osc, hz, frames, controls })
+    } else {
+        Err(Line)
+    }
+}
+
+/// What is left of a score.
+struct Lines<'a>(&'a [u8]);
+
+impl<'a> Lines<'a> {
+    /// The value of the next line, which must have this key and its line feed.
+    fn value(&mut self, key: &str) -> Result<&'a [u8], Refusal> {
+        let end = self.0.iter().position(|&byte| byte == b'\n').ok_or(Line)?;
+        let (line, rest) = self.0.split_at(end);
+        self.0 = &rest[1..];
+        line.strip_prefix(key.as_bytes()).and_then(|line| line.strip_prefix(b"=")).ok_or(Line)
+    }
+}
+
+/// A number of at most 12 digits, written in the one way that it has.
+fn number(value: &[u8]) -> Result<i64, Refusal> {
+    let (sign, digits) = match value.strip_prefix(b"-") {
+        Some(digits) => (-1, digits),
+        None => (1, value),
+    };
+    let said = matches!(digits.len(), 1..=12) && digits.iter().all(u8::is_ascii_digit);
+    if !said || (digits[0] == b'0' && value != b"0") {
+        return Err(Form);
+    }
+    Ok(sign * digits.iter().fold(0, |n, digit| 10 * n + i64::from(digit - b'0')))
+}
+
+fn within(lo: i64, n: i64, hi: i64) -> Result<i64, Refusal> {
+    if (lo..=hi).contains(&n) {
+        Ok(n)
+    } else {
+        Err(Range)
+    }
+}
+
+/// An input: microvolts, or `nan`.
+fn volts(value: &[u8]) -> Result<f64, Refusal> {
+    if value == b"nan" {
+        return Ok(f64::NAN);
+    }
+    let microvolts = within(-LARGEST, number(value)?, LARGEST)?;
+    Ok(microvolts as f64 / 1_000_000.0)
+}
+
+/// The names and their order are the Rust's.
+#[cfg(all(test, quiver))]
+mod tests {
+    use super::*;
+    use quiver::modules::oscillators as rust;
+    use quiver::port::GraphModule;
+
+    #[test]
+    fn ports_are_the_rusts() {
+        let theirs: [Box<dyn GraphModule>; 4] = [
+            Box::new(rust::Vco::new(48000.0)),
+            Box::new(rust::Lfo::new(48000.0)),
+            Box::new(rust::Supersaw::new(48000.0)),
+            Box::new(rust::FormantOsc::new(48000.0)),
+        ];
+        for (ours, theirs) in ALL.iter().zip(&theirs) {
+            let spec = theirs.port_spec();
+            assert!(spec.inputs.iter().map(|port| port.name.as_str()).eq(ours.inputs.iter().copied()), "{ours:?}");
+            assert!(spec.outputs.iter().map(|port| port.name.as_str()).eq(ours.outputs.iter().copied()), "{ours:?}");
+        }
+    }
+}
