@@ -4,7 +4,8 @@ use mathlib.Core.Path.{_≡_}
 use Prim.Native.Nat.{ℕ}
 use lib.Ieee.{Float}
 use lib.ListN.{length}
-use Rattle.exports_formant_osc.specs.Calls.{Kept, formantNewAt, formantResetAt, formantSetSampleRateAt, Heard, formantTickAt}
+use Rattle.answer.specs.Flat.{Kept, Heard}
+use Rattle.exports_formant_osc.specs.Calls.{formantNewAt, formantResetAt, formantSetSampleRateAt, formantTickAt}
 use Rattle.exports_formant_osc.specs.State.{stateOf, floatsOf, wholesOf}
 use Rattle.formant_osc.specs.declared.FormantOsc.{FormantOsc}
 use Rattle.laws.specs.Machine.{Settles}

@@ -17,9 +17,10 @@ use formant_osc::FormantTicked;
 ghost use mathlib.Core.Path.{_≡_};
 ghost use lib.ListN.{length};
 ghost use lib.Seq.{sets};
+ghost use Rattle.answer.specs.Flat.{kept, heard};
 ghost use Rattle.answer.specs.Answer.{voltsOf, refusalOf};
 ghost use Rattle.exports_formant_osc.specs.State.{sizesOf, tickSizesOf, stateOf, frontOf, backOf, floatsOf, wholesOf};
-ghost use Rattle.exports_formant_osc.specs.Calls.{kept, heard, keptOf, heardOf, formantNewAt, formantTickAt, formantResetAt, formantSetSampleRateAt};
+ghost use Rattle.exports_formant_osc.specs.Calls.{keptOf, heardOf, formantNewAt, formantTickAt, formantResetAt, formantSetSampleRateAt};
 
 // 0, or the number that refuses these lengths.
 fn sizes(floats: &[f64], wholes: &[u64]) -> u32

@@ -5,6 +5,7 @@ use Prim.Native.Nat.{ℕ}
 use lib.Ieee.{Float, nan}
 use lib.ListN.{length, getD}
 use borrow.Author.Tests.{ne-eqb}
+use Rattle.answer.specs.Flat.{Kept, kept, Heard, heard}
 use Rattle.common.specs.declared.Hertz.{Hertz}
 use Rattle.karplus_strong.proofs.Promised.{keeps-rate}
 use Rattle.karplus_strong.specs.Step.{Ticking}
@@ -14,7 +15,7 @@ use Rattle.karplus_strong.specs.declared.KarplusStrongControls.{KarplusStrongCo
 use Rattle.karplus_strong.specs.declared.KarplusStrongMade.{KarplusStrongMade}
 use Rattle.karplus_strong.specs.declared.KarplusStrongTicked.{KarplusStrongTicked}
 use Rattle.exports_karplus_strong.specs.State.{sizesOf, tickSizesOf, stateOf}
-use Rattle.exports_karplus_strong.specs.Calls.{Kept, kept, left, keptOf, leftSized, karplusStrongNewAt, karplusStrongResetAt, karplusStrongSetSampleRateAt, Heard, heard, heardOf, sounded, soundedSized, karplusStrongTickAt}
+use Rattle.exports_karplus_strong.specs.Calls.{left, keptOf, leftSized, karplusStrongNewAt, karplusStrongResetAt, karplusStrongSetSampleRateAt, heardOf, sounded, soundedSized, karplusStrongTickAt}
 
 -- ---- calls without samples
 module _ (f : List Float) (w : List ℕ) (l : List Float) (n : ℕ) (e : n ≡ sizesOf (length f) (length w)) where

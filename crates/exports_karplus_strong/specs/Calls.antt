@@ -5,6 +5,7 @@ use Prim.Native.Nat.{ℕ, _+_}
 use lib.Dec.{eqb}
 use lib.Ieee.{Float}
 use lib.ListN.{length}
+use Rattle.answer.specs.Flat.{Kept, kept, Heard, heard}
 use Rattle.answer.specs.Answer.{markNumber, voltsOf, refusalOf, accepted}
 use Rattle.karplus_strong.specs.Step.{Ticking}
 use Rattle.karplus_strong.specs.KarplusStrong.{Making, karplusStrongNewOf, karplusStrongTickOf, karplusStrongResetOf, karplusStrongSetSampleRateOf}
@@ -12,15 +13,6 @@ use Rattle.exports_karplus_strong.specs.State.{sizesOf, tickSizesOf, sta
 use Rattle.karplus_strong.specs.declared.KarplusStrongMade.{KarplusStrongMade}
 use Rattle.karplus_strong.specs.declared.KarplusStrongMade.the-variants as made
 use Rattle.karplus_strong.specs.declared.KarplusStrongTicked.{KarplusStrongTicked}
-
--- the number of a call without samples, and the state's slices after it
-pub record Kept : Type 0 where
-  pub code : ℕ
-  pub floats : List Float
-  pub wholes : List ℕ
-
-abbrev pub kept : ℕ → List Float → List ℕ → Kept
-kept n f w = record { code = n; floats = f; wholes = w }
 
 -- 0 and the new state, or what refused it
 unfoldable pub keptOf : KarplusStrongMade → List Float → List ℕ → Kept
@@ -47,16 +39,6 @@ karplusStrongResetAt f w l = leftSized (karplusStrongResetOf (stateOf f w) l) f 
 
 unfoldable pub karplusStrongSetSampleRateAt : Float → List Float → List ℕ → List Float → Left
 karplusStrongSetSampleRateAt rate f w l = leftSized (karplusStrongSetSampleRateOf (stateOf f w) (record { 0 = rate }) l) f w l
-
--- the same of a tick, with its samples
-pub record Heard : Type 0 where
-  pub code : ℕ
-  pub floats : List Float
-  pub wholes : List ℕ
-  pub samples : List Float
-
-abbrev pub heard : ℕ → List Float → List ℕ → List Float → Heard
-heard n f w o = record { code = n; floats = f; wholes = w; samples = o }
 
 -- 10 and the mark's number, the new state and the sample, or what refused it
 unfoldable pub heardOf : KarplusStrongTicked → List Float → List ℕ → List Float → Heard

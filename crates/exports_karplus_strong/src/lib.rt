@@ -15,8 +15,9 @@ use karplus_strong::KarplusStrongTicked;
 ghost use mathlib.Core.Path.{_≡_};
 ghost use lib.Ieee.{nan};
 ghost use lib.ListN.{length, getD};
+ghost use Rattle.answer.specs.Flat.{kept, heard};
 ghost use Rattle.exports_karplus_strong.specs.State.{sizesOf, tickSizesOf, stateOf, floatsOf, wholesOf, samplesOf};
-ghost use Rattle.exports_karplus_strong.specs.Calls.{kept, left, heard, sounded, keptOf, heardOf, karplusStrongNewAt, karplusStrongTickAt, karplusStrongResetAt, karplusStrongSetSampleRateAt};
+ghost use Rattle.exports_karplus_strong.specs.Calls.{left, sounded, keptOf, heardOf, karplusStrongNewAt, karplusStrongTickAt, karplusStrongResetAt, karplusStrongSetSampleRateAt};
 
 // 0, or the number that refuses these lengths.
 fn sizes(floats: &[f64], wholes: &[u64]) -> u32

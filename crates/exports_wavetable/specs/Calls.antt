@@ -5,6 +5,7 @@ use Prim.Native.Nat.{ℕ, _+_}
 use lib.Dec.{eqb}
 use lib.Ieee.{Float}
 use lib.ListN.{length}
+use Rattle.answer.specs.Flat.{Kept, kept, Heard, heard}
 use Rattle.answer.specs.Answer.{markNumber, voltsOf, refusalOf, accepted}
 use Rattle.wavetable.specs.Bank.{Filled, fillBankOf, fillTableOf}
 use Rattle.wavetable.specs.Wavetable.{wavetableNewOf, wavetableTickOf, wavetableResetOf, wavetableSetSampleRateOf}
@@ -14,15 +15,6 @@ use Rattle.answer.specs.declared.Outcome.the-variants as outcome
 use Rattle.wavetable.specs.declared.WavetableMade.{WavetableMade}
 use Rattle.wavetable.specs.declared.WavetableMade.the-variants as made
 use Rattle.wavetable.specs.declared.WavetableTicked.{WavetableTicked}
-
--- the number of a call without samples, and the slices after it
-pub record Kept : Type 0 where
-  pub code : ℕ
-  pub floats : List Float
-  pub wholes : List ℕ
-
-abbrev pub kept : ℕ → List Float → List ℕ → Kept
-kept n f w = record { code = n; floats = f; wholes = w }
 
 -- 0 and the new state, or what refused it
 unfoldable pub keptOf : WavetableMade → List Float → List ℕ → Kept
@@ -41,16 +33,6 @@ wavetableResetAt f w = keptSized (keptOf (wavetableResetOf (stateOf f w)) f w) f
 
 unfoldable pub wavetableSetSampleRateAt : Float → List Float → List ℕ → Kept
 wavetableSetSampleRateAt rate f w = keptSized (keptOf (wavetableSetSampleRateOf (stateOf f w) (record { 0 = rate })) f w) f w
-
--- the same of a tick, with its samples
-pub record Heard : Type 0 where
-  pub code : ℕ
-  pub floats : List Float
-  pub wholes : List ℕ
-  pub samples : List Float
-
-abbrev pub heard : ℕ → List Float → List ℕ → List Float → Heard
-heard n f w o = record { code = n; floats = f; wholes = w; samples = o }
 
 -- 10 and the mark's number, the new state and the samples, or what refused it
 unfoldable pub heardOf : WavetableTicked → List Float → List ℕ → List Float → Heard

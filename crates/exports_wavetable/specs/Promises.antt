@@ -3,8 +3,9 @@ use mathlib.Core.List.{List}
 use mathlib.Core.Path.{_≡_}
 use Prim.Native.Nat.{ℕ}
 use lib.Ieee.{Float}
+use Rattle.answer.specs.Flat.{Kept, Heard}
 use Rattle.laws.specs.Machine.{Settles}
-use Rattle.exports_wavetable.specs.Calls.{Kept, wavetableNewAt, wavetableResetAt, wavetableSetSampleRateAt, Heard, wavetableTickAt, FilledWith, wavetableFillBankAt, wavetableFillTableAt}
+use Rattle.exports_wavetable.specs.Calls.{wavetableNewAt, wavetableResetAt, wavetableSetSampleRateAt, wavetableTickAt, FilledWith, wavetableFillBankAt, wavetableFillTableAt}
 use Rattle.exports_wavetable.specs.State.{stateOf, floatsOf, wholesOf}
 use Rattle.wavetable.specs.declared.Wavetable.{Wavetable}
 

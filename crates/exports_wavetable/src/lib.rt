@@ -15,8 +15,9 @@ use wavetable::WavetableMade;
 use wavetable::WavetableTicked;
 ghost use mathlib.Core.Path.{_≡_};
 ghost use lib.ListN.{length};
+ghost use Rattle.answer.specs.Flat.{kept, heard};
 ghost use Rattle.exports_wavetable.specs.State.{sizesOf, tickSizesOf, stateOf, floatsOf, wholesOf, samplesOf};
-ghost use Rattle.exports_wavetable.specs.Calls.{kept, heard, keptOf, heardOf, wavetableNewAt, wavetableTickAt, wavetableResetAt, wavetableSetSampleRateAt, outcomeNumber, filledWith, wavetableFillBankAt, wavetableFillTableAt};
+ghost use Rattle.exports_wavetable.specs.Calls.{keptOf, heardOf, wavetableNewAt, wavetableTickAt, wavetableResetAt, wavetableSetSampleRateAt, outcomeNumber, filledWith, wavetableFillBankAt, wavetableFillTableAt};
 
 // 0, or the number that refuses these lengths.
 fn sizes(floats: &[f64], wholes: &[u64]) -> u32

@@ -6,6 +6,7 @@ use lib.ListN.{replicate}
 use Rattle.laws.specs.Float.{zer}
 use Rattle.laws.specs.Lists.{tab}
 use Rattle.answer.specs.Flat.{Heard}
+use Rattle.exports_formant_osc.specs.Calls.{formantTickAt}
 use Rattle.exports_lfo.specs.Calls.{lfoTickAt}
 use Rattle.exports_supersaw.specs.Calls.{supersawTickAt}
 use Rattle.exports_vco.specs.Calls.{controlsOf, tickAt}
@@ -44,3 +45,7 @@ vcoWords w =
 -- ten floats, two whole numbers, voct, detune, mix
 unfoldable pub supersawWords : (ℕ → ℕ) → List ℕ
 supersawWords w = toldWords (supersawTickAt (floatAt w 12) (floatAt w 13) (floatAt w 14) (floatsAt w 0 10) (wholesAt w 10 2) (replicate 2 zer))
+
+-- 29 floats, six whole numbers, v_oct, vowel, formant_shift, vibrato
+unfoldable pub formantWords : (ℕ → ℕ) → List ℕ
+formantWords w = toldWords (formantTickAt (floatAt w 35) (floatAt w 36) (floatAt w 37) (floatAt w 38) (floatsAt w 0 29) (wholesAt w 29 6) (replicate 1 zer))

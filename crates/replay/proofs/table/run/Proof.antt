@@ -155,6 +155,9 @@ vco-tick-requires c κs = search needs
 supersaw-tick-requires : tie.Need-supersaw-tick-requires
 supersaw-tick-requires c κs = search needs
 
+formant-osc-tick-requires : tie.Need-formant-osc-tick-requires
+formant-osc-tick-requires c κs = search needs
+
 returns : tie.Need-returns
 unfolding runOf rows
 returns c = simp (c .one .ensures, c .before .bits .ensures, c .before .before .sin .ensures, c .before .before .before .before .before .before .real .ensures, c .before .before .before .match .keys1)
@@ -228,8 +231,12 @@ unfolding runOf rows
 returns-18 c = simp (c .supersaw-tick .ensures, c .before .match .keys18)
 
 returns-19 : tie.Need-returns-19
+unfolding runOf rows
+returns-19 c = simp (c .formant-osc-tick .ensures, c .before .match .keys19)
+
+returns-20 : tie.Need-returns-20
 unfolding rows
-returns-19 c = run-past _ _ (other-past 18 _ (c .match .rest))
+returns-20 c = run-past _ _ (other-past 19 _ (c .match .rest))
 
 pub run-spec : {M : Type 1} → statement M
 run-spec =
@@ -285,6 +292,7 @@ run-spec =
     lfo-tick-requires
     vco-tick-requires
     supersaw-tick-requires
+    formant-osc-tick-requires
     returns
     returns-2
     returns-3
@@ -303,4 +311,5 @@ run-spec =
     returns-16
     returns-17
     returns-18
-    returns-19)
+    returns-19
+    returns-20)
