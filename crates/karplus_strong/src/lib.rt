@@ -17,8 +17,8 @@ ghost use Rattle.common.specs.Consts.{half};
 ghost use Rattle.common.specs.Tests.{rateOk};
 ghost use Rattle.karplus_strong.specs.Ranges.{Cut};
 ghost use Rattle.karplus_strong.specs.Line.{blankOf, pulseOf, excitedOf, sumTo, levelOf, struckOf, drawsOk};
-ghost use Rattle.karplus_strong.specs.Step.{filterCoefOf, apCoefOf, apDelayOf, filterDelayOf, targetDelayOf, tapOf, filteredOf, stretchedOf, restOf, outOf, stepOf};
-ghost use Rattle.karplus_strong.specs.KarplusStrong.{maxLenOf, lineOk, roomOf, karplusStrongRefusalOf, rateRefusalOf, newKarplusStrong, placeOf, resizedString, finiteOr, periodOf, struckLen, drawsRefusalOf, strikeOf, strikeIf, heardString, refusedTick, karplusStrongSoundOf, karplusStrongTickOf, karplusStrongNewOf, karplusStrongResetOf, karplusStrongSetSampleRateOf};
+ghost use Rattle.karplus_strong.specs.Step.{filterCoefOf, apCoefOf, targetDelayOf, tapOf, restOf, outOf, stepOf};
+ghost use Rattle.karplus_strong.specs.KarplusStrong.{maxLenOf, lineOk, roomOf, karplusStrongRefusalOf, rateRefusalOf, placeOf, resizedString, finiteOr, periodOf, struckLen, drawsRefusalOf, strikeOf, strikeIf, heardString, refusedTick, karplusStrongSoundOf, karplusStrongTickOf, karplusStrongNewOf, karplusStrongResetOf, karplusStrongSetSampleRateOf};
 
 // The Rust's fields less `max_len`, which follows from the rate, the lent line, of which the length stays, and the noise.
 pub struct KarplusStrong {
