@@ -1,0 +1,69 @@
+-- What each exported call answers, and what it leaves in the lent slices. f, w and o are floats, wholes and samples as they stood.
+use mathlib.Core.Bool.{cond}
+use mathlib.Core.List.{List}
+use Prim.Native.Nat.{ℕ, _+_}
+use lib.Dec.{eqb}
+use lib.Ieee.{Float}
+use lib.ListN.{length}
+use Rattle.answer.specs.declared.Outcome.{Outcome}
+use Rattle.answer.specs.declared.Outcome.the-variants as outcome
+use Rattle.answer.specs.Answer.{markNumber, voltsOf, refusalOf, accepted}
+use Rattle.supersaw.specs.Calls.{Refused}
+use Rattle.supersaw.specs.Supersaw.{supersawNewOf, supersawTickOf, supersawResetOf, supersawSetSampleRateOf}
+use Rattle.exports_supersaw.specs.State.{sizesOf, tickSizesOf, stateOf, floatsOf, wholesOf, samplesOf}
+use Rattle.supersaw.specs.declared.SupersawMade.{SupersawMade}
+use Rattle.supersaw.specs.declared.Supersaw.{Supersaw}
+use Rattle.supersaw.specs.declared.SupersawTicked.{SupersawTicked}
+
+-- the number of a call without samples, and the slices after it
+pub record Kept : Type 0 where
+  pub code : ℕ
+  pub floats : List Float
+  pub wholes : List ℕ
+
+abbrev pub kept : ℕ → List Float → List ℕ → Kept
+kept n f w = record { code = n; floats = f; wholes = w }
+
+-- 0 and the new state, or what refused it
+unfoldable pub keptBy : Outcome → Supersaw → List Float → List ℕ → Kept
+keptBy outcome.Done s f w = kept 0 (floatsOf s) (wholesOf s)
+keptBy (outcome.Refused n) s f w = kept n f w
+
+abbrev pub keptOf : SupersawMade → List Float → List ℕ → Kept
+keptOf m f w = keptBy (m .outcome) (m .supersaw) f w
+
+-- k, unless the lengths refuse
+unfoldable pub keptSized : Kept → List Float → List ℕ → Kept
+keptSized k f w = let n = sizesOf (length f) (length w) in cond (eqb n 0) k (kept n f w)
+
+unfoldable pub supersawNewAt : Float → List Float → List ℕ → Kept
+supersawNewAt rate f w = keptSized (keptOf (supersawNewOf (record { 0 = rate })) f w) f w
+
+unfoldable pub supersawResetAt : List Float → List ℕ → Kept
+supersawResetAt f w = keptSized (keptOf (supersawResetOf (stateOf f w)) f w) f w
+
+unfoldable pub supersawSetSampleRateAt : Float → List Float → List ℕ → Kept
+supersawSetSampleRateAt rate f w = keptSized (keptOf (supersawSetSampleRateOf (stateOf f w) (record { 0 = rate })) f w) f w
+
+-- the same of a tick, with its samples
+pub record Heard : Type 0 where
+  pub code : ℕ
+  pub floats : List Float
+  pub wholes : List ℕ
+  pub samples : List Float
+
+abbrev pub heard : ℕ → List Float → List ℕ → List Float → Heard
+heard n f w o = record { code = n; floats = f; wholes = w; samples = o }
+
+-- 10 and the mark's number, the new state and the samples, or what refused it
+unfoldable pub heardOf : SupersawTicked → List Float → List ℕ → List Float → Heard
+heardOf t f w o =
+    let a = t .answer in
+    cond (accepted a) (heard (10 + markNumber a) (floatsOf (t .supersaw)) (wholesOf (t .supersaw)) (samplesOf (voltsOf a))) (heard (refusalOf a) f w o)
+
+unfoldable pub heardSized : Heard → List Float → List ℕ → List Float → Heard
+heardSized h f w o = let n = tickSizesOf (length f) (length w) (length o) in cond (eqb n 0) h (heard n f w o)
+
+unfoldable pub supersawTickAt : Float → Float → Float → List Float → List ℕ → List Float → Heard
+supersawTickAt voct detune mix f w o =
+    heardSized (heardOf (supersawTickOf (stateOf f w) (record { voct = record { 0 = voct }; detune = detune; mix = mix })) f w o) f w o

@@ -1,0 +1,213 @@
+// The Supersaw for hosts, over lent slices. A state is floats [phases 0 to 6, sub_phase, sample_rate, freq_memo.val] and
+// wholes [freq_memo.key, freq_memo.valid], the last 0 or not; samples are [out, sub].
+// Each call answers a number: 0 done; of an accepted tick 11 cleared, 12 notfinite, 13 lost, 14 clean; of a refused call
+// 1 to 7 as document 01 has them, or 50, 51, 52 where floats, wholes or samples have another length. A refused call writes nothing.
+use answer::Answer;
+use answer::Outcome;
+use answer::Volts;
+use common::Hertz;
+use common::Memo1;
+use common::Turns;
+use common::VoltsPerOctave;
+use supersaw::Supersaw;
+use supersaw::SupersawControls;
+use supersaw::SupersawMade;
+use supersaw::SupersawTicked;
+ghost use mathlib.Core.Path.{_≡_};
+ghost use lib.ListN.{length};
+ghost use Rattle.exports_supersaw.specs.State.{sizesOf, tickSizesOf, stateOf, floatsOf, wholesOf, samplesOf};
+ghost use Rattle.exports_supersaw.specs.Calls.{kept, heard, keptOf, heardOf, supersawNewAt, supersawTickAt, supersawResetAt, supersawSetSampleRateAt};
+
+// 0, or the number that refuses these lengths.
+fn sizes(floats: &[f64], wholes: &[u64]) -> u32
+    ensures { λ r. ⌜ r ≡ sizesOf (length (now (floats .entry))) (length (now (wholes .entry))) ⌝ }
+{
+    if floats.len() == 10 {
+        if wholes.len() == 2 { 0 } else { 51 }
+    } else {
+        50
+    }
+}
+
+fn tick_sizes(floats: &[f64], wholes: &[u64], samples: &[f64]) -> u32
+    ensures { λ r. ⌜ r ≡ tickSizesOf (length (now (floats .entry))) (length (now (wholes .entry))) (length (now (samples .entry))) ⌝ }
+{
+    let n = sizes(floats, wholes);
+    if n == 0 {
+        if samples.len() == 2 { 0 } else { 52 }
+    } else {
+        n
+    }
+}
+
+fn state(floats: &[f64], wholes: &[u64]) -> Supersaw
+    requires { ⌜ (length (now floats) ≡ 10) × (length (now wholes) ≡ 2) ⌝ }
+    ensures { λ r. ⌜ r ≡ stateOf (now (floats .entry)) (now (wholes .entry)) ⌝ }
+{
+    let phases = [
+        floats[0],
+        floats[1],
+        floats[2],
+        floats[3],
+        floats[4],
+        floats[5],
+        floats[6],
+    ];
+    let sub_phase = Turns(floats[7]);
+    let sample_rate = Hertz(floats[8]);
+    let freq_memo = Memo1 {
+        key: wholes[0],
+        val: Hertz(floats[9]),
+        valid: wholes[1] != 0,
+    };
+    Supersaw {
+        phases,
+        sub_phase,
+        sample_rate,
+        freq_memo,
+    }
+}
+
+fn store(s: Supersaw, floats: &mut [f64], wholes: &mut [u64])
+    requires { ⌜ (length (now floats) ≡ 10) × (length (now wholes) ≡ 2) ⌝ }
+    ensures { λ _. ⌜ (now (floats .exit) ≡ floatsOf s) × (now (wholes .exit) ≡ wholesOf s) ⌝ }
+{
+    let phases = s.phases;
+    let sub_phase = s.sub_phase;
+    let sample_rate = s.sample_rate;
+    let memo = s.freq_memo;
+    let val = memo.val;
+    floats[0] = phases[0];
+    floats[1] = phases[1];
+    floats[2] = phases[2];
+    floats[3] = phases[3];
+    floats[4] = phases[4];
+    floats[5] = phases[5];
+    floats[6] = phases[6];
+    floats[7] = sub_phase.0;
+    floats[8] = sample_rate.0;
+    floats[9] = val.0;
+    wholes[0] = memo.key;
+    wholes[1] = memo.valid as u64;
+}
+
+// What a call without samples made.
+fn put_made(m: SupersawMade, floats: &mut [f64], wholes: &mut [u64]) -> u32
+    requires { ⌜ (length (now floats) ≡ 10) × (length (now wholes) ≡ 2) ⌝ }
+    ensures { λ r. ⌜ kept r (now (floats .exit)) (now (wholes .exit)) ≡ keptOf m (now (floats .entry)) (now (wholes .entry)) ⌝ }
+{
+    let outcome = m.outcome;
+    let s = m.supersaw;
+    match outcome {
+        Outcome::Done => {
+            store(s, floats, wholes);
+            0
+        }
+        Outcome::Refused(n) => n,
+    }
+}
+
+#[no_mangle]
+pub extern "C" fn gruttisol_supersaw_new(
+    sample_rate: f64,
+    floats: &mut [f64],
+    wholes: &mut [u64],
+) -> u32
+    ensures { λ r. ⌜ kept r (now (floats .exit)) (now (wholes .exit)) ≡ supersawNewAt «sample_rate» (now (floats .entry)) (now (wholes .entry)) ⌝ }
+{
+    let n = sizes(floats, wholes);
+    if n == 0 {
+        put_made(Supersaw::new(Hertz(sample_rate)), floats, wholes)
+    } else {
+        n
+    }
+}
+
+// An accepted tick: its samples and the state after it.
+fn put_heard(
+    code: u32,
+    v: Volts,
+    s: Supersaw,
+    floats: &mut [f64],
+    wholes: &mut [u64],
+    samples: &mut [f64],
+) -> u32
+    requires { ⌜ (length (now floats) ≡ 10) × (length (now wholes) ≡ 2) × (length (now samples) ≡ 2) ⌝ }
+    ensures { λ r. ⌜ heard r (now (floats .exit)) (now (wholes .exit)) (now (samples .exit)) ≡ heard code (floatsOf s) (wholesOf s) (samplesOf v) ⌝ }
+{
+    store(s, &mut *floats, &mut *wholes);
+    samples[0] = v.p10;
+    samples[1] = v.p11;
+    code
+}
+
+fn put_ticked(t: SupersawTicked, floats: &mut [f64], wholes: &mut [u64], samples: &mut [f64]) -> u32
+    requires { ⌜ (length (now floats) ≡ 10) × (length (now wholes) ≡ 2) × (length (now samples) ≡ 2) ⌝ }
+    ensures { λ r. ⌜ heard r (now (floats .exit)) (now (wholes .exit)) (now (samples .exit)) ≡ heardOf t (now (floats .entry)) (now (wholes .entry)) (now (samples .entry)) ⌝ }
+{
+    let answer = t.answer;
+    let s = t.supersaw;
+    match answer {
+        Answer::Clean(v) => put_heard(14, v, s, floats, wholes, samples),
+        Answer::Cleared(v) => put_heard(11, v, s, floats, wholes, samples),
+        Answer::NotFinite(v) => put_heard(12, v, s, floats, wholes, samples),
+        Answer::Lost(v) => put_heard(13, v, s, floats, wholes, samples),
+        Answer::Refused(n) => n,
+    }
+}
+
+#[no_mangle]
+pub extern "C" fn gruttisol_supersaw_tick(
+    voct: f64,
+    detune: f64,
+    mix: f64,
+    floats: &mut [f64],
+    wholes: &mut [u64],
+    samples: &mut [f64],
+) -> u32
+    ensures { λ r. ⌜ heard r (now (floats .exit)) (now (wholes .exit)) (now (samples .exit)) ≡ supersawTickAt voct detune mix (now (floats .entry)) (now (wholes .entry)) (now (samples .entry)) ⌝ }
+{
+    let n = tick_sizes(floats, wholes, samples);
+    if n == 0 {
+        let c = SupersawControls {
+            voct: VoltsPerOctave(voct),
+            detune,
+            mix,
+        };
+        put_ticked(state(floats, wholes).tick(c), floats, wholes, samples)
+    } else {
+        n
+    }
+}
+
+#[no_mangle]
+pub extern "C" fn gruttisol_supersaw_reset(floats: &mut [f64], wholes: &mut [u64]) -> u32
+    ensures { λ r. ⌜ kept r (now (floats .exit)) (now (wholes .exit)) ≡ supersawResetAt (now (floats .entry)) (now (wholes .entry)) ⌝ }
+{
+    let n = sizes(floats, wholes);
+    if n == 0 {
+        put_made(state(floats, wholes).reset(), floats, wholes)
+    } else {
+        n
+    }
+}
+
+#[no_mangle]
+pub extern "C" fn gruttisol_supersaw_set_sample_rate(
+    sample_rate: f64,
+    floats: &mut [f64],
+    wholes: &mut [u64],
+) -> u32
+    ensures { λ r. ⌜ kept r (now (floats .exit)) (now (wholes .exit)) ≡ supersawSetSampleRateAt «sample_rate» (now (floats .entry)) (now (wholes .entry)) ⌝ }
+{
+    let n = sizes(floats, wholes);
+    if n == 0 {
+        put_made(
+            state(floats, wholes).set_sample_rate(Hertz(sample_rate)),
+            floats,
+            wholes,
+        )
+    } else {
+        n
+    }
+}

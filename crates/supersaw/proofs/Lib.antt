@@ -1,0 +1,7 @@
+pub mod Loops
+pub mod FloatLaws
+pub mod Sign
+pub mod StepLaws
+pub mod LaneLaws
+pub mod Reached
+pub mod Settled

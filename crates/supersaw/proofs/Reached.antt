@@ -1,0 +1,145 @@
+-- A reached Supersaw has a good rate and good phases, so that no call on it is refused but for its own input.
+use mathlib.Core.Bool.{Bool, true, false, cond}
+use mathlib.Core.List.{List}
+use mathlib.Core.Path.{_≡_, refl, sym, ap, _∙_, subst}
+use Prim.Native.Nat.{ℕ, zero, suc, _≤_, _<_}
+use native.Mathlib.Nat.{le-refl, le-of-lt}
+use native.Mathlib.Omega.{arith}
+use lib.Dec.{eqb}
+use lib.ListN.{length, length-set, set}
+use lib.Seq.{getD-set-same, getD-set-other}
+use lib.Ieee.{Float, nan, binary64, div, round, lt, le, eq, ofBits, ofInt}
+use lib.Ieee.Fits.{add-fits}
+use borrow.Author.Tests.{eqb-true, eqb-false}
+use Rattle.laws.proofs.Always.{always}
+use Rattle.laws.specs.Float.{zer}
+use Rattle.laws.specs.Lists.{tab}
+use Rattle.common.proofs.PhaseLaws.{wrap-in}
+use Rattle.common.specs.Phase.{turns}
+use Rattle.common.specs.Tests.{rateOk, phaseOk}
+use Rattle.common.specs.declared.Hertz.{Hertz}
+use Rattle.answer.proofs.Laws.{mark-says}
+use Rattle.answer.specs.Answer.{accepted}
+use Rattle.supersaw.proofs.Loops.{all-at, all-of}
+use Rattle.supersaw.specs.Calls.{Call, Tick, Reset, SetSampleRate, Done, Refused, replyOf, after, reply, First, ReachedSupersaw}
+use Rattle.supersaw.specs.Promises.{Never-refused}
+use Rattle.supersaw.specs.Supersaw.{startPhases, newSupersaw, all, supersawRefusalOf, madeUnless, supersawNewOf, supersawSoundOf, supersawTickOf, restarted, supersawResetOf, rated, supersawSetSampleRateOf}
+use Rattle.supersaw.specs.Voices.{at, voiceOf, voicesOf}
+use Rattle.supersaw.specs.declared.Supersaw.{Supersaw}
+use Rattle.supersaw.specs.declared.SupersawControls.{SupersawControls}
+use Rattle.supersaw.specs.declared.SupersawTicked.{SupersawTicked}
+use Rattle.supersaw.specs.declared.SupersawMade.{SupersawMade}
+use Rattle.answer.specs.declared.Outcome.the-variants as outcome
+
+-- seven phases, each in [0, 1)
+record Phases (ps : List Float) : Type 0 where
+  size : length ps ≡ 7
+  ok : (i : ℕ) → i < 7 → phaseOk (turns (at ps i)) ≡ true
+
+set-ok : (ps : List Float) (n : ℕ) (x : Float) → n < 7 → phaseOk (turns x) ≡ true → Phases ps → Phases (set ps n x)
+set-ok ps n x l e h = record { size = length-set ps n x ∙ h .size; ok = λ i k. go i k (eqb i n) refl }
+  where
+    go : (i : ℕ) → i < 7 → (b : Bool) → eqb i n ≡ b → phaseOk (turns (at (set ps n x) i)) ≡ true
+    go i k true q =
+        subst (λ (j : ℕ). phaseOk (turns (at (set ps n x) j)) ≡ true) (sym (eqb-true i n q))
+        (ap (λ (z : Float). phaseOk (turns z)) (getD-set-same ps n x nan (subst (λ (z : ℕ). n < z) (sym (h .size)) l)) ∙ e)
+    go i k false q = ap (λ (z : Float). phaseOk (turns z)) (getD-set-other ps n i x nan (eqb-false i n q)) ∙ h .ok i k
+
+voices-ok : (detune : Float) (base rate : Hertz) (ps : List Float) → Phases ps → (n : ℕ) → n ≤ 7 → Phases (voicesOf detune base rate ps n .phases)
+unfolding voicesOf voiceOf
+voices-ok detune base rate ps h zero l = h
+voices-ok detune base rate ps h (suc n) l =
+    set-ok (voicesOf detune base rate ps n .phases) n _ l (wrap-in _ (add-fits binary64 _ _)) (voices-ok detune base rate ps h n (le-of-lt l))
+
+start-ok : all (λ i. phaseOk (turns (at startPhases i))) 7 ≡ true
+unfolding all startPhases tab phaseOk le lt eq ofBits ofInt div round
+start-ok = refl
+
+start : Phases startPhases
+start = record { size = unfold startPhases tab in refl; ok = all-at (λ (i : ℕ). phaseOk (turns (at startPhases i))) 7 start-ok }
+
+zero-ok : phaseOk (turns zer) ≡ true
+unfolding phaseOk le lt eq ofBits
+zero-ok = refl
+
+record Good (s : Supersaw) : Type 0 where
+  rate : rateOk (s .«sample_rate») ≡ true
+  phases : Phases (s .phases)
+  low : phaseOk (s .«sub_phase») ≡ true
+
+good-new : (r : Hertz) → rateOk r ≡ true → Good (newSupersaw r)
+unfolding newSupersaw
+good-new r h = record { rate = h; phases = start; low = zero-ok }
+
+not-refused : (s : Supersaw) → Good s → supersawRefusalOf s ≡ 0
+unfolding supersawRefusalOf
+not-refused s h = simp (h .rate, all-of (λ (i : ℕ). phaseOk (turns (at (s .phases) i))) 7 (h .phases .ok), h .low)
+
+good-sound : (s : Supersaw) → Good s → (c : SupersawControls) → Good (supersawSoundOf s c .supersaw)
+unfolding supersawSoundOf
+good-sound s h c = record { rate = h .rate; phases = voices-ok _ _ _ _ (h .phases) 7 (le-refl 7); low = wrap-in _ (add-fits binary64 _ _) }
+
+-- ---- what each call does on such a state
+tick-is : (s : Supersaw) → Good s → (c : SupersawControls) → supersawTickOf s c ≡ supersawSoundOf s c
+unfolding supersawTickOf
+tick-is s h c = simp (not-refused s h)
+
+abbrev done : Supersaw → SupersawMade
+done s = record { outcome = outcome.Done; supersaw = s }
+
+abbrev refused : ℕ → Supersaw → SupersawMade
+refused n s = record { outcome = outcome.Refused n; supersaw = s }
+
+reset-is : (s : Supersaw) → Good s → supersawResetOf s ≡ done (restarted s)
+unfolding supersawResetOf madeUnless
+reset-is s h = simp (not-refused s h)
+
+rate-is : (s : Supersaw) → Good s → (r : Hertz) → supersawSetSampleRateOf s r ≡ cond (rateOk r) (done (rated s r)) (refused 1 s)
+unfolding supersawSetSampleRateOf madeUnless
+rate-is s h r = simp (not-refused s h) (go (rateOk r))
+  where
+    go : (b : Bool) → _≡_ {A = SupersawMade} (cond (eqb (cond b 0 1) 0) (done (rated s r)) (refused (cond b 0 1) s)) (cond b (done (rated s r)) (refused 1 s))
+    go true = refl
+    go false = refl
+
+first-good : (s : Supersaw) → First s → Good s
+unfolding supersawNewOf madeUnless
+first-good s f = go (rateOk (f .0)) refl (f .1)
+  where
+    go : (b : Bool) → rateOk (f .0) ≡ b → _≡_ {A = SupersawMade} (cond (eqb (cond b 0 1) 0) (done (newSupersaw (f .0))) (refused (cond b 0 1) (newSupersaw (f .0)))) (done s) → Good s
+    go true e h = subst Good (ap (λ (m : SupersawMade). m .supersaw) h) (good-new (f .0) e)
+    go false e h = absurd (let k : outcome.Refused 1 ≡ outcome.Done = ap (λ (m : SupersawMade). m .outcome) h in let z : _≡_ {A = ℕ} 0 1 = cc in omega arith)
+
+-- ---- so it stays one
+good-after : (s : Supersaw) (c : Call) → Good s → Good (after s c)
+unfolding after
+good-after s (Tick c) h = subst (λ (t : SupersawTicked). Good (t .supersaw)) (sym (tick-is s h c)) (good-sound s h c)
+good-after s Reset h = subst (λ (m : SupersawMade). Good (m .supersaw)) (sym (reset-is s h)) (record { rate = h .rate; phases = start; low = zero-ok })
+good-after s (SetSampleRate r) h = subst (λ (m : SupersawMade). Good (m .supersaw)) (sym (rate-is s h r)) (go (rateOk r) refl)
+  where
+    go : (b : Bool) → rateOk r ≡ b → Good (cond b (done (rated s r)) (refused 1 s) .supersaw)
+    go true e = record { rate = e; phases = h .phases; low = h .low }
+    go false e = h
+
+good : {s : Supersaw} → ReachedSupersaw s → Good s
+good = always Good first-good (λ s c h f. good-after s c h)
+
+sound-accepted : (s : Supersaw) (c : SupersawControls) → accepted (supersawSoundOf s c .answer) ≡ true
+unfolding supersawSoundOf
+sound-accepted s c = mark-says _ _ _ _ .is-accepted
+
+pub never-refused : Never-refused
+unfolding reply
+never-refused s h =
+    let g = good h in
+    record {
+      phases = g .phases .ok;
+      «sub_phase» = g .low;
+      ticks = λ c. ap (λ (t : SupersawTicked). accepted (t .answer)) (tick-is s g c) ∙ sound-accepted s c;
+      resets = ap (λ (m : SupersawMade). replyOf (m .outcome)) (reset-is s g) ∙ (unfold replyOf in refl);
+      rates = λ r. ap (λ (m : SupersawMade). replyOf (m .outcome)) (rate-is s g r) ∙ told r (rateOk r);
+    }
+  where
+    told : (r : Hertz) (b : Bool) → replyOf (cond b (done (rated s r)) (refused 1 s) .outcome) ≡ cond b Done (Refused 1)
+    told r true = unfold replyOf in refl
+    told r false = unfold replyOf in refl

@@ -1,0 +1,60 @@
+use borrow.Author.Tests.{ne-eqb}
+use Rattle.supersaw.proofs.LaneLaws.{tick-glides, tick-sounds}
+use Rattle.supersaw.specs.Supersaw.{supersawTickOf}
+use borrow.Author.Needs.{needs}
+use Rattle.supersaw.proofs.Supersaw.tick.Statement.{statement}
+use Rattle.supersaw.proofs.Supersaw.tick.Tie as tie
+
+clamp-requires : tie.Need-clamp-requires
+clamp-requires c κs = search needs
+
+clamp-requires-2 : tie.Need-clamp-requires-2
+clamp-requires-2 c κs = search needs
+
+voct-to-hz-requires : tie.Need-voct-to-hz-requires
+voct-to-hz-requires c κs = search needs
+
+lanes-requires : tie.Need-lanes-requires
+lanes-requires c κs = search needs
+
+increments-requires : tie.Need-increments-requires
+increments-requires c κs = search needs
+
+quiet-requires : tie.Need-quiet-requires
+quiet-requires c κs = search needs
+
+glide-requires : tie.Need-glide-requires
+glide-requires c κs = search needs
+
+refusal-requires : tie.Need-refusal-requires
+refusal-requires c κs = search needs
+
+sound-requires : tie.Need-sound-requires
+sound-requires c κs = search needs
+
+returns : tie.Need-returns
+returns c = tick-glides (c .before .before .before .before .before .before .before .before .before .before .before .before .before .args .self) (c .before .before .before .before .before .before .before .before .before .before .before .before .before .args .c) _ _ _ _ _ (c .before .before .before .before .before .before .before .before .clamp .ensures) (c .before .before .before .before .before .before .before .clamp2 .ensures) (c .before .before .before .before .before .before .voct-to-hz .ensures) (c .before .before .before .before .lanes .ensures) (c .before .before .before .increments .ensures) _ _ (c .before .before .quiet .ensures) (c .before .if1 .taken) (c .glide .ensures)
+
+returns-2 : tie.Need-returns-2
+returns-2 c = tick-sounds (c .before .before .before .before .before .before .before .before .before .before .before .before .before .before .before .args .self) (c .before .before .before .before .before .before .before .before .before .before .before .before .before .before .before .args .c) _ _ _ _ _ (c .before .before .before .before .before .before .before .before .before .before .clamp .ensures) (c .before .before .before .before .before .before .before .before .before .clamp2 .ensures) (c .before .before .before .before .before .before .before .before .voct-to-hz .ensures) (c .before .before .before .before .before .before .lanes .ensures) (c .before .before .before .before .before .increments .ensures) _ _ (c .before .before .refusal .ensures) (c .before .if2 .taken) (c .sound .ensures)
+
+returns-3 : tie.Need-returns-3
+unfolding supersawTickOf
+returns-3 c = simp (ne-eqb _ _ (c .if2 .left), ← c .before .refusal .ensures)
+
+pub tick-spec : {M : Type 1} → statement M
+tick-spec =
+    tie.close
+    (tie.spec
+    clamp-requires
+    clamp-requires-2
+    voct-to-hz-requires
+    lanes-requires
+    increments-requires
+    quiet-requires
+    glide-requires
+    refusal-requires
+    sound-requires
+    returns
+    returns-2
+    returns-3)

@@ -1,0 +1,71 @@
+use borrow.Author.Needs.{needs}
+use mathlib.Core.Bool.{true}
+use mathlib.Core.Path.{_≡_, refl}
+use Prim.Native.Nat.{ℕ, _≤_, _-_}
+use native.Mathlib.Omega.{arith}
+use Rattle.supersaw.proofs.Loops.{all-more, all-stops, all-done}
+use Rattle.supersaw.specs.Supersaw.{all}
+use Rattle.supersaw.specs.Voices.{at}
+use Rattle.supersaw.specs.Lanes.{steadyOf, lanesSteady}
+use Rattle.supersaw.proofs.all_steady.Statement.{statement}
+use Rattle.supersaw.proofs.all_steady.Tie as tie
+
+abbrev Inv-loop : tie.InvT-loop
+Inv-loop t dt i₀ i = (i ≤ 8) × (all (λ (k : ℕ). steadyOf (at t k) (at dt k)) i ≡ true)
+
+abbrev μ-loop : tie.MeasureT-loop
+μ-loop t dt i₀ i = 8 - i
+
+loop-holds : tie.Need-loop-holds Inv-loop μ-loop
+unfolding all
+loop-holds c = (omega arith, refl)
+
+mul-steady : tie.Need-mul-steady Inv-loop μ-loop
+mul-steady c = omega arith
+
+array-read-steady : tie.Need-array-read-steady Inv-loop μ-loop
+array-read-steady c = omega arith
+
+mul-steady-2 : tie.Need-mul-steady-2 Inv-loop μ-loop
+mul-steady-2 c = omega arith
+
+array-read-steady-2 : tie.Need-array-read-steady-2 Inv-loop μ-loop
+array-read-steady-2 c = omega arith
+
+steady-requires : tie.Need-steady-requires Inv-loop μ-loop
+steady-requires c κs = search needs
+
+returns : tie.Need-returns Inv-loop μ-loop
+unfolding lanesSteady
+returns c = all-stops _ 8 _ _ (c .before .before .loop-test .taken) (c .before .steady .ensures) (c .if1 .taken)
+
+add-i : tie.Need-add-i Inv-loop μ-loop
+add-i c = omega arith
+
+loop-less : tie.Need-loop-less Inv-loop μ-loop
+loop-less c = omega arith
+
+loop-again : tie.Need-loop-again Inv-loop μ-loop
+loop-again c = (omega arith, all-more _ _ _ (c .before .before .before .loop .inv .1) (c .before .steady .ensures) (c .if1 .left))
+
+returns-2 : tie.Need-returns-2 Inv-loop μ-loop
+unfolding lanesSteady
+returns-2 c = all-done _ 8 _ (c .before .loop .inv .0) (c .loop-test .left) (c .before .loop .inv .1)
+
+pub all-steady-spec : {M : Type 1} → statement M
+all-steady-spec =
+    tie.close
+    (tie.spec
+    Inv-loop
+    μ-loop
+    loop-holds
+    mul-steady
+    array-read-steady
+    mul-steady-2
+    array-read-steady-2
+    steady-requires
+    returns
+    add-i
+    loop-less
+    loop-again
+    returns-2)

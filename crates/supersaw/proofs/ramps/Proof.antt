@@ -1,0 +1,64 @@
+use mathlib.Core.Path.{_≡_, refl}
+use Prim.Native.Nat.{ℕ, _≤_, _-_}
+use native.Mathlib.Omega.{arith}
+use lib.ListN.{length}
+use Rattle.laws.proofs.Over.{over-none, over-more}
+use Rattle.laws.specs.Lists.{over}
+use Rattle.supersaw.proofs.Loops.{tab-done}
+use lib.Ieee.{binary64, sub, mul}
+use Rattle.laws.specs.Float.{zer, one, two}
+use Rattle.supersaw.specs.Voices.{at}
+use Rattle.supersaw.specs.Lanes.{rampsOf}
+use borrow.Author.Needs.{needs}
+use Rattle.supersaw.proofs.ramps.Statement.{statement}
+use Rattle.supersaw.proofs.ramps.Tie as tie
+
+abbrev Inv-loop : tie.InvT-loop
+Inv-loop t s₀ i₀ s i = (i ≤ 8) × (length t ≡ 8) × (s ≡ over (λ (k : ℕ). sub binary64 (sub binary64 (mul binary64 two (at t k)) one) zer) i t)
+
+abbrev μ-loop : tie.MeasureT-loop
+μ-loop t s₀ i₀ s i = 8 - i
+
+loop-holds : tie.Need-loop-holds Inv-loop μ-loop
+loop-holds c = (omega arith, search needs, over-none _ _)
+
+mul-s : tie.Need-mul-s Inv-loop μ-loop
+mul-s c = omega arith
+
+array-read-s : tie.Need-array-read-s Inv-loop μ-loop
+array-read-s c = omega arith
+
+mul-s-2 : tie.Need-mul-s-2 Inv-loop μ-loop
+mul-s-2 c = omega arith
+
+array-write-s : tie.Need-array-write-s Inv-loop μ-loop
+array-write-s c = omega arith
+
+add-i : tie.Need-add-i Inv-loop μ-loop
+add-i c = omega arith
+
+loop-less : tie.Need-loop-less Inv-loop μ-loop
+loop-less c = omega arith
+
+loop-again : tie.Need-loop-again Inv-loop μ-loop
+loop-again c = (omega arith, c .before .loop .inv .1, over-more _ _ _ _ _ (omega arith) (c .before .loop .inv .2) (refl))
+
+returns : tie.Need-returns Inv-loop μ-loop
+unfolding rampsOf
+returns c = tab-done _ 8 _ _ _ (c .before .loop .inv .0) (c .loop-test .left) (c .before .loop .inv .1) (c .before .loop .inv .2)
+
+pub ramps-spec : {M : Type 1} → statement M
+ramps-spec =
+    tie.close
+    (tie.spec
+    Inv-loop
+    μ-loop
+    loop-holds
+    mul-s
+    array-read-s
+    mul-s-2
+    array-write-s
+    add-i
+    loop-less
+    loop-again
+    returns)

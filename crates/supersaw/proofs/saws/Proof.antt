@@ -1,0 +1,74 @@
+use mathlib.Core.Path.{_≡_}
+use Prim.Native.Nat.{ℕ, _≤_, _-_}
+use native.Mathlib.Omega.{arith}
+use lib.ListN.{length}
+use Rattle.laws.proofs.Over.{over-none, over-more}
+use Rattle.laws.specs.Lists.{over}
+use Rattle.supersaw.proofs.Loops.{tab-done}
+use Rattle.supersaw.specs.Voices.{at, sawOf}
+use Rattle.supersaw.specs.Lanes.{sawsOf}
+use borrow.Author.Needs.{needs}
+use Rattle.supersaw.proofs.saws.Statement.{statement}
+use Rattle.supersaw.proofs.saws.Tie as tie
+
+abbrev Inv-loop : tie.InvT-loop
+Inv-loop t dt s₀ i₀ s i = (i ≤ 8) × (length t ≡ 8) × (s ≡ over (λ (k : ℕ). sawOf (at t k) (at dt k)) i t)
+
+abbrev μ-loop : tie.MeasureT-loop
+μ-loop t dt s₀ i₀ s i = 8 - i
+
+loop-holds : tie.Need-loop-holds Inv-loop μ-loop
+loop-holds c = (omega arith, search needs, over-none _ _)
+
+mul-t10 : tie.Need-mul-t10 Inv-loop μ-loop
+mul-t10 c = omega arith
+
+array-read-t13 : tie.Need-array-read-t13 Inv-loop μ-loop
+array-read-t13 c = omega arith
+
+mul-t15 : tie.Need-mul-t15 Inv-loop μ-loop
+mul-t15 c = omega arith
+
+array-read-t18 : tie.Need-array-read-t18 Inv-loop μ-loop
+array-read-t18 c = omega arith
+
+saw-requires : tie.Need-saw-requires Inv-loop μ-loop
+saw-requires c κs = search needs
+
+mul-s : tie.Need-mul-s Inv-loop μ-loop
+mul-s c = omega arith
+
+array-write-s : tie.Need-array-write-s Inv-loop μ-loop
+array-write-s c = omega arith
+
+add-i : tie.Need-add-i Inv-loop μ-loop
+add-i c = omega arith
+
+loop-less : tie.Need-loop-less Inv-loop μ-loop
+loop-less c = omega arith
+
+loop-again : tie.Need-loop-again Inv-loop μ-loop
+loop-again c = (omega arith, c .before .before .loop .inv .1, over-more _ _ _ _ _ (omega arith) (c .before .before .loop .inv .2) (c .saw .ensures))
+
+returns : tie.Need-returns Inv-loop μ-loop
+unfolding sawsOf
+returns c = tab-done _ 8 _ _ _ (c .before .loop .inv .0) (c .loop-test .left) (c .before .loop .inv .1) (c .before .loop .inv .2)
+
+pub saws-spec : {M : Type 1} → statement M
+saws-spec =
+    tie.close
+    (tie.spec
+    Inv-loop
+    μ-loop
+    loop-holds
+    mul-t10
+    array-read-t13
+    mul-t15
+    array-read-t18
+    saw-requires
+    mul-s
+    array-write-s
+    add-i
+    loop-less
+    loop-again
+    returns)

@@ -1,0 +1,71 @@
+use mathlib.Core.Path.{_≡_, refl}
+use Prim.Native.Nat.{ℕ, _≤_, _-_}
+use native.Mathlib.Omega.{arith}
+use lib.ListN.{length}
+use Rattle.laws.proofs.Over.{over-none, over-more}
+use Rattle.laws.specs.Lists.{over}
+use Rattle.supersaw.proofs.Loops.{tab-done}
+use lib.Ieee.{binary64, add}
+use Rattle.supersaw.specs.Voices.{at}
+use Rattle.supersaw.specs.Lanes.{sumsOf}
+use borrow.Author.Needs.{needs}
+use Rattle.supersaw.proofs.sums.Statement.{statement}
+use Rattle.supersaw.proofs.sums.Tie as tie
+
+abbrev Inv-loop : tie.InvT-loop
+Inv-loop t dt x₀ i₀ x i = (i ≤ 8) × (length t ≡ 8) × (x ≡ over (λ (k : ℕ). add binary64 (at t k) (at dt k)) i t)
+
+abbrev μ-loop : tie.MeasureT-loop
+μ-loop t dt x₀ i₀ x i = 8 - i
+
+loop-holds : tie.Need-loop-holds Inv-loop μ-loop
+loop-holds c = (omega arith, search needs, over-none _ _)
+
+mul-x : tie.Need-mul-x Inv-loop μ-loop
+mul-x c = omega arith
+
+array-read-x : tie.Need-array-read-x Inv-loop μ-loop
+array-read-x c = omega arith
+
+mul-x-2 : tie.Need-mul-x-2 Inv-loop μ-loop
+mul-x-2 c = omega arith
+
+array-read-x-2 : tie.Need-array-read-x-2 Inv-loop μ-loop
+array-read-x-2 c = omega arith
+
+mul-x-3 : tie.Need-mul-x-3 Inv-loop μ-loop
+mul-x-3 c = omega arith
+
+array-write-x : tie.Need-array-write-x Inv-loop μ-loop
+array-write-x c = omega arith
+
+add-i : tie.Need-add-i Inv-loop μ-loop
+add-i c = omega arith
+
+loop-less : tie.Need-loop-less Inv-loop μ-loop
+loop-less c = omega arith
+
+loop-again : tie.Need-loop-again Inv-loop μ-loop
+loop-again c = (omega arith, c .before .loop .inv .1, over-more _ _ _ _ _ (omega arith) (c .before .loop .inv .2) (refl))
+
+returns : tie.Need-returns Inv-loop μ-loop
+unfolding sumsOf
+returns c = tab-done _ 8 _ _ _ (c .before .loop .inv .0) (c .loop-test .left) (c .before .loop .inv .1) (c .before .loop .inv .2)
+
+pub sums-spec : {M : Type 1} → statement M
+sums-spec =
+    tie.close
+    (tie.spec
+    Inv-loop
+    μ-loop
+    loop-holds
+    mul-x
+    array-read-x
+    mul-x-2
+    array-read-x-2
+    mul-x-3
+    array-write-x
+    add-i
+    loop-less
+    loop-again
+    returns)

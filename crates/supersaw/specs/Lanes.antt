@@ -1,0 +1,89 @@
+-- What the code does for eight oscillators at once, the seven voices and the sub oscillator. The public contracts don't
+-- cite it: they cite Supersaw.antt, and proofs/LaneLaws.antt has that the two agree.
+use mathlib.Core.Bool.{Bool, true, false, _&&_}
+use mathlib.Core.List.{List, [], _∷_, _++_}
+use Prim.Native.Nat.{ℕ, zero, suc}
+use lib.Ieee.{Float, binary64, add, sub, mul, div, lt, ofBits, fits}
+use Rattle.laws.specs.Float.{zer, one, two, isFin}
+use Rattle.laws.specs.Lists.{tab}
+use Rattle.common.specs.Phase.{turns, wrapOf}
+use Rattle.common.specs.Tests.{rateOk, phaseOk}
+use Rattle.common.specs.declared.Hertz.{Hertz}
+use Rattle.common.specs.declared.Memo1.{Memo1}
+use Rattle.common.specs.declared.Turns.{Turns}
+use Rattle.answer.specs.Mark.{markOf}
+use Rattle.supersaw.specs.Consts.{mixLevels}
+use Rattle.supersaw.specs.Voices.{at, dtOf, sawOf}
+use Rattle.supersaw.specs.Supersaw.{all}
+use Rattle.supersaw.specs.declared.Supersaw.{Supersaw}
+use Rattle.supersaw.specs.declared.SupersawTicked.{SupersawTicked}
+
+-- the phases
+unfoldable pub lanesOf : List Float → Turns → List Float
+lanesOf phases low = tab (at phases) 7 ++ (low .0 ∷ [])
+
+unfoldable pub lanesOk : List Float → Bool
+lanesOk t = all (λ i. phaseOk (turns (at t i))) 8
+
+-- the increments
+unfoldable pub incsOf : Float → Hertz → Hertz → List Float
+incsOf detune base rate = tab (λ i. dtOf i detune base rate) 7 ++ (div binary64 (base .0) (mul binary64 two (rate .0)) ∷ [])
+
+unfoldable pub sawsOf : List Float → List Float → List Float
+sawsOf t dt = tab (λ i. sawOf (at t i) (at dt i)) 8
+
+unfoldable pub sumsOf : List Float → List Float → List Float
+sumsOf t dt = tab (λ i. add binary64 (at t i) (at dt i)) 8
+
+unfoldable pub wrapsOf : List Float → List Float
+wrapsOf x = tab (λ i. wrapOf (at x i)) 8
+
+unfoldable pub lanesFinite : List Float → Bool
+lanesFinite x = all (λ i. isFin (at x i)) 8
+
+-- the loop's sum
+unfoldable pub mixTo : List Float → ℕ → Float
+mixTo s zero = zer
+mixTo s (suc n) = add binary64 (mixTo s n) (mul binary64 (at s n) (at mixLevels n))
+
+-- its total_mix: 5.2
+abbrev pub totalMix : Float
+totalMix = ofBits binary64 0x4014cccccccccccd
+
+unfoldable pub blendOf : List Float → Float → Float
+blendOf s mix = add binary64 (mul binary64 (at s 3) (sub binary64 one mix)) (mul binary64 (div binary64 (mixTo s 7) totalMix) mix)
+
+-- the answer from both outputs and whether the phases were finite before their wrap, beside the state after the tick
+unfoldable pub tickedOf : Float → Float → Bool → Supersaw → SupersawTicked
+tickedOf out low finite s = record { answer = markOf (record { p10 = out; p11 = low; p12 = zer; p13 = zer; p14 = zer }) false true finite; supersaw = s }
+
+-- the state with these phases and this memo
+unfoldable pub advancedOf : Supersaw → List Float → Memo1 → Supersaw
+advancedOf s t memo = record { phases = tab (at t) 7; «sub_phase» = turns (at t 7); «sample_rate» = s .«sample_rate»; «freq_memo» = memo }
+
+-- an accepted tick
+unfoldable pub soundOf : Supersaw → List Float → List Float → Float → Memo1 → SupersawTicked
+soundOf s t dt mix memo =
+    let saws = sawsOf t dt in
+    let next = sumsOf t dt in
+    tickedOf (blendOf saws mix) (at saws 7) (lanesFinite next) (advancedOf s (wrapsOf next) memo)
+
+-- ---- the tick in which no oscillator comes near its step
+-- more than an increment above its step, and more than one below the next; every f64 fits
+unfoldable pub steadyOf : Float → Float → Bool
+steadyOf t dt = fits binary64 t && (lt dt t && lt (add binary64 t dt) one)
+
+unfoldable pub lanesSteady : List Float → List Float → Bool
+lanesSteady t dt = all (λ i. steadyOf (at t i) (at dt i)) 8
+
+unfoldable pub quietOf : Hertz → Hertz → List Float → List Float → Bool
+quietOf rate base t dt = rateOk rate && (lt zer (base .0) && lanesSteady t dt)
+
+unfoldable pub rampsOf : List Float → List Float
+rampsOf t = tab (λ i. sub binary64 (sub binary64 (mul binary64 two (at t i)) one) zer) 8
+
+-- it has no residual and no wrap
+unfoldable pub glideOf : Supersaw → List Float → List Float → Float → Memo1 → SupersawTicked
+glideOf s t dt mix memo =
+    let ramps = rampsOf t in
+    tickedOf (blendOf ramps mix) (at ramps 7) true (advancedOf s (sumsOf t dt) memo)

@@ -1,0 +1,6 @@
+pub mod Consts
+pub mod Voices
+pub mod Supersaw
+pub mod Lanes
+pub mod Calls
+pub mod Promises

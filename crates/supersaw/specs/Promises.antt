@@ -1,0 +1,34 @@
+-- Theorems about the Supersaw: the statements. proofs/ proves each under the same name in small letters.
+use mathlib.Core.Path.{_≡_}
+use mathlib.Core.Bool.{true, cond}
+use Prim.Native.Nat.{ℕ, _<_}
+use Rattle.laws.specs.Machine.{Settles}
+use Rattle.common.specs.Phase.{turns}
+use Rattle.common.specs.Tests.{rateOk, phaseOk}
+use Rattle.common.specs.declared.Hertz.{Hertz}
+use Rattle.answer.specs.Answer.{accepted}
+use Rattle.supersaw.specs.Voices.{at}
+use Rattle.supersaw.specs.Supersaw.{supersawNewOf, supersawTickOf, supersawResetOf, supersawSetSampleRateOf}
+use Rattle.supersaw.specs.Calls.{Done, Refused, Reset, SetSampleRate, reply, ReachedSupersaw}
+use Rattle.supersaw.specs.declared.Supersaw.{Supersaw}
+use Rattle.supersaw.specs.declared.SupersawControls.{SupersawControls}
+use Rattle.supersaw.specs.declared.SupersawTicked.{SupersawTicked}
+use Rattle.supersaw.specs.declared.SupersawMade.{SupersawMade}
+
+-- ---- a reached state refuses no call but for the call's own input
+pub record Accepting (s : Supersaw) : Type 0 where
+  pub phases : (i : ℕ) → i < 7 → phaseOk (turns (at (s .phases) i)) ≡ true
+  pub «sub_phase» : phaseOk (s .«sub_phase») ≡ true
+  pub ticks : (c : SupersawControls) → accepted (supersawTickOf s c .answer) ≡ true
+  pub resets : reply s Reset ≡ Done
+  pub rates : (r : Hertz) → reply s (SetSampleRate r) ≡ cond (rateOk r) Done (Refused 1)
+
+abbrev pub Never-refused : Type 0
+Never-refused = (s : Supersaw) → ReachedSupersaw s → Accepting s
+
+-- ---- each contract settles its answer
+pub record Settled : Type 0 where
+  pub new : (r : Hertz) → Settles (λ (m : SupersawMade). m ≡ supersawNewOf r)
+  pub tick : (s : Supersaw) (c : SupersawControls) → Settles (λ (t : SupersawTicked). t ≡ supersawTickOf s c)
+  pub reset : (s : Supersaw) → Settles (λ (m : SupersawMade). m ≡ supersawResetOf s)
+  pub «set_sample_rate» : (s : Supersaw) (r : Hertz) → Settles (λ (m : SupersawMade). m ≡ supersawSetSampleRateOf s r)

@@ -1,0 +1,87 @@
+-- The Supersaw's calls, written from oscillators.rs, with document 01's refusals and marks.
+use mathlib.Core.Bool.{Bool, true, false, cond, _&&_}
+use mathlib.Core.List.{List}
+use Prim.Native.Nat.{ℕ, zero, suc}
+use lib.Dec.{eqb}
+use lib.Ieee.{Float, binary64, add, sub, mul, div}
+use Rattle.laws.specs.Float.{zer, one, two, isFin}
+use Rattle.laws.specs.Lists.{tab}
+use Rattle.numeric.specs.Basic.{clampOf, realOf}
+use Rattle.common.specs.Memo.{newMemo1, recall1, voctToHzAt}
+use Rattle.common.specs.Phase.{turns, wrapOf}
+use Rattle.common.specs.Tests.{rateOk, phaseOk}
+use Rattle.common.specs.declared.Hertz.{Hertz}
+use Rattle.answer.specs.Mark.{markOf}
+use Rattle.answer.specs.declared.Answer.the-variants as answer
+use Rattle.answer.specs.declared.Outcome.the-variants as outcome
+use Rattle.supersaw.specs.Consts.{seven}
+use Rattle.supersaw.specs.Voices.{at, sawOf, voicesOf}
+use Rattle.supersaw.specs.declared.Supersaw.{Supersaw}
+use Rattle.supersaw.specs.declared.SupersawControls.{SupersawControls}
+use Rattle.supersaw.specs.declared.SupersawTicked.{SupersawTicked}
+use Rattle.supersaw.specs.declared.SupersawMade.{SupersawMade}
+
+-- phase i starts at (i as f64) / 7.0
+unfoldable pub startPhases : List Float
+startPhases = tab (λ i. div binary64 (realOf i) seven) 7
+
+-- Supersaw::new
+unfoldable pub newSupersaw : Hertz → Supersaw
+newSupersaw r = record { phases = startPhases; «sub_phase» = turns zer; «sample_rate» = r; «freq_memo» = newMemo1 }
+
+-- f holds of each number below n
+unfoldable pub all : (ℕ → Bool) → ℕ → Bool
+all f zero = true
+all f (suc n) = all f n && f n
+
+-- 0, or what refuses a state: 1 its rate, 2 one of its eight phases
+unfoldable pub supersawRefusalOf : Supersaw → ℕ
+supersawRefusalOf s =
+    cond (rateOk (s .«sample_rate»))
+    (cond (all (λ i. phaseOk (turns (at (s .phases) i))) 7 && phaseOk (s .«sub_phase»)) 0 2)
+    1
+
+-- t, unless n refuses, which leaves s
+unfoldable pub madeUnless : ℕ → Supersaw → Supersaw → SupersawMade
+madeUnless n s t = cond (eqb n 0) (record { outcome = outcome.Done; supersaw = t }) (record { outcome = outcome.Refused n; supersaw = s })
+
+-- 1 on the rate: refused, the state has it, and so refuses every call
+unfoldable pub supersawNewOf : Hertz → SupersawMade
+supersawNewOf r = madeUnless (cond (rateOk r) 0 1) (newSupersaw r) (newSupersaw r)
+
+-- tick_generic, line by line
+unfoldable pub supersawSoundOf : Supersaw → SupersawControls → SupersawTicked
+supersawSoundOf s c =
+    let detune = clampOf (c .detune) zer one in
+    let mix = clampOf (c .mix) zer one in
+    let memo = recall1 voctToHzAt (s .«freq_memo») (c .voct .0) in
+    let v = voicesOf detune (memo .val) (s .«sample_rate») (s .phases) 7 in
+    let normalized = div binary64 (v .sum) (v .«total_mix») in
+    let output = add binary64 (mul binary64 (v .«center_saw») (sub binary64 one mix)) (mul binary64 normalized mix) in
+    let sub_dt = div binary64 (memo .val .0) (mul binary64 two (s .«sample_rate» .0)) in
+    let next = add binary64 (s .«sub_phase» .0) sub_dt in
+    record {
+      answer = markOf (record { p10 = output; p11 = sawOf (s .«sub_phase» .0) sub_dt; p12 = zer; p13 = zer; p14 = zer }) false true (v .finite && isFin next);
+      supersaw = record { phases = v .phases; «sub_phase» = turns (wrapOf next); «sample_rate» = s .«sample_rate»; «freq_memo» = memo };
+    }
+
+-- a refused tick leaves the state
+unfoldable pub supersawTickOf : Supersaw → SupersawControls → SupersawTicked
+supersawTickOf s c =
+    let n = supersawRefusalOf s in
+    cond (eqb n 0) (supersawSoundOf s c) (record { answer = answer.Refused n; supersaw = s })
+
+-- reset: the rate and the memo stay
+abbrev pub restarted : Supersaw → Supersaw
+restarted s = record { phases = startPhases; «sub_phase» = turns zer; «sample_rate» = s .«sample_rate»; «freq_memo» = s .«freq_memo» }
+
+unfoldable pub supersawResetOf : Supersaw → SupersawMade
+supersawResetOf s = madeUnless (supersawRefusalOf s) s (restarted s)
+
+-- set_sample_rate: all but the rate stays
+abbrev pub rated : Supersaw → Hertz → Supersaw
+rated s r = record { phases = s .phases; «sub_phase» = s .«sub_phase»; «sample_rate» = r; «freq_memo» = s .«freq_memo» }
+
+-- 1 on the new rate and on the old, then 2
+unfoldable pub supersawSetSampleRateOf : Supersaw → Hertz → SupersawMade
+supersawSetSampleRateOf s r = madeUnless (cond (rateOk r) (supersawRefusalOf s) 1) s (rated s r)

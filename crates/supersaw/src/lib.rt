@@ -1,0 +1,428 @@
+// The Supersaw of oscillators.rs, in its order: seven detuned saws, and a sub oscillator an octave below their center.
+// Its outputs: p10 out, p11 sub.
+// The Rust takes one voice after another. Here each line of its loop is done for all eight oscillators, the sub
+// oscillator last, and a tick in which none comes near its step skips what only a step needs: that is twice as fast.
+use answer::Answer;
+use answer::Outcome;
+use answer::Volts;
+use common::Hertz;
+use common::Memo1;
+use common::Turns;
+use common::VoltsPerOctave;
+ghost use mathlib.Core.Path.{_≡_};
+ghost use lib.ListN.{length};
+ghost use Rattle.supersaw.specs.Voices.{sawOf};
+ghost use Rattle.supersaw.specs.Supersaw.{startPhases, supersawRefusalOf, supersawNewOf, supersawTickOf, supersawResetOf, supersawSetSampleRateOf};
+ghost use Rattle.supersaw.specs.Lanes.{lanesOf, lanesOk, incsOf, sawsOf, rampsOf, sumsOf, wrapsOf, lanesFinite, steadyOf, lanesSteady, mixTo, blendOf, tickedOf, advancedOf, soundOf, quietOf, glideOf};
+
+pub struct Supersaw {
+    pub phases: [f64; 7],
+    pub sub_phase: Turns,
+    pub sample_rate: Hertz,
+    pub freq_memo: Memo1,
+}
+
+// The inputs, in port order.
+pub struct SupersawControls {
+    pub voct: VoltsPerOctave,
+    pub detune: f64,
+    pub mix: f64,
+}
+
+pub struct SupersawTicked {
+    pub answer: Answer,
+    pub supersaw: Supersaw,
+}
+
+// A refused new hands out the state with its bad rate, which refuses every call; any other refused call the state as it stood.
+pub struct SupersawMade {
+    pub outcome: Outcome,
+    pub supersaw: Supersaw,
+}
+
+// The eight phases.
+fn lanes(phases: [f64; 7], sub_phase: Turns) -> [f64; 8]
+    ensures { λ r. ⌜ (r ≡ lanesOf phases «sub_phase») × (length phases ≡ 7) ⌝ }
+{
+    [
+        phases[0],
+        phases[1],
+        phases[2],
+        phases[3],
+        phases[4],
+        phases[5],
+        phases[6],
+        sub_phase.0,
+    ]
+}
+
+// A band-limited saw.
+fn saw(t: Turns, dt: Turns) -> f64
+    ensures { λ r. ⌜ r ≡ sawOf (t .0) (dt .0) ⌝ }
+{
+    2.0 * t.0 - 1.0 - common::polyblep(t, dt)
+}
+
+fn saws(t: [f64; 8], dt: [f64; 8]) -> [f64; 8]
+    ensures { λ r. ⌜ r ≡ sawsOf t dt ⌝ }
+{
+    let mut s = t;
+    let mut i = 0;
+    while i < 8 {
+        s[i] = saw(Turns(t[i]), Turns(dt[i]));
+        i += 1;
+    }
+    s
+}
+
+// The saws where no step is near.
+fn ramps(t: [f64; 8]) -> [f64; 8]
+    ensures { λ r. ⌜ r ≡ rampsOf t ⌝ }
+{
+    let mut s = t;
+    let mut i = 0;
+    while i < 8 {
+        s[i] = 2.0 * t[i] - 1.0 - 0.0;
+        i += 1;
+    }
+    s
+}
+
+fn sums(t: [f64; 8], dt: [f64; 8]) -> [f64; 8]
+    ensures { λ r. ⌜ r ≡ sumsOf t dt ⌝ }
+{
+    let mut x = t;
+    let mut i = 0;
+    while i < 8 {
+        x[i] = t[i] + dt[i];
+        i += 1;
+    }
+    x
+}
+
+fn wraps(x: [f64; 8]) -> [f64; 8]
+    ensures { λ r. ⌜ r ≡ wrapsOf x ⌝ }
+{
+    let mut t = x;
+    let mut i = 0;
+    while i < 8 {
+        t[i] = common::wrap_phase(Turns(x[i])).0;
+        i += 1;
+    }
+    t
+}
+
+fn all_finite(x: [f64; 8]) -> bool
+    ensures { λ r. ⌜ r ≡ lanesFinite x ⌝ }
+{
+    let mut i = 0;
+    while i < 8 {
+        if !numeric::is_finite(x[i]) {
+            return false;
+        }
+        i += 1;
+    }
+    true
+}
+
+fn all_ok(t: [f64; 8]) -> bool
+    ensures { λ r. ⌜ r ≡ lanesOk t ⌝ }
+{
+    let mut i = 0;
+    while i < 8 {
+        if !common::phase_ok(Turns(t[i])) {
+            return false;
+        }
+        i += 1;
+    }
+    true
+}
+
+// More than an increment above its step, and more than one below the next.
+fn steady(t: f64, dt: f64) -> bool
+    ensures { λ r. ⌜ r ≡ steadyOf t dt ⌝ }
+{
+    if dt < t { t + dt < 1.0 } else { false }
+}
+
+fn all_steady(t: [f64; 8], dt: [f64; 8]) -> bool
+    ensures { λ r. ⌜ r ≡ lanesSteady t dt ⌝ }
+{
+    let mut i = 0;
+    while i < 8 {
+        if !steady(t[i], dt[i]) {
+            return false;
+        }
+        i += 1;
+    }
+    true
+}
+
+// An accepted tick from its outputs, whether each phase plus its increment was finite, and the state after it.
+fn ticked(out: f64, sub: f64, finite: bool, supersaw: Supersaw) -> SupersawTicked
+    ensures { λ r. ⌜ r ≡ tickedOf out sub finite supersaw ⌝ }
+{
+    let volts = Volts {
+        p10: out,
+        p11: sub,
+        p12: 0.0,
+        p13: 0.0,
+        p14: 0.0,
+    };
+    SupersawTicked {
+        answer: answer::mark(volts, false, true, finite),
+        supersaw,
+    }
+}
+
+impl Supersaw {
+    // Detune amounts of the seven voices: the center and three pairs.
+    const DETUNE_RATIOS: [f64; 7] = [
+        -0.11002313,
+        -0.06288439,
+        -0.01952356,
+        0.0,
+        0.01991221,
+        0.06216538,
+        0.10745242,
+    ];
+
+    // How loud each voice is.
+    const MIX_LEVELS: [f64; 7] = [0.5, 0.7, 0.9, 1.0, 0.9, 0.7, 0.5];
+
+    // The sum of these levels, as the Rust's loop rounds it.
+    const TOTAL_MIX: f64 = 5.2;
+
+    // Voice i starts at i/7.
+    fn start() -> [f64; 7]
+        ensures { λ r. ⌜ r ≡ startPhases ⌝ }
+    {
+        [
+            0.0 / 7.0,
+            1.0 / 7.0,
+            2.0 / 7.0,
+            3.0 / 7.0,
+            4.0 / 7.0,
+            5.0 / 7.0,
+            6.0 / 7.0,
+        ]
+    }
+
+    // What each phase grows by in a tick; the sub oscillator's by half the center's.
+    fn increments(detune: f64, base_freq: Hertz, sample_rate: Hertz) -> [f64; 8]
+        ensures { λ r. ⌜ r ≡ incsOf detune «base_freq» «sample_rate» ⌝ }
+    {
+        let mut dt = [base_freq.0 / (2.0 * sample_rate.0); 8];
+        let mut i = 0;
+        while i < 7 {
+            let detune_amount = Self::DETUNE_RATIOS[i] * detune;
+            let freq = base_freq.0 * (1.0 + detune_amount);
+            dt[i] = freq / sample_rate.0;
+            i += 1;
+        }
+        dt
+    }
+
+    // The seven voices at their levels.
+    fn mixed(s: [f64; 8]) -> f64
+        ensures { λ r. ⌜ r ≡ mixTo s 7 ⌝ }
+    {
+        let mut sum = 0.0;
+        let mut i = 0;
+        while i < 7 {
+            sum += s[i] * Self::MIX_LEVELS[i];
+            i += 1;
+        }
+        sum
+    }
+
+    // From the center voice to all seven.
+    fn blend(s: [f64; 8], mix: f64) -> f64
+        ensures { λ r. ⌜ r ≡ blendOf s mix ⌝ }
+    {
+        let normalized = Self::mixed(s) / Self::TOTAL_MIX;
+        s[3] * (1.0 - mix) + normalized * mix
+    }
+
+    // 0, or the number that refuses this state: 1 its rate, 2 one of its phases.
+    fn refusal(self) -> u32
+        ensures { λ r. ⌜ r ≡ supersawRefusalOf self ⌝ }
+    {
+        let phases = self.phases;
+        let sub_phase = self.sub_phase;
+        let sample_rate = self.sample_rate;
+        if common::rate_ok(sample_rate) {
+            if all_ok(lanes(phases, sub_phase)) {
+                0
+            } else {
+                2
+            }
+        } else {
+            1
+        }
+    }
+
+    pub fn new(sample_rate: Hertz) -> SupersawMade
+        ensures { λ r. ⌜ r ≡ supersawNewOf «sample_rate» ⌝ }
+    {
+        let phases = Self::start();
+        let supersaw = Supersaw {
+            phases,
+            sub_phase: Turns(0.0),
+            sample_rate,
+            freq_memo: Memo1::new(),
+        };
+        if common::rate_ok(sample_rate) {
+            SupersawMade {
+                outcome: Outcome::Done,
+                supersaw,
+            }
+        } else {
+            SupersawMade {
+                outcome: Outcome::Refused(1),
+                supersaw,
+            }
+        }
+    }
+
+    // Whether no oscillator comes near its step. Then nothing refuses the state either.
+    fn quiet(sample_rate: Hertz, base_freq: Hertz, t: [f64; 8], dt: [f64; 8]) -> bool
+        ensures { λ r. ⌜ r ≡ quietOf «sample_rate» «base_freq» t dt ⌝ }
+    {
+        if common::rate_ok(sample_rate) {
+            if base_freq.0 > 0.0 {
+                all_steady(t, dt)
+            } else {
+                false
+            }
+        } else {
+            false
+        }
+    }
+
+    // The state after a tick that leaves the phases at t.
+    fn advanced(self, t: [f64; 8], freq_memo: Memo1) -> Supersaw
+        ensures { λ r. ⌜ r ≡ advancedOf self t «freq_memo» ⌝ }
+    {
+        let sample_rate = self.sample_rate;
+        let mut phases = self.phases;
+        let mut i = 0;
+        while i < 7 {
+            phases[i] = t[i];
+            i += 1;
+        }
+        Supersaw {
+            phases,
+            sub_phase: Turns(t[7]),
+            sample_rate,
+            freq_memo,
+        }
+    }
+
+    // A quiet tick: no residual, and no wrap.
+    fn glide(self, t: [f64; 8], dt: [f64; 8], mix: f64, freq_memo: Memo1) -> SupersawTicked
+        ensures { λ r. ⌜ r ≡ glideOf self t dt mix «freq_memo» ⌝ }
+    {
+        let s = ramps(t);
+        let out = Self::blend(s, mix);
+        let after = self.advanced(sums(t, dt), freq_memo);
+        ticked(out, s[7], true, after)
+    }
+
+    // An accepted tick.
+    fn sound(self, t: [f64; 8], dt: [f64; 8], mix: f64, freq_memo: Memo1) -> SupersawTicked
+        ensures { λ r. ⌜ r ≡ soundOf self t dt mix «freq_memo» ⌝ }
+    {
+        let s = saws(t, dt);
+        let out = Self::blend(s, mix);
+        let next = sums(t, dt);
+        let after = self.advanced(wraps(next), freq_memo);
+        ticked(out, s[7], all_finite(next), after)
+    }
+
+    pub fn tick(self, c: SupersawControls) -> SupersawTicked
+        ensures { λ r. ⌜ r ≡ supersawTickOf self c ⌝ }
+    {
+        let phases = self.phases;
+        let sub_phase = self.sub_phase;
+        let sample_rate = self.sample_rate;
+        let memo = self.freq_memo;
+        let detune = numeric::clamp(c.detune, 0.0, 1.0);
+        let mix = numeric::clamp(c.mix, 0.0, 1.0);
+        let freq_memo = memo.voct_to_hz(c.voct);
+        let base_freq = freq_memo.val;
+        let t = lanes(phases, sub_phase);
+        let dt = Self::increments(detune, base_freq, sample_rate);
+        if Self::quiet(sample_rate, base_freq, t, dt) {
+            self.glide(t, dt, mix, freq_memo)
+        } else {
+            let n = self.refusal();
+            if n == 0 {
+                self.sound(t, dt, mix, freq_memo)
+            } else {
+                SupersawTicked {
+                    answer: Answer::Refused(n),
+                    supersaw: self,
+                }
+            }
+        }
+    }
+
+    // The memo stays.
+    pub fn reset(self) -> SupersawMade
+        ensures { λ r. ⌜ r ≡ supersawResetOf self ⌝ }
+    {
+        let n = self.refusal();
+        if n == 0 {
+            let phases = Self::start();
+            let sample_rate = self.sample_rate;
+            let freq_memo = self.freq_memo;
+            SupersawMade {
+                outcome: Outcome::Done,
+                supersaw: Supersaw {
+                    phases,
+                    sub_phase: Turns(0.0),
+                    sample_rate,
+                    freq_memo,
+                },
+            }
+        } else {
+            SupersawMade {
+                outcome: Outcome::Refused(n),
+                supersaw: self,
+            }
+        }
+    }
+
+    pub fn set_sample_rate(self, sample_rate: Hertz) -> SupersawMade
+        ensures { λ r. ⌜ r ≡ supersawSetSampleRateOf self «sample_rate» ⌝ }
+    {
+        if common::rate_ok(sample_rate) {
+            let n = self.refusal();
+            if n == 0 {
+                let phases = self.phases;
+                let sub_phase = self.sub_phase;
+                let freq_memo = self.freq_memo;
+                SupersawMade {
+                    outcome: Outcome::Done,
+                    supersaw: Supersaw {
+                        phases,
+                        sub_phase,
+                        sample_rate,
+                        freq_memo,
+                    },
+                }
+            } else {
+                SupersawMade {
+                    outcome: Outcome::Refused(n),
+                    supersaw: self,
+                }
+            }
+        } else {
+            SupersawMade {
+                outcome: Outcome::Refused(1),
+                supersaw: self,
+            }
+        }
+    }
+}
