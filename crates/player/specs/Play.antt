@@ -12,9 +12,11 @@ use Rattle.score.specs.declared.Inputs.the-variants.{Vco, Lfo, Supersaw, Forman
 use Rattle.score.specs.declared.Score.{Score}
 use Rattle.vco.specs.Vco.{newVco, vcoTickOf}
 use Rattle.lfo.specs.Lfo.{newLfo, lfoTickOf}
+use Rattle.supersaw.specs.Supersaw.{newSupersaw, supersawTickOf}
+use Rattle.formant_osc.specs.FormantOsc.{newFormantOsc, formantTickOf}
 use Rattle.frame.specs.Frame.{frameText}
 use Rattle.frame.specs.End.{endText}
-use Rattle.player.specs.Begin.{rateOf, vcoControls, lfoControls}
+use Rattle.player.specs.Begin.{rateOf, vcoControls, lfoControls, supersawControls, formantControls}
 
 -- what n ticks answer, from a state on; the state after a tick is `next`
 unfoldable pub answers : {S : Type 0} → (S → Answer) → (S → S) → ℕ → S → List Answer
@@ -24,8 +26,8 @@ answers answer next (suc n) s = answer s ∷ answers answer next n (next s)
 unfoldable pub heardFrom : Inputs → ℕ → ℕ → List Answer
 heardFrom (Vco i) hz n = answers (λ s. vcoTickOf s (vcoControls i) 15 .answer) (λ s. vcoTickOf s (vcoControls i) 15 .vco) n (newVco (rateOf hz))
 heardFrom (Lfo i) hz n = answers (λ s. lfoTickOf s (lfoControls i) 31 .answer) (λ s. lfoTickOf s (lfoControls i) 31 .lfo) n (newLfo (rateOf hz))
-heardFrom (Supersaw i) hz n = []
-heardFrom (Formant i) hz n = []
+heardFrom (Supersaw i) hz n = answers (λ s. supersawTickOf s (supersawControls i) .answer) (λ s. supersawTickOf s (supersawControls i) .supersaw) n (newSupersaw (rateOf hz))
+heardFrom (Formant i) hz n = answers (λ s. formantTickOf s (formantControls i) .answer) (λ s. formantTickOf s (formantControls i) .formant) n (newFormantOsc (rateOf hz))
 
 unfoldable pub heardOf : Score → List Answer
 heardOf s = heardFrom (s .inputs) (s .hz) (s .frames)

@@ -7,7 +7,6 @@ use Rattle.answer.specs.declared.Tally.{Tally}
 use Rattle.answer.specs.declared.Tallied.{Tallied}
 use Rattle.answer.specs.declared.Tallied.the-variants as tallied
 use Rattle.common.specs.declared.Hertz.{Hertz}
-use Rattle.laws.specs.Float.{zer}
 use Rattle.score.specs.declared.Osc.{Osc}
 use Rattle.score.specs.declared.Osc.the-variants as osc
 use Rattle.score.specs.declared.Inputs.{Inputs}
@@ -16,11 +15,13 @@ use Rattle.score.specs.declared.Score.{Score}
 use Rattle.text.specs.Put.{placeOf}
 use Rattle.vco.specs.Vco.{newVco, vcoTickOf}
 use Rattle.lfo.specs.Lfo.{newLfo, lfoTickOf}
+use Rattle.supersaw.specs.Supersaw.{newSupersaw, supersawTickOf}
+use Rattle.formant_osc.specs.FormantOsc.{newFormantOsc, formantTickOf}
 use Rattle.frame.specs.Frame.{frameText}
 use Rattle.frame.specs.End.{endText}
-use Rattle.player.specs.Begin.{rateOf, vcoControls, lfoControls}
+use Rattle.player.specs.Begin.{rateOf, vcoControls, lfoControls, supersawControls, formantControls}
 use Rattle.player.specs.declared.Controls.{Controls}
-use Rattle.player.specs.declared.Controls.the-variants.{Vco, Lfo}
+use Rattle.player.specs.declared.Controls.the-variants.{Vco, Lfo, Supersaw, Formant}
 use Rattle.player.specs.declared.Voices.{Voices}
 use Rattle.player.specs.declared.Sounded.{Sounded}
 use Rattle.player.specs.declared.Player.{Player}
@@ -29,11 +30,11 @@ use Rattle.player.specs.declared.Played.{Played}
 unfoldable pub controlsOf : Inputs → Controls
 controlsOf (inputs.Vco i) = Vco (vcoControls i)
 controlsOf (inputs.Lfo i) = Lfo (lfoControls i)
-controlsOf (inputs.Supersaw i) = Lfo (record { rate = zer; depth = zer; reset = zer })
-controlsOf (inputs.Formant i) = Lfo (record { rate = zer; depth = zer; reset = zer })
+controlsOf (inputs.Supersaw i) = Supersaw (supersawControls i)
+controlsOf (inputs.Formant i) = Formant (formantControls i)
 
 unfoldable pub voicesAt : Hertz → Voices
-voicesAt r = record { vco = newVco r; lfo = newLfo r }
+voicesAt r = record { vco = newVco r; lfo = newLfo r; supersaw = newSupersaw r; formant = newFormantOsc r }
 
 unfoldable pub beginOf : Score → Player
 beginOf s = record { controls = controlsOf (s .inputs); voices = voicesAt (rateOf (s .hz)); tally = newTally; frame = 0; frames = s .frames }
@@ -41,11 +42,15 @@ beginOf s = record { controls = controlsOf (s .inputs); voices = voicesAt (rateO
 unfoldable pub kindOf : Controls → Osc
 kindOf (Vco c) = osc.Vco
 kindOf (Lfo c) = osc.Lfo
+kindOf (Supersaw c) = osc.Supersaw
+kindOf (Formant c) = osc.Formant
 
 -- one tick of the voice that the controls are for, all outputs wanted
 unfoldable pub soundOf : Controls → Voices → Sounded
-soundOf (Vco c) v = let t = vcoTickOf (v .vco) c 15 in record { answer = t .answer; voices = record { vco = t .vco; lfo = v .lfo } }
-soundOf (Lfo c) v = let t = lfoTickOf (v .lfo) c 31 in record { answer = t .answer; voices = record { vco = v .vco; lfo = t .lfo } }
+soundOf (Vco c) v = let t = vcoTickOf (v .vco) c 15 in record { answer = t .answer; voices = record { vco = t .vco; lfo = v .lfo; supersaw = v .supersaw; formant = v .formant } }
+soundOf (Lfo c) v = let t = lfoTickOf (v .lfo) c 31 in record { answer = t .answer; voices = record { vco = v .vco; lfo = t .lfo; supersaw = v .supersaw; formant = v .formant } }
+soundOf (Supersaw c) v = let t = supersawTickOf (v .supersaw) c in record { answer = t .answer; voices = record { vco = v .vco; lfo = v .lfo; supersaw = t .supersaw; formant = v .formant } }
+soundOf (Formant c) v = let t = formantTickOf (v .formant) c in record { answer = t .answer; voices = record { vco = v .vco; lfo = v .lfo; supersaw = v .supersaw; formant = t .formant } }
 
 -- an answer that the tally refuses leaves it
 unfoldable pub keptBy : Tally → Tallied → Tally

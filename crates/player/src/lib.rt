@@ -8,13 +8,19 @@ use common::Memo1;
 use common::Memo3;
 use common::Turns;
 use common::VoltsPerOctave;
+use formant_osc::FormantControls;
+use formant_osc::FormantOsc;
 use lfo::Lfo;
 use lfo::LfoControls;
+use score::FormantInputs;
 use score::Inputs;
 use score::LfoInputs;
 use score::Osc;
 use score::Score;
+use score::SupersawInputs;
 use score::VcoInputs;
+use supersaw::Supersaw;
+use supersaw::SupersawControls;
 use vco::Vco;
 use vco::VcoControls;
 ghost use mathlib.Core.Path.{_≡_};
@@ -23,19 +29,25 @@ ghost use lib.Seq.{sets};
 ghost use Rattle.text.specs.Put.{placeOf};
 ghost use Rattle.vco.specs.Vco.{newVco};
 ghost use Rattle.lfo.specs.Lfo.{newLfo};
-ghost use Rattle.player.specs.Begin.{rateOf, vcoControls, lfoControls};
+ghost use Rattle.supersaw.specs.Supersaw.{newSupersaw};
+ghost use Rattle.formant_osc.specs.FormantOsc.{newFormantOsc};
+ghost use Rattle.player.specs.Begin.{rateOf, vcoControls, lfoControls, supersawControls, formantControls};
 ghost use Rattle.player.specs.Player.{controlsOf, voicesAt, beginOf, kindOf, soundOf, keptBy, frameOf, nextOf, textOf, afterOf, turnsOf, playedOf, finishOf};
 
 // The inputs in volts, which say what is played.
 pub enum Controls {
     Vco(VcoControls),
     Lfo(LfoControls),
+    Supersaw(SupersawControls),
+    Formant(FormantControls),
 }
 
 // One of each, for an enum can't hold the arrays of some; only the one that the controls are for moves.
 pub struct Voices {
     pub vco: Vco,
     pub lfo: Lfo,
+    pub supersaw: Supersaw,
+    pub formant: FormantOsc,
 }
 
 // Where the playing stands: `frame` is the next one.
@@ -96,26 +108,46 @@ fn lfo_controls(i: LfoInputs) -> LfoControls
     }
 }
 
+fn supersaw_controls(i: SupersawInputs) -> SupersawControls
+    ensures { λ r. ⌜ r ≡ supersawControls i ⌝ }
+{
+    let voct = i.voct;
+    let detune = i.detune;
+    let mix = i.mix;
+    SupersawControls {
+        voct: VoltsPerOctave(score::volts(voct)),
+        detune: score::volts(detune),
+        mix: score::volts(mix),
+    }
+}
+
+fn formant_controls(i: FormantInputs) -> FormantControls
+    ensures { λ r. ⌜ r ≡ formantControls i ⌝ }
+{
+    let v_oct = i.v_oct;
+    let vowel = i.vowel;
+    let formant_shift = i.formant_shift;
+    let vibrato = i.vibrato;
+    FormantControls {
+        v_oct: VoltsPerOctave(score::volts(v_oct)),
+        vowel: score::volts(vowel),
+        formant_shift: score::volts(formant_shift),
+        vibrato: score::volts(vibrato),
+    }
+}
+
 fn controls_of(inputs: Inputs) -> Controls
     ensures { λ r. ⌜ r ≡ controlsOf inputs ⌝ }
 {
     match inputs {
         Inputs::Vco(i) => Controls::Vco(vco_controls(i)),
         Inputs::Lfo(i) => Controls::Lfo(lfo_controls(i)),
-        Inputs::Supersaw(_) => Controls::Lfo(LfoControls {
-            rate: 0.0,
-            depth: 0.0,
-            reset: 0.0,
-        }),
-        Inputs::Formant(_) => Controls::Lfo(LfoControls {
-            rate: 0.0,
-            depth: 0.0,
-            reset: 0.0,
-        }),
+        Inputs::Supersaw(i) => Controls::Supersaw(supersaw_controls(i)),
+        Inputs::Formant(i) => Controls::Formant(formant_controls(i)),
     }
 }
 
-// As its `new` makes it. A rate that `new` would refuse is refused by each tick.
+// A new oscillator of each kind. Where `new` refuses the rate, each tick refuses it too.
 fn vco_at(sample_rate: Hertz) -> Vco
     ensures { λ r. ⌜ r ≡ newVco «sample_rate» ⌝ }
 {
@@ -138,12 +170,28 @@ fn lfo_at(sample_rate: Hertz) -> Lfo
     }
 }
 
+fn supersaw_at(sample_rate: Hertz) -> Supersaw
+    ensures { λ r. ⌜ r ≡ newSupersaw «sample_rate» ⌝ }
+{
+    let made = Supersaw::new(sample_rate);
+    made.supersaw
+}
+
+fn formant_at(sample_rate: Hertz) -> FormantOsc
+    ensures { λ r. ⌜ r ≡ newFormantOsc «sample_rate» ⌝ }
+{
+    let made = FormantOsc::new(sample_rate);
+    made.formant
+}
+
 fn voices_at(sample_rate: Hertz) -> Voices
     ensures { λ r. ⌜ r ≡ voicesAt «sample_rate» ⌝ }
 {
     Voices {
         vco: vco_at(sample_rate),
         lfo: lfo_at(sample_rate),
+        supersaw: supersaw_at(sample_rate),
+        formant: formant_at(sample_rate),
     }
 }
 
@@ -155,6 +203,8 @@ fn kind_of(controls: Controls) -> Osc
     match controls {
         Controls::Vco(_) => Osc::Vco,
         Controls::Lfo(_) => Osc::Lfo,
+        Controls::Supersaw(_) => Osc::Supersaw,
+        Controls::Formant(_) => Osc::Formant,
     }
 }
 
@@ -176,6 +226,22 @@ fn sound(controls: Controls, mut voices: Voices) -> Sounded
             let answer = t.answer;
             let after = t.lfo;
             voices.lfo = after;
+            Sounded { answer, voices }
+        }
+        Controls::Supersaw(c) => {
+            let supersaw = voices.supersaw;
+            let t = supersaw.tick(c);
+            let answer = t.answer;
+            let after = t.supersaw;
+            voices.supersaw = after;
+            Sounded { answer, voices }
+        }
+        Controls::Formant(c) => {
+            let formant = voices.formant;
+            let t = formant.tick(c);
+            let answer = t.answer;
+            let after = t.formant;
+            voices.formant = after;
             Sounded { answer, voices }
         }
     }

@@ -16,11 +16,17 @@ enum-known-inputs-2 c = search needs
 lfo-controls-requires : tie.Need-lfo-controls-requires
 lfo-controls-requires c κs = search needs
 
-enum-told : tie.Need-enum-told
-enum-told c = search needs
+enum-known-inputs-3 : tie.Need-enum-known-inputs-3
+enum-known-inputs-3 c = search needs
 
-enum-told-2 : tie.Need-enum-told-2
-enum-told-2 c = search needs
+supersaw-controls-requires : tie.Need-supersaw-controls-requires
+supersaw-controls-requires c κs = search needs
+
+enum-known-inputs-4 : tie.Need-enum-known-inputs-4
+enum-known-inputs-4 c = search needs
+
+formant-controls-requires : tie.Need-formant-controls-requires
+formant-controls-requires c κs = search needs
 
 returns : tie.Need-returns
 unfolding controlsOf
@@ -32,11 +38,11 @@ returns-2 c = simp (c .before .before .inputs2 .given .1, c .lfo-controls .ensur
 
 returns-3 : tie.Need-returns-3
 unfolding controlsOf
-returns-3 c = simp (c .enum-told .given .1)
+returns-3 c = simp (c .before .before .inputs3 .given .1, c .supersaw-controls .ensures)
 
 returns-4 : tie.Need-returns-4
 unfolding controlsOf
-returns-4 c = simp (c .enum-told2 .given .1)
+returns-4 c = simp (c .before .before .inputs4 .given .1, c .formant-controls .ensures)
 
 pub controls-of-spec : {M : Type 1} → statement M
 controls-of-spec =
@@ -46,8 +52,10 @@ controls-of-spec =
     vco-controls-requires
     enum-known-inputs-2
     lfo-controls-requires
-    enum-told
-    enum-told-2
+    enum-known-inputs-3
+    supersaw-controls-requires
+    enum-known-inputs-4
+    formant-controls-requires
     returns
     returns-2
     returns-3

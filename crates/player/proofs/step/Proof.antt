@@ -1,4 +1,5 @@
 -- `player::step`: a tick, its text and its place in the tally.
+use native.Mathlib.Omega.{arith}
 use Rattle.player.proofs.Steps.{stepped}
 use borrow.Author.Needs.{needs}
 use Rattle.player.proofs.step.Statement.{statement}
@@ -20,7 +21,7 @@ kept-requires : tie.Need-kept-requires
 kept-requires c κs = search needs
 
 add-t16 : tie.Need-add-t16
-add-t16 c = search needs
+add-t16 c = omega (arith, c .before .before .before .before .before .before .before .before .before .before .before .before .before .pre)
 
 same-length : tie.Need-same-length
 same-length c = search needs
