@@ -1,7 +1,8 @@
 //! The formant oscillator on both sides.
 use crate::draw::{under, Control, Draw, PITCH, UNIT};
+use crate::marked::Marked;
 use crate::pair::{both, refusal};
-use crate::script::{mark, Counts, Pair};
+use crate::script::{Counts, Pair};
 use gruttisol::answer::{Mark, Refused};
 use gruttisol::formant_osc as ours;
 use quiver::modules::oscillators as rust;
@@ -59,15 +60,7 @@ impl Pair for FormantOsc {
         Ok(ticked.mark)
     }
 
-    /// The sum is that of the five resonators as they stood, under the coefficients that the tick used.
     fn theirs_tick(&mut self, controls: &[f64], wanted: u32, samples: &mut [f64]) -> Mark {
-        let (before, _) = self.theirs.flat();
-        self.theirs.body(controls.try_into().unwrap(), wanted, samples.try_into().unwrap());
-        let (after, _) = self.theirs.flat();
-        let (rate, freq, pulse) = (after[12], after[13], rust::FormantOsc::pulse(before[0]));
-        let sum = (0..5)
-            .fold(0.0, |sum, i| sum + (after[14 + 3 * i] * pulse + before[2 + 2 * i]) * rust::FormantOsc::GAINS[i]);
-        let phases = [before[0] + freq / rate, before[1] + rust::FormantOsc::VIBRATO_HZ / rate];
-        mark(samples.iter().copied(), [sum], phases)
+        self.theirs.marked_tick(controls, wanted, samples)
     }
 }

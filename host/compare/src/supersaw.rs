@@ -1,7 +1,8 @@
 //! The supersaw on both sides.
 use crate::draw::{under, Control, Draw, PITCH, UNIT};
+use crate::marked::Marked;
 use crate::pair::{both, refusal};
-use crate::script::{mark, Counts, Pair};
+use crate::script::{Counts, Pair};
 use gruttisol::answer::{Mark, Refused};
 use gruttisol::supersaw as ours;
 use quiver::modules::oscillators as rust;
@@ -47,11 +48,6 @@ impl Pair for Supersaw {
     }
 
     fn theirs_tick(&mut self, controls: &[f64], wanted: u32, samples: &mut [f64]) -> Mark {
-        let (before, _) = self.theirs.flat();
-        self.theirs.body(controls.try_into().unwrap(), wanted, samples.try_into().unwrap());
-        let (after, _) = self.theirs.flat();
-        let (rate, freq, detune) = (after[8], after[9], controls[1].clamp(0.0, 1.0));
-        let seven = (0..7).map(|i| before[i] + freq * (1.0 + rust::Supersaw::DETUNES[i] * detune) / rate);
-        mark(samples.iter().copied(), [], seven.chain([before[7] + freq / (2.0 * rate)]))
+        self.theirs.marked_tick(controls, wanted, samples)
     }
 }
