@@ -3,12 +3,14 @@
 //! Either side is a call that isn't inlined: ours into the archive, Rust's into the C library of the system. The two take
 //! turns, and the best of many short runs counts, since whatever else the machine does only adds.
 mod oscillators;
+mod render;
 
 use gruttisol::{common, numeric};
 use random::Random;
 use std::f64::consts::TAU;
 use std::hint::black_box;
 use std::ops::Range;
+use std::process::ExitCode;
 use std::time::Instant;
 
 /// Arguments drawn for each row: too many for a branch to be foreseen by the last round.
@@ -18,7 +20,10 @@ const ROUNDS: usize = 32;
 /// Runs of either side.
 const RUNS: usize = 100;
 
-fn main() {
+fn main() -> ExitCode {
+    if std::env::args().nth(1).as_deref() == Some(render::RUST) {
+        return render::as_the_rust();
+    }
     println!("{:<8} {:<24} {:>7} {:>7} {:>7}  goal", "ns", "range", "ours", "Rust's", "ratio");
     row("sin", 0.0..TAU, numeric::sin, f64::sin, "below 1");
     row("sin", -512.0..512.0, numeric::sin, f64::sin, "below 1");
@@ -32,6 +37,9 @@ fn main() {
     row("wrap", -1000.0..1000.0, common::wrap_phase, rust_wrap, "");
     println!();
     oscillators::rows();
+    println!();
+    render::rows();
+    ExitCode::SUCCESS
 }
 
 /// The Rust's `wrap_phase`, a call of its own as ours is.
