@@ -1,15 +1,17 @@
 //! Nanoseconds a call, ours and Rust's own in one run: `cargo run --release --offline -p bench`, and with names of
-//! oscillators behind it those alone.
+//! oscillators behind it, or `render`, those alone.
 //!
 //! Either side is a call that isn't inlined: ours into the archive, Rust's into the C library of the system. The two take
 //! turns, and the best of many short runs counts, since whatever else the machine does only adds.
 mod oscillators;
+mod render;
 
 use gruttisol::{common, numeric};
 use random::Random;
 use std::f64::consts::TAU;
 use std::hint::black_box;
 use std::ops::Range;
+use std::process::ExitCode;
 use std::time::Instant;
 
 /// Arguments drawn for each row: too many for a branch to be foreseen by the last round.
@@ -19,13 +21,21 @@ const ROUNDS: usize = 32;
 /// Runs of either side.
 const RUNS: usize = 100;
 
-fn main() {
+fn main() -> ExitCode {
     let named: Vec<String> = std::env::args().skip(1).collect();
+    if named.iter().any(|word| word == render::RUST) {
+        return render::as_the_rust();
+    }
     if named.is_empty() {
         functions();
         println!();
     }
     oscillators::rows(&named);
+    if named.is_empty() || named.iter().any(|word| word == "render") {
+        println!();
+        render::rows();
+    }
+    ExitCode::SUCCESS
 }
 
 fn functions() {

@@ -2,20 +2,25 @@
 use crate::text::Render;
 use std::fmt::Write;
 
-/// Places across a wave; a render of more frames shows the lowest and the highest of those at one place.
-const WIDTH: usize = 640;
+/// Width of a wave.
+const WIDTH: f64 = 640.0;
+/// Points of a wave at most, which keeps a picture of five outputs below 60 KB. Of more frames, some stand together, and
+/// the lowest and the highest of them are drawn.
+const POINTS: usize = 1000;
 /// Height of a wave from its lowest to its highest volts.
 const HEIGHT: f64 = 88.0;
 /// From a row to the next.
 const ROW: f64 = 104.0;
 const LEFT: f64 = 84.0;
 const TOP: f64 = 12.0;
+/// Volts either way that a row can show; the least that holds the wave is taken.
+const RANGES: [f64; 7] = [0.1, 0.2, 0.5, 1.0, 2.0, 5.0, 10.0];
 const COLOURS: [&str; 5] = ["#1f6fb2", "#c2571a", "#2f855a", "#8a3ffc", "#b83280"];
 
 pub fn svg(render: &Render) -> String {
     let frames = render.marks.len();
     let rows = render.outputs.len() as f64;
-    let (width, below) = (LEFT + WIDTH as f64 + 16.0, TOP + ROW * rows);
+    let (width, below) = (LEFT + WIDTH + 16.0, TOP + ROW * rows);
     let height = below + 24.0;
     let mut svg = format!(
         "<svg xmlns=\"http://www.w3.org/2000/svg\" viewBox=\"0 0 {width} {height}\" \
@@ -45,13 +50,14 @@ pub fn svg(render: &Render) -> String {
 
 /// One wave with its name, its range and the line of 0 V.
 fn draw(svg: &mut String, name: &str, wave: &[f64], middle: f64, colour: &str) {
-    let largest = wave.iter().filter(|x| x.is_finite()).fold(5.0, |most: f64, x| most.max(x.abs())).ceil();
-    let y = |volts: f64| middle - volts / largest * HEIGHT / 2.0;
-    let end = LEFT + WIDTH as f64;
+    let largest = wave.iter().filter(|x| x.is_finite()).fold(0.0, |most: f64, x| most.max(x.abs()));
+    let range = RANGES.into_iter().find(|&range| largest <= range).unwrap_or(largest);
+    let y = |volts: f64| middle - volts / range * HEIGHT / 2.0;
+    let end = LEFT + WIDTH;
     writeln!(
         svg,
         "<text x=\"8\" y=\"{}\" font-size=\"14\" fill=\"{colour}\">{name}</text>\
-         <text x=\"8\" y=\"{}\">\u{b1}{largest} V</text>\n\
+         <text x=\"8\" y=\"{}\">\u{b1}{range} V</text>\n\
          <path d=\"M{LEFT} {middle}H{end}\" stroke=\"#ccc\"/>",
         middle - 2.0,
         middle + 14.0,
@@ -66,12 +72,12 @@ fn draw(svg: &mut String, name: &str, wave: &[f64], middle: f64, colour: &str) {
 
 /// The place of a frame across the picture.
 fn place(frame: usize, frames: usize) -> f64 {
-    LEFT + frame as f64 * WIDTH as f64 / frames as f64
+    LEFT + frame as f64 * WIDTH / frames as f64
 }
 
 /// A wave as curves of places and volts, broken where a sample isn't finite.
 fn curves(wave: &[f64]) -> Vec<Vec<(f64, f64)>> {
-    let together = wave.len().div_ceil(WIDTH);
+    let together = if wave.len() > POINTS { wave.len().div_ceil(POINTS / 2) } else { 1 };
     let mut curves = vec![vec![]];
     for (i, samples) in wave.chunks(together).enumerate() {
         let x = place(i * together, wave.len());

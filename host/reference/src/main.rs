@@ -1,6 +1,6 @@
 //! Prints what `render` must print, by the Rust's oscillators:
 //!
-//! `cargo run --offline --release -p reference --bin reference < SCORE`
+//! `cargo run --offline --release --bin reference < SCORE`
 use std::process::ExitCode;
 
 #[cfg(quiver)]

@@ -22,17 +22,17 @@ fn control(draw: &mut Draw) -> String {
     microvolts.to_string()
 }
 
-/// Mostly few frames, now and then some thousand.
-fn frames(draw: &mut Draw) -> i64 {
-    match draw.below(200) {
+/// A score that isn't refused: mostly of few frames, now and then of some thousand.
+pub fn good(draw: &mut Draw) -> Vec<u8> {
+    let frames = match draw.below(200) {
         0 => whole(draw, 1000, 5000),
         1..=20 => whole(draw, 9, 300),
         _ => whole(draw, 1, 8),
-    }
+    };
+    of_frames(frames, draw)
 }
 
-/// A score that isn't refused.
-pub fn good(draw: &mut Draw) -> Vec<u8> {
+fn of_frames(frames: i64, draw: &mut Draw) -> Vec<u8> {
     let osc = &ALL[draw.below(4) as usize];
     let hz = match draw.below(6) {
         0 => 1000,
@@ -41,16 +41,16 @@ pub fn good(draw: &mut Draw) -> Vec<u8> {
         3 => 48_000,
         _ => whole(draw, 1000, 192_000),
     };
-    let mut text = format!("osc={}\nhz={hz}\nframes={}\n", osc.name, frames(draw));
+    let mut text = format!("osc={}\nhz={hz}\nframes={frames}\n", osc.name);
     for key in osc.inputs {
         writeln!(text, "{key}={}", control(draw)).unwrap();
     }
     text.into_bytes()
 }
 
-/// A good score with some damage, mostly at one place. A few are good all the same.
+/// A score of one frame with some damage, mostly at one place. A few are good all the same.
 pub fn damaged(draw: &mut Draw) -> Vec<u8> {
-    let mut text = good(draw);
+    let mut text = of_frames(1, draw);
     let times = if draw.one_in(4) { 3 } else { 1 };
     for _ in 0..times {
         damage(&mut text, draw);
@@ -59,7 +59,7 @@ pub fn damaged(draw: &mut Draw) -> Vec<u8> {
 }
 
 /// Values that a score refuses, or nearly, between bars.
-const VALUES: &str = "|-|-0|+1|00|01|-01|1e3|0x10|1.0| 1|1 |1\r|nan|NaN|-nan|nan |999|192001|480001\
+const VALUES: &str = "|-|-0|+1|00|01|-01|1e3|0x10|1.0| 1|1 |1\r|nan|NaN|-nan|nan |999|480001\
                       |10000001|-10000001|999999999999|1000000000000";
 
 fn damage(text: &mut Vec<u8>, draw: &mut Draw) {

@@ -1,0 +1,67 @@
+//! The presets, by the table that describes them, and the gallery's pictures of them.
+use std::collections::BTreeSet;
+use std::fs;
+use std::path::{Path, PathBuf};
+
+fn repository() -> &'static Path {
+    Path::new(env!("CARGO_MANIFEST_DIR")).ancestors().nth(2).unwrap()
+}
+
+fn preset(name: &str) -> PathBuf {
+    repository().join("presets").join(name).with_extension("score")
+}
+
+/// The names, without their ending, of a folder's files that have it.
+fn names(folder: &str, ending: &str) -> BTreeSet<String> {
+    let files = fs::read_dir(repository().join(folder)).unwrap().map(|file| file.unwrap().path());
+    files
+        .filter(|file| file.extension().is_some_and(|its| its == ending))
+        .map(|file| file.file_stem().unwrap().to_str().unwrap().to_owned())
+        .collect()
+}
+
+/// Each row of the table: a preset's name and what `render` claims at its end.
+fn described() -> Vec<(String, String)> {
+    let readme = fs::read_to_string(repository().join("presets/README.md")).unwrap();
+    let cell = |cell: &str| cell.trim().trim_matches('`').to_owned();
+    let rows = readme.lines().filter_map(|line| line.strip_prefix("| `"));
+    rows.map(|row| {
+        let cells: Vec<&str> = row.trim_end_matches('|').split('|').collect();
+        (cell(cells[0]), cell(cells[cells.len() - 1]))
+    })
+    .collect()
+}
+
+#[test]
+fn presets_are_as_described() {
+    let described = described();
+    let named: BTreeSet<String> = described.iter().map(|(name, _)| name.clone()).collect();
+    assert_eq!(named, names("presets", "score"));
+    assert!(named.len() >= 12);
+    for (name, claimed) in &described {
+        let score = fs::read(preset(name)).unwrap();
+        let text = program::render(&score);
+        let last = text.strip_suffix(b"\n").unwrap().rsplit(|&byte| byte == b'\n').next().unwrap();
+        assert_eq!(last.escape_ascii().to_string(), *claimed, "{name}");
+        #[cfg(quiver)]
+        assert!(text == reference::render(&score), "{name}: the reference prints another text");
+        let refused = reference::score::read(&score).is_err();
+        assert!(!refused, "{name}");
+    }
+    println!("{} presets", described.len());
+}
+
+#[test]
+fn the_gallery_is_of_the_presets() {
+    let page = fs::read_to_string(repository().join("docs/gallery.md")).unwrap();
+    let pictures = names("docs/gallery", "svg");
+    for name in &pictures {
+        let text = String::from_utf8(program::render(&fs::read(preset(name)).unwrap())).unwrap();
+        let stored = fs::read_to_string(repository().join("docs/gallery").join(name).with_extension("svg")).unwrap();
+        assert!(picture::svg(&text).unwrap() == stored, "{name}: its picture is drawn otherwise today");
+        assert!(stored.len() < 60_000, "{name}: {} bytes", stored.len());
+        assert!(page.contains(&format!("(gallery/{name}.svg)")), "{name} isn't on the page");
+    }
+    assert_eq!(page.matches(".svg)").count(), pictures.len());
+    println!("{} pictures", pictures.len());
+}
