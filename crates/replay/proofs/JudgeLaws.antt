@@ -10,8 +10,8 @@ use Rattle.replay.specs.Split.{untilOf, linesOf}
 use Rattle.replay.specs.Table.{rows, numberOf, runOf}
 use Rattle.replay.specs.Words.{wellFormed}
 use Rattle.replay.specs.declared.judge.Tally.{Tally}
-use Rattle.replay.specs.declared.held.Verdict.{Verdict}
-use Rattle.replay.specs.declared.held.Verdict.the-variants.{Malformed}
+use Rattle.replay.specs.declared.cases.Verdict.{Verdict}
+use Rattle.replay.specs.declared.cases.Verdict.the-variants.{Malformed}
 use Rattle.replay.proofs.SplitLaws.{rest-of, line-at, lines-end}
 
 -- k is none of the first n

@@ -12,11 +12,12 @@ use borrow.Author.Tests.{eq-eqb, ne-eqb}
 use Rattle.laws.specs.Lists.{tab, over}
 use Rattle.laws.proofs.Over.{over-all}
 use Rattle.answer.specs.Flat.{Heard, heard}
+use Rattle.exports_karplus_strong.specs.Calls.{Sounded, sounded}
 use Rattle.exports_vco.specs.Calls.{Hears}
 use Rattle.replay.specs.Held.{heldOf}
-use Rattle.replay.specs.Ticks.{heardWords, toldWords}
+use Rattle.replay.specs.Ticks.{heardWords, strungWords, toldWords}
 use Rattle.replay.specs.Words.{countOf, valueAt, sameFrom}
-use Rattle.replay.specs.declared.held.Verdict.the-variants.{Same, Differs, Malformed}
+use Rattle.replay.specs.declared.cases.Verdict.the-variants.{Same, Differs, Malformed}
 use Rattle.replay.proofs.WordLaws.{from-no, from-next, from-end}
 
 -- ---- a loop that stores every cell has stored them
@@ -64,7 +65,7 @@ module _ (words : List ℕ) (inputs code : ℕ) (f : List Float) (w : List ℕ) 
   abbrev os : List ℕ
   os = map (toBits binary64) o
 
-  heard-count : inputs + length (heardWords code f w o) ≡ inputs + 1 + length f + length w + length o
+  pub heard-count : inputs + length (heardWords code f w o) ≡ inputs + 1 + length f + length w + length o
   unfolding heardWords
   heard-count =
       let a : length (fs ++ (w ++ os)) ≡ length fs + length (w ++ os) = length-append fs (w ++ os) in
@@ -73,7 +74,7 @@ module _ (words : List ℕ) (inputs code : ℕ) (f : List Float) (w : List ℕ) 
       let y : length os ≡ length o = length-map o (toBits binary64) in
       omega arith
 
-  heard-same : sameFrom words inputs (heardWords code f w o)
+  pub heard-same : sameFrom words inputs (heardWords code f w o)
       ≡ cond (eqb (valueAt words inputs) code)
       (cond (sameFrom words (inputs + 1) fs) (cond (sameFrom words (inputs + 1 + length f) w) (sameFrom words (inputs + 1 + length f + length w) os) false) false)
       false
@@ -85,20 +86,29 @@ module _ (words : List ℕ) (inputs code : ℕ) (f : List Float) (w : List ℕ) 
       let p : suc inputs ≡ inputs + 1 = omega arith in
       rw (a, b, x, p) refl
 
-  -- so many words, or not
-  pub heard-short : (k : ℕ) → (countOf words ≡ inputs + 1 + length f + length w + length o → ⊥) → heldOf k words inputs (heardWords code f w o) ≡ Malformed
-  unfolding heldOf
-  heard-short k h = simp (ne-eqb (countOf words) (inputs + length (heardWords code f w o)) (λ e. h (e ∙ heard-count)))
+  -- the line after it
+  pub strung-count : (l : List Float) → inputs + length (strungWords code f w o l) ≡ inputs + 1 + length f + length w + length o + length l
+  strung-count l =
+      let a : length (heardWords code f w o ++ map (toBits binary64) l) ≡ length (heardWords code f w o) + length (map (toBits binary64) l) = length-append (heardWords code f w o) (map (toBits binary64) l) in
+      let b : length (map (toBits binary64) l) ≡ length l = length-map l (toBits binary64) in
+      let c = heard-count in
+      omega arith
 
-  pub heard-says : (k : ℕ) → countOf words ≡ inputs + 1 + length f + length w + length o → heldOf k words inputs (heardWords code f w o)
-      ≡ cond
-      (cond (eqb (valueAt words inputs) code)
-      (cond (sameFrom words (inputs + 1) fs) (cond (sameFrom words (inputs + 1 + length f) w) (sameFrom words (inputs + 1 + length f + length w) os) false) false)
-      false)
-      (Same k)
-      (Differs k)
+  pub strung-same : (l : List Float) → sameFrom words inputs (strungWords code f w o l)
+      ≡ cond (sameFrom words inputs (heardWords code f w o)) (sameFrom words (inputs + 1 + length f + length w + length o) (map (toBits binary64) l)) false
+  strung-same l =
+      same-append words inputs (heardWords code f w o) (map (toBits binary64) l)
+      ∙ ap (λ (n : ℕ). cond (sameFrom words inputs (heardWords code f w o)) (sameFrom words n (map (toBits binary64) l)) false) heard-count
+
+-- ---- a verdict: so many words or not, and then whether they are the same
+module _ (k : ℕ) (words : List ℕ) (inputs : ℕ) (answers : List ℕ) (n : ℕ) (e : inputs + length answers ≡ n) where
+  pub held-short : (countOf words ≡ n → ⊥) → heldOf k words inputs answers ≡ Malformed
   unfolding heldOf
-  heard-says k h = simp (eq-eqb (countOf words) (inputs + length (heardWords code f w o)) (h ∙ sym heard-count), heard-same)
+  held-short h = simp (ne-eqb (countOf words) (inputs + length answers) (λ q. h (q ∙ e)))
+
+  pub held-says : countOf words ≡ n → heldOf k words inputs answers ≡ cond (sameFrom words inputs answers) (Same k) (Differs k)
+  unfolding heldOf
+  held-says h = simp (eq-eqb (countOf words) (inputs + length answers) (h ∙ sym e))
 
 -- ---- what an exported tick's contract says, as words
 pub told : (h : Heard) (code : ℕ) (f : List Float) (w : List ℕ) (o : List Float) → heard code f w o ≡ h → heardWords code f w o ≡ toldWords h
@@ -106,3 +116,7 @@ told h code f w o e = ap toldWords e
 
 pub hears : (h : Heard) (code : ℕ) (f : List Float) (w : List ℕ) (o : List Float) → Hears h code f w o → heardWords code f w o ≡ toldWords h
 hears h code f w o e = rw (e .0, e .1, e .2, e .3) refl
+
+pub strung-told : (t : Sounded) (code : ℕ) (f : List Float) (w : List ℕ) (o l : List Float) → sounded (heard code f w o) l ≡ t
+    → strungWords code f w o l ≡ strungWords (t .heard .code) (t .heard .floats) (t .heard .wholes) (t .heard .samples) (t .line)
+strung-told t code f w o l e = ap (λ (x : Sounded). strungWords (x .heard .code) (x .heard .floats) (x .heard .wholes) (x .heard .samples) (x .line)) e

@@ -5,8 +5,8 @@ use Prim.Native.Nat.{ℕ, _+_}
 use lib.Dec.{eqb}
 use lib.ListN.{length}
 use Rattle.replay.specs.Words.{countOf, sameFrom}
-use Rattle.replay.specs.declared.held.Verdict.{Verdict}
-use Rattle.replay.specs.declared.held.Verdict.the-variants.{Same, Differs, Malformed}
+use Rattle.replay.specs.declared.cases.Verdict.{Verdict}
+use Rattle.replay.specs.declared.cases.Verdict.the-variants.{Same, Differs, Malformed}
 
 -- the words are so many inputs and then the answers
 unfoldable pub heldOf : ℕ → List ℕ → ℕ → List ℕ → Verdict

@@ -8,8 +8,8 @@ use Rattle.replay.specs.Split.{untilOf, linesOf}
 use Rattle.replay.specs.Table.{numberOf, runOf}
 use Rattle.replay.specs.Words.{wellFormed}
 use Rattle.replay.specs.declared.judge.Tally.{Tally}
-use Rattle.replay.specs.declared.held.Verdict.{Verdict}
-use Rattle.replay.specs.declared.held.Verdict.the-variants.{Same, Differs, Malformed}
+use Rattle.replay.specs.declared.cases.Verdict.{Verdict}
+use Rattle.replay.specs.declared.cases.Verdict.the-variants.{Same, Differs, Malformed}
 
 -- a name up to the first space, and then nothing but words
 unfoldable pub verdictOf : List ℕ → Verdict

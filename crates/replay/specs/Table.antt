@@ -12,10 +12,10 @@ use Rattle.numeric.specs.Power.{exp2Of, pow3000Of}
 use Rattle.numeric.specs.Trig.{sinOf, cosOf}
 use Rattle.replay.specs.Split.{placeIn}
 use Rattle.replay.specs.Held.{heldOf}
-use Rattle.replay.specs.Ticks.{floatAt, lfoWords, vcoWords, supersawWords, formantWords}
+use Rattle.replay.specs.Ticks.{floatAt, lfoWords, vcoWords, supersawWords, formantWords, wavetableWords, karplusStrongWords}
 use Rattle.replay.specs.Words.{valueAt}
-use Rattle.replay.specs.declared.held.Verdict.{Verdict}
-use Rattle.replay.specs.declared.held.Verdict.the-variants.{Malformed}
+use Rattle.replay.specs.declared.cases.Verdict.{Verdict}
+use Rattle.replay.specs.declared.cases.Verdict.the-variants.{Malformed}
 
 -- a name, how many words go in, and the words that must come out, of the words by their place
 pub record Row : Type 0 where
@@ -51,6 +51,8 @@ rows =
     ∷ row (118 ∷ 99 ∷ 111 ∷ 95 ∷ 116 ∷ 105 ∷ 99 ∷ 107 ∷ []) 14 vcoWords  -- vco_tick
     ∷ row (115 ∷ 117 ∷ 112 ∷ 101 ∷ 114 ∷ 115 ∷ 97 ∷ 119 ∷ 95 ∷ 116 ∷ 105 ∷ 99 ∷ 107 ∷ []) 15 supersawWords  -- supersaw_tick
     ∷ row (102 ∷ 111 ∷ 114 ∷ 109 ∷ 97 ∷ 110 ∷ 116 ∷ 95 ∷ 111 ∷ 115 ∷ 99 ∷ 95 ∷ 116 ∷ 105 ∷ 99 ∷ 107 ∷ []) 39 formantWords  -- formant_osc_tick
+    ∷ row (119 ∷ 97 ∷ 118 ∷ 101 ∷ 116 ∷ 97 ∷ 98 ∷ 108 ∷ 101 ∷ 95 ∷ 116 ∷ 105 ∷ 99 ∷ 107 ∷ []) 10 wavetableWords  -- wavetable_tick
+    ∷ row (107 ∷ 97 ∷ 114 ∷ 112 ∷ 108 ∷ 117 ∷ 115 ∷ 95 ∷ 115 ∷ 116 ∷ 114 ∷ 111 ∷ 110 ∷ 103 ∷ 95 ∷ 116 ∷ 105 ∷ 99 ∷ 107 ∷ []) 139 karplusStrongWords  -- karplus_strong_tick
     ∷ []
 
 unfoldable pub names : List (List ℕ)

@@ -7,9 +7,11 @@ use Rattle.laws.specs.Float.{zer}
 use Rattle.laws.specs.Lists.{tab}
 use Rattle.answer.specs.Flat.{Heard}
 use Rattle.exports_formant_osc.specs.Calls.{formantTickAt}
+use Rattle.exports_karplus_strong.specs.Calls.{karplusStrongTickAt}
 use Rattle.exports_lfo.specs.Calls.{lfoTickAt}
 use Rattle.exports_supersaw.specs.Calls.{supersawTickAt}
 use Rattle.exports_vco.specs.Calls.{controlsOf, tickAt}
+use Rattle.exports_wavetable.specs.Calls.{wavetableTickAt, wavetableFillBankAt}
 
 -- the float that the k-th word stands for, and n of them from the k-th on
 abbrev pub floatAt : (ℕ → ℕ) → ℕ → Float
@@ -32,6 +34,10 @@ heardWords code floats wholes samples = code ∷ (map (toBits binary64) floats +
 abbrev pub toldWords : Heard → List ℕ
 toldWords h = heardWords (h .code) (h .floats) (h .wholes) (h .samples)
 
+-- and the line
+abbrev pub strungWords : ℕ → List Float → List ℕ → List Float → List Float → List ℕ
+strungWords code floats wholes samples line = heardWords code floats wholes samples ++ map (toBits binary64) line
+
 -- four floats, two whole numbers, rate, depth, reset, wanted
 unfoldable pub lfoWords : (ℕ → ℕ) → List ℕ
 lfoWords w = toldWords (lfoTickAt (floatAt w 6) (floatAt w 7) (floatAt w 8) (maskAt w 9) (floatsAt w 0 4) (wholesAt w 4 2) (replicate 5 zer))
@@ -49,3 +55,17 @@ supersawWords w = toldWords (supersawTickAt (floatAt w 12) (floatAt w 13) (float
 -- 29 floats, six whole numbers, v_oct, vowel, formant_shift, vibrato
 unfoldable pub formantWords : (ℕ → ℕ) → List ℕ
 formantWords w = toldWords (formantTickAt (floatAt w 35) (floatAt w 36) (floatAt w 37) (floatAt w 38) (floatsAt w 0 29) (wholesAt w 29 6) (replicate 1 zer))
+
+-- four floats, two whole numbers, v_oct, table, morph, sync; over the bank that a fill makes
+unfoldable pub wavetableWords : (ℕ → ℕ) → List ℕ
+wavetableWords w =
+    let bank = wavetableFillBankAt (replicate 16384 zer) .cells in
+    toldWords (wavetableTickAt (floatAt w 6) (floatAt w 7) (floatAt w 8) (floatAt w 9) bank (floatsAt w 0 4) (wholesAt w 4 2) (replicate 1 zer))
+
+-- six floats, four whole numbers, voct, trigger, damping, brightness, stretch, the line, the draws
+unfoldable pub karplusStrongWords : (ℕ → ℕ) → List ℕ
+karplusStrongWords w =
+    let t =
+    karplusStrongTickAt (floatAt w 10) (floatAt w 11) (floatAt w 12) (floatAt w 13) (floatAt w 14) (floatsAt w 0 6) (wholesAt w 6 4) (replicate 1 zer)
+    (floatsAt w 15 62) (wholesAt w 77 62) in
+    strungWords (t .heard .code) (t .heard .floats) (t .heard .wholes) (t .heard .samples) (t .line)

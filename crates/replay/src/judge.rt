@@ -1,7 +1,7 @@
 // What is counted: a line's verdict, and a text's tally.
 ghost use mathlib.Core.Path.{_≡_};
 ghost use Rattle.replay.specs.Judge.{verdictOf, oneMore, oneMoreAt, countedOf, tallyOf};
-use crate::held::Verdict;
+use crate::cases::Verdict;
 use crate::split::until;
 use crate::table::number_of;
 use crate::table::run;

@@ -1,10 +1,9 @@
 // Reads cases from standard input, a line each, runs each and says how many there are and how many differ.
-mod held;
+mod cases;
 mod judge;
 mod report;
 mod split;
 mod table;
-mod ticks;
 mod words;
 
 ghost use mathlib.Core.Path.{_≡_};

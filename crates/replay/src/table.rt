@@ -5,20 +5,22 @@ ghost use mathlib.Core.Bool.{cond};
 ghost use mathlib.Core.List.{[], _∷_};
 ghost use Rattle.replay.specs.Held.{heldOf};
 ghost use Rattle.replay.specs.Table.{numberOf, runOf};
-use crate::held::Verdict;
-use crate::held::held;
+use crate::cases::Verdict;
+use crate::cases::formant_osc_tick;
+use crate::cases::held;
+use crate::cases::karplus_strong_tick;
+use crate::cases::lfo_tick;
+use crate::cases::supersaw_tick;
+use crate::cases::vco_tick;
+use crate::cases::wavetable_tick;
 use crate::split::place_of;
-use crate::ticks::formant_osc_tick;
-use crate::ticks::lfo_tick;
-use crate::ticks::supersaw_tick;
-use crate::ticks::vco_tick;
 use crate::words::real;
 use crate::words::value;
 use numeric::bits;
 
 // The names, a line each, in the order of `run`.
-pub const NAMES: [u8; 137] =
-    *b"sin\ncos\nexp2\npow3000\nfloor\nfabs\nis_finite\nclamp\nmin\nmax\nto_u64\nof_u64\nbits\ndraw\nbipolar\nlfo_tick\nvco_tick\nsupersaw_tick\nformant_osc_tick\n";
+pub const NAMES: [u8; 172] =
+    *b"sin\ncos\nexp2\npow3000\nfloor\nfabs\nis_finite\nclamp\nmin\nmax\nto_u64\nof_u64\nbits\ndraw\nbipolar\nlfo_tick\nvco_tick\nsupersaw_tick\nformant_osc_tick\nwavetable_tick\nkarplus_strong_tick\n";
 
 // A name's number; past the last for any other.
 pub fn number_of(name: &[u8]) -> usize
@@ -68,6 +70,8 @@ pub fn run(k: usize, words: &[u8]) -> Verdict
         16 => vco_tick(k, words),
         17 => supersaw_tick(k, words),
         18 => formant_osc_tick(k, words),
+        19 => wavetable_tick(k, words),
+        20 => karplus_strong_tick(k, words),
         _ => Verdict::Malformed,
     }
 }

@@ -158,6 +158,12 @@ supersaw-tick-requires c κs = search needs
 formant-osc-tick-requires : tie.Need-formant-osc-tick-requires
 formant-osc-tick-requires c κs = search needs
 
+wavetable-tick-requires : tie.Need-wavetable-tick-requires
+wavetable-tick-requires c κs = search needs
+
+karplus-strong-tick-requires : tie.Need-karplus-strong-tick-requires
+karplus-strong-tick-requires c κs = search needs
+
 returns : tie.Need-returns
 unfolding runOf rows
 returns c = simp (c .one .ensures, c .before .bits .ensures, c .before .before .sin .ensures, c .before .before .before .before .before .before .real .ensures, c .before .before .before .match .keys1)
@@ -235,8 +241,16 @@ unfolding runOf rows
 returns-19 c = simp (c .formant-osc-tick .ensures, c .before .match .keys19)
 
 returns-20 : tie.Need-returns-20
+unfolding runOf rows
+returns-20 c = simp (c .wavetable-tick .ensures, c .before .match .keys20)
+
+returns-21 : tie.Need-returns-21
+unfolding runOf rows
+returns-21 c = simp (c .karplus-strong-tick .ensures, c .before .match .keys21)
+
+returns-22 : tie.Need-returns-22
 unfolding rows
-returns-20 c = run-past _ _ (other-past 19 _ (c .match .rest))
+returns-22 c = run-past _ _ (other-past 21 _ (c .match .rest))
 
 pub run-spec : {M : Type 1} → statement M
 run-spec =
@@ -293,6 +307,8 @@ run-spec =
     vco-tick-requires
     supersaw-tick-requires
     formant-osc-tick-requires
+    wavetable-tick-requires
+    karplus-strong-tick-requires
     returns
     returns-2
     returns-3
@@ -312,4 +328,6 @@ run-spec =
     returns-17
     returns-18
     returns-19
-    returns-20)
+    returns-20
+    returns-21
+    returns-22)

@@ -1,9 +1,9 @@
--- `ticks::supersaw_tick`.
+-- `cases::supersaw_tick`.
 use borrow.Author.Needs.{needs}
 use Rattle.replay.specs.Ticks.{supersawWords}
 use Rattle.replay.proofs.TickLaws.{told}
-use Rattle.replay.proofs.ticks.supersaw_tick.Statement.{statement}
-use Rattle.replay.proofs.ticks.supersaw_tick.Tie as tie
+use Rattle.replay.proofs.cases.supersaw_tick.Statement.{statement}
+use Rattle.replay.proofs.cases.supersaw_tick.Tie as tie
 
 slice-aggregate-reals : tie.Need-slice-aggregate-reals
 slice-aggregate-reals c = search needs

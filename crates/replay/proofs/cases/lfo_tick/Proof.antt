@@ -1,9 +1,9 @@
--- `ticks::lfo_tick`.
+-- `cases::lfo_tick`.
 use borrow.Author.Needs.{needs}
 use Rattle.replay.specs.Ticks.{lfoWords}
 use Rattle.replay.proofs.TickLaws.{told}
-use Rattle.replay.proofs.ticks.lfo_tick.Statement.{statement}
-use Rattle.replay.proofs.ticks.lfo_tick.Tie as tie
+use Rattle.replay.proofs.cases.lfo_tick.Statement.{statement}
+use Rattle.replay.proofs.cases.lfo_tick.Tie as tie
 
 slice-aggregate-reals : tie.Need-slice-aggregate-reals
 slice-aggregate-reals c = search needs

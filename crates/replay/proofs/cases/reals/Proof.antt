@@ -1,18 +1,19 @@
--- `ticks::values`: the first i cells are stored.
+-- `cases::reals`: the first i cells are stored.
 use mathlib.Core.Path.{_≡_, refl}
 use Prim.Native.Nat.{ℕ, _+_, _-_, _≤_}
 use native.Mathlib.Omega.{arith}
+use lib.Ieee.{binary64, ofBits}
 use lib.ListN.{length, length-set}
 use borrow.Author.Needs.{needs}
 use Rattle.laws.specs.Lists.{over}
 use Rattle.laws.proofs.Over.{over-none, over-more}
 use Rattle.replay.specs.Words.{valueAt}
 use Rattle.replay.proofs.TickLaws.{over-done}
-use Rattle.replay.proofs.ticks.values.Statement.{statement}
-use Rattle.replay.proofs.ticks.values.Tie as tie
+use Rattle.replay.proofs.cases.reals.Statement.{statement}
+use Rattle.replay.proofs.cases.reals.Tie as tie
 
 abbrev Inv-loop : tie.InvT-loop
-Inv-loop out₀ words from i₀ out i = (i ≤ length out₀) × (length out ≡ length out₀) × (out ≡ over (λ (k : ℕ). valueAt words (from + k)) i out₀)
+Inv-loop out₀ words from i₀ out i = (i ≤ length out₀) × (length out ≡ length out₀) × (out ≡ over (λ (k : ℕ). ofBits binary64 (valueAt words (from + k))) i out₀)
 
 abbrev μ-loop : tie.MeasureT-loop
 μ-loop out₀ words from i₀ out i = length out₀ - i
@@ -20,11 +21,11 @@ abbrev μ-loop : tie.MeasureT-loop
 loop-holds : tie.Need-loop-holds Inv-loop μ-loop
 loop-holds c = (omega arith, refl, over-none _ _)
 
-add-value : tie.Need-add-value Inv-loop μ-loop
-add-value c = search needs
+add-real : tie.Need-add-real Inv-loop μ-loop
+add-real c = search needs
 
-value-requires : tie.Need-value-requires Inv-loop μ-loop
-value-requires c κs = search needs
+real-requires : tie.Need-real-requires Inv-loop μ-loop
+real-requires c κs = search needs
 
 mul-out : tie.Need-mul-out Inv-loop μ-loop
 mul-out c = search needs
@@ -39,7 +40,7 @@ loop-less : tie.Need-loop-less Inv-loop μ-loop
 loop-less c = search needs
 
 loop-again : tie.Need-loop-again Inv-loop μ-loop
-loop-again c = let s = c .before .before .loop .inv in (omega arith, simp length-set (s .1), over-more _ _ _ _ _ (omega arith) (s .2) (c .value .ensures))
+loop-again c = let s = c .before .before .loop .inv in (omega arith, simp length-set (s .1), over-more _ _ _ _ _ (omega arith) (s .2) (c .real .ensures))
 
 same-length : tie.Need-same-length Inv-loop μ-loop
 same-length c = c .before .loop .inv .1
@@ -47,15 +48,15 @@ same-length c = c .before .loop .inv .1
 returns : tie.Need-returns Inv-loop μ-loop
 returns c = let s = c .before .loop .inv in over-done _ _ _ _ (s .0) (s .1) (c .loop-test .left) (s .2)
 
-pub values-spec : {M : Type 1} → statement M
-values-spec =
+pub reals-spec : {M : Type 1} → statement M
+reals-spec =
     tie.close
     (tie.spec
     Inv-loop
     μ-loop
     loop-holds
-    add-value
-    value-requires
+    add-real
+    real-requires
     mul-out
     slice-write-out
     add-i

@@ -1,10 +1,10 @@
--- `held::held`: the number of words first, then the answers.
+-- `cases::held`: the number of words first, then the answers.
 use lib.ListN.{length}
 use borrow.Author.Needs.{needs}
 use Rattle.replay.specs.Held.{heldOf}
 use Rattle.replay.proofs.WordLaws.{too-few, not-so-many, so-many}
-use Rattle.replay.proofs.held.held.Statement.{statement}
-use Rattle.replay.proofs.held.held.Tie as tie
+use Rattle.replay.proofs.cases.held.Statement.{statement}
+use Rattle.replay.proofs.cases.held.Tie as tie
 
 returns : tie.Need-returns
 unfolding heldOf

@@ -1,9 +1,9 @@
--- `ticks::vco_tick`.
+-- `cases::vco_tick`.
 use borrow.Author.Needs.{needs}
 use Rattle.replay.specs.Ticks.{vcoWords}
 use Rattle.replay.proofs.TickLaws.{hears}
-use Rattle.replay.proofs.ticks.vco_tick.Statement.{statement}
-use Rattle.replay.proofs.ticks.vco_tick.Tie as tie
+use Rattle.replay.proofs.cases.vco_tick.Statement.{statement}
+use Rattle.replay.proofs.cases.vco_tick.Tie as tie
 
 slice-aggregate-reals : tie.Need-slice-aggregate-reals
 slice-aggregate-reals c = search needs

@@ -1,4 +1,4 @@
--- `held::same_words`: i answers were met, and the whole is as what is left.
+-- `cases::same_words`: i answers were met, and the whole is as what is left.
 use mathlib.Core.Path.{_≡_, sym, _∙_}
 use Prim.Native.Nat.{_+_, _-_, _≤_}
 use native.Mathlib.Omega.{arith}
@@ -6,8 +6,8 @@ use lib.ListN.{length, drop}
 use borrow.Author.Needs.{needs}
 use Rattle.replay.specs.Words.{sameFrom}
 use Rattle.replay.proofs.WordLaws.{from-start, from-no, from-next, from-end}
-use Rattle.replay.proofs.held.same_words.Statement.{statement}
-use Rattle.replay.proofs.held.same_words.Tie as tie
+use Rattle.replay.proofs.cases.same_words.Statement.{statement}
+use Rattle.replay.proofs.cases.same_words.Tie as tie
 
 abbrev Inv-loop : tie.InvT-loop
 Inv-loop words from answers i₀ i = (i ≤ length answers) × (sameFrom words from answers ≡ sameFrom words (from + i) (drop i answers))

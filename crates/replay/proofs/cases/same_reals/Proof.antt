@@ -1,4 +1,4 @@
--- `ticks::same_reals`: i answers were met, and the whole is as what is left.
+-- `cases::same_reals`: i answers were met, and the whole is as what is left.
 use mathlib.Core.List.{map}
 use mathlib.Core.Path.{_≡_, sym, _∙_}
 use Prim.Native.Nat.{_+_, _-_, _≤_}
@@ -9,8 +9,8 @@ use borrow.Author.Needs.{needs}
 use Rattle.replay.specs.Words.{sameFrom}
 use Rattle.replay.proofs.WordLaws.{from-start}
 use Rattle.replay.proofs.TickLaws.{real-no, real-next, real-end}
-use Rattle.replay.proofs.ticks.same_reals.Statement.{statement}
-use Rattle.replay.proofs.ticks.same_reals.Tie as tie
+use Rattle.replay.proofs.cases.same_reals.Statement.{statement}
+use Rattle.replay.proofs.cases.same_reals.Tie as tie
 
 abbrev Inv-loop : tie.InvT-loop
 Inv-loop words from answers i₀ i = (i ≤ length answers) × (sameFrom words from (map (toBits binary64) answers) ≡ sameFrom words (from + i) (drop i (map (toBits binary64) answers)))

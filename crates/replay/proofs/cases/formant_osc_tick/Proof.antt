@@ -1,9 +1,9 @@
--- `ticks::formant_osc_tick`.
+-- `cases::formant_osc_tick`.
 use borrow.Author.Needs.{needs}
 use Rattle.replay.specs.Ticks.{formantWords}
 use Rattle.replay.proofs.TickLaws.{told}
-use Rattle.replay.proofs.ticks.formant_osc_tick.Statement.{statement}
-use Rattle.replay.proofs.ticks.formant_osc_tick.Tie as tie
+use Rattle.replay.proofs.cases.formant_osc_tick.Statement.{statement}
+use Rattle.replay.proofs.cases.formant_osc_tick.Tie as tie
 
 slice-aggregate-reals : tie.Need-slice-aggregate-reals
 slice-aggregate-reals c = search needs
