@@ -4,3 +4,4 @@ pub mod Steps
 pub mod Whole
 pub mod Counts
 pub mod Accepted
+pub mod Worked
