@@ -4,4 +4,5 @@ pub mod Steps
 pub mod Whole
 pub mod Counts
 pub mod Accepted
+pub mod Range
 pub mod Worked
