@@ -5,4 +5,5 @@ pub mod Whole
 pub mod Counts
 pub mod Accepted
 pub mod Range
+pub mod Rendered
 pub mod Worked
