@@ -6,7 +6,6 @@ use lib.Ieee.{binary64}
 use lib.Ieee.Fits.{nan-fits, div-fits}
 use Rattle.laws.specs.Float.{F64}
 use Rattle.laws.specs.Machine.{begun, more}
-use Rattle.answer.specs.Answer.{accepted}
 use Rattle.answer.specs.declared.Answer.{Answer}
 use Rattle.common.specs.Tests.{rateOk}
 use Rattle.common.specs.declared.Hertz.{Hertz}
@@ -37,11 +36,11 @@ use Rattle.formant_osc.specs.declared.FormantControls.{FormantControls}
 use Rattle.formant_osc.proofs.Reached as formants
 use Rattle.player.specs.Begin.{rateOf, vcoControls, lfoControls, supersawControls, formantControls}
 use Rattle.player.specs.Play.{answers, heardFrom, heardOf}
-use Rattle.player.specs.Promises.{Every, Frames-accepted}
+use Rattle.player.specs.Promises.{Every, Accepted, Frames-accepted}
 
 -- what is accepted at each state that is reached is accepted in each tick
-every : {S : Type 0} (a : S → Answer) (n : S → S) (R : S → Type 0) → ((s : S) → R s → accepted (a s) ≡ true) → ((s : S) → R s → R (n s))
-    → (k : ℕ) (s : S) → R s → Every (λ x. accepted x ≡ true) (answers a n k s)
+every : {S : Type 0} (a : S → Answer) (n : S → S) (R : S → Type 0) → ((s : S) → R s → Accepted (a s)) → ((s : S) → R s → R (n s))
+    → (k : ℕ) (s : S) → R s → Every Accepted (answers a n k s)
 unfolding answers Every
 every a n R ok next zero s r = tt
 every a n R ok next (suc k) s r = (ok s r, every a n R ok next k (n s) (next s r))
@@ -81,7 +80,7 @@ formant-next : (c : FormantControls) (s : FormantOsc) → formant.ReachedFormant
 unfolding formant.after
 formant-next c s h = more h (formant.Tick c) tt
 
-heard-accepted : (i : Inputs) (hz n : ℕ) → rateOk (rateOf hz) ≡ true → Every (λ x. accepted x ≡ true) (heardFrom i hz n)
+heard-accepted : (i : Inputs) (hz n : ℕ) → rateOk (rateOf hz) ≡ true → Every Accepted (heardFrom i hz n)
 unfolding heardFrom
 heard-accepted (inputs.Vco i) hz n ok =
     every _ _ vco.ReachedVco (λ s h. vcos.never-refused s h .tick (vcoControls i) 15) (vco-next i) n _ (begun (newVco (rateOf hz)) (rateOf hz, ok, refl))

@@ -2,13 +2,13 @@
 use Prim.Native.Nat.{ℕ, zero, suc, _+_, _≤_, _<_}
 use mathlib.Core.Bool.{Bool, true, false, cond}
 use mathlib.Core.List.{List, [], _∷_}
-use mathlib.Core.Path.{_≡_, refl, sym, ap, _∙_}
+use mathlib.Core.Path.{_≡_, refl, ap}
 use native.Mathlib.Omega.{arith}
 use lib.Dec.{eqb}
 use lib.ListN.{length}
 use borrow.Author.Tests.{eq-eqb, ne-eqb, eqb-true}
 use Rattle.answer.specs.Answer.{markNumber}
-use Rattle.answer.specs.Tally.{newTally, sumOf, addsUp, oneIf, counted, tallyOf, Run, settle, run, newRun, many}
+use Rattle.answer.specs.Tally.{sumOf, addsUp, oneIf, counted, tallyOf, Run, settle, run, newRun, many}
 use Rattle.answer.specs.declared.Answer.{Answer}
 use Rattle.answer.specs.declared.Answer.the-variants as answer
 use Rattle.answer.specs.declared.Tally.{Tally}
@@ -19,7 +19,7 @@ use Rattle.score.specs.declared.Inputs.the-variants as inputs
 use Rattle.score.specs.declared.Score.{Score}
 use Rattle.frame.proofs.Claim.{claimed-says}
 use Rattle.player.specs.Play.{answers, heardFrom, heardOf, tallyFrom}
-use Rattle.player.specs.Promises.{Every, CountsAll, Tally-takes-all, Claimed-clean}
+use Rattle.player.specs.Promises.{Every, Tally-takes-all, Clean, Claimed-clean}
 
 -- ---- one answer
 record Takes (t : Tally) (a : Answer) : Type 0 where
@@ -113,9 +113,6 @@ marks-most (answer.NotFinite v ∷ xs) = omega (arith, marks-most xs)
 marks-most (answer.Lost v ∷ xs) = omega (arith, marks-most xs)
 marks-most (answer.Refused n ∷ xs) = omega (arith, marks-most xs)
 
-Clean : Answer → Type 0
-Clean a = markNumber a ≡ 4
-
 one-most : (a : Answer) → oneIf (markNumber a) 4 ≤ 1
 unfolding oneIf
 one-most a = go (eqb (markNumber a) 4)
@@ -125,7 +122,7 @@ one-most a = go (eqb (markNumber a) 4)
     go false = omega arith
 
 all-clean : (xs : List Answer) → many 4 xs ≡ length xs → Every Clean xs
-unfolding many Every Clean
+unfolding many Every
 all-clean [] h = tt
 all-clean (a ∷ xs) h =
     let m = marks-most xs in
@@ -133,7 +130,7 @@ all-clean (a ∷ xs) h =
     (one-is (markNumber a) 4 (omega arith), all-clean xs (omega arith))
 
 clean-all : (xs : List Answer) → Every Clean xs → many 4 xs ≡ length xs
-unfolding many Every Clean
+unfolding many Every
 clean-all [] h = refl
 clean-all (a ∷ xs) (c, h) = let m = clean-all xs h in omega (arith, counts-one a c)
   where
@@ -153,16 +150,18 @@ heard-length (inputs.Lfo i) hz n = answers-length _ _ n _
 heard-length (inputs.Supersaw i) hz n = answers-length _ _ n _
 heard-length (inputs.Formant i) hz n = answers-length _ _ n _
 
-frames-heard : (s : Score) → length (heardOf s) ≡ s .frames
+pub frames-heard : (s : Score) → length (heardOf s) ≡ s .frames
 unfolding heardOf
 frames-heard s = heard-length (s .inputs) (s .hz) (s .frames)
 
 pub claimed-clean : Claimed-clean
-unfolding Clean
 claimed-clean s h =
     let xs = heardOf s in
     let l = frames-heard s in
     let c = tally-takes-all xs (omega arith) in
     let m = marks-most xs in
     let w = claimed-says (s .frames) (tallyFrom xs) in
-    (λ e. all-clean xs (let (a, b) = w .only e in omega (arith, c .finished)), λ e. let n = clean-all xs e in w .always (omega (arith, c .finished, c .begun, c .cleared, c .notfinite, c .lost)) (omega (arith, c .finished, c .begun, c .cleared, c .notfinite, c .lost)))
+    record {
+      only = λ e. all-clean xs (let (a, b) = w .only e in omega (arith, c .finished));
+      always = λ e. let n = clean-all xs e in w .always (omega (arith, c .finished, c .begun, c .cleared, c .notfinite, c .lost)) (omega (arith, c .finished, c .begun, c .cleared, c .notfinite, c .lost));
+    }

@@ -4,3 +4,6 @@ pub mod Steps
 pub mod Whole
 pub mod Counts
 pub mod Accepted
+pub mod Range
+pub mod Rendered
+pub mod Worked

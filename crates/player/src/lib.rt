@@ -1,4 +1,4 @@
-// A score is played frame by frame: a tick of its oscillator, the frame's text, and the tally of the answers.
+// A score is played frame by frame, so many at a time.
 use answer::Answer;
 use answer::Tallied;
 use answer::Tally;
@@ -208,6 +208,7 @@ fn kind_of(controls: Controls) -> Osc
     }
 }
 
+// One tick, all outputs wanted.
 fn sound(controls: Controls, mut voices: Voices) -> Sounded
     ensures { λ r. ⌜ r ≡ soundOf controls voices ⌝ }
 {
@@ -247,7 +248,7 @@ fn sound(controls: Controls, mut voices: Voices) -> Sounded
     }
 }
 
-// The tally with one more answer.
+// The tally after an answer; one that refuses it stays as it stood.
 fn kept(tally: Tally, tallied: Tallied) -> Tally
     ensures { λ r. ⌜ r ≡ keptBy tally tallied ⌝ }
 {
@@ -257,6 +258,7 @@ fn kept(tally: Tally, tallied: Tallied) -> Tally
     }
 }
 
+// One frame: a tick, its text, and the tally of its answer.
 fn step(out: &mut [u8], at: usize, player: Player) -> Played
     requires { ⌜ player .frame < 4294967295 ⌝ }
     ensures { λ r. ⌜ r ≡ playedOf (now (out .entry)) at (frameOf player) (nextOf player) ⌝ }

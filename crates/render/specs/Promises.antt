@@ -1,6 +1,6 @@
 -- Theorems about what the program writes: the statements. The proofs of the same names in small letters stand in proofs/.
 use Prim.Native.Nat.{ℕ, _+_, _≤_, min}
-use mathlib.Core.List.{List, _++_}
+use mathlib.Core.List.{_++_}
 use mathlib.Core.Path.{_≡_}
 use Rattle.score.specs.declared.Score.{Score}
 use Rattle.player.specs.Play.{playOf}

@@ -32,7 +32,7 @@ fn write_refused(text: &[u8], n: u32) -> bool
     io::write_all(STDOUT_FILENO, text)
 }
 
-// ----
+// ---- the program
 
 // Piece by piece, until nothing is left or nobody reads on.
 fn play(out: &mut [u8], score: Score)
