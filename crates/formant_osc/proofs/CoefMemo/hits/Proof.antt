@@ -1,0 +1,35 @@
+use borrow.Author.Tests.{ne-eqb, eq-eqb}
+use Rattle.formant_osc.specs.Memo.{coefHits}
+use borrow.Author.Needs.{needs}
+use Rattle.formant_osc.proofs.CoefMemo.hits.Statement.{statement}
+use Rattle.formant_osc.proofs.CoefMemo.hits.Tie as tie
+
+bits-requires : tie.Need-bits-requires
+bits-requires c κs = search needs
+
+bits-requires-2 : tie.Need-bits-requires-2
+bits-requires-2 c κs = search needs
+
+bits-requires-3 : tie.Need-bits-requires-3
+bits-requires-3 c κs = search needs
+
+returns : tie.Need-returns
+unfolding coefHits
+returns c = simp (c .before .bits3 .ensures, ← c .before .before .before .before .bits2 .ensures, eq-eqb _ _ (c .before .before .if3 .taken), ← c .before .before .before .before .before .before .before .bits .ensures, eq-eqb _ _ (c .before .before .before .before .before .if2 .taken), c .before .before .before .before .before .before .before .before .if1 .taken)
+
+returns-2 : tie.Need-returns-2
+unfolding coefHits
+returns-2 c = simp (← c .before .before .bits2 .ensures, ne-eqb _ _ (c .if3 .left), ← c .before .before .before .before .before .bits .ensures, eq-eqb _ _ (c .before .before .before .if2 .taken), c .before .before .before .before .before .before .if1 .taken)
+
+returns-3 : tie.Need-returns-3
+unfolding coefHits
+returns-3 c = simp (← c .before .before .bits .ensures, ne-eqb _ _ (c .if2 .left), c .before .before .before .if1 .taken)
+
+returns-4 : tie.Need-returns-4
+unfolding coefHits
+returns-4 c = simp (c .if1 .left)
+
+pub hits-spec : {M : Type 1} → statement M
+hits-spec =
+    tie.close
+    (tie.spec bits-requires bits-requires-2 bits-requires-3 returns returns-2 returns-3 returns-4)

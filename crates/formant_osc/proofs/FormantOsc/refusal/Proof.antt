@@ -1,0 +1,40 @@
+use Rattle.formant_osc.specs.FormantOsc.{formantRefusalOf}
+use borrow.Author.Needs.{needs}
+use Rattle.formant_osc.proofs.FormantOsc.refusal.Statement.{statement}
+use Rattle.formant_osc.proofs.FormantOsc.refusal.Tie as tie
+
+rate-ok-requires : tie.Need-rate-ok-requires
+rate-ok-requires c κs = search needs
+
+phase-ok-requires : tie.Need-phase-ok-requires
+phase-ok-requires c κs = search needs
+
+phase-ok-requires-2 : tie.Need-phase-ok-requires-2
+phase-ok-requires-2 c κs = search needs
+
+both-requires : tie.Need-both-requires
+both-requires c κs = search needs
+
+returns : tie.Need-returns
+unfolding formantRefusalOf
+returns c = simp (c .if2 .taken, ← c .before .both .ensures, ← c .before .before .phase-ok2 .ensures, ← c .before .before .before .phase-ok .ensures, c .before .before .before .before .if1 .taken, ← c .before .before .before .before .before .rate-ok .ensures)
+
+returns-2 : tie.Need-returns-2
+unfolding formantRefusalOf
+returns-2 c = simp (c .if2 .left, ← c .before .both .ensures, ← c .before .before .phase-ok2 .ensures, ← c .before .before .before .phase-ok .ensures, c .before .before .before .before .if1 .taken, ← c .before .before .before .before .before .rate-ok .ensures)
+
+returns-3 : tie.Need-returns-3
+unfolding formantRefusalOf
+returns-3 c = simp (c .if1 .left, ← c .before .rate-ok .ensures)
+
+pub refusal-spec : {M : Type 1} → statement M
+refusal-spec =
+    tie.close
+    (tie.spec
+    rate-ok-requires
+    phase-ok-requires
+    phase-ok-requires-2
+    both-requires
+    returns
+    returns-2
+    returns-3)

@@ -1,0 +1,78 @@
+use Rattle.formant_osc.specs.FormantOsc.{freqMemoOf, coefMemoOf, formantRung, formantSoundOf}
+use borrow.Author.Needs.{needs}
+use Rattle.formant_osc.proofs.FormantOsc.sound.Statement.{statement}
+use Rattle.formant_osc.proofs.FormantOsc.sound.Tie as tie
+
+clamp-requires : tie.Need-clamp-requires
+clamp-requires c κs = search needs
+
+clamp-requires-2 : tie.Need-clamp-requires-2
+clamp-requires-2 c κs = search needs
+
+pitch-requires : tie.Need-pitch-requires
+pitch-requires c κs = search needs
+
+voct-to-hz-requires : tie.Need-voct-to-hz-requires
+voct-to-hz-requires c κs = search needs
+
+glottal-pulse-requires : tie.Need-glottal-pulse-requires
+glottal-pulse-requires c κs = search needs
+
+recall-requires : tie.Need-recall-requires
+recall-requires c κs = search needs
+
+ring-requires : tie.Need-ring-requires
+ring-requires c κs = search needs
+
+clamp-requires-3 : tie.Need-clamp-requires-3
+clamp-requires-3 c κs = search needs
+
+only-requires : tie.Need-only-requires
+only-requires c κs = search needs
+
+is-finite-requires : tie.Need-is-finite-requires
+is-finite-requires c κs = search needs
+
+is-finite-requires-2 : tie.Need-is-finite-requires-2
+is-finite-requires-2 c κs = search needs
+
+both-requires : tie.Need-both-requires
+both-requires c κs = search needs
+
+is-finite-requires-3 : tie.Need-is-finite-requires-3
+is-finite-requires-3 c κs = search needs
+
+mark-requires : tie.Need-mark-requires
+mark-requires c κs = search needs
+
+wrap-phase-requires : tie.Need-wrap-phase-requires
+wrap-phase-requires c κs = search needs
+
+wrap-phase-requires-2 : tie.Need-wrap-phase-requires-2
+wrap-phase-requires-2 c κs = search needs
+
+returns : tie.Need-returns
+unfolding formantSoundOf freqMemoOf coefMemoOf formantRung
+returns c = simp (c .wrap-phase2 .ensures, c .before .wrap-phase .ensures, c .before .before .mark .ensures, c .before .before .before .is-finite3 .ensures, c .before .before .before .before .both .ensures, c .before .before .before .before .before .is-finite2 .ensures, c .before .before .before .before .before .before .is-finite .ensures, c .before .before .before .before .before .before .before .only .ensures, c .before .before .before .before .before .before .before .before .clamp3 .ensures, c .before .before .before .before .before .before .before .before .before .before .before .before .before .ring .ensures, c .before .before .before .before .before .before .before .before .before .before .before .before .before .before .before .recall .ensures, c .before .before .before .before .before .before .before .before .before .before .before .before .before .before .before .before .glottal-pulse .ensures, c .before .before .before .before .before .before .before .before .before .before .before .before .before .before .before .before .before .before .before .voct-to-hz .ensures, c .before .before .before .before .before .before .before .before .before .before .before .before .before .before .before .before .before .before .before .before .pitch .ensures, c .before .before .before .before .before .before .before .before .before .before .before .before .before .before .before .before .before .before .before .before .before .clamp2 .ensures, c .before .before .before .before .before .before .before .before .before .before .before .before .before .before .before .before .before .before .before .before .before .before .clamp .ensures)
+
+pub sound-spec : {M : Type 1} → statement M
+sound-spec =
+    tie.close
+    (tie.spec
+    clamp-requires
+    clamp-requires-2
+    pitch-requires
+    voct-to-hz-requires
+    glottal-pulse-requires
+    recall-requires
+    ring-requires
+    clamp-requires-3
+    only-requires
+    is-finite-requires
+    is-finite-requires-2
+    both-requires
+    is-finite-requires-3
+    mark-requires
+    wrap-phase-requires
+    wrap-phase-requires-2
+    returns)

@@ -1,0 +1,22 @@
+use borrow.Author.Tests.{ne-eqb, eq-eqb}
+use Rattle.formant_osc.specs.FormantOsc.{formantTickOf}
+use borrow.Author.Needs.{needs}
+use Rattle.formant_osc.proofs.FormantOsc.tick.Statement.{statement}
+use Rattle.formant_osc.proofs.FormantOsc.tick.Tie as tie
+
+refusal-requires : tie.Need-refusal-requires
+refusal-requires c κs = search needs
+
+sound-requires : tie.Need-sound-requires
+sound-requires c κs = search needs
+
+returns : tie.Need-returns
+unfolding formantTickOf
+returns c = simp (c .sound .ensures, eq-eqb _ _ (c .before .if1 .taken), ← c .before .before .refusal .ensures)
+
+returns-2 : tie.Need-returns-2
+unfolding formantTickOf
+returns-2 c = simp (ne-eqb _ _ (c .if1 .left), ← c .before .refusal .ensures)
+
+pub tick-spec : {M : Type 1} → statement M
+tick-spec = tie.close (tie.spec refusal-requires sound-requires returns returns-2)

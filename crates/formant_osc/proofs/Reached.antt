@@ -1,0 +1,99 @@
+-- What every reached FormantOsc has: a good rate and two phases in [0, 1). So no call refuses it.
+use mathlib.Core.Bool.{Bool, true, false, cond}
+use mathlib.Core.Path.{_≡_, refl, sym, ap, subst}
+use Prim.Native.Nat.{ℕ}
+use native.Mathlib.Omega.{arith}
+use lib.Ieee.{binary64, lt, le, eq, ofBits}
+use lib.Ieee.Fits.{add-fits}
+use Rattle.answer.proofs.Laws.{mark-says}
+use Rattle.answer.specs.Answer.{accepted}
+use Rattle.answer.specs.declared.Outcome.the-variants as outcome
+use Rattle.common.proofs.PhaseLaws.{wrap-in}
+use Rattle.common.specs.Phase.{turns}
+use Rattle.common.specs.Tests.{rateOk, phaseOk}
+use Rattle.common.specs.declared.Hertz.{Hertz}
+use Rattle.formant_osc.proofs.Either.{unless-either}
+use Rattle.formant_osc.specs.Calls.{Call, Tick, Reset, SetSampleRate, after, First, AnyCall, ReachedFormant}
+use Rattle.formant_osc.specs.FormantOsc.{formantAtRest, newFormantOsc, formantRefusalOf, formantUnless, formantNewOf, formantSoundOf, formantTickOf, formantResetOf, rated, formantSetSampleRateOf}
+use Rattle.formant_osc.specs.Promises.{Never-refused}
+use Rattle.formant_osc.specs.declared.FormantControls.{FormantControls}
+use Rattle.formant_osc.specs.declared.FormantMade.{FormantMade}
+use Rattle.formant_osc.specs.declared.FormantOsc.{FormantOsc}
+use Rattle.formant_osc.specs.declared.FormantTicked.{FormantTicked}
+use Rattle.laws.proofs.Always.{always}
+use Rattle.laws.specs.Float.{zer}
+
+record Good (s : FormantOsc) : Type 0 where
+  rate : rateOk (s .«sample_rate») ≡ true
+  phase : phaseOk (s .phase) ≡ true
+  vibrato : phaseOk (s .«vibrato_phase») ≡ true
+
+-- ---- a good state is refused by nothing
+unrefused : (s : FormantOsc) → Good s → formantRefusalOf s ≡ 0
+unfolding formantRefusalOf
+unrefused s g = simp (g .rate, g .phase, g .vibrato)
+
+tick-sounds : (s : FormantOsc) (c : FormantControls) → Good s → formantTickOf s c ≡ formantSoundOf s c
+unfolding formantTickOf
+tick-sounds s c g = simp (unrefused s g)
+
+sound-accepted : (s : FormantOsc) (c : FormantControls) → accepted (formantSoundOf s c .answer) ≡ true
+unfolding formantSoundOf
+sound-accepted s c = mark-says _ _ _ _ .is-accepted
+
+-- ---- it stays good
+zero-ok : phaseOk (turns zer) ≡ true
+unfolding phaseOk le lt eq ofBits
+zero-ok = refl
+
+rest-good : (s : FormantOsc) → Good s → Good (formantAtRest (s .«sample_rate») (s .«freq_memo») (s .«coef_memo»))
+unfolding formantAtRest
+rest-good s g = record { rate = g .rate; phase = zero-ok; vibrato = zero-ok }
+
+new-good : (r : Hertz) → rateOk r ≡ true → Good (newFormantOsc r)
+unfolding newFormantOsc formantAtRest
+new-good r h = record { rate = h; phase = zero-ok; vibrato = zero-ok }
+
+first-good : (s : FormantOsc) → First s → Good s
+unfolding formantNewOf formantUnless
+first-good s f = go (rateOk (f .0)) refl (f .1)
+  where
+    new : FormantOsc
+    new = newFormantOsc (f .0)
+
+    go : (b : Bool) → rateOk (f .0) ≡ b → formantUnless (cond b 0 1) new new ≡ record { outcome = outcome.Done; formant = s } → Good s
+    go true e h = subst Good (ap (λ (m : FormantMade). m .formant) h) (new-good (f .0) e)
+    go false e h = absurd (let q : outcome.Refused 1 ≡ outcome.Done = ap (λ (m : FormantMade). m .outcome) h in let z : _≡_ {A = ℕ} 0 1 = cc in omega arith)
+
+sound-good : (s : FormantOsc) (c : FormantControls) → Good s → Good (formantSoundOf s c .formant)
+unfolding formantSoundOf
+sound-good s c g = record { rate = g .rate; phase = wrap-in _ (add-fits binary64 _ _); vibrato = wrap-in _ (add-fits binary64 _ _) }
+
+after-good : (s : FormantOsc) (c : Call) → Good s → AnyCall c → Good (after s c)
+unfolding after
+after-good s (Tick c) g f = subst (λ (t : FormantTicked). Good (t .formant)) (sym (tick-sounds s c g)) (sound-good s c g)
+after-good s Reset g f = unfold formantResetOf in unless-either Good (formantRefusalOf s) _ s (rest-good s g) g
+after-good s (SetSampleRate r) g f = unfold formantSetSampleRateOf in go (rateOk r) refl
+  where
+    go : (b : Bool) → rateOk r ≡ b → Good (formantUnless (cond b (formantRefusalOf s) 1) (rated s r) s .formant)
+    go true e = unless-either Good (formantRefusalOf s) (rated s r) s (record { rate = e; phase = g .phase; vibrato = g .vibrato }) g
+    go false e = unfold formantUnless in g
+
+good : {s : FormantOsc} → ReachedFormant s → Good s
+good = always Good first-good after-good
+
+-- ---- the promise
+pub never-refused : Never-refused
+never-refused s h =
+    let g = good h in
+    record {
+      phase = g .phase;
+      «vibrato_phase» = g .vibrato;
+      ticks = λ c. rw (tick-sounds s c g) (sound-accepted s c);
+      resets = unfold formantResetOf formantUnless in simp (unrefused s g);
+      rates = λ r. unfold formantSetSampleRateOf in rates r (rateOk r);
+    }
+  where
+    rates : (r : Hertz) (b : Bool) → formantUnless (cond b (formantRefusalOf s) 1) (rated s r) s .outcome ≡ cond b outcome.Done (outcome.Refused 1)
+    rates r true = unfold formantUnless in simp (unrefused s (good h))
+    rates r false = unfold formantUnless in refl

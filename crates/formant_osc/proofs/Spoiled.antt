@@ -1,0 +1,126 @@
+-- A sum that isn't finite makes a tick notfinite; and a NaN in a resonator's first cell stays there, and goes through the sum.
+use mathlib.Core.Bool.{Bool, true, false, false≢true, _&&_}
+use mathlib.Core.List.{List}
+use mathlib.Core.Path.{_≡_, refl, sym, ap, _∙_, subst}
+use Prim.Native.Nat.{ℕ, zero, suc, _<_, _*_}
+use native.Mathlib.Omega.{arith}
+use lib.Ieee.{Float, nan, inf, fin, binary64, add, mul, neg}
+use lib.ListN.{getD}
+use Rattle.answer.proofs.Laws.{mark-says}
+use Rattle.answer.specs.Answer.{markNumber, accepted}
+use Rattle.answer.specs.Mark.{allFinite, ruleOf, markOf}
+use Rattle.answer.specs.declared.Volts.{Volts}
+use Rattle.formant_osc.proofs.Either.{tick-either, unless-either}
+use Rattle.formant_osc.specs.Calls.{Call, Tick, Reset, SetSampleRate, after, NoReset, Later}
+use Rattle.formant_osc.specs.FormantOsc.{coefMemoOf, formantRung, formantSoundOf, rated, formantSetSampleRateOf}
+use Rattle.formant_osc.specs.Promises.{Sum-marks, Clean-finite, Spoiled, Stays-spoiled}
+use Rattle.formant_osc.specs.Sound.{glottalPulse, resonateOf, plus, rungOf}
+use Rattle.formant_osc.specs.declared.FormantControls.{FormantControls}
+use Rattle.formant_osc.specs.declared.FormantOsc.{FormantOsc}
+use Rattle.formant_osc.specs.declared.FormantTicked.{FormantTicked}
+use Rattle.laws.proofs.Always.{always}
+use Rattle.laws.specs.Float.{isFin}
+
+-- ---- the mark
+unfinished : (v : Volts) (sums phases : Bool) → sums ≡ false → markNumber (markOf v false sums phases) ≡ 2
+unfolding ruleOf
+unfinished v sums phases e = mark-says v false sums phases .number ∙ ap (λ (b : Bool). ruleOf false (b && allFinite v) phases) e
+
+sound-unfinished : (s : FormantOsc) (c : FormantControls) → isFin (formantRung s c .sum) ≡ false → markNumber (formantSoundOf s c .answer) ≡ 2
+unfolding formantSoundOf
+sound-unfinished s c e = unfinished _ _ _ e
+
+abbrev Unfinished : FormantTicked → Type 0
+Unfinished t = accepted (t .answer) ≡ true → markNumber (t .answer) ≡ 2
+
+pub sum-marks : Sum-marks
+unfolding accepted
+sum-marks s c e = tick-either Unfinished s c (λ a. sound-unfinished s c e) (λ n a. absurd (false≢true a))
+
+pub clean-finite : Clean-finite
+unfolding markNumber
+clean-finite s c = tick-either (λ (t : FormantTicked). markNumber (t .answer) ≡ 4 → isFin (formantRung s c .sum) ≡ true) s c (go (isFin (formantRung s c .sum)) refl) (λ n h. absurd (omega arith))
+  where
+    go : (b : Bool) → isFin (formantRung s c .sum) ≡ b → markNumber (formantSoundOf s c .answer) ≡ 4 → b ≡ true
+    go true e h = refl
+    go false e h = absurd (let k = sound-unfinished s c e in omega arith)
+
+-- ---- NaN goes through a sum and a product
+add-nan-r : (x : Float) → add binary64 x nan ≡ nan
+unfolding add
+add-nan-r nan = refl
+add-nan-r (inf s) = refl
+add-nan-r (fin s m e) = refl
+
+add-nan-l : (x : Float) → add binary64 nan x ≡ nan
+unfolding add
+add-nan-l nan = refl
+add-nan-l (inf s) = refl
+add-nan-l (fin s m e) = refl
+
+mul-nan-r : (x : Float) → mul binary64 x nan ≡ nan
+unfolding mul
+mul-nan-r nan = refl
+mul-nan-r (inf s) = refl
+mul-nan-r (fin s m e) = refl
+
+mul-nan-l : (x : Float) → mul binary64 nan x ≡ nan
+unfolding mul
+mul-nan-l nan = refl
+mul-nan-l (inf s) = refl
+mul-nan-l (fin s m e) = refl
+
+-- ---- through a resonator
+out-nan : (b0 a1 a2 s0 s1 x : Float) → s0 ≡ nan → resonateOf b0 a1 a2 s0 s1 x .out ≡ nan
+unfolding resonateOf
+out-nan b0 a1 a2 s0 s1 x e = rw e (add-nan-r (mul binary64 b0 x))
+
+cell-nan : (b0 a1 a2 s0 s1 x : Float) → s0 ≡ nan → resonateOf b0 a1 a2 s0 s1 x .s0 ≡ nan
+unfolding resonateOf
+cell-nan b0 a1 a2 s0 s1 x e = rw (e, add-nan-r (mul binary64 b0 x), mul-nan-r (neg a1)) (add-nan-l s1)
+
+-- ---- through the sum
+plus-out : (sum out amplitude : Float) → out ≡ nan → plus sum out amplitude ≡ nan
+plus-out sum out amplitude e = rw (e, mul-nan-l amplitude) (add-nan-r sum)
+
+plus-sum : (sum out amplitude : Float) → sum ≡ nan → plus sum out amplitude ≡ nan
+plus-sum sum out amplitude e = rw e (add-nan-l (mul binary64 out amplitude))
+
+rung-sum : (c l : List Float) (x : Float) (i : ℕ) → i < 5 → getD l (2 * i) nan ≡ nan → rungOf c l x .sum ≡ nan
+unfolding rungOf
+rung-sum c l x zero h e = plus-sum _ _ _ (plus-sum _ _ _ (plus-sum _ _ _ (plus-sum _ _ _ (plus-out _ _ _ (out-nan _ _ _ _ _ x e)))))
+rung-sum c l x (suc zero) h e = plus-sum _ _ _ (plus-sum _ _ _ (plus-sum _ _ _ (plus-out _ _ _ (out-nan _ _ _ _ _ x e))))
+rung-sum c l x (suc (suc zero)) h e = plus-sum _ _ _ (plus-sum _ _ _ (plus-out _ _ _ (out-nan _ _ _ _ _ x e)))
+rung-sum c l x (suc (suc (suc zero))) h e = plus-sum _ _ _ (plus-out _ _ _ (out-nan _ _ _ _ _ x e))
+rung-sum c l x (suc (suc (suc (suc zero)))) h e = plus-out _ _ _ (out-nan _ _ _ _ _ x e)
+rung-sum c l x (suc (suc (suc (suc (suc i))))) h e = absurd (omega arith)
+
+rung-cell : (c l : List Float) (x : Float) (i : ℕ) → i < 5 → getD l (2 * i) nan ≡ nan → getD (rungOf c l x .state) (2 * i) nan ≡ nan
+unfolding rungOf
+rung-cell c l x zero h e = cell-nan _ _ _ _ _ x e
+rung-cell c l x (suc zero) h e = cell-nan _ _ _ _ _ x e
+rung-cell c l x (suc (suc zero)) h e = cell-nan _ _ _ _ _ x e
+rung-cell c l x (suc (suc (suc zero))) h e = cell-nan _ _ _ _ _ x e
+rung-cell c l x (suc (suc (suc (suc zero)))) h e = cell-nan _ _ _ _ _ x e
+rung-cell c l x (suc (suc (suc (suc (suc i))))) h e = absurd (omega arith)
+
+-- ---- a spoiled state sounds notfinite, and stays spoiled until a reset
+spoiled-sum : (s : FormantOsc) (c : FormantControls) → Spoiled s → isFin (formantRung s c .sum) ≡ false
+unfolding formantRung
+spoiled-sum s c p = ap isFin (rung-sum (coefMemoOf s c .val) (s .«resonator_state») (glottalPulse (s .phase .0)) (p .0) (p .1) (p .2))
+
+spoiled-sound : (s : FormantOsc) (c : FormantControls) → Spoiled s → Spoiled (formantSoundOf s c .formant)
+unfolding formantSoundOf formantRung
+spoiled-sound s c p = (p .0, p .1, rung-cell (coefMemoOf s c .val) (s .«resonator_state») (glottalPulse (s .phase .0)) (p .0) (p .1) (p .2))
+
+spoiled-after : (s : FormantOsc) (c : Call) → Spoiled s → NoReset c → Spoiled (after s c)
+unfolding after
+spoiled-after s (Tick c) p n = tick-either (λ (t : FormantTicked). Spoiled (t .formant)) s c (spoiled-sound s c p) (λ n. p)
+spoiled-after s Reset p n = absurd n
+spoiled-after s (SetSampleRate r) p n = unfold formantSetSampleRateOf in unless-either Spoiled _ (rated s r) s p p
+
+spoiled-later : (s : FormantOsc) {t : FormantOsc} → Spoiled s → Later s t → Spoiled t
+spoiled-later s p = always Spoiled (λ t e. subst Spoiled (sym e) p) spoiled-after
+
+pub stays-spoiled : Stays-spoiled
+stays-spoiled s t p h c = sum-marks t c (spoiled-sum t c (spoiled-later s p h))

@@ -1,0 +1,7 @@
+pub mod Consts
+pub mod Coefs
+pub mod Memo
+pub mod Sound
+pub mod FormantOsc
+pub mod Calls
+pub mod Promises

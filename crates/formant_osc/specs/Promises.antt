@@ -1,0 +1,53 @@
+-- Theorems about the FormantOsc: the statements. proofs/ proves each under the same name in small letters.
+use mathlib.Core.Bool.{true, false, cond}
+use mathlib.Core.Path.{_≡_}
+use Prim.Native.Nat.{ℕ, _<_, _*_}
+use lib.Ieee.{nan}
+use lib.ListN.{getD}
+use Rattle.answer.specs.Answer.{markNumber, accepted}
+use Rattle.answer.specs.declared.Outcome.the-variants as outcome
+use Rattle.common.specs.Tests.{rateOk, phaseOk}
+use Rattle.common.specs.declared.Hertz.{Hertz}
+use Rattle.formant_osc.specs.Calls.{ReachedFormant, Later}
+use Rattle.formant_osc.specs.FormantOsc.{formantNewOf, formantRung, formantTickOf, formantResetOf, formantSetSampleRateOf}
+use Rattle.formant_osc.specs.declared.FormantControls.{FormantControls}
+use Rattle.formant_osc.specs.declared.FormantMade.{FormantMade}
+use Rattle.formant_osc.specs.declared.FormantOsc.{FormantOsc}
+use Rattle.formant_osc.specs.declared.FormantTicked.{FormantTicked}
+use Rattle.laws.specs.Float.{isFin}
+use Rattle.laws.specs.Machine.{Settles}
+
+-- ---- a reached state refuses no call but for the call's own input
+pub record Accepting (s : FormantOsc) : Type 0 where
+  pub phase : phaseOk (s .phase) ≡ true
+  pub «vibrato_phase» : phaseOk (s .«vibrato_phase») ≡ true
+  pub ticks : (c : FormantControls) → accepted (formantTickOf s c .answer) ≡ true
+  pub resets : formantResetOf s .outcome ≡ outcome.Done
+  pub rates : (r : Hertz) → formantSetSampleRateOf s r .outcome ≡ cond (rateOk r) outcome.Done (outcome.Refused 1)
+
+abbrev pub Never-refused : Type 0
+Never-refused = (s : FormantOsc) → ReachedFormant s → Accepting s
+
+-- ---- the sum before its clamp decides the mark, not the 5 V that come out: a tick with one that isn't finite is notfinite
+abbrev pub Sum-marks : Type 0
+Sum-marks = (s : FormantOsc) (c : FormantControls) → isFin (formantRung s c .sum) ≡ false → accepted (formantTickOf s c .answer) ≡ true
+    → markNumber (formantTickOf s c .answer) ≡ 2
+
+-- so the sum of a clean tick is finite
+abbrev pub Clean-finite : Type 0
+Clean-finite = (s : FormantOsc) (c : FormantControls) → markNumber (formantTickOf s c .answer) ≡ 4 → isFin (formantRung s c .sum) ≡ true
+
+-- ---- a resonator is spoiled once its first cell is NaN: from then on every tick is notfinite, whatever its controls, until a reset
+abbrev pub Spoiled : FormantOsc → Type 0
+Spoiled s = (i : ℕ) × (i < 5) × (getD (s .«resonator_state») (2 * i) nan ≡ nan)
+
+abbrev pub Stays-spoiled : Type 0
+Stays-spoiled = (s t : FormantOsc) → Spoiled s → Later s t → (c : FormantControls) → accepted (formantTickOf t c .answer) ≡ true
+    → markNumber (formantTickOf t c .answer) ≡ 2
+
+-- ---- each contract settles its answer
+pub record Settled : Type 0 where
+  pub new : (r : Hertz) → Settles (λ (a : FormantMade). a ≡ formantNewOf r)
+  pub tick : (s : FormantOsc) (c : FormantControls) → Settles (λ (a : FormantTicked). a ≡ formantTickOf s c)
+  pub reset : (s : FormantOsc) → Settles (λ (a : FormantMade). a ≡ formantResetOf s)
+  pub «set_sample_rate» : (s : FormantOsc) (r : Hertz) → Settles (λ (a : FormantMade). a ≡ formantSetSampleRateOf s r)

@@ -1,0 +1,479 @@
+// The FormantOsc of oscillators.rs, in its order: a glottal pulse through five resonators tuned to a vowel.
+// Its output: p10 out.
+use answer::Answer;
+use answer::Outcome;
+use answer::Volts;
+use common::Hertz;
+use common::Memo1;
+use common::Turns;
+use common::VoltsPerOctave;
+ghost use mathlib.Core.Path.{_≡_};
+ghost use mathlib.Core.Bool.{_&&_};
+ghost use Prim.Native.Nat.{_≤_, _<_, min};
+ghost use Rattle.formant_osc.specs.Coefs.{spotOf, formantOf, getFormants, coefOf, resonatorCoefs};
+ghost use Rattle.formant_osc.specs.Memo.{newCoefMemo, coefHits, coefFilled, coefRecall};
+ghost use Rattle.formant_osc.specs.Sound.{glottalPulse, pitchOf, resonateOf, rungOf, onlyOf};
+ghost use Rattle.formant_osc.specs.FormantOsc.{formantAtRest, formantRefusalOf, formantNewOf, formantSoundOf, formantTickOf, formantResetOf, formantSetSampleRateOf};
+
+// The Rust's Memo<3, [[f64; 3]; 5]>: b0/norm, a1/norm and a2/norm of each of the five resonators, one after another.
+pub struct CoefMemo {
+    pub key0: u64,
+    pub key1: u64,
+    pub key2: u64,
+    pub val: [f64; 15],
+    pub valid: bool,
+}
+
+// The resonators' cells stand one after another, two for each.
+pub struct FormantOsc {
+    pub phase: Turns,
+    pub vibrato_phase: Turns,
+    pub resonator_state: [f64; 10],
+    pub sample_rate: Hertz,
+    pub freq_memo: Memo1,
+    pub coef_memo: CoefMemo,
+}
+
+// The inputs, in port order.
+pub struct FormantControls {
+    pub v_oct: VoltsPerOctave,
+    pub vowel: f64,
+    pub formant_shift: f64,
+    pub vibrato: f64,
+}
+
+pub struct FormantTicked {
+    pub answer: Answer,
+    pub formant: FormantOsc,
+}
+
+// What new, reset and set_sample_rate say, beside the state after it.
+pub struct FormantMade {
+    pub outcome: Outcome,
+    pub formant: FormantOsc,
+}
+
+// The lower vowel of two, and how much of the upper.
+struct Spot {
+    index: usize,
+    frac: f64,
+}
+
+// One resonator's coefficients.
+struct Coef {
+    b0: f64,
+    a1: f64,
+    a2: f64,
+}
+
+// What one resonator gives, and its cells after it.
+struct Resonated {
+    out: f64,
+    s0: f64,
+    s1: f64,
+}
+
+// What the five give together, and their cells after it.
+struct Rung {
+    sum: f64,
+    state: [f64; 10],
+}
+
+// Formant frequencies of the five vowels, five for each.
+const FORMANTS: [f64; 25] = [
+    700.0,
+    1220.0,
+    2600.0,
+    3500.0,
+    4500.0,
+    530.0,
+    1840.0,
+    2480.0,
+    3500.0,
+    4500.0,
+    280.0,
+    2250.0,
+    2890.0,
+    3500.0,
+    4500.0,
+    500.0,
+    700.0,
+    2350.0,
+    3500.0,
+    4500.0,
+    300.0,
+    870.0,
+    2250.0,
+    3500.0,
+    4500.0,
+];
+
+fn least(a: usize, b: usize) -> usize
+    ensures { λ r. ⌜ r ≡ min a b ⌝ }
+{
+    if a < b { a } else { b }
+}
+
+// Where a vowel lies among the five.
+fn spot_of(vowel: f64) -> Spot
+    ensures { λ r. ⌜ r ≡ spotOf vowel ⌝ }
+{
+    let idx = numeric::clamp(vowel, 0.0, 1.0) * 4.0;
+    let index = least(numeric::to_usize(idx), 3);
+    let frac = idx - numeric::of_u64(index as u64);
+    Spot { index, frac }
+}
+
+// The i-th formant between two vowels.
+fn formant(at: Spot, i: usize, shift_mult: f64) -> f64
+    requires { ⌜ (at .index ≤ 3) × (i < 5) ⌝ }
+    ensures { λ r. ⌜ r ≡ formantOf at i «shift_mult» ⌝ }
+{
+    let index = at.index;
+    let frac = at.frac;
+    let f0 = FORMANTS[5 * index + i];
+    let f1 = FORMANTS[5 * (index + 1) + i];
+    (f0 * (1.0 - frac) + f1 * frac) * shift_mult
+}
+
+fn get_formants(vowel: f64, shift: f64) -> [f64; 5]
+    ensures { λ r. ⌜ r ≡ getFormants vowel shift ⌝ }
+{
+    let at = spot_of(vowel);
+    let shift_mult = numeric::exp2(shift / 5.0);
+    [
+        formant(at, 0, shift_mult),
+        formant(at, 1, shift_mult),
+        formant(at, 2, shift_mult),
+        formant(at, 3, shift_mult),
+        formant(at, 4, shift_mult),
+    ]
+}
+
+// One turn of the loop in resonator_coefs.
+fn one_coef(freq: Hertz, bandwidth: Hertz, sample_rate: Hertz) -> Coef
+    ensures { λ r. ⌜ r ≡ coefOf (freq .0) (bandwidth .0) («sample_rate» .0) ⌝ }
+{
+    let omega = numeric::clamp(
+        2.0 * 3.141592653589793 * freq.0 / sample_rate.0,
+        0.01,
+        3.141592653589793 * 0.45,
+    );
+    let q = freq.0 / bandwidth.0;
+    let alpha = numeric::sin(omega) / (2.0 * q);
+    let a1 = -2.0 * numeric::cos(omega);
+    let norm = 1.0 + alpha;
+    Coef {
+        b0: alpha / norm,
+        a1: a1 / norm,
+        a2: (1.0 - alpha) / norm,
+    }
+}
+
+fn resonator_coefs(vowel: f64, shift: f64, sample_rate: Hertz) -> [f64; 15]
+    ensures { λ r. ⌜ r ≡ resonatorCoefs vowel shift («sample_rate» .0) ⌝ }
+{
+    let f = get_formants(vowel, shift);
+    let a = one_coef(Hertz(f[0]), Hertz(80.0), sample_rate);
+    let b = one_coef(Hertz(f[1]), Hertz(90.0), sample_rate);
+    let c = one_coef(Hertz(f[2]), Hertz(120.0), sample_rate);
+    let d = one_coef(Hertz(f[3]), Hertz(150.0), sample_rate);
+    let e = one_coef(Hertz(f[4]), Hertz(200.0), sample_rate);
+    [
+        a.b0,
+        a.a1,
+        a.a2,
+        b.b0,
+        b.a1,
+        b.a2,
+        c.b0,
+        c.a1,
+        c.a2,
+        d.b0,
+        d.a1,
+        d.a2,
+        e.b0,
+        e.a1,
+        e.a2,
+    ]
+}
+
+impl CoefMemo {
+    fn new() -> Self
+        ensures { λ r. ⌜ r ≡ newCoefMemo ⌝ }
+    {
+        CoefMemo {
+            key0: 0,
+            key1: 0,
+            key2: 0,
+            val: [0.0; 15],
+            valid: false,
+        }
+    }
+
+    // Whether the memo holds the coefficients for x, y and z.
+    fn hits(self, x: f64, y: f64, z: f64) -> bool
+        ensures { λ r. ⌜ r ≡ coefHits self x y z ⌝ }
+    {
+        if self.valid {
+            if self.key0 == numeric::bits(x) {
+                if self.key1 == numeric::bits(y) {
+                    self.key2 == numeric::bits(z)
+                } else {
+                    false
+                }
+            } else {
+                false
+            }
+        } else {
+            false
+        }
+    }
+
+    // A memo that holds these coefficients for x, y and z.
+    fn filled(x: f64, y: f64, z: f64, val: [f64; 15]) -> Self
+        ensures { λ r. ⌜ r ≡ coefFilled x y z val ⌝ }
+    {
+        CoefMemo {
+            key0: numeric::bits(x),
+            key1: numeric::bits(y),
+            key2: numeric::bits(z),
+            val,
+            valid: true,
+        }
+    }
+
+    // The Rust's get_or_compute; its answer is the new memo's val.
+    fn recall(self, vowel: f64, shift: f64, sample_rate: Hertz) -> Self
+        ensures { λ r. ⌜ r ≡ coefRecall self vowel shift («sample_rate» .0) ⌝ }
+    {
+        if self.hits(vowel, shift, sample_rate.0) {
+            self
+        } else {
+            let val = resonator_coefs(vowel, shift, sample_rate);
+            CoefMemo::filled(vowel, shift, sample_rate.0, val)
+        }
+    }
+}
+
+// A quick rise to 0.4 of the turn, a slower fall to 0.8, then nothing.
+fn glottal_pulse(phase: Turns) -> f64
+    ensures { λ r. ⌜ r ≡ glottalPulse (phase .0) ⌝ }
+{
+    let p = phase.0;
+    if p < 0.4 {
+        numeric::sin(p / 0.4 * 3.141592653589793 * 0.5)
+    } else if p < 0.8 {
+        numeric::cos((p - 0.4) / 0.4 * 3.141592653589793 * 0.5)
+    } else {
+        0.0
+    }
+}
+
+// The pitch with its vibrato, at most half a semitone either way.
+fn pitch(v_oct: VoltsPerOctave, depth: f64, vibrato_phase: Turns) -> VoltsPerOctave
+    ensures { λ r. ⌜ r ≡ pitchOf «v_oct» depth («vibrato_phase» .0) ⌝ }
+{
+    let vibrato = numeric::sin(vibrato_phase.0 * 2.0 * 3.141592653589793);
+    let semitones = vibrato * depth * 0.5;
+    VoltsPerOctave(v_oct.0 + semitones / 12.0)
+}
+
+// One resonator, Direct Form II transposed.
+fn resonate(b0: f64, a1: f64, a2: f64, s0: f64, s1: f64, excitation: f64) -> Resonated
+    ensures { λ r. ⌜ r ≡ resonateOf b0 a1 a2 s0 s1 excitation ⌝ }
+{
+    let out = b0 * excitation + s0;
+    Resonated {
+        out,
+        s0: -a1 * out + s1,
+        s1: -b0 * excitation - a2 * out,
+    }
+}
+
+// The five side by side, and their sum in order, from 0.0.
+fn ring(c: [f64; 15], s: [f64; 10], x: f64) -> Rung
+    ensures { λ r. ⌜ r ≡ rungOf c s x ⌝ }
+{
+    let a = resonate(c[0], c[1], c[2], s[0], s[1], x);
+    let b = resonate(c[3], c[4], c[5], s[2], s[3], x);
+    let d = resonate(c[6], c[7], c[8], s[4], s[5], x);
+    let e = resonate(c[9], c[10], c[11], s[6], s[7], x);
+    let f = resonate(c[12], c[13], c[14], s[8], s[9], x);
+    Rung {
+        sum: 0.0 + a.out * 1.0 + b.out * 0.5 + d.out * 0.25 + e.out * 0.1 + f.out * 0.05,
+        state: [a.s0, a.s1, b.s0, b.s1, d.s0, d.s1, e.s0, e.s1, f.s0, f.s1],
+    }
+}
+
+// The sample volts of an oscillator with one output.
+fn only(out: f64) -> Volts
+    ensures { λ r. ⌜ r ≡ onlyOf out ⌝ }
+{
+    Volts {
+        p10: out,
+        p11: 0.0,
+        p12: 0.0,
+        p13: 0.0,
+        p14: 0.0,
+    }
+}
+
+fn both(a: bool, b: bool) -> bool
+    ensures { λ r. ⌜ r ≡ (a && b) ⌝ }
+{
+    if a { b } else { false }
+}
+
+impl FormantOsc {
+    fn at_rest(sample_rate: Hertz, freq_memo: Memo1, coef_memo: CoefMemo) -> Self
+        ensures { λ r. ⌜ r ≡ formantAtRest «sample_rate» «freq_memo» «coef_memo» ⌝ }
+    {
+        FormantOsc {
+            phase: Turns(0.0),
+            vibrato_phase: Turns(0.0),
+            resonator_state: [0.0; 10],
+            sample_rate,
+            freq_memo,
+            coef_memo,
+        }
+    }
+
+    // 0, or the number that refuses this state: 1 its rate, 2 a phase.
+    fn refusal(self) -> u32
+        ensures { λ r. ⌜ r ≡ formantRefusalOf self ⌝ }
+    {
+        let sample_rate = self.sample_rate;
+        let phase = self.phase;
+        let vibrato_phase = self.vibrato_phase;
+        if common::rate_ok(sample_rate) {
+            if both(common::phase_ok(phase), common::phase_ok(vibrato_phase)) {
+                0
+            } else {
+                2
+            }
+        } else {
+            1
+        }
+    }
+
+    // A refused new hands back the state with the bad rate, which every later call refuses.
+    pub fn new(sample_rate: Hertz) -> FormantMade
+        ensures { λ r. ⌜ r ≡ formantNewOf «sample_rate» ⌝ }
+    {
+        let formant = FormantOsc::at_rest(sample_rate, Memo1::new(), CoefMemo::new());
+        if common::rate_ok(sample_rate) {
+            FormantMade {
+                outcome: Outcome::Done,
+                formant,
+            }
+        } else {
+            FormantMade {
+                outcome: Outcome::Refused(1),
+                formant,
+            }
+        }
+    }
+
+    // An accepted tick: the Rust's tick_generic.
+    fn sound(self, c: FormantControls) -> FormantTicked
+        ensures { λ r. ⌜ r ≡ formantSoundOf self c ⌝ }
+    {
+        let phase = self.phase;
+        let vibrato_phase = self.vibrato_phase;
+        let state = self.resonator_state;
+        let sample_rate = self.sample_rate;
+        let freqs = self.freq_memo;
+        let coefs = self.coef_memo;
+        let v_oct = c.v_oct;
+        let vowel = numeric::clamp(c.vowel, 0.0, 1.0);
+        let depth = numeric::clamp(c.vibrato, 0.0, 1.0);
+        let freq_memo = freqs.voct_to_hz(pitch(v_oct, depth, vibrato_phase));
+        let phase_inc = freq_memo.val.0 / sample_rate.0;
+        let excitation = glottal_pulse(phase);
+        let coef_memo = coefs.recall(vowel, c.formant_shift, sample_rate);
+        let val = coef_memo.val;
+        let rung = ring(val, state, excitation);
+        let sum = rung.sum;
+        let resonator_state = rung.state;
+        let next = Turns(phase.0 + phase_inc);
+        let vibrato_next = Turns(vibrato_phase.0 + 5.5 / sample_rate.0);
+        let volts = only(numeric::clamp(sum, -1.0, 1.0) * 5.0);
+        let phases = both(
+            numeric::is_finite(next.0),
+            numeric::is_finite(vibrato_next.0),
+        );
+        FormantTicked {
+            answer: answer::mark(volts, false, numeric::is_finite(sum), phases),
+            formant: FormantOsc {
+                phase: common::wrap_phase(next),
+                vibrato_phase: common::wrap_phase(vibrato_next),
+                resonator_state,
+                sample_rate,
+                freq_memo,
+                coef_memo,
+            },
+        }
+    }
+
+    pub fn tick(self, c: FormantControls) -> FormantTicked
+        ensures { λ r. ⌜ r ≡ formantTickOf self c ⌝ }
+    {
+        let n = self.refusal();
+        if n == 0 {
+            self.sound(c)
+        } else {
+            FormantTicked {
+                answer: Answer::Refused(n),
+                formant: self,
+            }
+        }
+    }
+
+    // The memos stay.
+    pub fn reset(self) -> FormantMade
+        ensures { λ r. ⌜ r ≡ formantResetOf self ⌝ }
+    {
+        let n = self.refusal();
+        if n == 0 {
+            let sample_rate = self.sample_rate;
+            let freq_memo = self.freq_memo;
+            let coef_memo = self.coef_memo;
+            FormantMade {
+                outcome: Outcome::Done,
+                formant: FormantOsc::at_rest(sample_rate, freq_memo, coef_memo),
+            }
+        } else {
+            FormantMade {
+                outcome: Outcome::Refused(n),
+                formant: self,
+            }
+        }
+    }
+
+    pub fn set_sample_rate(self, sample_rate: Hertz) -> FormantMade
+        ensures { λ r. ⌜ r ≡ formantSetSampleRateOf self «sample_rate» ⌝ }
+    {
+        if common::rate_ok(sample_rate) {
+            let n = self.refusal();
+            if n == 0 {
+                let mut formant = self;
+                formant.sample_rate = sample_rate;
+                FormantMade {
+                    outcome: Outcome::Done,
+                    formant,
+                }
+            } else {
+                FormantMade {
+                    outcome: Outcome::Refused(n),
+                    formant: self,
+                }
+            }
+        } else {
+            FormantMade {
+                outcome: Outcome::Refused(1),
+                formant: self,
+            }
+        }
+    }
+}

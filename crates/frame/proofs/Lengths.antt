@@ -1,0 +1,110 @@
+-- How long the texts are, and that a text which has room is put whole.
+use Prim.Native.Nat.{ℕ, zero, suc, _+_, _/_, _%_, _^_, _≤_, _<_}
+use mathlib.Core.Bool.{Bool, true, false, cond}
+use mathlib.Core.List.{List, [], _∷_, _++_}
+use mathlib.Core.Path.{_≡_, refl, sym, ap, _∙_, subst}
+use native.Mathlib.Nat.{pow-succ'}
+use native.Mathlib.Omega.{arith}
+use lib.Dec.{ltb}
+use lib.ListN.{length, length-append, drop, take}
+use lib.Seq.{sets, sets-eq, take-at}
+use lib.Ieee.{Float, binary64, toBits}
+use borrow.Author.Tests.{ltb-true, ltb-false}
+use Rattle.line.specs.Bytes.{ascii}
+use Rattle.text.specs.Decimal.{decimalText}
+use Rattle.text.specs.Hex.{glyph, hexFrom, hexText}
+use Rattle.text.specs.Put.{placeOf}
+use Rattle.text.proofs.DecimalLaws.{decimal-small, decimal-large}
+use Rattle.answer.specs.declared.Volts.{Volts}
+use Rattle.answer.specs.declared.Answer.the-variants as answer
+use Rattle.answer.specs.declared.Tally.{Tally}
+use Rattle.score.specs.declared.Osc.{Osc}
+use Rattle.score.specs.declared.Osc.the-variants.{Vco, Lfo, Supersaw, Formant}
+use Rattle.frame.specs.Frame.{wordLine, countLine, sampleLine, wavesText, outputsText, markedText, frameText}
+use Rattle.frame.specs.End.{countsText, claimedOf, endText, refusedText}
+use Rattle.frame.specs.Promises.{Put-whole, Short, Frame-length, End-length, Refused-length}
+
+pub put-whole : Put-whole
+unfolding placeOf
+put-whole out t r q (er, eq) h = ap (take r) (eq ∙ sets-eq t out 0 (omega arith)) ∙ take-at t (drop (0 + length t) out) r (omega arith)
+
+-- ---- numbers
+digits-by : (d n : ℕ) (b : Bool) → ltb n 10 ≡ b → (10 ≤ n → length (decimalText (n / 10)) ≤ d) → length (decimalText n) ≤ suc d
+digits-by d n true e r = rw (decimal-small n (ltb-true n 10 e)) (omega arith)
+digits-by d n false e r =
+    let l = ltb-false n 10 e in
+    let m = r l in
+    rw (decimal-large n l) (omega (arith, length-append (decimalText (n / 10)) (glyph (n % 10) ∷ [])))
+
+digits-most : (d n : ℕ) → n < 10 ^ suc d → length (decimalText n) ≤ suc d
+digits-most zero n h = rw (decimal-small n h) (omega arith)
+digits-most (suc d) n h =
+    let p = pow-succ' 10 (suc d) in
+    digits-by (suc d) n (ltb n 10) refl (λ l. digits-most d (n / 10) (omega arith))
+
+ten-digits : (n : ℕ) → Short n → length (decimalText n) ≤ 10
+ten-digits n h = digits-most 9 n h
+
+hex-length : (x : ℕ) → length (hexText x) ≡ 16
+unfolding hexText hexFrom
+hex-length x = refl
+
+-- ---- lines
+word-length : (key word : List ℕ) → length (wordLine key word) ≡ length key + length word + 1
+unfolding wordLine
+word-length key word = length-append (key ++ word) (ascii "\n") ∙ ap (λ (n : ℕ). n + 1) (length-append key word)
+
+count-length : (key : List ℕ) (n : ℕ) → Short n → length (countLine key n) ≤ length key + 11
+unfolding countLine
+count-length key n h = omega (arith, ten-digits n h, length-append (key ++ decimalText n) (ascii "\n"), length-append key (decimalText n))
+
+sample-length : (key : List ℕ) (x : Float) → length (sampleLine key x) ≡ length key + 17
+unfolding sampleLine
+sample-length key x = omega (arith, hex-length (toBits binary64 x), length-append (key ++ hexText (toBits binary64 x)) (ascii "\n"), length-append key (hexText (toBits binary64 x)))
+
+-- ---- a frame
+waves-length : (v : Volts) → length (wavesText v) ≡ 84
+unfolding wavesText
+waves-length v = simp (length-append, sample-length)
+
+outputs-length : (o : Osc) (v : Volts) → length (outputsText o v) ≤ 109
+unfolding outputsText
+outputs-length Vco v = omega (arith, waves-length v)
+outputs-length Lfo v = simp (length-append, waves-length, sample-length) (omega arith)
+outputs-length Supersaw v = simp (length-append, sample-length) (omega arith)
+outputs-length Formant v = simp sample-length (omega arith)
+
+marked-length : (o : Osc) (n : ℕ) (mark : List ℕ) (v : Volts) → Short n → length mark ≤ 9 → length (markedText o n mark v) ≤ 137
+unfolding markedText
+marked-length o n mark v h m =
+    let a = count-length (ascii "n=") n h in
+    let b = outputs-length o v in
+    simp (length-append, word-length) (omega arith)
+
+pub frame-length : Frame-length
+unfolding frameText
+frame-length o n (answer.Clean v) h = marked-length o n (ascii "clean") v h (omega arith)
+frame-length o n (answer.Cleared v) h = marked-length o n (ascii "cleared") v h (omega arith)
+frame-length o n (answer.NotFinite v) h = marked-length o n (ascii "notfinite") v h (omega arith)
+frame-length o n (answer.Lost v) h = marked-length o n (ascii "lost") v h (omega arith)
+frame-length o n (answer.Refused r) h = omega arith
+
+-- ---- the end
+claim-length : (b : Bool) → length (wordLine (ascii "claimed=") (cond b (ascii "yes") (ascii "no"))) ≤ 12
+claim-length true = simp word-length (omega arith)
+claim-length false = simp word-length (omega arith)
+
+pub end-length : End-length
+unfolding endText countsText
+end-length frames t h =
+    let a = count-length (ascii "begun=") (t .begun) (h .begun) in
+    let b = count-length (ascii "finished=") (t .finished) (h .finished) in
+    let c = count-length (ascii "cleared=") (t .cleared) (h .cleared) in
+    let d = count-length (ascii "notfinite=") (t .notfinite) (h .notfinite) in
+    let e = count-length (ascii "lost=") (t .lost) (h .lost) in
+    let f = claim-length (claimedOf frames t) in
+    simp length-append (omega arith)
+
+pub refused-length : Refused-length
+unfolding refusedText
+refused-length n h = count-length (ascii "refused=") n h

@@ -1,0 +1,45 @@
+-- The text of a frame, written from document 01, "The score and its program".
+use Prim.Native.Nat.{ℕ}
+use mathlib.Core.List.{List, [], _++_}
+use lib.Ieee.{Float, binary64, toBits}
+use Rattle.line.specs.Bytes.{ascii}
+use Rattle.text.specs.Decimal.{decimalText}
+use Rattle.text.specs.Hex.{hexText}
+use Rattle.answer.specs.declared.Volts.{Volts}
+use Rattle.answer.specs.declared.Answer.{Answer}
+use Rattle.answer.specs.declared.Answer.the-variants as answer
+use Rattle.score.specs.declared.Osc.{Osc}
+use Rattle.score.specs.declared.Osc.the-variants.{Vco, Lfo, Supersaw, Formant}
+
+-- a line: its key with the equals sign, its value, a line feed
+unfoldable pub wordLine : List ℕ → List ℕ → List ℕ
+wordLine key word = key ++ word ++ ascii "\n"
+
+unfoldable pub countLine : List ℕ → ℕ → List ℕ
+countLine key n = key ++ decimalText n ++ ascii "\n"
+
+-- the bits of an f64 in hexadecimal; toBits has one pattern for any NaN, 7FF8000000000000
+unfoldable pub sampleLine : List ℕ → Float → List ℕ
+sampleLine key x = key ++ hexText (toBits binary64 x) ++ ascii "\n"
+
+-- the outputs, in the Rust's port order and names
+unfoldable pub wavesText : Volts → List ℕ
+wavesText v = sampleLine (ascii "sin=") (v .p10) ++ sampleLine (ascii "tri=") (v .p11) ++ sampleLine (ascii "saw=") (v .p12) ++ sampleLine (ascii "sqr=") (v .p13)
+
+unfoldable pub outputsText : Osc → Volts → List ℕ
+outputsText Vco v = wavesText v
+outputsText Lfo v = wavesText v ++ sampleLine (ascii "sin_uni=") (v .p14)
+outputsText Supersaw v = sampleLine (ascii "out=") (v .p10) ++ sampleLine (ascii "sub=") (v .p11)
+outputsText Formant v = sampleLine (ascii "out=") (v .p10)
+
+-- n, mark and the outputs
+unfoldable pub markedText : Osc → ℕ → List ℕ → Volts → List ℕ
+markedText osc n mark v = countLine (ascii "n=") n ++ wordLine (ascii "mark=") mark ++ outputsText osc v
+
+-- the frame n; a refused tick has no text
+unfoldable pub frameText : Osc → ℕ → Answer → List ℕ
+frameText osc n (answer.Clean v) = markedText osc n (ascii "clean") v
+frameText osc n (answer.Cleared v) = markedText osc n (ascii "cleared") v
+frameText osc n (answer.NotFinite v) = markedText osc n (ascii "notfinite") v
+frameText osc n (answer.Lost v) = markedText osc n (ascii "lost") v
+frameText osc n (answer.Refused r) = []

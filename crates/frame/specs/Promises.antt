@@ -1,0 +1,44 @@
+-- Theorems about the texts: the statements. The proofs of the same names in small letters stand in proofs/.
+use Prim.Native.Nat.{ℕ, _≤_, _<_}
+use mathlib.Core.Bool.{true}
+use mathlib.Core.List.{List}
+use mathlib.Core.Path.{_≡_}
+use lib.ListN.{length, take}
+use Rattle.text.specs.Promises.{Put}
+use Rattle.answer.specs.declared.Answer.{Answer}
+use Rattle.answer.specs.declared.Tally.{Tally}
+use Rattle.score.specs.declared.Osc.{Osc}
+use Rattle.frame.specs.Frame.{frameText}
+use Rattle.frame.specs.End.{claimedOf, endText, refusedText}
+
+-- ---- a text that has room is put whole: the buffer begins with it, up to the place after it
+abbrev pub Put-whole : Type 0
+Put-whole = (out t : List ℕ) (r : ℕ) (q : List ℕ) → Put out 0 t r q → length t ≤ length out → take r q ≡ t
+
+-- ---- how long a text can be; a u32 has at most 10 digits
+abbrev pub Short : ℕ → Type 0
+Short n = n < 10000000000
+
+pub record ShortTally (t : Tally) : Type 0 where
+  pub begun : Short (t .begun)
+  pub finished : Short (t .finished)
+  pub cleared : Short (t .cleared)
+  pub notfinite : Short (t .notfinite)
+  pub lost : Short (t .lost)
+
+abbrev pub Frame-length : Type 0
+Frame-length = (o : Osc) (n : ℕ) (a : Answer) → Short n → length (frameText o n a) ≤ 137
+
+abbrev pub End-length : Type 0
+End-length = (frames : ℕ) (t : Tally) → ShortTally t → length (endText frames t) ≤ 105
+
+abbrev pub Refused-length : Type 0
+Refused-length = (n : ℕ) → Short n → length (refusedText n) ≤ 19
+
+-- ---- claimed is yes exactly when finished = begun = frames
+pub record ClaimedWhen (frames : ℕ) (t : Tally) : Type 0 where
+  pub only : claimedOf frames t ≡ true → (t .finished ≡ t .begun) × (t .begun ≡ frames)
+  pub always : t .finished ≡ t .begun → t .begun ≡ frames → claimedOf frames t ≡ true
+
+abbrev pub Claimed-says : Type 0
+Claimed-says = (frames : ℕ) (t : Tally) → ClaimedWhen frames t

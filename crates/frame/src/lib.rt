@@ -1,0 +1,138 @@
+// What `render` prints: the text of a frame, of the end and of a refusal. A text is put as crates/text puts one.
+use answer::Answer;
+use answer::Tally;
+use answer::Volts;
+use score::Osc;
+ghost use mathlib.Core.Path.{_≡_};
+ghost use lib.Seq.{sets};
+ghost use Rattle.text.specs.Put.{placeOf};
+ghost use Rattle.frame.specs.Frame.{wordLine, countLine, sampleLine, wavesText, outputsText, markedText, frameText};
+ghost use Rattle.frame.specs.End.{countsText, claimedOf, endText, refusedText};
+
+// ---- a line: its key with the equals sign, its value, a line feed
+
+fn put_word(out: &mut [u8], at: usize, key: &[u8], word: &[u8]) -> usize
+    ensures { λ r. ⌜ r ≡ placeOf (now (out .entry)) at (wordLine (now (key .entry)) (now (word .entry))) ⌝ }
+    ensures { λ r. ⌜ now (out .exit) ≡ sets (now (out .entry)) at (wordLine (now (key .entry)) (now (word .entry))) ⌝ }
+{
+    let a = text::put_text(&mut *out, at, key);
+    let b = text::put_text(&mut *out, a, word);
+    text::put_byte(out, b, b'\n')
+}
+
+fn put_count(out: &mut [u8], at: usize, key: &[u8], n: u32) -> usize
+    ensures { λ r. ⌜ r ≡ placeOf (now (out .entry)) at (countLine (now (key .entry)) n) ⌝ }
+    ensures { λ r. ⌜ now (out .exit) ≡ sets (now (out .entry)) at (countLine (now (key .entry)) n) ⌝ }
+{
+    let a = text::put_text(&mut *out, at, key);
+    let b = text::put_decimal(&mut *out, a, n as u64);
+    text::put_byte(out, b, b'\n')
+}
+
+fn put_sample(out: &mut [u8], at: usize, key: &[u8], x: f64) -> usize
+    ensures { λ r. ⌜ r ≡ placeOf (now (out .entry)) at (sampleLine (now (key .entry)) x) ⌝ }
+    ensures { λ r. ⌜ now (out .exit) ≡ sets (now (out .entry)) at (sampleLine (now (key .entry)) x) ⌝ }
+{
+    let a = text::put_text(&mut *out, at, key);
+    let b = text::put_hex(&mut *out, a, numeric::bits(x));
+    text::put_byte(out, b, b'\n')
+}
+
+// ---- a frame
+
+// The four waves that Vco and Lfo have.
+fn put_waves(out: &mut [u8], at: usize, v: Volts) -> usize
+    ensures { λ r. ⌜ r ≡ placeOf (now (out .entry)) at (wavesText v) ⌝ }
+    ensures { λ r. ⌜ now (out .exit) ≡ sets (now (out .entry)) at (wavesText v) ⌝ }
+{
+    let a = put_sample(&mut *out, at, b"sin=", v.p10);
+    let b = put_sample(&mut *out, a, b"tri=", v.p11);
+    let c = put_sample(&mut *out, b, b"saw=", v.p12);
+    put_sample(out, c, b"sqr=", v.p13)
+}
+
+fn put_outputs(out: &mut [u8], at: usize, osc: Osc, v: Volts) -> usize
+    ensures { λ r. ⌜ r ≡ placeOf (now (out .entry)) at (outputsText osc v) ⌝ }
+    ensures { λ r. ⌜ now (out .exit) ≡ sets (now (out .entry)) at (outputsText osc v) ⌝ }
+{
+    match osc {
+        Osc::Vco => put_waves(out, at, v),
+        Osc::Lfo => {
+            let a = put_waves(&mut *out, at, v);
+            put_sample(out, a, b"sin_uni=", v.p14)
+        }
+        Osc::Supersaw => {
+            let a = put_sample(&mut *out, at, b"out=", v.p10);
+            put_sample(out, a, b"sub=", v.p11)
+        }
+        Osc::Formant => put_sample(out, at, b"out=", v.p10),
+    }
+}
+
+fn put_marked(out: &mut [u8], at: usize, osc: Osc, n: u32, mark: &[u8], v: Volts) -> usize
+    ensures { λ r. ⌜ r ≡ placeOf (now (out .entry)) at (markedText osc n (now (mark .entry)) v) ⌝ }
+    ensures { λ r. ⌜ now (out .exit) ≡ sets (now (out .entry)) at (markedText osc n (now (mark .entry)) v) ⌝ }
+{
+    let a = put_count(&mut *out, at, b"n=", n);
+    let b = put_word(&mut *out, a, b"mark=", mark);
+    put_outputs(out, b, osc, v)
+}
+
+// A refused tick has no text.
+pub fn put_frame(out: &mut [u8], at: usize, osc: Osc, n: u32, a: Answer) -> usize
+    ensures { λ r. ⌜ r ≡ placeOf (now (out .entry)) at (frameText osc n a) ⌝ }
+    ensures { λ r. ⌜ now (out .exit) ≡ sets (now (out .entry)) at (frameText osc n a) ⌝ }
+{
+    match a {
+        Answer::Clean(v) => put_marked(out, at, osc, n, b"clean", v),
+        Answer::Cleared(v) => put_marked(out, at, osc, n, b"cleared", v),
+        Answer::NotFinite(v) => put_marked(out, at, osc, n, b"notfinite", v),
+        Answer::Lost(v) => put_marked(out, at, osc, n, b"lost", v),
+        Answer::Refused(_) => text::put_text(out, at, b""),
+    }
+}
+
+// ---- the end
+
+fn put_counts(out: &mut [u8], at: usize, t: Tally) -> usize
+    ensures { λ r. ⌜ r ≡ placeOf (now (out .entry)) at (countsText t) ⌝ }
+    ensures { λ r. ⌜ now (out .exit) ≡ sets (now (out .entry)) at (countsText t) ⌝ }
+{
+    let a = put_count(&mut *out, at, b"begun=", t.begun);
+    let b = put_count(&mut *out, a, b"finished=", t.finished);
+    let c = put_count(&mut *out, b, b"cleared=", t.cleared);
+    let d = put_count(&mut *out, c, b"notfinite=", t.notfinite);
+    put_count(out, d, b"lost=", t.lost)
+}
+
+// Whether the render may be called finished: each of its frames began, and each was clean.
+pub fn claimed(frames: u32, t: Tally) -> bool
+    ensures { λ r. ⌜ r ≡ claimedOf frames t ⌝ }
+{
+    if t.finished == t.begun {
+        t.begun == frames
+    } else {
+        false
+    }
+}
+
+pub fn put_end(out: &mut [u8], at: usize, frames: u32, t: Tally) -> usize
+    ensures { λ r. ⌜ r ≡ placeOf (now (out .entry)) at (endText frames t) ⌝ }
+    ensures { λ r. ⌜ now (out .exit) ≡ sets (now (out .entry)) at (endText frames t) ⌝ }
+{
+    let a = put_counts(&mut *out, at, t);
+    if claimed(frames, t) {
+        put_word(out, a, b"claimed=", b"yes")
+    } else {
+        put_word(out, a, b"claimed=", b"no")
+    }
+}
+
+// ---- a score that is refused
+
+pub fn put_refused(out: &mut [u8], at: usize, n: u32) -> usize
+    ensures { λ r. ⌜ r ≡ placeOf (now (out .entry)) at (refusedText n) ⌝ }
+    ensures { λ r. ⌜ now (out .exit) ≡ sets (now (out .entry)) at (refusedText n) ⌝ }
+{
+    put_count(out, at, b"refused=", n)
+}

@@ -1,0 +1,3 @@
+pub mod New
+pub mod Pieces
+pub mod Steps

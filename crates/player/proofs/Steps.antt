@@ -1,0 +1,68 @@
+-- A frame and a run of frames, as the code makes them.
+use Prim.Native.Nat.{ℕ, _+_, _-_, _≤_, _<_}
+use mathlib.Core.List.{List}
+use mathlib.Core.Path.{_≡_, sym, ap, _∙_}
+use native.Mathlib.Omega.{arith}
+use lib.Seq.{sets}
+use Rattle.answer.specs.Tally.{tallyOf}
+use Rattle.answer.specs.declared.Answer.{Answer}
+use Rattle.answer.specs.declared.Tally.{Tally}
+use Rattle.answer.specs.declared.Tallied.{Tallied}
+use Rattle.score.specs.declared.Osc.{Osc}
+use Rattle.text.specs.Promises.{Put}
+use Rattle.text.specs.Put.{placeOf}
+use Rattle.text.proofs.PutLaws.{after}
+use Rattle.frame.specs.Frame.{frameText}
+use Rattle.player.specs.Player.{kindOf, soundOf, keptBy, answerOf, frameOf, nextOf, textOf, afterOf, playedOf}
+use Rattle.player.specs.declared.Player.{Player}
+use Rattle.player.specs.declared.Played.{Played}
+use Rattle.player.specs.declared.Sounded.{Sounded}
+use Rattle.player.proofs.Pieces.{text-last, after-last, frame-after}
+
+-- a player and the place after its text
+abbrev pub Done : List ℕ → ℕ → List ℕ → Player → Played → List ℕ → Type 0
+Done out at t p r q = (r ≡ playedOf out at t p) × (q ≡ sets out at t)
+
+-- ---- a step, from what it calls
+module _ (out q : List ℕ) (at to : ℕ) (p : Player) (s : Sounded) (o : Osc) (u : Tallied) (t : Tally)
+    (es : s ≡ soundOf (p .controls) (p .voices)) (eo : o ≡ kindOf (p .controls)) (eu : u ≡ tallyOf (p .tally) (s .answer)) (et : t ≡ keptBy (p .tally) u)
+    (put : Put out at (frameText o (p .frame) (s .answer)) to q) where
+  same-answer : s .answer ≡ answerOf p
+  unfolding answerOf
+  same-answer = ap (λ (s : Sounded). s .answer) es
+
+  same-text : frameText o (p .frame) (s .answer) ≡ frameOf p
+  unfolding frameOf
+  same-text = ap (λ (o : Osc). frameText o (p .frame) (s .answer)) eo ∙ ap (λ (a : Answer). frameText (kindOf (p .controls)) (p .frame) a) same-answer
+
+  same-tally : t ≡ nextOf p .tally
+  unfolding nextOf
+  same-tally = et ∙ ap (keptBy (p .tally)) (eu ∙ ap (tallyOf (p .tally)) same-answer)
+
+  pub stepped : Done out at (frameOf p) (nextOf p) (record { player = record { controls = p .controls; voices = s .voices; tally = t; frame = p .frame + 1; frames = p .frames }; to = to }) q
+  unfolding playedOf nextOf
+  stepped =
+      let place = put .0 ∙ ap (placeOf out at) same-text in
+      (λ i. record { player = record { controls = p .controls; voices = es i .voices; tally = same-tally i; frame = p .frame + 1; frames = p .frames }; to = place i }, put .1 ∙ ap (sets out at) same-text)
+
+-- ---- a run
+-- after k frames
+abbrev pub Ran : List ℕ → Player → List ℕ → Player → ℕ → ℕ → Type 0
+Ran out p q now to k = (now ≡ afterOf k p) × Put out 0 (textOf k p) to q
+
+module _ (out q : List ℕ) (p now : Player) (to k : ℕ) (ran : Ran out p q now to k) where
+  pub one-more : (r : Played) (q′ : List ℕ) → Done q to (frameOf now) (nextOf now) r q′ → Ran out p q′ (r .player) (r .to) (k + 1)
+  unfolding playedOf
+  one-more r q′ (e, eq) =
+      let now-is = ran .0 in (
+        ap (λ (d : Played). d .player) e ∙ ap nextOf now-is ∙ sym (after-last p k),
+        rw (text-last p k, ← now-is) (after out 0 (textOf k p) (frameOf now) (ran .1) (ap (λ (d : Played). d .to) e, eq)),
+      )
+
+  pub all-run : (n : ℕ) → k ≡ n → Done out 0 (textOf n p) (afterOf n p) (record { player = now; to = to }) q
+  unfolding playedOf
+  all-run n e = rw (← e) (λ i. record { player = ran .0 i; to = ran .1 .0 i }, ran .1 .1)
+
+-- a frame that is left has a number below frames
+pub has-room : (p now : Player) (k : ℕ) → now ≡ afterOf k p → k < p .frames - p .frame → p .frames ≤ 4294967295 → now .frame < 4294967295
+has-room p now k e h top = let f : now .frame ≡ p .frame + k = ap (λ (d : Player). d .frame) e ∙ frame-after p k in omega arith

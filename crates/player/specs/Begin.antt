@@ -1,0 +1,42 @@
+-- What a score's lines hand to its oscillator: the rate in hertz, the inputs in volts.
+use Prim.Native.Nat.{ℕ}
+use lib.IntN.{pos}
+use lib.Ieee.{binary64, ofInt}
+use Rattle.common.specs.declared.Hertz.{Hertz}
+use Rattle.score.specs.Control.{voltsOf}
+use Rattle.score.specs.declared.VcoInputs.{VcoInputs}
+use Rattle.score.specs.declared.LfoInputs.{LfoInputs}
+use Rattle.score.specs.declared.SupersawInputs.{SupersawInputs}
+use Rattle.score.specs.declared.FormantInputs.{FormantInputs}
+use Rattle.vco.specs.declared.VcoControls.{VcoControls}
+use Rattle.lfo.specs.declared.LfoControls.{LfoControls}
+use Rattle.supersaw.specs.declared.SupersawControls.{SupersawControls}
+use Rattle.formant_osc.specs.declared.FormantControls.{FormantControls}
+
+unfoldable pub rateOf : ℕ → Hertz
+rateOf hz = record { 0 = ofInt binary64 (pos hz) }
+
+unfoldable pub vcoControls : VcoInputs → VcoControls
+vcoControls i =
+    record {
+      voct = record { 0 = voltsOf (i .voct) };
+      fm = record { 0 = voltsOf (i .fm) };
+      pw = voltsOf (i .pw);
+      sync = voltsOf (i .sync);
+      «fm_lin» = voltsOf (i .«fm_lin»);
+    }
+
+unfoldable pub lfoControls : LfoInputs → LfoControls
+lfoControls i = record { rate = voltsOf (i .rate); depth = voltsOf (i .depth); reset = voltsOf (i .reset) }
+
+unfoldable pub supersawControls : SupersawInputs → SupersawControls
+supersawControls i = record { voct = record { 0 = voltsOf (i .voct) }; detune = voltsOf (i .detune); mix = voltsOf (i .mix) }
+
+unfoldable pub formantControls : FormantInputs → FormantControls
+formantControls i =
+    record {
+      «v_oct» = record { 0 = voltsOf (i .«v_oct») };
+      vowel = voltsOf (i .vowel);
+      «formant_shift» = voltsOf (i .«formant_shift»);
+      vibrato = voltsOf (i .vibrato);
+    }

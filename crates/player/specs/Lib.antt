@@ -1,0 +1,4 @@
+pub mod Begin
+pub mod Play
+pub mod Player
+pub mod Promises

@@ -1,0 +1,51 @@
+-- What `render` prints of a score, written from document 01, "The score and its program": each frame is one tick of a new
+-- oscillator with the same inputs and all outputs wanted; the tally is given each answer.
+use Prim.Native.Nat.{ℕ, zero, suc}
+use mathlib.Core.List.{List, [], _∷_, _++_}
+use Rattle.answer.specs.Tally.{run, newRun}
+use Rattle.answer.specs.declared.Answer.{Answer}
+use Rattle.answer.specs.declared.Tally.{Tally}
+use Rattle.score.specs.declared.Osc.{Osc}
+use Rattle.score.specs.declared.Osc.the-variants as osc
+use Rattle.score.specs.declared.Inputs.{Inputs}
+use Rattle.score.specs.declared.Inputs.the-variants.{Vco, Lfo, Supersaw, Formant}
+use Rattle.score.specs.declared.Score.{Score}
+use Rattle.vco.specs.Vco.{newVco, vcoTickOf}
+use Rattle.lfo.specs.Lfo.{newLfo, lfoTickOf}
+use Rattle.supersaw.specs.Supersaw.{newSupersaw, supersawTickOf}
+use Rattle.formant_osc.specs.FormantOsc.{newFormantOsc, formantTickOf}
+use Rattle.frame.specs.Frame.{frameText}
+use Rattle.frame.specs.End.{endText}
+use Rattle.player.specs.Begin.{rateOf, vcoControls, lfoControls, supersawControls, formantControls}
+
+-- what n ticks answer, from a state on; the state after a tick is `next`
+unfoldable pub answers : {S : Type 0} → (S → Answer) → (S → S) → ℕ → S → List Answer
+answers answer next zero s = []
+answers answer next (suc n) s = answer s ∷ answers answer next n (next s)
+
+unfoldable pub heardFrom : Inputs → ℕ → ℕ → List Answer
+heardFrom (Vco i) hz n = answers (λ s. vcoTickOf s (vcoControls i) 15 .answer) (λ s. vcoTickOf s (vcoControls i) 15 .vco) n (newVco (rateOf hz))
+heardFrom (Lfo i) hz n = answers (λ s. lfoTickOf s (lfoControls i) 31 .answer) (λ s. lfoTickOf s (lfoControls i) 31 .lfo) n (newLfo (rateOf hz))
+heardFrom (Supersaw i) hz n = answers (λ s. supersawTickOf s (supersawControls i) .answer) (λ s. supersawTickOf s (supersawControls i) .supersaw) n (newSupersaw (rateOf hz))
+heardFrom (Formant i) hz n = answers (λ s. formantTickOf s (formantControls i) .answer) (λ s. formantTickOf s (formantControls i) .formant) n (newFormantOsc (rateOf hz))
+
+unfoldable pub heardOf : Score → List Answer
+heardOf s = heardFrom (s .inputs) (s .hz) (s .frames)
+
+abbrev pub oscOf : Inputs → Osc
+oscOf (Vco i) = osc.Vco
+oscOf (Lfo i) = osc.Lfo
+oscOf (Supersaw i) = osc.Supersaw
+oscOf (Formant i) = osc.Formant
+
+-- the texts of the frames from n on
+unfoldable pub framesText : Osc → ℕ → List Answer → List ℕ
+framesText o n [] = []
+framesText o n (a ∷ xs) = frameText o n a ++ framesText o (suc n) xs
+
+-- the counts of the answers that a new tally takes
+unfoldable pub tallyFrom : List Answer → Tally
+tallyFrom xs = run newRun xs .tally
+
+unfoldable pub playOf : Score → List ℕ
+playOf s = framesText (oscOf (s .inputs)) 0 (heardOf s) ++ endText (s .frames) (tallyFrom (heardOf s))
