@@ -9,13 +9,16 @@ use Rattle.score.specs.declared.Osc.{Osc}
 use Rattle.score.specs.declared.Osc.the-variants as osc
 use Rattle.score.specs.declared.Inputs.{Inputs}
 use Rattle.score.specs.declared.Inputs.the-variants.{Vco, Lfo, Supersaw, Formant}
+use Rattle.score.specs.Score.{scoreOf}
 use Rattle.score.specs.declared.Score.{Score}
+use Rattle.score.specs.declared.Reading.{Reading}
+use Rattle.score.specs.declared.Reading.the-variants.{Values, Refused}
 use Rattle.vco.specs.Vco.{newVco, vcoTickOf}
 use Rattle.lfo.specs.Lfo.{newLfo, lfoTickOf}
 use Rattle.supersaw.specs.Supersaw.{newSupersaw, supersawTickOf}
 use Rattle.formant_osc.specs.FormantOsc.{newFormantOsc, formantTickOf}
 use Rattle.frame.specs.Frame.{frameText}
-use Rattle.frame.specs.End.{endText}
+use Rattle.frame.specs.End.{endText, refusedText}
 use Rattle.player.specs.Begin.{rateOf, vcoControls, lfoControls, supersawControls, formantControls}
 
 -- what n ticks answer, from a state on; the state after a tick is `next`
@@ -49,3 +52,11 @@ tallyFrom xs = run newRun xs .tally
 
 unfoldable pub playOf : Score → List ℕ
 playOf s = framesText (oscOf (s .inputs)) 0 (heardOf s) ++ endText (s .frames) (tallyFrom (heardOf s))
+
+-- what it prints of a text: the score that it reads as, or the refusal
+abbrev pub printedOf : Reading → List ℕ
+printedOf (Values s) = playOf s
+printedOf (Refused n) = refusedText n
+
+unfoldable pub renderOf : List ℕ → List ℕ
+renderOf text = printedOf (scoreOf text)

@@ -1,10 +1,71 @@
 -- Theorems about playing a score: the statements. The proofs of the same names in small letters stand in proofs/.
-use Prim.Native.Nat.{ℕ, _+_}
-use mathlib.Core.List.{List, _++_}
+use Prim.Native.Nat.{ℕ, _+_, _*_, _≤_}
+use mathlib.Core.Bool.{true}
+use mathlib.Core.List.{List, [], _∷_, _++_}
 use mathlib.Core.Path.{_≡_}
-use Rattle.player.specs.Player.{textOf, afterOf}
+use lib.ListN.{length}
+use Rattle.answer.specs.Answer.{markNumber, accepted}
+use Rattle.answer.specs.Tally.{sumOf, many}
+use Rattle.answer.specs.declared.Answer.{Answer}
+use Rattle.common.specs.Tests.{rateOk}
+use Rattle.line.specs.Bytes.{ascii}
+use Rattle.score.specs.Score.{scoreOf}
+use Rattle.score.specs.declared.Score.{Score}
+use Rattle.score.specs.declared.Reading.the-variants.{Values}
+use Rattle.frame.specs.End.{claimedOf}
+use Rattle.player.specs.Begin.{rateOf}
+use Rattle.player.specs.Play.{heardOf, tallyFrom, playOf, renderOf}
+use Rattle.player.specs.Player.{beginOf, textOf, afterOf, finishOf}
 use Rattle.player.specs.declared.Player.{Player}
 
 -- ---- runs in pieces are one run
 abbrev pub Pieces : Type 0
 Pieces = (p : Player) (j k : ℕ) → (textOf (j + k) p ≡ textOf j p ++ textOf k (afterOf j p)) × (afterOf (j + k) p ≡ afterOf k (afterOf j p))
+
+-- and a run of all frames, with the end, is what is printed of the score
+abbrev pub Plays : Type 0
+Plays = (s : Score) → textOf (s .frames) (beginOf s) ++ finishOf (afterOf (s .frames) (beginOf s)) ≡ playOf s
+
+-- ---- how long a piece can be; a frame's number has at most 10 digits
+abbrev pub Piece-length : Type 0
+Piece-length = (p : Player) (k : ℕ) → p .frame + k ≤ 10000000000 → length (textOf k p) ≤ 137 * k
+
+-- ---- a score that is read is in range
+pub record InRange (s : Score) : Type 0 where
+  pub rate : rateOk (rateOf (s .hz)) ≡ true
+  pub some : 1 ≤ s .frames
+  pub most : s .frames ≤ 480000
+
+abbrev pub Read-in-range : Type 0
+Read-in-range = (text : List ℕ) (s : Score) → scoreOf text ≡ Values s → InRange s
+
+-- ---- so no frame of it is refused
+unfoldable pub Every : (Answer → Type 0) → List Answer → Type 0
+Every P [] = Unit {0}
+Every P (a ∷ xs) = P a × Every P xs
+
+abbrev pub Frames-accepted : Type 0
+Frames-accepted = (s : Score) → rateOk (rateOf (s .hz)) ≡ true → Every (λ a. accepted a ≡ true) (heardOf s)
+
+-- ---- and the tally takes the answers of all frames
+pub record CountsAll (xs : List Answer) : Type 0 where
+  pub cleared : tallyFrom xs .cleared ≡ many 1 xs
+  pub notfinite : tallyFrom xs .notfinite ≡ many 2 xs
+  pub lost : tallyFrom xs .lost ≡ many 3 xs
+  pub finished : tallyFrom xs .finished ≡ many 4 xs
+  pub begun : tallyFrom xs .begun ≡ sumOf (tallyFrom xs)
+
+abbrev pub Tally-takes-all : Type 0
+Tally-takes-all = (xs : List Answer) → length xs ≤ 4294967295 → CountsAll xs
+
+-- ---- a render is claimed exactly when every frame is clean
+abbrev pub Claimed-clean : Type 0
+Claimed-clean = (s : Score) → s .frames ≤ 4294967295
+    → (claimedOf (s .frames) (tallyFrom (heardOf s)) ≡ true → Every (λ a. markNumber a ≡ 4) (heardOf s))
+    × (Every (λ a. markNumber a ≡ 4) (heardOf s) → claimedOf (s .frames) (tallyFrom (heardOf s)) ≡ true)
+
+-- ---- document 01's example
+abbrev pub Worked : Type 0
+Worked =
+    renderOf (ascii "osc=vco\nhz=48000\nframes=1\nvoct=0\nfm=0\npw=500000\nsync=0\nfm_lin=-5000000\n")
+    ≡ ascii "n=0\nmark=clean\nsin=0000000000000000\ntri=C014000000000000\nsaw=C014000000000000\nsqr=4014000000000000\nbegun=1\nfinished=1\ncleared=0\nnotfinite=0\nlost=0\nclaimed=yes\n"
