@@ -1,6 +1,6 @@
 -- The examples, computed; the last one in Frame.
 use mathlib.Core.Path.{refl}
-use lib.Ieee.{add, sub, mul, div, neg, lt, le, eq, isNan, ofInt, toUnsigned, ofBits}
+use lib.Ieee.{sub, mul, div, le, isNan, ofInt, toUnsigned, ofBits}
 use Rattle.numeric.specs.Basic.{fabsOf, clampOf, minOf, maxOf}
 use Rattle.numeric.specs.Draw.{drawOf, bipolarOf}
 use Rattle.numeric.specs.Floor.{floorOf}
@@ -14,7 +14,7 @@ use Rattle.examples.specs.Table.{Examples, _also_, none}
 use Rattle.examples.proofs.Frame.{frame}
 
 pub examples : Examples
-unfolding wrapOf floorOf polyblepOf drawOf bipolarOf risesAbove risingAboveOf risingOf fracAbove crossedAboveOf crossedOf maxLenOf maxHarmonic allowedOf levelFrom selectLevel offsetOne offsetTwo tablePosOf tableIndexOf blendOf fabsOf clampOf minOf maxOf add sub mul div neg lt le eq isNan ofInt toUnsigned ofBits
+unfolding wrapOf floorOf polyblepOf drawOf bipolarOf risesAbove risingAboveOf risingOf fracAbove crossedAboveOf crossedOf maxLenOf maxHarmonic allowedOf levelFrom selectLevel offsetOne offsetTwo tablePosOf tableIndexOf blendOf fabsOf clampOf minOf maxOf sub mul div le isNan ofInt toUnsigned ofBits
 examples =
     refl also refl also refl
     also refl also refl

@@ -1,9 +1,8 @@
 -- Example 10: the score's one frame is the Vco's first tick, whose answer the Vco's crate proves, and this is its text.
-use mathlib.Core.List.{List, [], _∷_}
+use mathlib.Core.List.{[], _∷_}
 use mathlib.Core.Path.{_≡_, refl, ap, _∙_}
 use lib.IntN.{pos, negsuc}
-use lib.Ieee.{binary64, neg, div, ofInt, toBits, ofBits}
-use Rattle.laws.specs.Float.{zer}
+use lib.Ieee.{neg, div, ofInt, toBits, ofBits}
 use Rattle.line.specs.Bytes.{ascii, sameOf, hasOf, untilOf, pastOf}
 use Rattle.line.specs.Line.{lineOf, afterLine, keyOf, valueOf, isLine}
 use Rattle.line.specs.Number.{digitsFrom, digitsOf, negativeOf, signedOf, numberOf}
@@ -17,9 +16,7 @@ use Rattle.score.specs.declared.Score.{Score}
 use Rattle.score.specs.declared.Reading.the-variants.{Values}
 use Rattle.answer.specs.Answer.{markNumber}
 use Rattle.answer.specs.Tally.{addsUp, oneIf, counted, tallyOf, settle, run}
-use Rattle.answer.specs.declared.Volts.{Volts}
-use Rattle.answer.specs.declared.Answer.{Answer}
-use Rattle.answer.specs.declared.Answer.the-variants.{Clean}
+use Rattle.vco.specs.Vco.{newVco, vcoTickOf}
 use Rattle.vco.specs.Promises.{frameRate, frameControls}
 use Rattle.vco.proofs.Frame.{first-frame}
 use Rattle.text.specs.Decimal.{decimalFrom, decimalText}
@@ -49,17 +46,13 @@ controls : vcoControls inputs ≡ frameControls
 unfolding vcoControls voltsOf neg div ofInt ofBits
 controls = refl
 
--- the one answer, as the Vco's crate proves it
-abbrev answer : Answer
-answer = Clean (record { p10 = ofBits binary64 0; p11 = ofBits binary64 0xc014000000000000; p12 = ofBits binary64 0xc014000000000000; p13 = ofBits binary64 0x4014000000000000; p14 = zer })
-
-heard : heardOf values ≡ answer ∷ []
+heard : heardOf values ≡ vcoTickOf (newVco frameRate) frameControls 15 .answer ∷ []
 unfolding heardOf heardFrom answers
-heard = rw (rate, controls, first-frame)
+heard = rw (rate, controls)
 
 plays : playOf values ≡ ascii printed
 unfolding playOf
-plays = rw heard (unfold framesText frameText markedText outputsText wavesText sampleLine countLine wordLine decimalText decimalFrom hexText hexFrom glyph toBits ofBits tallyFrom run settle tallyOf addsUp markNumber counted oneIf endText countsText claimedOf in refl)
+plays = rw (heard, first-frame) (unfold framesText frameText markedText outputsText wavesText sampleLine countLine wordLine decimalText decimalFrom hexText hexFrom glyph toBits ofBits tallyFrom run settle tallyOf addsUp markNumber counted oneIf endText countsText claimedOf in refl)
 
 pub frame : renderOf (ascii score) ≡ ascii printed
 unfolding renderOf
