@@ -1,10 +1,8 @@
 -- When a render is claimed.
-use Prim.Native.Nat.{ℕ}
 use mathlib.Core.Bool.{Bool, true, false, _&&_, true≢false}
-use mathlib.Core.Path.{_≡_, refl, sym, _∙_}
+use mathlib.Core.Path.{_≡_, refl, sym}
 use lib.Dec.{eqb}
 use borrow.Author.Tests.{eqb-true, eq-eqb}
-use Rattle.answer.specs.declared.Tally.{Tally}
 use Rattle.frame.specs.End.{claimedOf}
 use Rattle.frame.specs.Promises.{Claimed-says}
 

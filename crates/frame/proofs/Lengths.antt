@@ -2,12 +2,12 @@
 use Prim.Native.Nat.{ℕ, zero, suc, _+_, _/_, _%_, _^_, _≤_, _<_}
 use mathlib.Core.Bool.{Bool, true, false, cond}
 use mathlib.Core.List.{List, [], _∷_, _++_}
-use mathlib.Core.Path.{_≡_, refl, sym, ap, _∙_, subst}
+use mathlib.Core.Path.{_≡_, refl, ap, _∙_}
 use native.Mathlib.Nat.{pow-succ'}
 use native.Mathlib.Omega.{arith}
 use lib.Dec.{ltb}
 use lib.ListN.{length, length-append, drop, take}
-use lib.Seq.{sets, sets-eq, take-at}
+use lib.Seq.{sets-eq, take-at}
 use lib.Ieee.{Float, binary64, toBits}
 use borrow.Author.Tests.{ltb-true, ltb-false}
 use Rattle.line.specs.Bytes.{ascii}
@@ -17,7 +17,6 @@ use Rattle.text.specs.Put.{placeOf}
 use Rattle.text.proofs.DecimalLaws.{decimal-small, decimal-large}
 use Rattle.answer.specs.declared.Volts.{Volts}
 use Rattle.answer.specs.declared.Answer.the-variants as answer
-use Rattle.answer.specs.declared.Tally.{Tally}
 use Rattle.score.specs.declared.Osc.{Osc}
 use Rattle.score.specs.declared.Osc.the-variants.{Vco, Lfo, Supersaw, Formant}
 use Rattle.frame.specs.Frame.{wordLine, countLine, sampleLine, wavesText, outputsText, markedText, frameText}

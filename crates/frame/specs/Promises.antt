@@ -1,9 +1,10 @@
 -- Theorems about the texts: the statements. The proofs of the same names in small letters stand in proofs/.
 use Prim.Native.Nat.{ℕ, _≤_, _<_}
-use mathlib.Core.Bool.{true}
+use mathlib.Core.Bool.{Bool, true}
 use mathlib.Core.List.{List}
 use mathlib.Core.Path.{_≡_}
 use lib.ListN.{length, take}
+use Rattle.laws.specs.Machine.{Settles}
 use Rattle.text.specs.Promises.{Put}
 use Rattle.answer.specs.declared.Answer.{Answer}
 use Rattle.answer.specs.declared.Tally.{Tally}
@@ -42,3 +43,10 @@ pub record ClaimedWhen (frames : ℕ) (t : Tally) : Type 0 where
 
 abbrev pub Claimed-says : Type 0
 Claimed-says = (frames : ℕ) (t : Tally) → ClaimedWhen frames t
+
+-- ---- each contract settles its answer and the lent buffer
+pub record Settled : Type 0 where
+  pub «put_frame» : (out : List ℕ) (at : ℕ) (o : Osc) (n : ℕ) (a : Answer) → Settles (λ (x : ℕ × List ℕ). Put out at (frameText o n a) (x .0) (x .1))
+  pub «put_end» : (out : List ℕ) (at frames : ℕ) (t : Tally) → Settles (λ (x : ℕ × List ℕ). Put out at (endText frames t) (x .0) (x .1))
+  pub «put_refused» : (out : List ℕ) (at n : ℕ) → Settles (λ (x : ℕ × List ℕ). Put out at (refusedText n) (x .0) (x .1))
+  pub claimed : (frames : ℕ) (t : Tally) → Settles (λ (b : Bool). b ≡ claimedOf frames t)

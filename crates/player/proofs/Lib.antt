@@ -2,3 +2,8 @@ pub mod New
 pub mod Pieces
 pub mod Steps
 pub mod Whole
+pub mod Counts
+pub mod Accepted
+pub mod Range
+pub mod Rendered
+pub mod Worked

@@ -10,12 +10,10 @@ use Rattle.answer.specs.declared.Answer.{Answer}
 use Rattle.answer.specs.declared.Tally.{Tally}
 use Rattle.answer.specs.declared.Tallied.{Tallied}
 use Rattle.answer.specs.declared.Tallied.the-variants as tallied
-use Rattle.score.specs.declared.Osc.{Osc}
 use Rattle.score.specs.declared.Inputs.{Inputs}
 use Rattle.score.specs.declared.Inputs.the-variants as inputs
 use Rattle.score.specs.declared.Score.{Score}
 use Rattle.frame.specs.Frame.{frameText}
-use Rattle.frame.specs.End.{endText}
 use Rattle.frame.proofs.Lengths.{frame-length}
 use Rattle.player.specs.Begin.{rateOf}
 use Rattle.player.specs.Play.{answers, heardFrom, heardOf, oscOf, framesText, tallyFrom, playOf}

@@ -1,9 +1,11 @@
 -- Theorems about playing a score: the statements. The proofs of the same names in small letters stand in proofs/.
 use Prim.Native.Nat.{ℕ, _+_, _*_, _≤_}
-use mathlib.Core.Bool.{true}
+use mathlib.Core.Bool.{Bool, true}
 use mathlib.Core.List.{List, [], _∷_, _++_}
 use mathlib.Core.Path.{_≡_}
 use lib.ListN.{length}
+use lib.Seq.{sets}
+use Rattle.laws.specs.Machine.{Settles}
 use Rattle.answer.specs.Answer.{markNumber, accepted}
 use Rattle.answer.specs.Tally.{sumOf, many}
 use Rattle.answer.specs.declared.Answer.{Answer}
@@ -12,11 +14,13 @@ use Rattle.line.specs.Bytes.{ascii}
 use Rattle.score.specs.Score.{scoreOf}
 use Rattle.score.specs.declared.Score.{Score}
 use Rattle.score.specs.declared.Reading.the-variants.{Values}
+use Rattle.text.specs.Promises.{Put}
 use Rattle.frame.specs.End.{claimedOf}
 use Rattle.player.specs.Begin.{rateOf}
 use Rattle.player.specs.Play.{heardOf, tallyFrom, playOf, renderOf}
-use Rattle.player.specs.Player.{beginOf, textOf, afterOf, finishOf}
+use Rattle.player.specs.Player.{beginOf, textOf, afterOf, turnsOf, playedOf, finishOf}
 use Rattle.player.specs.declared.Player.{Player}
+use Rattle.player.specs.declared.Played.{Played}
 
 -- ---- runs in pieces are one run
 abbrev pub Pieces : Type 0
@@ -39,15 +43,18 @@ pub record InRange (s : Score) : Type 0 where
 abbrev pub Read-in-range : Type 0
 Read-in-range = (text : List ℕ) (s : Score) → scoreOf text ≡ Values s → InRange s
 
--- ---- so no frame of it is refused
+-- ---- no frame at a good rate is refused
 unfoldable pub Every : (Answer → Type 0) → List Answer → Type 0
 Every P [] = Unit {0}
 Every P (a ∷ xs) = P a × Every P xs
 
-abbrev pub Frames-accepted : Type 0
-Frames-accepted = (s : Score) → rateOk (rateOf (s .hz)) ≡ true → Every (λ a. accepted a ≡ true) (heardOf s)
+abbrev pub Accepted : Answer → Type 0
+Accepted a = accepted a ≡ true
 
--- ---- and the tally takes the answers of all frames
+abbrev pub Frames-accepted : Type 0
+Frames-accepted = (s : Score) → rateOk (rateOf (s .hz)) ≡ true → Every Accepted (heardOf s)
+
+-- ---- the tally takes the answers of all frames: it would be full after 4,294,967,295
 pub record CountsAll (xs : List Answer) : Type 0 where
   pub cleared : tallyFrom xs .cleared ≡ many 1 xs
   pub notfinite : tallyFrom xs .notfinite ≡ many 2 xs
@@ -59,10 +66,35 @@ abbrev pub Tally-takes-all : Type 0
 Tally-takes-all = (xs : List Answer) → length xs ≤ 4294967295 → CountsAll xs
 
 -- ---- a render is claimed exactly when every frame is clean
+abbrev pub Clean : Answer → Type 0
+Clean a = markNumber a ≡ 4
+
+abbrev pub claims : Score → Bool
+claims s = claimedOf (s .frames) (tallyFrom (heardOf s))
+
+pub record ClaimedWhenClean (s : Score) : Type 0 where
+  pub only : claims s ≡ true → Every Clean (heardOf s)
+  pub always : Every Clean (heardOf s) → claims s ≡ true
+
 abbrev pub Claimed-clean : Type 0
-Claimed-clean = (s : Score) → s .frames ≤ 4294967295
-    → (claimedOf (s .frames) (tallyFrom (heardOf s)) ≡ true → Every (λ a. markNumber a ≡ 4) (heardOf s))
-    × (Every (λ a. markNumber a ≡ 4) (heardOf s) → claimedOf (s .frames) (tallyFrom (heardOf s)) ≡ true)
+Claimed-clean = (s : Score) → s .frames ≤ 4294967295 → ClaimedWhenClean s
+
+-- ---- so of a score that is read
+pub record Rendered (s : Score) : Type 0 where
+  pub frames : length (heardOf s) ≡ s .frames
+  pub accepts : Every Accepted (heardOf s)
+  pub counts : CountsAll (heardOf s)
+  pub claimed : ClaimedWhenClean s
+
+abbrev pub Read-renders : Type 0
+Read-renders = (text : List ℕ) (s : Score) → scoreOf text ≡ Values s → Rendered s
+
+-- ---- each contract settles its answer and the lent buffer
+pub record Settled : Type 0 where
+  pub new : (s : Score) → Settles (λ (p : Player). p ≡ beginOf s)
+  pub run : (p : Player) (out : List ℕ) (budget : ℕ)
+      → Settles (λ (a : Played × List ℕ). (a .0 ≡ playedOf out 0 (textOf (turnsOf p budget) p) (afterOf (turnsOf p budget) p)) × (a .1 ≡ sets out 0 (textOf (turnsOf p budget) p)))
+  pub finish : (p : Player) (out : List ℕ) → Settles (λ (a : ℕ × List ℕ). Put out 0 (finishOf p) (a .0) (a .1))
 
 -- ---- document 01's example
 abbrev pub Worked : Type 0

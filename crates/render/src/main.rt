@@ -1,27 +1,59 @@
-// Reads a score from standard input, plays it and prints its frames, or prints its refusal.
+// Reads a score from standard input and prints what it plays, or its refusal.
 use libc::STDIN_FILENO;
 use libc::STDOUT_FILENO;
 use player::Player;
 use score::Reading;
 use score::Score;
+ghost use mathlib.Core.Path.{_≡_};
+ghost use lib.ListN.{length};
+ghost use Rattle.frame.specs.End.{refusedText};
+ghost use Rattle.render.specs.Writes.{pieceOf, endOf};
 
-// The texts of 400 frames fit into the buffer.
-fn play(out: &mut [u8], score: Score) {
+// So many frames are written at once: their texts fit into the buffer.
+const AT_ONCE: u32 = 400;
+
+// ---- all that is written; no contract can speak of the output, so the `requires` says what is handed to it
+
+fn write_piece(text: &[u8], score: Score, frame: u32) -> bool
+    requires { ⌜ now text ≡ pieceOf score frame 400 ⌝ }
+{
+    io::write_all(STDOUT_FILENO, text)
+}
+
+fn write_end(text: &[u8], score: Score) -> bool
+    requires { ⌜ now text ≡ endOf score ⌝ }
+{
+    io::write_all(STDOUT_FILENO, text)
+}
+
+fn write_refused(text: &[u8], n: u32) -> bool
+    requires { ⌜ now text ≡ refusedText n ⌝ }
+{
+    io::write_all(STDOUT_FILENO, text)
+}
+
+// ----
+
+// Piece by piece, until nothing is left or nobody reads on.
+fn play(out: &mut [u8], score: Score)
+    requires { ⌜ length (now out) ≡ 65536 ⌝ }
+{
     let mut player = Player::new(score);
     while player.frame < player.frames {
-        let played = player.run(&mut *out, 400);
+        let played = player.run(&mut *out, AT_ONCE);
         let to = played.to;
-        if !io::write_all(STDOUT_FILENO, &out[..to]) {
+        if !write_piece(&out[..to], score, player.frame) {
             return;
         }
         let next = played.player;
         player = next;
     }
     let to = player.finish(&mut *out);
-    io::write_all(STDOUT_FILENO, &out[..to]);
+    write_end(&out[..to], score);
 }
 
 fn main() {
+    // One byte more than a score may have: the reader refuses it, and nothing more need be read.
     let mut input = [0u8; 1025];
     let n = io::read_full(STDIN_FILENO, &mut input);
     let mut out = io::large_buffer();
@@ -29,7 +61,7 @@ fn main() {
         Reading::Values(s) => play(&mut out, s),
         Reading::Refused(k) => {
             let to = frame::put_refused(&mut out, 0, k);
-            io::write_all(STDOUT_FILENO, &out[..to]);
+            write_refused(&out[..to], k);
         }
     }
 }

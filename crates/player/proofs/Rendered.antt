@@ -1,0 +1,19 @@
+-- What holds of a score that is read; and that each contract, being equations, settles what it speaks of.
+use native.Mathlib.Omega.{arith}
+use Rattle.laws.proofs.Settled as laws
+use Rattle.frame.proofs.Settled.{both}
+use Rattle.player.specs.Play.{heardOf}
+use Rattle.player.specs.Player.{beginOf}
+use Rattle.player.specs.Promises.{Read-renders, Settled}
+use Rattle.player.proofs.Accepted.{frames-accepted}
+use Rattle.player.proofs.Counts.{tally-takes-all, frames-heard, claimed-clean}
+use Rattle.player.proofs.Range.{read-in-range}
+
+pub read-renders : Read-renders
+read-renders text s e =
+    let r = read-in-range text s e in
+    let n = frames-heard s in
+    record { frames = n; accepts = frames-accepted s (r .rate); counts = tally-takes-all (heardOf s) (omega (arith, r .most)); claimed = claimed-clean s (omega (arith, r .most)) }
+
+pub settled : Settled
+settled = record { new = λ s. laws.settled (beginOf s); run = λ p out budget. both _ _; finish = λ p out. both _ _ }

@@ -1,0 +1,80 @@
+-- Document 01's example, from the score's bytes to what is printed. The frame's answer is the Vco's own theorem.
+use mathlib.Core.List.{List, [], _∷_, _++_}
+use mathlib.Core.Path.{_≡_, refl, ap, _∙_}
+use Prim.Native.Nat.{ℕ}
+use lib.IntN.{pos, negsuc}
+use lib.Ieee.{binary64, ofBits, toBits, ofInt, div, neg}
+use Rattle.laws.specs.Float.{zer}
+use Rattle.line.specs.Bytes.{ascii, sameOf, hasOf, untilOf, pastOf}
+use Rattle.line.specs.Line.{lineOf, afterLine, keyOf, valueOf, isLine}
+use Rattle.line.specs.Number.{digitsFrom, digitsOf, negativeOf, signedOf, numberOf}
+use Rattle.text.specs.Decimal.{decimalFrom, decimalText}
+use Rattle.text.specs.Hex.{glyph, hexFrom, hexText}
+use Rattle.answer.specs.Answer.{markNumber}
+use Rattle.answer.specs.Tally.{addsUp, oneIf, counted, tallyOf, settle, run}
+use Rattle.answer.specs.declared.Answer.{Answer}
+use Rattle.answer.specs.declared.Answer.the-variants as answer
+use Rattle.answer.specs.declared.Volts.{Volts}
+use Rattle.common.specs.declared.Hertz.{Hertz}
+use Rattle.score.specs.Control.{voltsOf}
+use Rattle.score.specs.Lines.{oscOf, withinOf, controlOf, oscLine, wholeLine, controlLine}
+use Rattle.score.specs.Score.{osc, whole, control, endOf, vcoOf, framesOf, hzOf, linesOf, scoreOf}
+use Rattle.score.specs.declared.Control.the-variants.{Microvolts}
+use Rattle.score.specs.declared.Inputs.the-variants.{Vco}
+use Rattle.score.specs.declared.Osc.the-variants as kind
+use Rattle.score.specs.declared.Reading.the-variants.{Values}
+use Rattle.score.specs.declared.Score.{Score}
+use Rattle.score.specs.declared.VcoInputs.{VcoInputs}
+use Rattle.vco.specs.Promises.{frameRate, frameControls}
+use Rattle.vco.specs.Vco.{newVco, vcoTickOf}
+use Rattle.vco.specs.declared.VcoControls.{VcoControls}
+use Rattle.vco.proofs.Frame.{first-frame}
+use Rattle.frame.specs.Frame.{wordLine, countLine, sampleLine, wavesText, outputsText, markedText, frameText}
+use Rattle.frame.specs.End.{countsText, claimedOf, endText}
+use Rattle.player.specs.Begin.{rateOf, vcoControls}
+use Rattle.player.specs.Play.{answers, heardFrom, heardOf, framesText, tallyFrom, playOf, printedOf, renderOf}
+use Rattle.player.specs.Promises.{Worked}
+
+given : List ℕ
+given = ascii "osc=vco\nhz=48000\nframes=1\nvoct=0\nfm=0\npw=500000\nsync=0\nfm_lin=-5000000\n"
+
+inputs : VcoInputs
+inputs = record { voct = Microvolts (pos 0); fm = Microvolts (pos 0); pw = Microvolts (pos 500000); sync = Microvolts (pos 0); «fm_lin» = Microvolts (negsuc 4999999) }
+
+score : Score
+score = record { hz = 48000; frames = 1; inputs = Vco inputs }
+
+volts : Volts
+volts = record { p10 = ofBits binary64 0; p11 = ofBits binary64 0xc014000000000000; p12 = ofBits binary64 0xc014000000000000; p13 = ofBits binary64 0x4014000000000000; p14 = zer }
+
+is-read : scoreOf given ≡ Values score
+unfolding given score inputs sameOf hasOf untilOf pastOf lineOf afterLine keyOf valueOf isLine digitsFrom digitsOf negativeOf signedOf numberOf oscOf withinOf controlOf oscLine wholeLine controlLine osc whole control endOf vcoOf framesOf hzOf linesOf scoreOf
+is-read = refl
+
+rate : rateOf 48000 ≡ frameRate
+unfolding rateOf ofInt ofBits
+rate = refl
+
+controls : vcoControls inputs ≡ frameControls
+unfolding inputs vcoControls voltsOf div ofInt ofBits neg
+controls = refl
+
+is-heard : heardOf score ≡ answer.Clean volts ∷ []
+unfolding heardOf heardFrom answers score volts
+is-heard =
+    ap (λ (a : Answer). a ∷ []) (ap (λ (r : Hertz). vcoTickOf (newVco r) (vcoControls inputs) 15 .answer) rate ∙ ap (λ (c : VcoControls). vcoTickOf (newVco frameRate) c 15 .answer) controls ∙ first-frame)
+
+printed : List Answer → List ℕ
+printed xs = framesText kind.Vco 0 xs ++ endText 1 (tallyFrom xs)
+
+is-printed : playOf score ≡ printed (answer.Clean volts ∷ [])
+unfolding playOf printed score
+is-printed = ap printed is-heard
+
+text : printed (answer.Clean volts ∷ []) ≡ ascii "n=0\nmark=clean\nsin=0000000000000000\ntri=C014000000000000\nsaw=C014000000000000\nsqr=4014000000000000\nbegun=1\nfinished=1\ncleared=0\nnotfinite=0\nlost=0\nclaimed=yes\n"
+unfolding printed volts framesText frameText markedText outputsText wavesText sampleLine wordLine countLine decimalText decimalFrom glyph hexText hexFrom toBits ofBits endText countsText claimedOf tallyFrom run settle tallyOf addsUp counted oneIf markNumber
+text = refl
+
+pub worked : Worked
+unfolding renderOf given
+worked = ap printedOf is-read ∙ is-printed ∙ text

@@ -1,0 +1,88 @@
+-- `play`: between two pieces the player stands where the pieces before it end.
+use Prim.Native.Nat.{_-_}
+use mathlib.Core.Path.{_≡_, sym, _∙_}
+use native.Mathlib.Omega.{arith}
+use lib.ListN.{length}
+use lib.Seq.{length-take-le}
+use borrow.Author.Needs.{needs}
+use Rattle.text.proofs.PutLaws.{within}
+use Rattle.render.proofs.Written.{Stands, stands-first, put-piece, piece-written, stands-next, less-left, end-written}
+use Rattle.render.proofs.play.Statement.{statement}
+use Rattle.render.proofs.play.Tie as tie
+
+abbrev Inv-loop : tie.InvT-loop
+Inv-loop out₀ score player₀ out player = (length out ≡ 65536) × Stands score player
+
+abbrev μ-loop : tie.MeasureT-loop
+μ-loop out₀ score player₀ out player = score .frames - player .frame
+
+new-requires : tie.Need-new-requires Inv-loop μ-loop
+new-requires c κs = search needs
+
+loop-holds : tie.Need-loop-holds Inv-loop μ-loop
+loop-holds c = (c .before .before .pre, stands-first _ _ (c .new .ensures))
+
+run-requires : tie.Need-run-requires Inv-loop μ-loop
+run-requires c κs = search needs
+
+slice-reshare-prefix-write-piece : tie.Need-slice-reshare-prefix-write-piece Inv-loop μ-loop
+slice-reshare-prefix-write-piece c = within _ _ _ (put-piece (c .before .before .before .before .before .before .before .before .before .args .score) _ (c .before .before .before .before .before .before .loop .inv .1) _ _ _ _ (c .before .before .run .ensures)) .0
+
+slice-aggregate-write-piece : tie.Need-slice-aggregate-write-piece Inv-loop μ-loop
+slice-aggregate-write-piece c = sym (length-take-le _ _ (within _ _ _ (put-piece (c .before .before .before .before .before .before .before .before .before .before .args .score) _ (c .before .before .before .before .before .before .before .loop .inv .1) _ _ _ _ (c .before .before .before .run .ensures)) .0))
+
+write-piece-requires : tie.Need-write-piece-requires Inv-loop μ-loop
+write-piece-requires c κs = let g = c .before .before .before .before .before .before .before .before .before .before .good .1 .0 in piece-written _ _ (c .before .before .before .before .before .before .before .loop .inv .1) _ _ _ (omega arith) (c .before .before .before .before .before .before .before .loop .inv .0) (c .before .before .before .run .ensures)
+
+same-length : tie.Need-same-length Inv-loop μ-loop
+same-length c = within _ _ _ (put-piece (c .before .before .before .before .before .before .before .before .before .before .before .before .args .score) _ (c .before .before .before .before .before .before .before .before .before .loop .inv .1) _ _ _ _ (c .before .before .before .before .before .run .ensures)) .1 ∙ c .before .before .before .before .before .before .before .before .before .loop .inv .0 ∙ sym (c .before .before .before .before .before .before .before .before .before .before .before .before .pre)
+
+returns : tie.Need-returns Inv-loop μ-loop
+returns c = search needs
+
+loop-less : tie.Need-loop-less Inv-loop μ-loop
+loop-less c = less-left _ _ (c .before .before .before .before .before .before .before .before .before .before .loop .inv .1) _ _ _ (c .before .before .before .before .before .before .run .ensures) (c .before .before .before .before .before .before .before .before .if1 .taken)
+
+loop-again : tie.Need-loop-again Inv-loop μ-loop
+loop-again c = (within _ _ _ (put-piece (c .before .before .before .before .before .before .before .before .before .before .before .before .before .args .score) _ (c .before .before .before .before .before .before .before .before .before .before .loop .inv .1) _ _ _ _ (c .before .before .before .before .before .before .run .ensures)) .1 ∙ c .before .before .before .before .before .before .before .before .before .before .loop .inv .0, stands-next _ _ (c .before .before .before .before .before .before .before .before .before .before .loop .inv .1) _ _ _ _ (c .before .before .before .before .before .before .run .ensures))
+
+finish-requires : tie.Need-finish-requires Inv-loop μ-loop
+finish-requires c κs = search needs
+
+slice-reshare-prefix-write-end : tie.Need-slice-reshare-prefix-write-end Inv-loop μ-loop
+slice-reshare-prefix-write-end c = within _ _ _ (c .before .before .finish .ensures) .0
+
+slice-aggregate-write-end : tie.Need-slice-aggregate-write-end Inv-loop μ-loop
+slice-aggregate-write-end c = sym (length-take-le _ _ (within _ _ _ (c .before .before .before .finish .ensures) .0))
+
+write-end-requires : tie.Need-write-end-requires Inv-loop μ-loop
+write-end-requires c κs = let k = c .before .before .before .before .before .before .struct-known .given in end-written _ _ (c .before .before .before .before .before .before .before .loop .inv .1) _ _ _ (c .before .before .before .before .before .if1 .left) (record { begun = omega arith; finished = omega arith; cleared = omega arith; notfinite = omega arith; lost = omega arith }) (c .before .before .before .before .before .before .before .loop .inv .0) (c .before .before .before .finish .ensures)
+
+same-length-2 : tie.Need-same-length-2 Inv-loop μ-loop
+same-length-2 c = within _ _ _ (c .before .before .before .before .finish .ensures) .1 ∙ c .before .before .before .before .before .before .before .before .loop .inv .0 ∙ sym (c .before .before .before .before .before .before .before .before .before .before .before .pre)
+
+returns-2 : tie.Need-returns-2 Inv-loop μ-loop
+returns-2 c = search needs
+
+pub play-spec : {M : Type 1} → statement M
+play-spec =
+    tie.close
+    (tie.spec
+    Inv-loop
+    μ-loop
+    new-requires
+    loop-holds
+    run-requires
+    slice-reshare-prefix-write-piece
+    slice-aggregate-write-piece
+    write-piece-requires
+    same-length
+    returns
+    loop-less
+    loop-again
+    finish-requires
+    slice-reshare-prefix-write-end
+    slice-aggregate-write-end
+    write-end-requires
+    same-length-2
+    returns-2)

@@ -1,0 +1,13 @@
+-- What the program writes of a score, piece by piece.
+use Prim.Native.Nat.{ℕ}
+use mathlib.Core.List.{List}
+use Rattle.score.specs.declared.Score.{Score}
+use Rattle.player.specs.Player.{beginOf, textOf, afterOf, turnsOf, finishOf}
+
+-- the piece that begins with the frame n: k frames, or as many as are left
+unfoldable pub pieceOf : Score → ℕ → ℕ → List ℕ
+pieceOf s n k = let p = afterOf n (beginOf s) in textOf (turnsOf p k) p
+
+-- the last one, after all frames
+unfoldable pub endOf : Score → List ℕ
+endOf s = finishOf (afterOf (s .frames) (beginOf s))
