@@ -1,4 +1,4 @@
--- The examples, computed; the last one in Frame.
+-- The examples, computed; the printed frame is the player's theorem, which knows powers and sine only by what numeric promises.
 use mathlib.Core.Path.{refl}
 use lib.Ieee.{sub, mul, div, le, isNan, ofInt, toUnsigned, ofBits}
 use Rattle.numeric.specs.Basic.{fabsOf, clampOf, minOf, maxOf}
@@ -10,8 +10,8 @@ use Rattle.wavetable.specs.Harmonics.{maxHarmonic}
 use Rattle.wavetable.specs.Reads.{allowedOf, levelFrom, selectLevel, tablePosOf, tableIndexOf, blendOf}
 use Rattle.karplus_strong.specs.KarplusStrong.{maxLenOf}
 use Rattle.karplus_strong.specs.Step.{offsetOne, offsetTwo}
+use Rattle.player.proofs.Worked.{worked}
 use Rattle.examples.specs.Table.{Examples, _also_, none}
-use Rattle.examples.proofs.Frame.{frame}
 
 pub examples : Examples
 unfolding wrapOf floorOf polyblepOf drawOf bipolarOf risesAbove risingAboveOf risingOf fracAbove crossedAboveOf crossedOf maxLenOf maxHarmonic allowedOf levelFrom selectLevel offsetOne offsetTwo tablePosOf tableIndexOf blendOf fabsOf clampOf minOf maxOf sub mul div le isNan ofInt toUnsigned ofBits
@@ -25,5 +25,5 @@ examples =
     also refl also refl also refl also refl
     also refl also refl also refl also refl
     also refl also refl also refl
-    also frame
+    also worked
     also none
