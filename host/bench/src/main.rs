@@ -22,7 +22,7 @@ const RUNS: usize = 100;
 
 fn main() -> ExitCode {
     if std::env::args().nth(1).as_deref() == Some(render::RUST) {
-        return render::as_the_rust();
+        return reference::run();
     }
     println!("{:<8} {:<24} {:>7} {:>7} {:>7}  goal", "ns", "range", "ours", "Rust's", "ratio");
     row("sin", 0.0..TAU, numeric::sin, f64::sin, "below 1");

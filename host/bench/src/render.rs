@@ -1,24 +1,10 @@
 //! The longest render of a Vco, by the proved program and by the Rust: seconds, and memory at its peak.
 //!
-//! Both are programs that read a score and print the same bytes, the Rust's through a buffered writer; this program itself
-//! is the Rust's where its argument is `RUST`. The Rust runs over our sine and powers here, or the bytes would differ.
-use std::process::ExitCode;
+//! Both are programs that read a score and print the same bytes, the Rust's through a buffered writer; the Rust's is this
+//! program itself, given `RUST`. The Rust runs over our sine and powers here, or the bytes would differ.
 
-/// What has this program print as the Rust does.
-pub const RUST: &str = "--rust-renders";
-
-#[cfg(quiver)]
-pub fn as_the_rust() -> ExitCode {
-    use std::io::{self, Read, Write};
-    let (mut score, mut out) = (vec![], io::BufWriter::new(io::stdout().lock()));
-    io::stdin().read_to_end(&mut score).unwrap();
-    reference::write(&score, &mut out).and_then(|_| out.flush()).map_or(ExitCode::FAILURE, |_| ExitCode::SUCCESS)
-}
-
-#[cfg(not(quiver))]
-pub fn as_the_rust() -> ExitCode {
-    ExitCode::FAILURE
-}
+/// The argument that has this program render as the Rust does.
+pub const RUST: &str = "--as-the-rust";
 
 pub fn rows() {
     println!("{:<34} {:>7} {:>7} {:>7}", "render of 480,000 vco frames", "ours", "Rust's", "ratio");
@@ -40,7 +26,7 @@ mod runs {
 
     const SCORE: &str = "osc=vco\nhz=48000\nframes=480000\nvoct=250000\nfm=0\npw=500000\nsync=0\nfm_lin=0\n";
     /// Runs of either side; the best counts.
-    const RUNS: usize = 8;
+    const RUNS: usize = 16;
 
     pub struct Best {
         pub seconds: f64,
