@@ -3,3 +3,4 @@ pub mod Mark
 pub mod Tally
 pub mod Promises
 pub mod Settled
+pub mod Flat

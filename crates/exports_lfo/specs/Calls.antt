@@ -5,6 +5,7 @@ use Prim.Native.Nat.{ℕ, _+_}
 use lib.Dec.{eqb}
 use lib.Ieee.{Float}
 use lib.ListN.{length}
+use Rattle.answer.specs.Flat.{Kept, kept, Heard, heard}
 use Rattle.answer.specs.Answer.{markNumber, voltsOf, refusalOf, accepted}
 use Rattle.lfo.specs.Calls.{Refused}
 use Rattle.lfo.specs.Lfo.{lfoNewOf, lfoTickOf, lfoResetOf, lfoSetSampleRateOf}
@@ -12,15 +13,6 @@ use Rattle.exports_lfo.specs.State.{sizesOf, tickSizesOf, stateOf, float
 use Rattle.lfo.specs.declared.LfoMade.{LfoMade}
 use Rattle.lfo.specs.declared.LfoMade.the-variants as made
 use Rattle.lfo.specs.declared.LfoTicked.{LfoTicked}
-
--- the number of a call without samples, and the slices after it
-pub record Kept : Type 0 where
-  pub code : ℕ
-  pub floats : List Float
-  pub wholes : List ℕ
-
-abbrev pub kept : ℕ → List Float → List ℕ → Kept
-kept n f w = record { code = n; floats = f; wholes = w }
 
 -- 0 and the new state, or what refused it
 unfoldable pub keptOf : LfoMade → List Float → List ℕ → Kept
@@ -39,16 +31,6 @@ lfoResetAt f w = keptSized (keptOf (lfoResetOf (stateOf f w)) f w) f w
 
 unfoldable pub lfoSetSampleRateAt : Float → List Float → List ℕ → Kept
 lfoSetSampleRateAt rate f w = keptSized (keptOf (lfoSetSampleRateOf (stateOf f w) (record { 0 = rate })) f w) f w
-
--- the same of a tick, with its samples
-pub record Heard : Type 0 where
-  pub code : ℕ
-  pub floats : List Float
-  pub wholes : List ℕ
-  pub samples : List Float
-
-abbrev pub heard : ℕ → List Float → List ℕ → List Float → Heard
-heard n f w o = record { code = n; floats = f; wholes = w; samples = o }
 
 -- 10 and the mark's number, the new state and the samples, or what refused it
 unfoldable pub heardOf : LfoTicked → List Float → List ℕ → List Float → Heard

@@ -3,8 +3,9 @@ use mathlib.Core.List.{List}
 use mathlib.Core.Path.{_≡_}
 use Prim.Native.Nat.{ℕ}
 use lib.Ieee.{Float}
+use Rattle.answer.specs.Flat.{Kept, Heard}
 use Rattle.laws.specs.Machine.{Settles}
-use Rattle.exports_lfo.specs.Calls.{Kept, lfoNewAt, lfoResetAt, lfoSetSampleRateAt, Heard, lfoTickAt}
+use Rattle.exports_lfo.specs.Calls.{lfoNewAt, lfoResetAt, lfoSetSampleRateAt, lfoTickAt}
 use Rattle.exports_lfo.specs.State.{stateOf, floatsOf, wholesOf}
 use Rattle.lfo.specs.declared.Lfo.{Lfo}
 

@@ -14,8 +14,9 @@ use lfo::LfoMade;
 use lfo::LfoTicked;
 ghost use mathlib.Core.Path.{_≡_};
 ghost use lib.ListN.{length};
+ghost use Rattle.answer.specs.Flat.{kept, heard};
 ghost use Rattle.exports_lfo.specs.State.{sizesOf, tickSizesOf, stateOf, floatsOf, wholesOf, samplesOf};
-ghost use Rattle.exports_lfo.specs.Calls.{kept, heard, keptOf, heardOf, lfoNewAt, lfoTickAt, lfoResetAt, lfoSetSampleRateAt};
+ghost use Rattle.exports_lfo.specs.Calls.{keptOf, heardOf, lfoNewAt, lfoTickAt, lfoResetAt, lfoSetSampleRateAt};
 
 // 0, or the number that refuses these lengths.
 fn sizes(floats: &[f64], wholes: &[u64]) -> u32

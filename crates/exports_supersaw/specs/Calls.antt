@@ -5,6 +5,7 @@ use Prim.Native.Nat.{ℕ, _+_}
 use lib.Dec.{eqb}
 use lib.Ieee.{Float}
 use lib.ListN.{length}
+use Rattle.answer.specs.Flat.{Kept, kept, Heard, heard}
 use Rattle.answer.specs.declared.Outcome.{Outcome}
 use Rattle.answer.specs.declared.Outcome.the-variants as outcome
 use Rattle.answer.specs.Answer.{markNumber, voltsOf, refusalOf, accepted}
@@ -14,15 +15,6 @@ use Rattle.exports_supersaw.specs.State.{sizesOf, tickSizesOf, stateOf, 
 use Rattle.supersaw.specs.declared.SupersawMade.{SupersawMade}
 use Rattle.supersaw.specs.declared.Supersaw.{Supersaw}
 use Rattle.supersaw.specs.declared.SupersawTicked.{SupersawTicked}
-
--- the number of a call without samples, and the slices after it
-pub record Kept : Type 0 where
-  pub code : ℕ
-  pub floats : List Float
-  pub wholes : List ℕ
-
-abbrev pub kept : ℕ → List Float → List ℕ → Kept
-kept n f w = record { code = n; floats = f; wholes = w }
 
 -- 0 and the new state, or what refused it
 unfoldable pub keptBy : Outcome → Supersaw → List Float → List ℕ → Kept
@@ -44,16 +36,6 @@ supersawResetAt f w = keptSized (keptOf (supersawResetOf (stateOf f w)) f w) f w
 
 unfoldable pub supersawSetSampleRateAt : Float → List Float → List ℕ → Kept
 supersawSetSampleRateAt rate f w = keptSized (keptOf (supersawSetSampleRateOf (stateOf f w) (record { 0 = rate })) f w) f w
-
--- the same of a tick, with its samples
-pub record Heard : Type 0 where
-  pub code : ℕ
-  pub floats : List Float
-  pub wholes : List ℕ
-  pub samples : List Float
-
-abbrev pub heard : ℕ → List Float → List ℕ → List Float → Heard
-heard n f w o = record { code = n; floats = f; wholes = w; samples = o }
 
 -- 10 and the mark's number, the new state and the samples, or what refused it
 unfoldable pub heardOf : SupersawTicked → List Float → List ℕ → List Float → Heard

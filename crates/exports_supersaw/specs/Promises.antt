@@ -4,8 +4,9 @@ use mathlib.Core.Path.{_≡_}
 use Prim.Native.Nat.{ℕ}
 use lib.ListN.{length}
 use lib.Ieee.{Float}
+use Rattle.answer.specs.Flat.{Kept, Heard}
 use Rattle.laws.specs.Machine.{Settles}
-use Rattle.exports_supersaw.specs.Calls.{Kept, supersawNewAt, supersawResetAt, supersawSetSampleRateAt, Heard, supersawTickAt}
+use Rattle.exports_supersaw.specs.Calls.{supersawNewAt, supersawResetAt, supersawSetSampleRateAt, supersawTickAt}
 use Rattle.exports_supersaw.specs.State.{stateOf, floatsOf, wholesOf}
 use Rattle.supersaw.specs.declared.Supersaw.{Supersaw}
 

@@ -15,8 +15,9 @@ use supersaw::SupersawMade;
 use supersaw::SupersawTicked;
 ghost use mathlib.Core.Path.{_≡_};
 ghost use lib.ListN.{length};
+ghost use Rattle.answer.specs.Flat.{kept, heard};
 ghost use Rattle.exports_supersaw.specs.State.{sizesOf, tickSizesOf, stateOf, floatsOf, wholesOf, samplesOf};
-ghost use Rattle.exports_supersaw.specs.Calls.{kept, heard, keptOf, heardOf, supersawNewAt, supersawTickAt, supersawResetAt, supersawSetSampleRateAt};
+ghost use Rattle.exports_supersaw.specs.Calls.{keptOf, heardOf, supersawNewAt, supersawTickAt, supersawResetAt, supersawSetSampleRateAt};
 
 // 0, or the number that refuses these lengths.
 fn sizes(floats: &[f64], wholes: &[u64]) -> u32

@@ -9,9 +9,10 @@ use lib.Ieee.{Float}
 use lib.ListN.{length, set}
 use borrow.Author.Tests.{eq-eqb, ne-eqb, eqb-true}
 use mir.Val.{boolByte}
+use Rattle.answer.specs.Flat.{Kept, Heard}
 use Rattle.answer.specs.Answer.{markNumber, voltsOf, refusalOf}
 use Rattle.exports_vco.specs.State.{floatsOf, wholesOf, samplesOf}
-use Rattle.exports_vco.specs.Calls.{sizesOf, tickSizesOf, Kept, Keeps, keptOf, keptUnless, Heard, Hears, heardOf, heardUnless}
+use Rattle.exports_vco.specs.Calls.{sizesOf, tickSizesOf, Keeps, keptOf, keptUnless, Hears, heardOf, heardUnless}
 use Rattle.answer.specs.declared.Answer.{Answer}
 use Rattle.answer.specs.declared.Answer.the-variants as answer
 use Rattle.vco.specs.declared.Vco.{Vco}

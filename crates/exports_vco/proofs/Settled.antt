@@ -1,7 +1,8 @@
 -- Each exported contract gives the number and every slice by a definition, so it settles them.
 use mathlib.Core.Path.{sym, _∙_}
+use Rattle.answer.specs.Flat.{Kept, Heard}
 use Rattle.laws.specs.Machine.{Settles}
-use Rattle.exports_vco.specs.Calls.{Kept, Heard, newAt, resetAt, setSampleRateAt, tickAt}
+use Rattle.exports_vco.specs.Calls.{newAt, resetAt, setSampleRateAt, tickAt}
 use Rattle.exports_vco.specs.Promises.{Left, Told, Settled}
 
 kept : (k : Kept) → Settles (Left k)

@@ -7,6 +7,7 @@ use Prim.Native.Nat.{ℕ, _+_}
 use lib.Dec.{eqb}
 use lib.Ieee.{Float}
 use lib.ListN.{length}
+use Rattle.answer.specs.Flat.{Kept, kept, Heard, heard}
 use Rattle.answer.specs.Answer.{markNumber, voltsOf, refusalOf}
 use Rattle.vco.specs.Vco.{vcoNewOf, vcoTickOf, vcoResetOf, vcoSetSampleRateOf}
 use Rattle.exports_vco.specs.State.{stateOf, floatsOf, wholesOf, samplesOf}
@@ -22,26 +23,16 @@ sizesOf f w = cond (eqb f 4) (cond (eqb w 4) 0 51) 50
 unfoldable pub tickSizesOf : ℕ → ℕ → ℕ → ℕ
 tickSizesOf f w o = cond (eqb (sizesOf f w) 0) (cond (eqb o 4) 0 52) (sizesOf f w)
 
--- ---- of a call without samples: its number and the state's slices
-pub record Kept : Type 0 where
-  pub code : ℕ
-  pub floats : List Float
-  pub wholes : List ℕ
-
 -- a call answers this number and leaves these slices
 abbrev pub Keeps : Kept → ℕ → List Float → List ℕ → Type 0
 Keeps k r f w = (r ≡ k .code) × (f ≡ k .floats) × (w ≡ k .wholes)
 
--- a refused call leaves them as they stood
-abbrev pub refusedBy : ℕ → List Float → List ℕ → Kept
-refusedBy n f w = record { code = n; floats = f; wholes = w }
-
 unfoldable pub keptOf : VcoMade → List Float → List ℕ → Kept
 keptOf (made.Made s) f w = record { code = 0; floats = floatsOf s; wholes = wholesOf s }
-keptOf (made.Refused n) f w = refusedBy n f w
+keptOf (made.Refused n) f w = kept n f w
 
 unfoldable pub keptUnless : ℕ → Kept → List Float → List ℕ → Kept
-keptUnless n k f w = cond (eqb n 0) k (refusedBy n f w)
+keptUnless n k f w = cond (eqb n 0) k (kept n f w)
 
 unfoldable pub newAt : Float → List Float → List ℕ → Kept
 newAt rate f w = keptUnless (sizesOf (length f) (length w)) (keptOf (vcoNewOf (record { 0 = rate })) f w) f w
@@ -52,28 +43,18 @@ resetAt f w = keptUnless (sizesOf (length f) (length w)) (keptOf (vcoResetOf (st
 unfoldable pub setSampleRateAt : Float → List Float → List ℕ → Kept
 setSampleRateAt rate f w = keptUnless (sizesOf (length f) (length w)) (keptOf (vcoSetSampleRateOf (stateOf f w) (record { 0 = rate })) f w) f w
 
--- ---- of a tick: the samples too
-pub record Heard : Type 0 where
-  pub code : ℕ
-  pub floats : List Float
-  pub wholes : List ℕ
-  pub samples : List Float
-
 abbrev pub Hears : Heard → ℕ → List Float → List ℕ → List Float → Type 0
 Hears h r f w o = (r ≡ h .code) × (f ≡ h .floats) × (w ≡ h .wholes) × (o ≡ h .samples)
-
-abbrev pub deafBy : ℕ → List Float → List ℕ → List Float → Heard
-deafBy n f w o = record { code = n; floats = f; wholes = w; samples = o }
 
 -- a refused tick's mark has the number 0
 unfoldable pub heardOf : VcoTicked → List Float → List ℕ → List Float → Heard
 heardOf t f w o =
     let a = t .answer in
-    cond (eqb (markNumber a) 0) (deafBy (refusalOf a) f w o)
+    cond (eqb (markNumber a) 0) (heard (refusalOf a) f w o)
     (record { code = 10 + markNumber a; floats = floatsOf (t .vco); wholes = wholesOf (t .vco); samples = samplesOf (voltsOf a) })
 
 unfoldable pub heardUnless : ℕ → Heard → List Float → List ℕ → List Float → Heard
-heardUnless n h f w o = cond (eqb n 0) h (deafBy n f w o)
+heardUnless n h f w o = cond (eqb n 0) h (heard n f w o)
 
 abbrev pub controlsOf : Float → Float → Float → Float → Float → VcoControls
 controlsOf voct fm pw sync fmLin = record { voct = record { 0 = voct }; fm = record { 0 = fm }; pw = pw; sync = sync; «fm_lin» = fmLin }

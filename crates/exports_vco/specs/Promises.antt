@@ -2,8 +2,9 @@
 use mathlib.Core.List.{List}
 use Prim.Native.Nat.{ℕ}
 use lib.Ieee.{Float}
+use Rattle.answer.specs.Flat.{Kept, Heard}
 use Rattle.laws.specs.Machine.{Settles}
-use Rattle.exports_vco.specs.Calls.{Kept, Keeps, Heard, Hears, newAt, resetAt, setSampleRateAt, tickAt}
+use Rattle.exports_vco.specs.Calls.{Keeps, Hears, newAt, resetAt, setSampleRateAt, tickAt}
 use Rattle.vco.specs.declared.VcoControls.{VcoControls}
 
 abbrev pub Left : Kept → Kept → Type 0

@@ -1,5 +1,6 @@
--- What every reached FormantOsc has: a good rate and two phases in [0, 1). So no call refuses it.
+-- What every reached FormantOsc has: a good rate, two phases in [0, 1), and coefficients that it would compute. So no call refuses it.
 use mathlib.Core.Bool.{Bool, true, false, cond}
+use mathlib.Core.Logic.{inl}
 use mathlib.Core.Path.{_≡_, refl, sym, ap, subst}
 use Prim.Native.Nat.{ℕ}
 use native.Mathlib.Omega.{arith}
@@ -12,28 +13,32 @@ use Rattle.common.proofs.PhaseLaws.{wrap-in}
 use Rattle.common.specs.Phase.{turns}
 use Rattle.common.specs.Tests.{rateOk, phaseOk}
 use Rattle.common.specs.declared.Hertz.{Hertz}
+use Rattle.formant_osc.proofs.Coherent.{Coherent, tick-coherent}
 use Rattle.formant_osc.proofs.Either.{unless-either}
-use Rattle.formant_osc.specs.Calls.{Call, Tick, Reset, SetSampleRate, after, First, AnyCall, ReachedFormant}
+use Rattle.formant_osc.specs.Calls.{Call, Tick, Reset, SetSampleRate, after, First, FitCall, ReachedFormant}
 use Rattle.formant_osc.specs.FormantOsc.{formantAtRest, newFormantOsc, formantRefusalOf, formantUnless, formantNewOf, formantSoundOf, formantTickOf, formantResetOf, rated, formantSetSampleRateOf}
+use Rattle.formant_osc.specs.Memo.{newCoefMemo}
 use Rattle.formant_osc.specs.Promises.{Never-refused}
 use Rattle.formant_osc.specs.declared.FormantControls.{FormantControls}
 use Rattle.formant_osc.specs.declared.FormantMade.{FormantMade}
 use Rattle.formant_osc.specs.declared.FormantOsc.{FormantOsc}
 use Rattle.formant_osc.specs.declared.FormantTicked.{FormantTicked}
 use Rattle.laws.proofs.Always.{always}
-use Rattle.laws.specs.Float.{zer}
+use Rattle.laws.specs.Float.{zer, F64}
 
-record Good (s : FormantOsc) : Type 0 where
-  rate : rateOk (s .«sample_rate») ≡ true
-  phase : phaseOk (s .phase) ≡ true
-  vibrato : phaseOk (s .«vibrato_phase») ≡ true
+pub record Good (s : FormantOsc) : Type 0 where
+  pub rate : rateOk (s .«sample_rate») ≡ true
+  pub fit : F64 (s .«sample_rate» .0)
+  pub phase : phaseOk (s .phase) ≡ true
+  pub vibrato : phaseOk (s .«vibrato_phase») ≡ true
+  pub coefs : Coherent (s .«coef_memo»)
 
 -- ---- a good state is refused by nothing
 unrefused : (s : FormantOsc) → Good s → formantRefusalOf s ≡ 0
 unfolding formantRefusalOf
 unrefused s g = simp (g .rate, g .phase, g .vibrato)
 
-tick-sounds : (s : FormantOsc) (c : FormantControls) → Good s → formantTickOf s c ≡ formantSoundOf s c
+pub tick-sounds : (s : FormantOsc) (c : FormantControls) → Good s → formantTickOf s c ≡ formantSoundOf s c
 unfolding formantTickOf
 tick-sounds s c g = simp (unrefused s g)
 
@@ -48,38 +53,45 @@ zero-ok = refl
 
 rest-good : (s : FormantOsc) → Good s → Good (formantAtRest (s .«sample_rate») (s .«freq_memo») (s .«coef_memo»))
 unfolding formantAtRest
-rest-good s g = record { rate = g .rate; phase = zero-ok; vibrato = zero-ok }
+rest-good s g = record { rate = g .rate; fit = g .fit; phase = zero-ok; vibrato = zero-ok; coefs = g .coefs }
 
-new-good : (r : Hertz) → rateOk r ≡ true → Good (newFormantOsc r)
-unfolding newFormantOsc formantAtRest
-new-good r h = record { rate = h; phase = zero-ok; vibrato = zero-ok }
+new-good : (r : Hertz) → rateOk r ≡ true → F64 (r .0) → Good (newFormantOsc r)
+unfolding newFormantOsc formantAtRest newCoefMemo
+new-good r h f = record { rate = h; fit = f; phase = zero-ok; vibrato = zero-ok; coefs = inl refl }
 
 first-good : (s : FormantOsc) → First s → Good s
 unfolding formantNewOf formantUnless
-first-good s f = go (rateOk (f .0)) refl (f .1)
+first-good s f = go (rateOk (f .0)) refl (f .2)
   where
     new : FormantOsc
     new = newFormantOsc (f .0)
 
     go : (b : Bool) → rateOk (f .0) ≡ b → formantUnless (cond b 0 1) new new ≡ record { outcome = outcome.Done; formant = s } → Good s
-    go true e h = subst Good (ap (λ (m : FormantMade). m .formant) h) (new-good (f .0) e)
+    go true e h = subst Good (ap (λ (m : FormantMade). m .formant) h) (new-good (f .0) e (f .1))
     go false e h = absurd (let q : outcome.Refused 1 ≡ outcome.Done = ap (λ (m : FormantMade). m .outcome) h in let z : _≡_ {A = ℕ} 0 1 = cc in omega arith)
 
-sound-good : (s : FormantOsc) (c : FormantControls) → Good s → Good (formantSoundOf s c .formant)
+sound-good : (s : FormantOsc) (c : FormantControls) → Good s → FitCall (Tick c) → Good (formantSoundOf s c .formant)
 unfolding formantSoundOf
-sound-good s c g = record { rate = g .rate; phase = wrap-in _ (add-fits binary64 _ _); vibrato = wrap-in _ (add-fits binary64 _ _) }
+sound-good s c g f =
+    record {
+      rate = g .rate;
+      fit = g .fit;
+      phase = wrap-in _ (add-fits binary64 _ _);
+      vibrato = wrap-in _ (add-fits binary64 _ _);
+      coefs = tick-coherent s c (g .coefs) f (g .fit);
+    }
 
-after-good : (s : FormantOsc) (c : Call) → Good s → AnyCall c → Good (after s c)
+after-good : (s : FormantOsc) (c : Call) → Good s → FitCall c → Good (after s c)
 unfolding after
-after-good s (Tick c) g f = subst (λ (t : FormantTicked). Good (t .formant)) (sym (tick-sounds s c g)) (sound-good s c g)
+after-good s (Tick c) g f = subst (λ (t : FormantTicked). Good (t .formant)) (sym (tick-sounds s c g)) (sound-good s c g f)
 after-good s Reset g f = unfold formantResetOf in unless-either Good (formantRefusalOf s) _ s (rest-good s g) g
 after-good s (SetSampleRate r) g f = unfold formantSetSampleRateOf in go (rateOk r) refl
   where
     go : (b : Bool) → rateOk r ≡ b → Good (formantUnless (cond b (formantRefusalOf s) 1) (rated s r) s .formant)
-    go true e = unless-either Good (formantRefusalOf s) (rated s r) s (record { rate = e; phase = g .phase; vibrato = g .vibrato }) g
+    go true e = unless-either Good (formantRefusalOf s) (rated s r) s (record { rate = e; fit = f; phase = g .phase; vibrato = g .vibrato; coefs = g .coefs }) g
     go false e = unfold formantUnless in g
 
-good : {s : FormantOsc} → ReachedFormant s → Good s
+pub good : {s : FormantOsc} → ReachedFormant s → Good s
 good = always Good first-good after-good
 
 -- ---- the promise

@@ -26,7 +26,7 @@ unfinished : (v : Volts) (sums phases : Bool) → sums ≡ false → markNumber 
 unfolding ruleOf
 unfinished v sums phases e = mark-says v false sums phases .number ∙ ap (λ (b : Bool). ruleOf false (b && allFinite v) phases) e
 
-sound-unfinished : (s : FormantOsc) (c : FormantControls) → isFin (formantRung s c .sum) ≡ false → markNumber (formantSoundOf s c .answer) ≡ 2
+pub sound-unfinished : (s : FormantOsc) (c : FormantControls) → isFin (formantRung s c .sum) ≡ false → markNumber (formantSoundOf s c .answer) ≡ 2
 unfolding formantSoundOf
 sound-unfinished s c e = unfinished _ _ _ e
 
@@ -46,25 +46,25 @@ clean-finite s c = tick-either (λ (t : FormantTicked). markNumber (t .answer) �
     go false e h = absurd (let k = sound-unfinished s c e in omega arith)
 
 -- ---- NaN goes through a sum and a product
-add-nan-r : (x : Float) → add binary64 x nan ≡ nan
+pub add-nan-r : (x : Float) → add binary64 x nan ≡ nan
 unfolding add
 add-nan-r nan = refl
 add-nan-r (inf s) = refl
 add-nan-r (fin s m e) = refl
 
-add-nan-l : (x : Float) → add binary64 nan x ≡ nan
+pub add-nan-l : (x : Float) → add binary64 nan x ≡ nan
 unfolding add
 add-nan-l nan = refl
 add-nan-l (inf s) = refl
 add-nan-l (fin s m e) = refl
 
-mul-nan-r : (x : Float) → mul binary64 x nan ≡ nan
+pub mul-nan-r : (x : Float) → mul binary64 x nan ≡ nan
 unfolding mul
 mul-nan-r nan = refl
 mul-nan-r (inf s) = refl
 mul-nan-r (fin s m e) = refl
 
-mul-nan-l : (x : Float) → mul binary64 nan x ≡ nan
+pub mul-nan-l : (x : Float) → mul binary64 nan x ≡ nan
 unfolding mul
 mul-nan-l nan = refl
 mul-nan-l (inf s) = refl
@@ -80,10 +80,10 @@ unfolding resonateOf
 cell-nan b0 a1 a2 s0 s1 x e = rw (e, add-nan-r (mul binary64 b0 x), mul-nan-r (neg a1)) (add-nan-l s1)
 
 -- ---- through the sum
-plus-out : (sum out amplitude : Float) → out ≡ nan → plus sum out amplitude ≡ nan
+pub plus-out : (sum out amplitude : Float) → out ≡ nan → plus sum out amplitude ≡ nan
 plus-out sum out amplitude e = rw (e, mul-nan-l amplitude) (add-nan-r sum)
 
-plus-sum : (sum out amplitude : Float) → sum ≡ nan → plus sum out amplitude ≡ nan
+pub plus-sum : (sum out amplitude : Float) → sum ≡ nan → plus sum out amplitude ≡ nan
 plus-sum sum out amplitude e = rw e (add-nan-l (mul binary64 out amplitude))
 
 rung-sum : (c l : List Float) (x : Float) (i : ℕ) → i < 5 → getD l (2 * i) nan ≡ nan → rungOf c l x .sum ≡ nan

@@ -1,21 +1,24 @@
 -- Theorems about the FormantOsc: the statements. proofs/ proves each under the same name in small letters.
 use mathlib.Core.Bool.{true, false, cond}
+use mathlib.Core.Logic.{_⊎_}
 use mathlib.Core.Path.{_≡_}
 use Prim.Native.Nat.{ℕ, _<_, _*_}
-use lib.Ieee.{nan}
+use lib.Ieee.{Float, nan, binary64, div}
 use lib.ListN.{getD}
 use Rattle.answer.specs.Answer.{markNumber, accepted}
 use Rattle.answer.specs.declared.Outcome.the-variants as outcome
+use Rattle.common.specs.Consts.{five}
 use Rattle.common.specs.Tests.{rateOk, phaseOk}
 use Rattle.common.specs.declared.Hertz.{Hertz}
-use Rattle.formant_osc.specs.Calls.{ReachedFormant, Later}
+use Rattle.formant_osc.specs.Calls.{FitCall, ReachedFormant, Later, Tick}
 use Rattle.formant_osc.specs.FormantOsc.{formantNewOf, formantRung, formantTickOf, formantResetOf, formantSetSampleRateOf}
 use Rattle.formant_osc.specs.declared.FormantControls.{FormantControls}
 use Rattle.formant_osc.specs.declared.FormantMade.{FormantMade}
 use Rattle.formant_osc.specs.declared.FormantOsc.{FormantOsc}
 use Rattle.formant_osc.specs.declared.FormantTicked.{FormantTicked}
-use Rattle.laws.specs.Float.{isFin}
+use Rattle.laws.specs.Float.{zer, isFin}
 use Rattle.laws.specs.Machine.{Settles}
+use Rattle.numeric.specs.Power.{exp2Of}
 
 -- ---- a reached state refuses no call but for the call's own input
 pub record Accepting (s : FormantOsc) : Type 0 where
@@ -44,6 +47,14 @@ Spoiled s = (i : ℕ) × (i < 5) × (getD (s .«resonator_state») (2 * i) nan �
 abbrev pub Stays-spoiled : Type 0
 Stays-spoiled = (s t : FormantOsc) → Spoiled s → Later s t → (c : FormantControls) → accepted (formantTickOf t c .answer) ≡ true
     → markNumber (formantTickOf t c .answer) ≡ 2
+
+-- ---- a shift that kills the pitch: where its factor is 0 or NaN the tick is notfinite, and leaves a spoiled resonator
+abbrev pub shiftFactor : FormantControls → Float
+shiftFactor c = exp2Of (div binary64 (c .«formant_shift») five)
+
+abbrev pub Dead-shift : Type 0
+Dead-shift = (s : FormantOsc) → ReachedFormant s → (c : FormantControls) → FitCall (Tick c) → (shiftFactor c ≡ zer) ⊎ (shiftFactor c ≡ nan)
+    → (markNumber (formantTickOf s c .answer) ≡ 2) × Spoiled (formantTickOf s c .formant)
 
 -- ---- each contract settles its answer
 pub record Settled : Type 0 where

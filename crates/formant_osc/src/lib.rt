@@ -347,11 +347,8 @@ impl FormantOsc {
         let phase = self.phase;
         let vibrato_phase = self.vibrato_phase;
         if common::rate_ok(sample_rate) {
-            if both(common::phase_ok(phase), common::phase_ok(vibrato_phase)) {
-                0
-            } else {
-                2
-            }
+            let phases_ok = both(common::phase_ok(phase), common::phase_ok(vibrato_phase));
+            if phases_ok { 0 } else { 2 }
         } else {
             1
         }

@@ -11,10 +11,10 @@ use lib.ListN.{length, getD, drop, length-map, length-append, List·getD-map}
 use borrow.Author.Tests.{eq-eqb, ne-eqb}
 use Rattle.laws.specs.Lists.{tab, over}
 use Rattle.laws.proofs.Over.{over-all}
-use Rattle.exports_lfo.specs.Calls as lfo
-use Rattle.exports_vco.specs.Calls as vco
+use Rattle.answer.specs.Flat.{Heard, heard}
+use Rattle.exports_vco.specs.Calls.{Hears}
 use Rattle.replay.specs.Held.{heldOf}
-use Rattle.replay.specs.Ticks.{heardWords}
+use Rattle.replay.specs.Ticks.{heardWords, toldWords}
 use Rattle.replay.specs.Words.{countOf, valueAt, sameFrom}
 use Rattle.replay.specs.declared.held.Verdict.the-variants.{Same, Differs, Malformed}
 use Rattle.replay.proofs.WordLaws.{from-no, from-next, from-end}
@@ -101,10 +101,8 @@ module _ (words : List ℕ) (inputs code : ℕ) (f : List Float) (w : List ℕ) 
   heard-says k h = simp (eq-eqb (countOf words) (inputs + length (heardWords code f w o)) (h ∙ sym heard-count), heard-same)
 
 -- ---- what an exported tick's contract says, as words
-pub lfo-told : (h : lfo.Heard) (code : ℕ) (f : List Float) (w : List ℕ) (o : List Float) → lfo.heard code f w o ≡ h
-    → heardWords code f w o ≡ heardWords (h .code) (h .floats) (h .wholes) (h .samples)
-lfo-told h code f w o e = ap (λ (x : lfo.Heard). heardWords (x .code) (x .floats) (x .wholes) (x .samples)) e
+pub told : (h : Heard) (code : ℕ) (f : List Float) (w : List ℕ) (o : List Float) → heard code f w o ≡ h → heardWords code f w o ≡ toldWords h
+told h code f w o e = ap toldWords e
 
-pub vco-told : (h : vco.Heard) (code : ℕ) (f : List Float) (w : List ℕ) (o : List Float) → vco.Hears h code f w o
-    → heardWords code f w o ≡ heardWords (h .code) (h .floats) (h .wholes) (h .samples)
-vco-told h code f w o e = rw (e .0, e .1, e .2, e .3) refl
+pub hears : (h : Heard) (code : ℕ) (f : List Float) (w : List ℕ) (o : List Float) → Hears h code f w o → heardWords code f w o ≡ toldWords h
+hears h code f w o e = rw (e .0, e .1, e .2, e .3) refl

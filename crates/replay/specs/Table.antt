@@ -12,7 +12,7 @@ use Rattle.numeric.specs.Power.{exp2Of, pow3000Of}
 use Rattle.numeric.specs.Trig.{sinOf, cosOf}
 use Rattle.replay.specs.Split.{placeIn}
 use Rattle.replay.specs.Held.{heldOf}
-use Rattle.replay.specs.Ticks.{floatAt, lfoWords, vcoWords}
+use Rattle.replay.specs.Ticks.{floatAt, lfoWords, vcoWords, supersawWords, formantWords}
 use Rattle.replay.specs.Words.{valueAt}
 use Rattle.replay.specs.declared.held.Verdict.{Verdict}
 use Rattle.replay.specs.declared.held.Verdict.the-variants.{Malformed}
@@ -49,6 +49,8 @@ rows =
     ∷ row (98 ∷ 105 ∷ 112 ∷ 111 ∷ 108 ∷ 97 ∷ 114 ∷ []) 1 (λ w. answer (bipolarOf (w 0)))  -- bipolar
     ∷ row (108 ∷ 102 ∷ 111 ∷ 95 ∷ 116 ∷ 105 ∷ 99 ∷ 107 ∷ []) 10 lfoWords  -- lfo_tick
     ∷ row (118 ∷ 99 ∷ 111 ∷ 95 ∷ 116 ∷ 105 ∷ 99 ∷ 107 ∷ []) 14 vcoWords  -- vco_tick
+    ∷ row (115 ∷ 117 ∷ 112 ∷ 101 ∷ 114 ∷ 115 ∷ 97 ∷ 119 ∷ 95 ∷ 116 ∷ 105 ∷ 99 ∷ 107 ∷ []) 15 supersawWords  -- supersaw_tick
+    ∷ row (102 ∷ 111 ∷ 114 ∷ 109 ∷ 97 ∷ 110 ∷ 116 ∷ 95 ∷ 111 ∷ 115 ∷ 99 ∷ 95 ∷ 116 ∷ 105 ∷ 99 ∷ 107 ∷ []) 39 formantWords  -- formant_osc_tick
     ∷ []
 
 unfoldable pub names : List (List ℕ)

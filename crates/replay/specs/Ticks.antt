@@ -5,7 +5,10 @@ use lib.Ieee.{Float, binary64, ofBits, toBits}
 use lib.ListN.{replicate}
 use Rattle.laws.specs.Float.{zer}
 use Rattle.laws.specs.Lists.{tab}
+use Rattle.answer.specs.Flat.{Heard}
+use Rattle.exports_formant_osc.specs.Calls.{formantTickAt}
 use Rattle.exports_lfo.specs.Calls.{lfoTickAt}
+use Rattle.exports_supersaw.specs.Calls.{supersawTickAt}
 use Rattle.exports_vco.specs.Calls.{controlsOf, tickAt}
 
 -- the float that the k-th word stands for, and n of them from the k-th on
@@ -26,15 +29,23 @@ maskAt w k = w k % 2 ^ 32
 unfoldable pub heardWords : ℕ → List Float → List ℕ → List Float → List ℕ
 heardWords code floats wholes samples = code ∷ (map (toBits binary64) floats ++ (wholes ++ map (toBits binary64) samples))
 
+abbrev pub toldWords : Heard → List ℕ
+toldWords h = heardWords (h .code) (h .floats) (h .wholes) (h .samples)
+
 -- four floats, two whole numbers, rate, depth, reset, wanted
 unfoldable pub lfoWords : (ℕ → ℕ) → List ℕ
-lfoWords w =
-    let h = lfoTickAt (floatAt w 6) (floatAt w 7) (floatAt w 8) (maskAt w 9) (floatsAt w 0 4) (wholesAt w 4 2) (replicate 5 zer) in
-    heardWords (h .code) (h .floats) (h .wholes) (h .samples)
+lfoWords w = toldWords (lfoTickAt (floatAt w 6) (floatAt w 7) (floatAt w 8) (maskAt w 9) (floatsAt w 0 4) (wholesAt w 4 2) (replicate 5 zer))
 
 -- four floats, four whole numbers, voct, fm, pw, sync, fm_lin, wanted
 unfoldable pub vcoWords : (ℕ → ℕ) → List ℕ
 vcoWords w =
     let c = controlsOf (floatAt w 8) (floatAt w 9) (floatAt w 10) (floatAt w 11) (floatAt w 12) in
-    let h = tickAt c (maskAt w 13) (floatsAt w 0 4) (wholesAt w 4 4) (replicate 4 zer) in
-    heardWords (h .code) (h .floats) (h .wholes) (h .samples)
+    toldWords (tickAt c (maskAt w 13) (floatsAt w 0 4) (wholesAt w 4 4) (replicate 4 zer))
+
+-- ten floats, two whole numbers, voct, detune, mix
+unfoldable pub supersawWords : (ℕ → ℕ) → List ℕ
+supersawWords w = toldWords (supersawTickAt (floatAt w 12) (floatAt w 13) (floatAt w 14) (floatsAt w 0 10) (wholesAt w 10 2) (replicate 2 zer))
+
+-- 29 floats, six whole numbers, v_oct, vowel, formant_shift, vibrato
+unfoldable pub formantWords : (ℕ → ℕ) → List ℕ
+formantWords w = toldWords (formantTickAt (floatAt w 35) (floatAt w 36) (floatAt w 37) (floatAt w 38) (floatsAt w 0 29) (wholesAt w 29 6) (replicate 1 zer))

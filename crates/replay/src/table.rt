@@ -8,15 +8,17 @@ ghost use Rattle.replay.specs.Table.{numberOf, runOf};
 use crate::held::Verdict;
 use crate::held::held;
 use crate::split::place_of;
+use crate::ticks::formant_osc_tick;
 use crate::ticks::lfo_tick;
+use crate::ticks::supersaw_tick;
 use crate::ticks::vco_tick;
 use crate::words::real;
 use crate::words::value;
 use numeric::bits;
 
 // The names, a line each, in the order of `run`.
-pub const NAMES: [u8; 106] =
-    *b"sin\ncos\nexp2\npow3000\nfloor\nfabs\nis_finite\nclamp\nmin\nmax\nto_u64\nof_u64\nbits\ndraw\nbipolar\nlfo_tick\nvco_tick\n";
+pub const NAMES: [u8; 137] =
+    *b"sin\ncos\nexp2\npow3000\nfloor\nfabs\nis_finite\nclamp\nmin\nmax\nto_u64\nof_u64\nbits\ndraw\nbipolar\nlfo_tick\nvco_tick\nsupersaw_tick\nformant_osc_tick\n";
 
 // A name's number; past the last for any other.
 pub fn number_of(name: &[u8]) -> usize
@@ -64,6 +66,8 @@ pub fn run(k: usize, words: &[u8]) -> Verdict
         14 => one(k, words, 1, bits(numeric::bipolar(n))),
         15 => lfo_tick(k, words),
         16 => vco_tick(k, words),
+        17 => supersaw_tick(k, words),
+        18 => formant_osc_tick(k, words),
         _ => Verdict::Malformed,
     }
 }

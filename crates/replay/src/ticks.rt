@@ -6,12 +6,14 @@ ghost use lib.ListN.{length};
 ghost use lib.Ieee.{binary64, toBits};
 ghost use Rattle.replay.specs.Words.{valueAt, sameFrom};
 ghost use Rattle.replay.specs.Held.{heldOf};
-ghost use Rattle.replay.specs.Ticks.{floatsAt, wholesAt, maskAt, heardWords, lfoWords, vcoWords};
+ghost use Rattle.replay.specs.Ticks.{floatsAt, wholesAt, maskAt, heardWords, lfoWords, vcoWords, supersawWords, formantWords};
 use crate::held::Verdict;
 use crate::held::same_words;
 use crate::words::real;
 use crate::words::value;
+use exports_formant_osc::gruttisol_formant_osc_tick;
 use exports_lfo::gruttisol_lfo_tick;
+use exports_supersaw::gruttisol_supersaw_tick;
 use exports_vco::gruttisol_vco_tick;
 use numeric::bits;
 
@@ -137,4 +139,43 @@ pub fn vco_tick(k: usize, words: &[u8]) -> Verdict
         &mut samples,
     );
     heard(k, words, 14, code, &floats, &wholes, &samples)
+}
+
+pub fn supersaw_tick(k: usize, words: &[u8]) -> Verdict
+    ensures { λ r. ⌜ r ≡ heldOf k (now (words .entry)) 15 (supersawWords (valueAt (now (words .entry)))) ⌝ }
+{
+    let mut floats = [0.0; 10];
+    let mut wholes = [0; 2];
+    let mut samples = [0.0; 2];
+    reals(&mut floats, words, 0);
+    values(&mut wholes, words, 10);
+    let code = gruttisol_supersaw_tick(
+        real(words, 12),
+        real(words, 13),
+        real(words, 14),
+        &mut floats,
+        &mut wholes,
+        &mut samples,
+    );
+    heard(k, words, 15, code, &floats, &wholes, &samples)
+}
+
+pub fn formant_osc_tick(k: usize, words: &[u8]) -> Verdict
+    ensures { λ r. ⌜ r ≡ heldOf k (now (words .entry)) 39 (formantWords (valueAt (now (words .entry)))) ⌝ }
+{
+    let mut floats = [0.0; 29];
+    let mut wholes = [0; 6];
+    let mut samples = [0.0; 1];
+    reals(&mut floats, words, 0);
+    values(&mut wholes, words, 29);
+    let code = gruttisol_formant_osc_tick(
+        real(words, 35),
+        real(words, 36),
+        real(words, 37),
+        real(words, 38),
+        &mut floats,
+        &mut wholes,
+        &mut samples,
+    );
+    heard(k, words, 39, code, &floats, &wholes, &samples)
 }

@@ -1,4 +1,5 @@
-//! Nanoseconds a call, ours and Rust's own in one run: `cargo run --release --offline -p bench`.
+//! Nanoseconds a call, ours and Rust's own in one run: `cargo run --release --offline -p bench`, and with names of
+//! oscillators behind it those alone.
 //!
 //! Either side is a call that isn't inlined: ours into the archive, Rust's into the C library of the system. The two take
 //! turns, and the best of many short runs counts, since whatever else the machine does only adds.
@@ -21,9 +22,23 @@ const ROUNDS: usize = 32;
 const RUNS: usize = 100;
 
 fn main() -> ExitCode {
-    if std::env::args().nth(1).as_deref() == Some(render::RUST) {
+    let named: Vec<String> = std::env::args().skip(1).collect();
+    if named == [render::RUST] {
         return reference::run();
     }
+    if named.is_empty() {
+        functions();
+        println!();
+    }
+    oscillators::rows(&named);
+    if named.is_empty() || named.iter().any(|word| word == "render") {
+        println!();
+        render::rows();
+    }
+    ExitCode::SUCCESS
+}
+
+fn functions() {
     println!("{:<8} {:<24} {:>7} {:>7} {:>7}  goal", "ns", "range", "ours", "Rust's", "ratio");
     row("sin", 0.0..TAU, numeric::sin, f64::sin, "below 1");
     row("sin", -512.0..512.0, numeric::sin, f64::sin, "below 1");
@@ -35,11 +50,6 @@ fn main() -> ExitCode {
     row("wrap", 0.0..2.0, common::wrap_phase, rust_wrap, "under 2 ns");
     row("wrap", -1.0..0.0, common::wrap_phase, rust_wrap, "");
     row("wrap", -1000.0..1000.0, common::wrap_phase, rust_wrap, "");
-    println!();
-    oscillators::rows();
-    println!();
-    render::rows();
-    ExitCode::SUCCESS
 }
 
 /// The Rust's `wrap_phase`, a call of its own as ours is.

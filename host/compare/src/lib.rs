@@ -6,11 +6,15 @@
 
 pub mod common;
 pub mod draw;
+pub mod formant_osc;
+pub mod karplus_strong;
 pub mod lfo;
 pub mod marked;
 mod pair;
 pub mod script;
+pub mod supersaw;
 pub mod vco;
+pub mod wavetable;
 
 use script::{run, ticks, Counts, Pair};
 
@@ -18,7 +22,14 @@ use script::{run, ticks, Counts, Pair};
 pub type Run = fn(u64, u64) -> Result<Counts, String>;
 
 /// Every oscillator.
-pub const ALL: [(&str, Run); 2] = [of::<vco::Vco>(), of::<lfo::Lfo>()];
+pub const ALL: [(&str, Run); 6] = [
+    of::<vco::Vco>(),
+    of::<lfo::Lfo>(),
+    of::<supersaw::Supersaw>(),
+    of::<wavetable::Wavetable>(),
+    of::<formant_osc::FormantOsc>(),
+    of::<karplus_strong::KarplusStrong>(),
+];
 
 const fn of<P: Pair>() -> (&'static str, Run) {
     (P::NAME, run::<P>)

@@ -23,3 +23,27 @@ fn a_vco_that_stands_still() {
         }
     }
 }
+
+#[test]
+#[cfg_attr(not(quiver), ignore = "skipped: QUIVER_SRC not found")]
+fn formants_shifted_to_nothing() {
+    #[cfg(quiver)]
+    {
+        use gruttisol::answer::Mark;
+        use gruttisol::formant_osc::{Controls, FormantOsc};
+        use quiver_system::modules::oscillators::{self as rust, probe::Probe};
+
+        for formant_shift in [-5111.0, -5150.0, -5170.0] {
+            let (mut theirs, mut ours) = (rust::FormantOsc::new(48000.0), FormantOsc::new(48000.0).unwrap());
+            let controls = Controls { v_oct: 0.0, vowel: 0.0, formant_shift, vibrato: 0.0 };
+            let (mut samples, mut marks) = ([0.0], vec![]);
+            for _ in 0..1000 {
+                theirs.body(&[0.0, 0.0, formant_shift, 0.0], 1, &mut samples);
+                assert!(samples[0].is_finite());
+                marks.push(ours.tick(&controls).unwrap().mark);
+            }
+            assert!(marks.iter().all(|&mark| mark == Mark::NotFinite), "{marks:?}");
+            println!("formant_shift {formant_shift}: 1000 ticks are notfinite, and the Rust's are finite");
+        }
+    }
+}

@@ -34,6 +34,28 @@ lent! {
     fn lfo_reset(; floats: mut f64, wholes: mut u64);
     fn lfo_set_sample_rate(sample_rate: f64; floats: mut f64, wholes: mut u64);
 
+    fn supersaw_new(sample_rate: f64; floats: mut f64, wholes: mut u64);
+    fn supersaw_tick(voct: f64, detune: f64, mix: f64; floats: mut f64, wholes: mut u64, samples: mut f64);
+    fn supersaw_reset(; floats: mut f64, wholes: mut u64);
+    fn supersaw_set_sample_rate(sample_rate: f64; floats: mut f64, wholes: mut u64);
+
+    fn wavetable_new(sample_rate: f64; floats: mut f64, wholes: mut u64);
+    fn wavetable_tick(v_oct: f64, table: f64, morph: f64, sync: f64; floats: mut f64, wholes: mut u64, samples: mut f64, bank: const f64);
+    fn wavetable_reset(; floats: mut f64, wholes: mut u64);
+    fn wavetable_set_sample_rate(sample_rate: f64; floats: mut f64, wholes: mut u64);
+    fn wavetable_fill_bank(; bank: mut f64);
+    fn wavetable_fill_table(table: u64; part: mut f64);
+
+    fn formant_osc_new(sample_rate: f64; floats: mut f64, wholes: mut u64);
+    fn formant_osc_tick(v_oct: f64, vowel: f64, formant_shift: f64, vibrato: f64; floats: mut f64, wholes: mut u64, samples: mut f64);
+    fn formant_osc_reset(; floats: mut f64, wholes: mut u64);
+    fn formant_osc_set_sample_rate(sample_rate: f64; floats: mut f64, wholes: mut u64);
+
+    fn karplus_strong_new(sample_rate: f64; floats: mut f64, wholes: mut u64, line: mut f64);
+    fn karplus_strong_tick(voct: f64, trigger: f64, damping: f64, brightness: f64, stretch: f64; floats: mut f64, wholes: mut u64, samples: mut f64, line: mut f64, draws: const u64);
+    fn karplus_strong_reset(; floats: mut f64, wholes: mut u64, line: mut f64);
+    fn karplus_strong_set_sample_rate(sample_rate: f64; floats: mut f64, wholes: mut u64, line: mut f64);
+
     fn tally_take(code: u32; counts: mut u32);
 }
 
@@ -124,6 +146,38 @@ mod tests {
         refuses([4, 2, 0], |f, w, _| lfo_new(NO_RATE, f, w));
         refuses([4, 2, 0], |f, w, _| lfo_reset(f, w));
         refuses([4, 2, 0], |f, w, _| lfo_set_sample_rate(48000.0, f, w));
+    }
+
+    #[test]
+    fn supersaw() {
+        refuses([10, 2, 2], |f, w, s| supersaw_tick(0.0, 0.5, 0.5, f, w, s));
+        refuses([10, 2, 0], |f, w, _| supersaw_new(NO_RATE, f, w));
+        refuses([10, 2, 0], |f, w, _| supersaw_reset(f, w));
+        refuses([10, 2, 0], |f, w, _| supersaw_set_sample_rate(48000.0, f, w));
+    }
+
+    #[test]
+    fn wavetable() {
+        refuses([4, 2, 1], |f, w, s| wavetable_tick(0.0, 0.0, 0.0, 0.0, f, w, s, &[]));
+        refuses([4, 2, 0], |f, w, _| wavetable_new(NO_RATE, f, w));
+        refuses([4, 2, 0], |f, w, _| wavetable_reset(f, w));
+        refuses([4, 2, 0], |f, w, _| wavetable_set_sample_rate(48000.0, f, w));
+    }
+
+    #[test]
+    fn formant_osc() {
+        refuses([29, 6, 1], |f, w, s| formant_osc_tick(0.0, 0.0, 0.0, 0.0, f, w, s));
+        refuses([29, 6, 0], |f, w, _| formant_osc_new(NO_RATE, f, w));
+        refuses([29, 6, 0], |f, w, _| formant_osc_reset(f, w));
+        refuses([29, 6, 0], |f, w, _| formant_osc_set_sample_rate(48000.0, f, w));
+    }
+
+    #[test]
+    fn karplus_strong() {
+        refuses([6, 4, 1], |f, w, s| karplus_strong_tick(0.0, 5.0, 0.5, 0.5, 0.0, f, w, s, &mut [], &[]));
+        refuses([6, 4, 0], |f, w, _| karplus_strong_new(NO_RATE, f, w, &mut []));
+        refuses([6, 4, 0], |f, w, _| karplus_strong_reset(f, w, &mut []));
+        refuses([6, 4, 0], |f, w, _| karplus_strong_set_sample_rate(48000.0, f, w, &mut []));
     }
 
     #[test]

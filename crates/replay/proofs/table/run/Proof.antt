@@ -152,6 +152,12 @@ lfo-tick-requires c κs = search needs
 vco-tick-requires : tie.Need-vco-tick-requires
 vco-tick-requires c κs = search needs
 
+supersaw-tick-requires : tie.Need-supersaw-tick-requires
+supersaw-tick-requires c κs = search needs
+
+formant-osc-tick-requires : tie.Need-formant-osc-tick-requires
+formant-osc-tick-requires c κs = search needs
+
 returns : tie.Need-returns
 unfolding runOf rows
 returns c = simp (c .one .ensures, c .before .bits .ensures, c .before .before .sin .ensures, c .before .before .before .before .before .before .real .ensures, c .before .before .before .match .keys1)
@@ -221,8 +227,16 @@ unfolding runOf rows
 returns-17 c = simp (c .vco-tick .ensures, c .before .match .keys17)
 
 returns-18 : tie.Need-returns-18
+unfolding runOf rows
+returns-18 c = simp (c .supersaw-tick .ensures, c .before .match .keys18)
+
+returns-19 : tie.Need-returns-19
+unfolding runOf rows
+returns-19 c = simp (c .formant-osc-tick .ensures, c .before .match .keys19)
+
+returns-20 : tie.Need-returns-20
 unfolding rows
-returns-18 c = run-past _ _ (other-past 17 _ (c .match .rest))
+returns-20 c = run-past _ _ (other-past 19 _ (c .match .rest))
 
 pub run-spec : {M : Type 1} → statement M
 run-spec =
@@ -277,6 +291,8 @@ run-spec =
     one-requires-15
     lfo-tick-requires
     vco-tick-requires
+    supersaw-tick-requires
+    formant-osc-tick-requires
     returns
     returns-2
     returns-3
@@ -294,4 +310,6 @@ run-spec =
     returns-15
     returns-16
     returns-17
-    returns-18)
+    returns-18
+    returns-19
+    returns-20)

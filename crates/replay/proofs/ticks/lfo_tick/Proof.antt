@@ -1,7 +1,7 @@
 -- `ticks::lfo_tick`.
 use borrow.Author.Needs.{needs}
 use Rattle.replay.specs.Ticks.{lfoWords}
-use Rattle.replay.proofs.TickLaws.{lfo-told}
+use Rattle.replay.proofs.TickLaws.{told}
 use Rattle.replay.proofs.ticks.lfo_tick.Statement.{statement}
 use Rattle.replay.proofs.ticks.lfo_tick.Tie as tie
 
@@ -55,7 +55,7 @@ heard-requires c κs = search needs
 
 returns : tie.Need-returns
 unfolding lfoWords
-returns c = simp (c .heard .ensures, lfo-told _ _ _ _ _ (c .before .before .before .before .before .before .before .gruttisol-lfo-tick .ensures), c .before .before .before .before .before .before .before .before .before .before .before .mask .ensures, c .before .before .before .before .before .before .before .before .before .before .before .before .real3 .ensures, c .before .before .before .before .before .before .before .before .before .before .before .before .before .real2 .ensures, c .before .before .before .before .before .before .before .before .before .before .before .before .before .before .real .ensures, c .before .before .before .before .before .before .before .before .before .before .before .before .before .before .before .before .values .ensures, c .before .before .before .before .before .before .before .before .before .before .before .before .before .before .before .before .before .before .before .reals .ensures)
+returns c = simp (c .heard .ensures, told _ _ _ _ _ (c .before .before .before .before .before .before .before .gruttisol-lfo-tick .ensures), c .before .before .before .before .before .before .before .before .before .before .before .mask .ensures, c .before .before .before .before .before .before .before .before .before .before .before .before .real3 .ensures, c .before .before .before .before .before .before .before .before .before .before .before .before .before .real2 .ensures, c .before .before .before .before .before .before .before .before .before .before .before .before .before .before .real .ensures, c .before .before .before .before .before .before .before .before .before .before .before .before .before .before .before .before .values .ensures, c .before .before .before .before .before .before .before .before .before .before .before .before .before .before .before .before .before .before .before .reals .ensures)
 
 pub lfo-tick-spec : {M : Type 1} → statement M
 lfo-tick-spec =

@@ -1,0 +1,25 @@
+-- What is stored is read back, and each contract, being one equation, settles what it speaks of.
+use mathlib.Core.Bool.{Bool, true, false, not, cond}
+use mathlib.Core.Path.{_≡_, refl}
+use lib.Dec.{eqb}
+use Rattle.laws.proofs.Settled as laws
+use Rattle.exports_karplus_strong.specs.Calls.{karplusStrongNewAt, karplusStrongTickAt, karplusStrongResetAt, karplusStrongSetSampleRateAt}
+use Rattle.exports_karplus_strong.specs.Promises.{Read-back, Settled}
+use Rattle.exports_karplus_strong.specs.State.{stateOf, floatsOf, wholesOf}
+
+flag : (b : Bool) → not (eqb (cond b 1 0) 0) ≡ b
+flag true = refl
+flag false = refl
+
+pub read-back : Read-back
+unfolding stateOf floatsOf wholesOf
+read-back s = simp flag
+
+pub settled : Settled
+settled =
+    record {
+      new = λ rate f w l. laws.settled (karplusStrongNewAt rate f w l);
+      tick = λ voct trigger damping brightness stretch f w o l draws. laws.settled (karplusStrongTickAt voct trigger damping brightness stretch f w o l draws);
+      reset = λ f w l. laws.settled (karplusStrongResetAt f w l);
+      «set_sample_rate» = λ rate f w l. laws.settled (karplusStrongSetSampleRateAt rate f w l);
+    }

@@ -1,0 +1,41 @@
+-- A KarplusStrong as six floats and four whole numbers, and its samples as one float.
+use mathlib.Core.Bool.{not, cond}
+use mathlib.Core.List.{List, [], _∷_}
+use Prim.Native.Nat.{ℕ}
+use lib.Dec.{eqb}
+use lib.Ieee.{Float, nan}
+use lib.ListN.{getD}
+use Rattle.answer.specs.declared.Volts.{Volts}
+use Rattle.karplus_strong.specs.declared.KarplusStrong.{KarplusStrong}
+
+-- 0, or what refuses the lengths of floats and wholes
+unfoldable pub sizesOf : ℕ → ℕ → ℕ
+sizesOf f w = cond (eqb f 6) (cond (eqb w 4) 0 51) 50
+
+-- and those of samples after them
+unfoldable pub tickSizesOf : ℕ → ℕ → ℕ → ℕ
+tickSizesOf f w o = cond (eqb (sizesOf f w) 0) (cond (eqb o 1) 0 52) (sizesOf f w)
+
+-- floats [sample_rate, lp_state, ap_x1, ap_y1, trigger_edge.prev, freq_memo.val], wholes [len, write_pos, freq_memo.key, freq_memo.valid]
+unfoldable pub stateOf : List Float → List ℕ → KarplusStrong
+stateOf f w =
+    record {
+      len = getD w 0 0;
+      «write_pos» = getD w 1 0;
+      «sample_rate» = record { 0 = getD f 0 nan };
+      «lp_state» = getD f 1 nan;
+      «ap_x1» = getD f 2 nan;
+      «ap_y1» = getD f 3 nan;
+      «trigger_edge» = record { prev = getD f 4 nan };
+      «freq_memo» = record { key = getD w 2 0; val = record { 0 = getD f 5 nan }; valid = not (eqb (getD w 3 0) 0) };
+    }
+
+unfoldable pub floatsOf : KarplusStrong → List Float
+floatsOf s = s .«sample_rate» .0 ∷ s .«lp_state» ∷ s .«ap_x1» ∷ s .«ap_y1» ∷ s .«trigger_edge» .prev ∷ s .«freq_memo» .val .0 ∷ []
+
+unfoldable pub wholesOf : KarplusStrong → List ℕ
+wholesOf s = s .len ∷ s .«write_pos» ∷ s .«freq_memo» .key ∷ cond (s .«freq_memo» .valid) 1 0 ∷ []
+
+-- [out]
+unfoldable pub samplesOf : Volts → List Float
+samplesOf v = v .p10 ∷ []

@@ -1,0 +1,234 @@
+// The KarplusStrong for hosts, over lent slices. A state is floats [sample_rate, lp_state, ap_x1, ap_y1, trigger_edge.prev,
+// freq_memo.val] and wholes [len, write_pos, freq_memo.key, freq_memo.valid], the last 0 or not; samples are [out].
+// Each call answers a number: 0 done; of an accepted tick 11 cleared, 14 clean (12 and 13 are other oscillators'); of a refused call
+// 1 to 7 as document 01 has them, or 50, 51, 52 where floats, wholes or samples have another length. A refused call writes nothing.
+use answer::Answer;
+use answer::Volts;
+use common::EdgeDetector;
+use common::Hertz;
+use common::Memo1;
+use common::VoltsPerOctave;
+use karplus_strong::KarplusStrong;
+use karplus_strong::KarplusStrongControls;
+use karplus_strong::KarplusStrongMade;
+use karplus_strong::KarplusStrongTicked;
+ghost use mathlib.Core.Path.{_≡_};
+ghost use lib.Ieee.{nan};
+ghost use lib.ListN.{length, getD};
+ghost use Rattle.answer.specs.Flat.{kept, heard};
+ghost use Rattle.exports_karplus_strong.specs.State.{sizesOf, tickSizesOf, stateOf, floatsOf, wholesOf, samplesOf};
+ghost use Rattle.exports_karplus_strong.specs.Calls.{left, sounded, keptOf, heardOf, karplusStrongNewAt, karplusStrongTickAt, karplusStrongResetAt, karplusStrongSetSampleRateAt};
+
+// 0, or the number that refuses these lengths.
+fn sizes(floats: &[f64], wholes: &[u64]) -> u32
+    ensures { λ r. ⌜ r ≡ sizesOf (length (now (floats .entry))) (length (now (wholes .entry))) ⌝ }
+{
+    if floats.len() == 6 {
+        if wholes.len() == 4 { 0 } else { 51 }
+    } else {
+        50
+    }
+}
+
+fn tick_sizes(floats: &[f64], wholes: &[u64], samples: &[f64]) -> u32
+    ensures { λ r. ⌜ r ≡ tickSizesOf (length (now (floats .entry))) (length (now (wholes .entry))) (length (now (samples .entry))) ⌝ }
+{
+    let n = sizes(floats, wholes);
+    if n == 0 {
+        if samples.len() == 1 { 0 } else { 52 }
+    } else {
+        n
+    }
+}
+
+fn state(floats: &[f64], wholes: &[u64]) -> KarplusStrong
+    requires { ⌜ (length (now floats) ≡ 6) × (length (now wholes) ≡ 4) ⌝ }
+    ensures { λ r. ⌜ r ≡ stateOf (now (floats .entry)) (now (wholes .entry)) ⌝ }
+{
+    let sample_rate = Hertz(floats[0]);
+    let trigger_edge = EdgeDetector { prev: floats[4] };
+    let freq_memo = Memo1 {
+        key: wholes[2],
+        val: Hertz(floats[5]),
+        valid: wholes[3] != 0,
+    };
+    KarplusStrong {
+        len: wholes[0] as usize,
+        write_pos: wholes[1] as usize,
+        sample_rate,
+        lp_state: floats[1],
+        ap_x1: floats[2],
+        ap_y1: floats[3],
+        trigger_edge,
+        freq_memo,
+    }
+}
+
+// A state whose rate stands in floats already. A tick keeps the rate, and one that isn't stored again can be read at once by
+// the next tick, before the filters beside it are worked out.
+fn store_kept(s: KarplusStrong, floats: &mut [f64], wholes: &mut [u64])
+    requires { ⌜ (length (now floats) ≡ 6) × (length (now wholes) ≡ 4) × (getD (now floats) 0 nan ≡ s .«sample_rate» .0) ⌝ }
+    ensures { λ _. ⌜ (now (floats .exit) ≡ floatsOf s) × (now (wholes .exit) ≡ wholesOf s) ⌝ }
+{
+    let trigger_edge = s.trigger_edge;
+    let memo = s.freq_memo;
+    let val = memo.val;
+    floats[1] = s.lp_state;
+    floats[2] = s.ap_x1;
+    floats[3] = s.ap_y1;
+    floats[4] = trigger_edge.prev;
+    floats[5] = val.0;
+    wholes[0] = s.len as u64;
+    wholes[1] = s.write_pos as u64;
+    wholes[2] = memo.key;
+    wholes[3] = memo.valid as u64;
+}
+
+fn store(s: KarplusStrong, floats: &mut [f64], wholes: &mut [u64])
+    requires { ⌜ (length (now floats) ≡ 6) × (length (now wholes) ≡ 4) ⌝ }
+    ensures { λ _. ⌜ (now (floats .exit) ≡ floatsOf s) × (now (wholes .exit) ≡ wholesOf s) ⌝ }
+{
+    let sample_rate = s.sample_rate;
+    floats[0] = sample_rate.0;
+    store_kept(s, floats, wholes);
+}
+
+// What a call without samples made.
+fn put_made(m: KarplusStrongMade, floats: &mut [f64], wholes: &mut [u64]) -> u32
+    requires { ⌜ (length (now floats) ≡ 6) × (length (now wholes) ≡ 4) ⌝ }
+    ensures { λ r. ⌜ kept r (now (floats .exit)) (now (wholes .exit)) ≡ keptOf m (now (floats .entry)) (now (wholes .entry)) ⌝ }
+{
+    match m {
+        KarplusStrongMade::Made(s) => {
+            store(s, floats, wholes);
+            0
+        }
+        KarplusStrongMade::Refused(n) => n,
+    }
+}
+
+#[no_mangle]
+pub extern "C" fn gruttisol_karplus_strong_new(
+    sample_rate: f64,
+    floats: &mut [f64],
+    wholes: &mut [u64],
+    line: &mut [f64],
+) -> u32
+    ensures { λ r. ⌜ left (kept r (now (floats .exit)) (now (wholes .exit))) (now (line .exit)) ≡ karplusStrongNewAt «sample_rate» (now (floats .entry)) (now (wholes .entry)) (now (line .entry)) ⌝ }
+{
+    let n = sizes(floats, wholes);
+    if n == 0 {
+        put_made(KarplusStrong::new(Hertz(sample_rate), line), floats, wholes)
+    } else {
+        n
+    }
+}
+
+// An accepted tick: its sample and the state after it.
+fn put_heard(
+    code: u32,
+    v: Volts,
+    s: KarplusStrong,
+    floats: &mut [f64],
+    wholes: &mut [u64],
+    samples: &mut [f64],
+) -> u32
+    requires { ⌜ (length (now floats) ≡ 6) × (length (now wholes) ≡ 4) × (length (now samples) ≡ 1) × (getD (now floats) 0 nan ≡ s .«sample_rate» .0) ⌝ }
+    ensures { λ r. ⌜ heard r (now (floats .exit)) (now (wholes .exit)) (now (samples .exit)) ≡ heard code (floatsOf s) (wholesOf s) (samplesOf v) ⌝ }
+{
+    store_kept(s, &mut *floats, &mut *wholes);
+    samples[0] = v.p10;
+    code
+}
+
+fn put_ticked(
+    t: KarplusStrongTicked,
+    floats: &mut [f64],
+    wholes: &mut [u64],
+    samples: &mut [f64],
+) -> u32
+    requires { ⌜ (length (now floats) ≡ 6) × (length (now wholes) ≡ 4) × (length (now samples) ≡ 1) × (getD (now floats) 0 nan ≡ t .«karplus_strong» .«sample_rate» .0) ⌝ }
+    ensures { λ r. ⌜ heard r (now (floats .exit)) (now (wholes .exit)) (now (samples .exit)) ≡ heardOf t (now (floats .entry)) (now (wholes .entry)) (now (samples .entry)) ⌝ }
+{
+    let answer = t.answer;
+    let s = t.karplus_strong;
+    match answer {
+        Answer::Clean(v) => put_heard(14, v, s, floats, wholes, samples),
+        Answer::Cleared(v) => put_heard(11, v, s, floats, wholes, samples),
+        Answer::NotFinite(v) => put_heard(12, v, s, floats, wholes, samples),
+        Answer::Lost(v) => put_heard(13, v, s, floats, wholes, samples),
+        Answer::Refused(n) => n,
+    }
+}
+
+#[no_mangle]
+pub extern "C" fn gruttisol_karplus_strong_tick(
+    voct: f64,
+    trigger: f64,
+    damping: f64,
+    brightness: f64,
+    stretch: f64,
+    floats: &mut [f64],
+    wholes: &mut [u64],
+    samples: &mut [f64],
+    line: &mut [f64],
+    draws: &[u64],
+) -> u32
+    ensures { λ r. ⌜ sounded (heard r (now (floats .exit)) (now (wholes .exit)) (now (samples .exit))) (now (line .exit)) ≡ karplusStrongTickAt voct trigger damping brightness stretch (now (floats .entry)) (now (wholes .entry)) (now (samples .entry)) (now (line .entry)) (now (draws .entry)) ⌝ }
+{
+    let n = tick_sizes(floats, wholes, samples);
+    if n == 0 {
+        let c = KarplusStrongControls {
+            voct: VoltsPerOctave(voct),
+            trigger,
+            damping,
+            brightness,
+            stretch,
+        };
+        put_ticked(
+            state(floats, wholes).tick(c, draws, line),
+            floats,
+            wholes,
+            samples,
+        )
+    } else {
+        n
+    }
+}
+
+#[no_mangle]
+pub extern "C" fn gruttisol_karplus_strong_reset(
+    floats: &mut [f64],
+    wholes: &mut [u64],
+    line: &mut [f64],
+) -> u32
+    ensures { λ r. ⌜ left (kept r (now (floats .exit)) (now (wholes .exit))) (now (line .exit)) ≡ karplusStrongResetAt (now (floats .entry)) (now (wholes .entry)) (now (line .entry)) ⌝ }
+{
+    let n = sizes(floats, wholes);
+    if n == 0 {
+        put_made(state(floats, wholes).reset(line), floats, wholes)
+    } else {
+        n
+    }
+}
+
+#[no_mangle]
+pub extern "C" fn gruttisol_karplus_strong_set_sample_rate(
+    sample_rate: f64,
+    floats: &mut [f64],
+    wholes: &mut [u64],
+    line: &mut [f64],
+) -> u32
+    ensures { λ r. ⌜ left (kept r (now (floats .exit)) (now (wholes .exit))) (now (line .exit)) ≡ karplusStrongSetSampleRateAt «sample_rate» (now (floats .entry)) (now (wholes .entry)) (now (line .entry)) ⌝ }
+{
+    let n = sizes(floats, wholes);
+    if n == 0 {
+        put_made(
+            state(floats, wholes).set_sample_rate(Hertz(sample_rate), line),
+            floats,
+            wholes,
+        )
+    } else {
+        n
+    }
+}

@@ -1,0 +1,21 @@
+use borrow.Author.Needs.{needs}
+use Rattle.exports_wavetable.specs.Calls.{outcomeNumber}
+use Rattle.exports_wavetable.proofs.outcome_number.Statement.{statement}
+use Rattle.exports_wavetable.proofs.outcome_number.Tie as tie
+
+enum-told : tie.Need-enum-told
+enum-told c = search needs
+
+enum-known-o : tie.Need-enum-known-o
+enum-known-o c = search needs
+
+returns : tie.Need-returns
+unfolding outcomeNumber
+returns c = simp (c .enum-told .given .1)
+
+returns-2 : tie.Need-returns-2
+unfolding outcomeNumber
+returns-2 c = simp (c .before .o .given .1)
+
+pub outcome-number-spec : {M : Type 1} → statement M
+outcome-number-spec = tie.close (tie.spec enum-told enum-known-o returns returns-2)

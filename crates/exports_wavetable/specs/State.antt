@@ -1,0 +1,37 @@
+-- A Wavetable as four floats and two whole numbers, and its sample as a float.
+use mathlib.Core.Bool.{not, cond}
+use mathlib.Core.List.{List, [], _∷_}
+use Prim.Native.Nat.{ℕ}
+use lib.Dec.{eqb}
+use lib.Ieee.{Float, nan}
+use lib.ListN.{getD}
+use Rattle.answer.specs.declared.Volts.{Volts}
+use Rattle.wavetable.specs.declared.Wavetable.{Wavetable}
+
+-- 0, or what refuses the lengths of floats and wholes
+unfoldable pub sizesOf : ℕ → ℕ → ℕ
+sizesOf f w = cond (eqb f 4) (cond (eqb w 2) 0 51) 50
+
+-- and those of samples after them
+unfoldable pub tickSizesOf : ℕ → ℕ → ℕ → ℕ
+tickSizesOf f w o = cond (eqb (sizesOf f w) 0) (cond (eqb o 1) 0 52) (sizesOf f w)
+
+-- floats [phase, sample_rate, prev_sync, freq_memo.val], wholes [freq_memo.key, freq_memo.valid]
+unfoldable pub stateOf : List Float → List ℕ → Wavetable
+stateOf f w =
+    record {
+      phase = record { 0 = getD f 0 nan };
+      «sample_rate» = record { 0 = getD f 1 nan };
+      «prev_sync» = getD f 2 nan;
+      «freq_memo» = record { key = getD w 0 0; val = record { 0 = getD f 3 nan }; valid = not (eqb (getD w 1 0) 0) };
+    }
+
+unfoldable pub floatsOf : Wavetable → List Float
+floatsOf s = s .phase .0 ∷ s .«sample_rate» .0 ∷ s .«prev_sync» ∷ s .«freq_memo» .val .0 ∷ []
+
+unfoldable pub wholesOf : Wavetable → List ℕ
+wholesOf s = s .«freq_memo» .key ∷ cond (s .«freq_memo» .valid) 1 0 ∷ []
+
+-- [out]
+unfoldable pub samplesOf : Volts → List Float
+samplesOf v = v .p10 ∷ []

@@ -1,0 +1,227 @@
+// The Wavetable for hosts, over lent slices. A state is floats [phase, sample_rate, prev_sync, freq_memo.val] and
+// wholes [freq_memo.key, freq_memo.valid], the last 0 or not; samples are [out]. The bank is 16,384 numbers.
+// Each call answers a number: 0 done; of an accepted tick 11 cleared, 12 notfinite, 13 lost, 14 clean; of a refused call
+// 1 to 7 as document 01 has them, or 50, 51, 52 where floats, wholes or samples have another length. A refused call writes nothing.
+use answer::Answer;
+use answer::Outcome;
+use answer::Volts;
+use common::Hertz;
+use common::Memo1;
+use common::Turns;
+use common::VoltsPerOctave;
+use wavetable::Wavetable;
+use wavetable::WavetableControls;
+use wavetable::WavetableMade;
+use wavetable::WavetableTicked;
+ghost use mathlib.Core.Path.{_≡_};
+ghost use lib.ListN.{length};
+ghost use Rattle.answer.specs.Flat.{kept, heard};
+ghost use Rattle.exports_wavetable.specs.State.{sizesOf, tickSizesOf, stateOf, floatsOf, wholesOf, samplesOf};
+ghost use Rattle.exports_wavetable.specs.Calls.{keptOf, heardOf, wavetableNewAt, wavetableTickAt, wavetableResetAt, wavetableSetSampleRateAt, outcomeNumber, filledWith, wavetableFillBankAt, wavetableFillTableAt};
+
+// 0, or the number that refuses these lengths.
+fn sizes(floats: &[f64], wholes: &[u64]) -> u32
+    ensures { λ r. ⌜ r ≡ sizesOf (length (now (floats .entry))) (length (now (wholes .entry))) ⌝ }
+{
+    if floats.len() == 4 {
+        if wholes.len() == 2 { 0 } else { 51 }
+    } else {
+        50
+    }
+}
+
+fn tick_sizes(floats: &[f64], wholes: &[u64], samples: &[f64]) -> u32
+    ensures { λ r. ⌜ r ≡ tickSizesOf (length (now (floats .entry))) (length (now (wholes .entry))) (length (now (samples .entry))) ⌝ }
+{
+    let n = sizes(floats, wholes);
+    if n == 0 {
+        if samples.len() == 1 { 0 } else { 52 }
+    } else {
+        n
+    }
+}
+
+fn state(floats: &[f64], wholes: &[u64]) -> Wavetable
+    requires { ⌜ (length (now floats) ≡ 4) × (length (now wholes) ≡ 2) ⌝ }
+    ensures { λ r. ⌜ r ≡ stateOf (now (floats .entry)) (now (wholes .entry)) ⌝ }
+{
+    let phase = Turns(floats[0]);
+    let sample_rate = Hertz(floats[1]);
+    let freq_memo = Memo1 {
+        key: wholes[0],
+        val: Hertz(floats[3]),
+        valid: wholes[1] != 0,
+    };
+    Wavetable {
+        phase,
+        prev_sync: floats[2],
+        sample_rate,
+        freq_memo,
+    }
+}
+
+fn store(s: Wavetable, floats: &mut [f64], wholes: &mut [u64])
+    requires { ⌜ (length (now floats) ≡ 4) × (length (now wholes) ≡ 2) ⌝ }
+    ensures { λ _. ⌜ (now (floats .exit) ≡ floatsOf s) × (now (wholes .exit) ≡ wholesOf s) ⌝ }
+{
+    let phase = s.phase;
+    let sample_rate = s.sample_rate;
+    let memo = s.freq_memo;
+    let val = memo.val;
+    floats[0] = phase.0;
+    floats[1] = sample_rate.0;
+    floats[2] = s.prev_sync;
+    floats[3] = val.0;
+    wholes[0] = memo.key;
+    wholes[1] = memo.valid as u64;
+}
+
+// What a call without samples made.
+fn put_made(m: WavetableMade, floats: &mut [f64], wholes: &mut [u64]) -> u32
+    requires { ⌜ (length (now floats) ≡ 4) × (length (now wholes) ≡ 2) ⌝ }
+    ensures { λ r. ⌜ kept r (now (floats .exit)) (now (wholes .exit)) ≡ keptOf m (now (floats .entry)) (now (wholes .entry)) ⌝ }
+{
+    match m {
+        WavetableMade::Made(s) => {
+            store(s, floats, wholes);
+            0
+        }
+        WavetableMade::Refused(n) => n,
+    }
+}
+
+#[no_mangle]
+pub extern "C" fn gruttisol_wavetable_new(
+    sample_rate: f64,
+    floats: &mut [f64],
+    wholes: &mut [u64],
+) -> u32
+    ensures { λ r. ⌜ kept r (now (floats .exit)) (now (wholes .exit)) ≡ wavetableNewAt «sample_rate» (now (floats .entry)) (now (wholes .entry)) ⌝ }
+{
+    let n = sizes(floats, wholes);
+    if n == 0 {
+        put_made(Wavetable::new(Hertz(sample_rate)), floats, wholes)
+    } else {
+        n
+    }
+}
+
+// An accepted tick: its sample and the state after it.
+fn put_heard(
+    code: u32,
+    v: Volts,
+    s: Wavetable,
+    floats: &mut [f64],
+    wholes: &mut [u64],
+    samples: &mut [f64],
+) -> u32
+    requires { ⌜ (length (now floats) ≡ 4) × (length (now wholes) ≡ 2) × (length (now samples) ≡ 1) ⌝ }
+    ensures { λ r. ⌜ heard r (now (floats .exit)) (now (wholes .exit)) (now (samples .exit)) ≡ heard code (floatsOf s) (wholesOf s) (samplesOf v) ⌝ }
+{
+    store(s, &mut *floats, &mut *wholes);
+    samples[0] = v.p10;
+    code
+}
+
+fn put_ticked(
+    t: WavetableTicked,
+    floats: &mut [f64],
+    wholes: &mut [u64],
+    samples: &mut [f64],
+) -> u32
+    requires { ⌜ (length (now floats) ≡ 4) × (length (now wholes) ≡ 2) × (length (now samples) ≡ 1) ⌝ }
+    ensures { λ r. ⌜ heard r (now (floats .exit)) (now (wholes .exit)) (now (samples .exit)) ≡ heardOf t (now (floats .entry)) (now (wholes .entry)) (now (samples .entry)) ⌝ }
+{
+    let answer = t.answer;
+    let s = t.wavetable;
+    match answer {
+        Answer::Clean(v) => put_heard(14, v, s, floats, wholes, samples),
+        Answer::Cleared(v) => put_heard(11, v, s, floats, wholes, samples),
+        Answer::NotFinite(v) => put_heard(12, v, s, floats, wholes, samples),
+        Answer::Lost(v) => put_heard(13, v, s, floats, wholes, samples),
+        Answer::Refused(n) => n,
+    }
+}
+
+#[no_mangle]
+pub extern "C" fn gruttisol_wavetable_tick(
+    v_oct: f64,
+    table: f64,
+    morph: f64,
+    sync: f64,
+    floats: &mut [f64],
+    wholes: &mut [u64],
+    samples: &mut [f64],
+    bank: &[f64],
+) -> u32
+    ensures { λ r. ⌜ heard r (now (floats .exit)) (now (wholes .exit)) (now (samples .exit)) ≡ wavetableTickAt «v_oct» table morph sync (now (bank .entry)) (now (floats .entry)) (now (wholes .entry)) (now (samples .entry)) ⌝ }
+{
+    let n = tick_sizes(floats, wholes, samples);
+    if n == 0 {
+        let c = WavetableControls {
+            v_oct: VoltsPerOctave(v_oct),
+            table,
+            morph,
+            sync,
+        };
+        put_ticked(state(floats, wholes).tick(c, bank), floats, wholes, samples)
+    } else {
+        n
+    }
+}
+
+#[no_mangle]
+pub extern "C" fn gruttisol_wavetable_reset(floats: &mut [f64], wholes: &mut [u64]) -> u32
+    ensures { λ r. ⌜ kept r (now (floats .exit)) (now (wholes .exit)) ≡ wavetableResetAt (now (floats .entry)) (now (wholes .entry)) ⌝ }
+{
+    let n = sizes(floats, wholes);
+    if n == 0 {
+        put_made(state(floats, wholes).reset(), floats, wholes)
+    } else {
+        n
+    }
+}
+
+#[no_mangle]
+pub extern "C" fn gruttisol_wavetable_set_sample_rate(
+    sample_rate: f64,
+    floats: &mut [f64],
+    wholes: &mut [u64],
+) -> u32
+    ensures { λ r. ⌜ kept r (now (floats .exit)) (now (wholes .exit)) ≡ wavetableSetSampleRateAt «sample_rate» (now (floats .entry)) (now (wholes .entry)) ⌝ }
+{
+    let n = sizes(floats, wholes);
+    if n == 0 {
+        put_made(
+            state(floats, wholes).set_sample_rate(Hertz(sample_rate)),
+            floats,
+            wholes,
+        )
+    } else {
+        n
+    }
+}
+
+// 0, or what refused the fill.
+fn outcome_number(o: Outcome) -> u32
+    ensures { λ r. ⌜ r ≡ outcomeNumber o ⌝ }
+{
+    match o {
+        Outcome::Done => 0,
+        Outcome::Refused(n) => n,
+    }
+}
+
+#[no_mangle]
+pub extern "C" fn gruttisol_wavetable_fill_bank(bank: &mut [f64]) -> u32
+    ensures { λ r. ⌜ filledWith r (now (bank .exit)) ≡ wavetableFillBankAt (now (bank .entry)) ⌝ }
+{
+    outcome_number(wavetable::bank::fill_bank(bank))
+}
+
+#[no_mangle]
+pub extern "C" fn gruttisol_wavetable_fill_table(table: u64, part: &mut [f64]) -> u32
+    ensures { λ r. ⌜ filledWith r (now (part .exit)) ≡ wavetableFillTableAt table (now (part .entry)) ⌝ }
+{
+    outcome_number(wavetable::bank::fill_table(part, table as usize))
+}

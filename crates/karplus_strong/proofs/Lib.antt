@@ -1,0 +1,17 @@
+pub mod Ring
+pub mod Finite
+pub mod Orders
+pub mod Cuts
+pub mod Periods
+pub mod Delays
+pub mod Draws
+pub mod Weights
+pub mod Parts
+pub mod Alike
+pub mod Reached
+pub mod Ticks
+pub mod Promised
+pub mod Untouched
+pub mod Unstretched
+pub mod Forget
+pub mod Settled

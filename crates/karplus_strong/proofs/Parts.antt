@@ -1,0 +1,419 @@
+-- How the parts of a call make up the whole, over plain values, and what an accepted call has.
+use mathlib.Core.Bool.{Bool, true, false, cond, not, _&&_, true≢false}
+use mathlib.Core.List.{List}
+use mathlib.Core.Path.{_≡_, refl, sym}
+use Prim.Native.Nat.{ℕ, zero, suc, _+_, _-_, _%_, _≤_, _<_, min}
+use native.Mathlib.Nat.{le-trans}
+use native.Mathlib.Omega.{arith}
+use lib.Dec.{T, leb, ltb, le→leb, lit≤}
+use lib.IntN.{pos}
+use lib.ListN.{length, getD, set}
+use lib.Ieee.{Float, nan, inf, fin, binary64, add, sub, mul, div, neg, inFloat, lt, le, eq, fits, isNan, ofBits}
+use lib.Ieee.Fits.{cond-fits, div-fits, sub-fits}
+use lib.Ieee.Bits.{is-false}
+use borrow.Author.Tests.{le-leb, lt-leb, lt-ltb, leb-true, ltb-true}
+use Rattle.laws.proofs.Number.{mul-number, le-numbers}
+use Rattle.laws.proofs.Order.{lt-false, float-le-trans}
+use Rattle.laws.proofs.Tests.{of-true, of-false}
+use Rattle.laws.proofs.Values.{float-mul-comm}
+use Rattle.laws.specs.Float.{zer, one, two, isFin, F64}
+use Rattle.numeric.proofs.PowerRange.{exp2-number}
+use Rattle.numeric.proofs.RangeLaws.{clamp-range, period-whole, rate-whole, rate-number, whole-monotone}
+use Rattle.numeric.specs.Basic.{clampOf, maxOf, wholeOf, realOf}
+use Rattle.numeric.specs.Power.{exp2Of}
+use Rattle.common.specs.Consts.{c4, rateLow, rateHigh, half, maxVoct}
+use Rattle.common.specs.Edge.{newEdge, risingOf}
+use Rattle.common.specs.Memo.{newMemo1, hits1, filled1, recall1, voctToHzAt}
+use Rattle.common.specs.Pitch.{voctToHz}
+use Rattle.common.specs.Tests.{rateOk}
+use Rattle.common.specs.declared.EdgeDetector.{EdgeDetector}
+use Rattle.common.specs.declared.Hertz.{Hertz}
+use Rattle.common.specs.declared.Memo1.{Memo1}
+use Rattle.common.specs.declared.Risen.{Risen}
+use Rattle.answer.specs.Answer.{answerOf}
+use Rattle.answer.specs.Mark.{allFinite, ruleOf, markOf}
+use Rattle.answer.specs.declared.Volts.{Volts}
+use Rattle.answer.specs.declared.Answer.the-variants as answer
+use Rattle.karplus_strong.specs.Consts.{twenty, loopLeak}
+use Rattle.karplus_strong.specs.Ranges.{Cut}
+use Rattle.karplus_strong.specs.Line.{blankOf, excitedOf, sumTo, meanOf, levelOf, struckOf, drawsOk}
+use Rattle.karplus_strong.specs.Step.{filterCoefOf, apCoefOf, filterDelayOf, apDelayOf, targetDelayOf, offsetOne, offsetTwo, tapOf, filteredOf, stretchedOf, outOf, heardOf, restOf, Ticking, stepOf}
+use Rattle.karplus_strong.specs.KarplusStrong.{maxLenOf, lineOk, roomOf, karplusStrongRefusalOf, rateRefusalOf, Making, madeUnless, newKarplusStrong, karplusStrongNewOf, karplusStrongResetOf, resizedString, karplusStrongSetSampleRateOf, finiteOr, periodOf, struckLen, drawsRefusalOf, strikeOf, strikeIf, heardString, refusedTick, tickUnless, karplusStrongSoundOf, karplusStrongTickOf}
+use Rattle.karplus_strong.specs.declared.KarplusStrong.{KarplusStrong}
+use Rattle.karplus_strong.specs.declared.KarplusStrongControls.{KarplusStrongControls}
+use Rattle.karplus_strong.specs.declared.KarplusStrongMade.the-variants as made
+use Rattle.karplus_strong.proofs.Orders.{lt-of-not-ge}
+use Rattle.karplus_strong.proofs.Periods.{rate-cut, high-period, clamped-cut}
+use Rattle.karplus_strong.proofs.Delays.{filter-unit, filter-delay, allpass-delay, left-below}
+
+-- ---- rates
+and-both : (a b : Bool) → (a && b) ≡ true → (a ≡ true) × (b ≡ true)
+and-both true b e = (refl, e)
+and-both false b e = absurd (true≢false (sym e))
+
+pub rate-ends : (r : Hertz) → rateOk r ≡ true → T (le rateLow (r .0)) × T (le (r .0) rateHigh)
+unfolding rateOk
+rate-ends r e = let b = and-both (le rateLow (r .0)) (le (r .0) rateHigh) e in (of-true (le rateLow (r .0)) (b .0), of-true (le (r .0) rateHigh) (b .1))
+
+pub rate-in : (r : Hertz) → rateOk r ≡ true → Cut (div binary64 (r .0) twenty)
+rate-in r e = let l = rate-ends r e in rate-cut (r .0) (l .0) (l .1)
+
+pub max-len-range : (r : Hertz) → rateOk r ≡ true → (60 ≤ maxLenOf r) × (maxLenOf r ≤ 9610)
+unfolding maxLenOf
+max-len-range r e =
+    let l = rate-ends r e in
+    let w = rate-whole (r .0) (l .0) (l .1) in
+    (omega arith, omega arith)
+
+-- a whole number of this size is an f64
+pub held : (n : ℕ) → n ≤ 9610 → T (inFloat binary64 (pos n))
+unfolding inFloat
+held n h = le→leb n 9007199254740992 (le-trans h (lit≤ tt))
+
+-- ---- periods: whatever number the memo holds, a period is an index of the line
+quotient : (r f : Hertz) → rateOk r ≡ true → T (not (isNan (f .0))) → T (not (isNan (div binary64 (r .0) (f .0))))
+quotient r f e q = let l = rate-ends r e in rate-number (r .0) (f .0) (l .0) (l .1) q
+
+two-number : T (not (isNan two))
+unfolding isNan ofBits
+two-number = tt
+
+pub period-high : (r f : Hertz) → rateOk r ≡ true → le twenty (f .0) ≡ true → le two (div binary64 (r .0) (f .0)) ≡ true → div binary64 (r .0) (f .0) ≡ periodOf r f
+unfolding periodOf clampOf maxLenOf
+period-high r f e h k =
+    let l = rate-ends r e in
+    simp (lt-false (div binary64 (r .0) (f .0)) two (of-true (le two (div binary64 (r .0) (f .0))) k), high-period (r .0) (f .0) (l .0) (l .1) (of-true (le twenty (f .0)) h))
+
+pub period-two : (r f : Hertz) → rateOk r ≡ true → T (not (isNan (f .0))) → le two (div binary64 (r .0) (f .0)) ≡ false → two ≡ periodOf r f
+unfolding periodOf clampOf
+period-two r f e q k = simp (lt-of-not-ge (div binary64 (r .0) (f .0)) two (quotient r f e q) two-number k)
+
+pub period-cut : (r f : Hertz) → rateOk r ≡ true → T (not (isNan (f .0))) → Cut (periodOf r f)
+unfolding periodOf maxLenOf
+period-cut r f e q =
+    let l = rate-ends r e in
+    let c = clamped-cut (div binary64 (r .0) (f .0)) (wholeOf (div binary64 (r .0) twenty)) (rate-whole (r .0) (l .0) (l .1) .1) (quotient r f e q) in
+    (float-le-trans one two (clampOf (div binary64 (r .0) (f .0)) two (sub binary64 (realOf (wholeOf (div binary64 (r .0) twenty) + 10)) one)) (unfold le lt eq ofBits in tt) (c .0), c .1)
+
+pub period-range : (r f : Hertz) → rateOk r ≡ true → T (not (isNan (f .0))) → (2 ≤ wholeOf (periodOf r f)) × (wholeOf (periodOf r f) + 1 ≤ maxLenOf r)
+unfolding periodOf
+period-range r f e q =
+    let m = max-len-range r e in
+    let p = period-whole (div binary64 (r .0) (f .0)) (maxLenOf r) (omega arith) (omega arith) (quotient r f e q) in
+    (p .0, omega arith)
+
+pub period-fits : (r f : Hertz) → F64 (periodOf r f)
+unfolding periodOf clampOf
+period-fits r f =
+    cond-fits binary64 (lt (div binary64 (r .0) (f .0)) two) two (cond (lt (sub binary64 (realOf (maxLenOf r)) one) (div binary64 (r .0) (f .0))) (sub binary64 (realOf (maxLenOf r)) one) (div binary64 (r .0) (f .0))) (unfold fits ofBits in tt)
+    (cond-fits binary64 (lt (sub binary64 (realOf (maxLenOf r)) one) (div binary64 (r .0) (f .0))) (sub binary64 (realOf (maxLenOf r)) one) (div binary64 (r .0) (f .0)) (sub-fits binary64 (realOf (maxLenOf r)) one) (div-fits binary64 (r .0) (f .0)))
+
+-- ---- controls in their range
+finite-number : (x d : Float) → isFin d ≡ true → T (not (isNan (finiteOr x d)))
+unfolding finiteOr isNan
+finite-number nan nan e = absurd (true≢false (sym e))
+finite-number nan (inf s) e = absurd (true≢false (sym e))
+finite-number nan (fin s m k) e = tt
+finite-number (inf s) nan e = absurd (true≢false (sym e))
+finite-number (inf t) (inf s) e = absurd (true≢false (sym e))
+finite-number (inf t) (fin s m k) e = tt
+finite-number (fin s m k) d e = tt
+
+half-fin : isFin half ≡ true
+unfolding ofBits
+half-fin = refl
+
+pub zer-fin : isFin zer ≡ true
+unfolding ofBits
+zer-fin = refl
+
+pub one-fin : isFin one ≡ true
+unfolding ofBits
+one-fin = refl
+
+pub minus-one-fin : isFin (neg one) ≡ true
+unfolding ofBits neg
+minus-one-fin = refl
+
+pub damped : (x : Float) → T (le zer (clampOf (finiteOr x half) zer one)) × T (le (clampOf (finiteOr x half) zer one) one)
+damped x = clamp-range (finiteOr x half) zer one (unfold le lt eq ofBits in tt) (finite-number x half half-fin)
+
+pub stretched : (x : Float) → T (le (neg one) (clampOf (finiteOr x zer) (neg one) one)) × T (le (clampOf (finiteOr x zer) (neg one) one) one)
+stretched x = clamp-range (finiteOr x zer) (neg one) one (unfold le lt eq neg ofBits in tt) (finite-number x zer zer-fin)
+
+-- the delay that is left for the line is at most the period
+pub delay-range : (r f : Hertz) (d s : Float) → rateOk r ≡ true → T (not (isNan (f .0)))
+    → wholeOf (targetDelayOf (periodOf r f) (filterCoefOf (clampOf (finiteOr d half) zer one)) (apCoefOf (clampOf (finiteOr s zer) (neg one) one))) ≤ 9610
+unfolding targetDelayOf filterCoefOf apCoefOf filterDelayOf apDelayOf
+delay-range r f d s e q =
+    let a = damped d in
+    let b = stretched s in
+    let u = filter-unit (clampOf (finiteOr d half) zer one) (a .0) (a .1) in
+    let h = left-below (periodOf r f) (filterDelayOf (filterCoefOf (clampOf (finiteOr d half) zer one))) (apDelayOf (apCoefOf (clampOf (finiteOr s zer) (neg one) one))) (period-fits r f) (period-cut r f e q .0)
+    (filter-delay (filterCoefOf (clampOf (finiteOr d half) zer one)) (u .0) (u .1)) (allpass-delay (clampOf (finiteOr s zer) (neg one) one) (b .0) (b .1)) in
+    let w = whole-monotone (maxOf (sub binary64 (sub binary64 (periodOf r f) (filterDelayOf (filterCoefOf (clampOf (finiteOr d half) zer one)))) (apDelayOf (apCoefOf (clampOf (finiteOr s zer) (neg one) one)))) one) (periodOf r f) h in
+    le-trans w (small (wholeOf (periodOf r f)) (maxLenOf r) (period-range r f e q .1) (max-len-range r e .1))
+  where
+    small : (w m : ℕ) → w + 1 ≤ m → m ≤ 9610 → w ≤ 9610
+    small w m h k = omega arith
+
+-- ---- the memo's value stays a number
+hz-number : (v : Float) → T (not (isNan v)) → T (not (isNan (voctToHzAt v .0)))
+unfolding voctToHz
+hz-number v q =
+    simp (float-mul-comm c4 (exp2Of (clampOf v (neg maxVoct) maxVoct)))
+    (mul-number (exp2Of (clampOf v (neg maxVoct) maxVoct)) c4 (unfold ofBits in tt) (exp2-number (clampOf v (neg maxVoct) maxVoct) (le-numbers (clampOf v (neg maxVoct) maxVoct) maxVoct (clamp-range v (neg maxVoct) maxVoct (unfold le lt eq neg ofBits in tt) q .1) .0)))
+
+memo-recalled : (m : Memo1) (v : Float) → T (not (isNan (m .val .0))) → T (not (isNan (recall1 voctToHzAt m (finiteOr v zer) .val .0)))
+unfolding recall1 filled1
+memo-recalled m v h = go (hits1 m (finiteOr v zer))
+  where
+    go : (b : Bool) → T (not (isNan (cond b m (filled1 (finiteOr v zer) (voctToHzAt (finiteOr v zer))) .val .0)))
+    go true = h
+    go false = hz-number (finiteOr v zer) (finite-number v zer zer-fin)
+
+pub memo-number : (m : Memo1) (v x : Float) (r : Memo1) → T (not (isNan (m .val .0))) → x ≡ finiteOr v zer → r ≡ recall1 voctToHzAt m x → T (not (isNan (r .val .0)))
+memo-number m v x r h ex er = rw (er, ex) (memo-recalled m v h)
+
+-- ---- refusals
+module _ (s : KarplusStrong) (n : ℕ) where
+  pub refusal-rate : rateOk (s .«sample_rate») ≡ false → 1 ≡ karplusStrongRefusalOf s n
+  unfolding karplusStrongRefusalOf
+  refusal-rate e = rw e
+
+  pub refusal-line : (m : ℕ) → rateOk (s .«sample_rate») ≡ true → m ≡ maxLenOf (s .«sample_rate») → lineOk s m ≡ false → 2 ≡ karplusStrongRefusalOf s n
+  unfolding karplusStrongRefusalOf
+  refusal-line m e q h = rw (e, ← q, h)
+
+  pub refusal-room : (m k : ℕ) → rateOk (s .«sample_rate») ≡ true → m ≡ maxLenOf (s .«sample_rate») → lineOk s m ≡ true → k ≡ roomOf (s .«sample_rate») n → k ≡ karplusStrongRefusalOf s n
+  unfolding karplusStrongRefusalOf
+  refusal-room m k e q h g = rw (e, ← q, h) g
+
+module _ (s : KarplusStrong) (r : Hertz) (n : ℕ) where
+  pub rate-old : rateOk (s .«sample_rate») ≡ false → 1 ≡ rateRefusalOf s r n
+  unfolding rateRefusalOf
+  rate-old e = rw e
+
+  pub rate-new : rateOk (s .«sample_rate») ≡ true → rateOk r ≡ false → 1 ≡ rateRefusalOf s r n
+  unfolding rateRefusalOf
+  rate-new e q = rw (e, q)
+
+  pub rate-line : (m : ℕ) → rateOk (s .«sample_rate») ≡ true → rateOk r ≡ true → m ≡ maxLenOf (s .«sample_rate») → lineOk s m ≡ false → 2 ≡ rateRefusalOf s r n
+  unfolding rateRefusalOf
+  rate-line m e f q h = rw (e, f, ← q, h)
+
+  pub rate-room : (m k : ℕ) → rateOk (s .«sample_rate») ≡ true → rateOk r ≡ true → m ≡ maxLenOf (s .«sample_rate») → lineOk s m ≡ true → k ≡ roomOf r n → k ≡ rateRefusalOf s r n
+  unfolding rateRefusalOf
+  rate-room m k e f q h g = rw (e, f, ← q, h) g
+
+-- what a state has that refusals 1 and 2 let pass
+pub record Sound (s : KarplusStrong) : Type 0 where
+  pub rate : rateOk (s .«sample_rate») ≡ true
+  pub least : 4 ≤ s .len
+  pub most : s .len ≤ maxLenOf (s .«sample_rate») + 1
+  pub place : s .«write_pos» < s .len
+  pub value : T (not (isNan (s .«freq_memo» .val .0)))
+
+line-sound : (s : KarplusStrong) → rateOk (s .«sample_rate») ≡ true → lineOk s (maxLenOf (s .«sample_rate»)) ≡ true → Sound s
+unfolding lineOk
+line-sound s e h = go (leb 4 (s .len)) (leb (s .len) (maxLenOf (s .«sample_rate») + 1)) (ltb (s .«write_pos») (s .len)) (isNan (s .«freq_memo» .val .0)) refl refl refl refl h
+  where
+    go : (a b c d : Bool) → leb 4 (s .len) ≡ a → leb (s .len) (maxLenOf (s .«sample_rate») + 1) ≡ b → ltb (s .«write_pos») (s .len) ≡ c → isNan (s .«freq_memo» .val .0) ≡ d → (a && (b && (c && not d))) ≡ true → Sound s
+    go false b c d p q t u w = absurd (true≢false (sym w))
+    go true false c d p q t u w = absurd (true≢false (sym w))
+    go true true false d p q t u w = absurd (true≢false (sym w))
+    go true true true true p q t u w = absurd (true≢false (sym w))
+    go true true true false p q t u w = record { rate = e; least = leb-true 4 (s .len) p; most = leb-true (s .len) (maxLenOf (s .«sample_rate») + 1) q; place = ltb-true (s .«write_pos») (s .len) t; value = of-false (isNan (s .«freq_memo» .val .0)) u }
+
+pub sound-line : (s : KarplusStrong) → Sound s → lineOk s (maxLenOf (s .«sample_rate»)) ≡ true
+unfolding lineOk
+sound-line s a = simp (le-leb 4 (s .len) (a .least), le-leb (s .len) (maxLenOf (s .«sample_rate») + 1) (a .most), lt-ltb (s .«write_pos») (s .len) (a .place), is-false (isNan (s .«freq_memo» .val .0)) (a .value))
+
+pub room-of : (r : Hertz) (n : ℕ) → roomOf r n ≡ 0 → maxLenOf r + 2 ≤ n
+unfolding roomOf
+room-of r n e = go (leb (maxLenOf r + 2) n) refl e
+  where
+    go : (b : Bool) → leb (maxLenOf r + 2) n ≡ b → _≡_ {A = ℕ} (cond b 0 3) 0 → maxLenOf r + 2 ≤ n
+    go true h k = leb-true (maxLenOf r + 2) n h
+    go false h k = absurd (omega arith)
+
+pub accepted : (s : KarplusStrong) (n : ℕ) → karplusStrongRefusalOf s n ≡ 0 → Sound s × (maxLenOf (s .«sample_rate») + 2 ≤ n)
+unfolding karplusStrongRefusalOf
+accepted s n e = go (rateOk (s .«sample_rate»)) (lineOk s (maxLenOf (s .«sample_rate»))) refl refl e
+  where
+    go : (a b : Bool) → rateOk (s .«sample_rate») ≡ a → lineOk s (maxLenOf (s .«sample_rate»)) ≡ b → _≡_ {A = ℕ} (cond a (cond b (roomOf (s .«sample_rate») n) 2) 1) 0 → Sound s × (maxLenOf (s .«sample_rate») + 2 ≤ n)
+    go false b p q h = absurd (omega arith)
+    go true false p q h = absurd (omega arith)
+    go true true p q h = (line-sound s p q, room-of (s .«sample_rate») n h)
+
+pub rate-accepted : (s : KarplusStrong) (r : Hertz) (n : ℕ) → rateRefusalOf s r n ≡ 0 → Sound s × (rateOk r ≡ true) × (maxLenOf r + 2 ≤ n)
+unfolding rateRefusalOf
+rate-accepted s r n e = go (rateOk (s .«sample_rate»)) (rateOk r) (lineOk s (maxLenOf (s .«sample_rate»))) refl refl refl e
+  where
+    go : (a b c : Bool) → rateOk (s .«sample_rate») ≡ a → rateOk r ≡ b → lineOk s (maxLenOf (s .«sample_rate»)) ≡ c → _≡_ {A = ℕ} (cond (a && b) (cond c (roomOf r n) 2) 1) 0 → Sound s × (rateOk r ≡ true) × (maxLenOf r + 2 ≤ n)
+    go false b c p q t h = absurd (omega arith)
+    go true false c p q t h = absurd (omega arith)
+    go true true false p q t h = absurd (omega arith)
+    go true true true p q t h = (line-sound s p t, q, room-of r n h)
+
+-- ---- making, reset and rate change
+made-no : (k : ℕ) (m : Making) (l : List Float) → (k ≡ 0 → ⊥) → record { out = made.Refused k; line = l } ≡ madeUnless k m l
+unfolding madeUnless
+made-no zero m l h = absurd (h refl)
+made-no (suc k) m l h = refl
+
+module _ (r : Hertz) (l : List Float) where
+  pub new-rate : rateOk r ≡ false → record { out = made.Refused 1; line = l } ≡ karplusStrongNewOf r l
+  unfolding karplusStrongNewOf madeUnless
+  new-rate e = rw e
+
+  pub new-room : (k : ℕ) → rateOk r ≡ true → k ≡ roomOf r (length l) → (k ≡ 0 → ⊥) → record { out = made.Refused k; line = l } ≡ karplusStrongNewOf r l
+  unfolding karplusStrongNewOf
+  new-room k e q h = rw (e, ← q) (made-no k (record { out = made.Made (newKarplusStrong r); line = blankOf 0 (maxLenOf r) l }) l h)
+
+  pub new-made : (k : ℕ) → rateOk r ≡ true → k ≡ roomOf r (length l) → k ≡ 0 → (n : ℕ) (edge : EdgeDetector) (memo : Memo1) → n ≡ maxLenOf r → edge ≡ newEdge → memo ≡ newMemo1
+      → record { out = made.Made (record { len = n; «write_pos» = 0; «sample_rate» = r; «lp_state» = zer; «ap_x1» = zer; «ap_y1» = zer; «trigger_edge» = edge; «freq_memo» = memo }); line = blankOf 0 n l } ≡ karplusStrongNewOf r l
+  unfolding karplusStrongNewOf madeUnless
+  new-made k e q h n edge memo en ee em = rw (e, ← q, h, en, ee, em)
+
+module _ (s : KarplusStrong) (l : List Float) (k : ℕ) (e : k ≡ karplusStrongRefusalOf s (length l)) where
+  pub reset-no : (k ≡ 0 → ⊥) → record { out = made.Refused k; line = l } ≡ karplusStrongResetOf s l
+  unfolding karplusStrongResetOf
+  reset-no h = rw (← e) (made-no k (record { out = made.Made (restOf s (s .len) newEdge); line = blankOf 0 (s .len) l }) l h)
+
+  pub reset-made : k ≡ 0 → (edge : EdgeDetector) (t : KarplusStrong) → edge ≡ newEdge → t ≡ restOf s (s .len) edge → record { out = made.Made t; line = blankOf 0 (s .len) l } ≡ karplusStrongResetOf s l
+  unfolding karplusStrongResetOf madeUnless
+  reset-made h edge t ee et = rw (← e, h, et, ee)
+
+module _ (s : KarplusStrong) (r : Hertz) (l : List Float) (k : ℕ) (e : k ≡ rateRefusalOf s r (length l)) where
+  pub rate-no : (k ≡ 0 → ⊥) → record { out = made.Refused k; line = l } ≡ karplusStrongSetSampleRateOf s r l
+  unfolding karplusStrongSetSampleRateOf
+  rate-no h = rw (← e) (made-no k (record { out = made.Made (resizedString s r (maxLenOf r)); line = blankOf (min (s .len) (maxLenOf r)) (maxLenOf r) l }) l h)
+
+  pub rate-made : k ≡ 0 → (n a : ℕ) (t : KarplusStrong) → n ≡ maxLenOf r → a ≡ min (s .len) n → t ≡ resizedString s r n → record { out = made.Made t; line = blankOf a n l } ≡ karplusStrongSetSampleRateOf s r l
+  unfolding karplusStrongSetSampleRateOf madeUnless
+  rate-made h n a t en ea et = rw (← e, h, et, ea, en)
+
+-- ---- the strike
+pub cut-room : (p : Float) (w n : ℕ) → w ≡ wholeOf p → struckLen p ≤ n → w + 2 ≤ n
+unfolding struckLen
+cut-room p w n e h = rw e h
+
+pub struck-by : (n : ℕ) (b : Float) (d : List ℕ) (l x y : List Float) (t r : Float) → x ≡ excitedOf n b d l → t ≡ sumTo x n → r ≡ realOf n → y ≡ levelOf n (div binary64 t r) x → y ≡ struckOf n b d l
+unfolding struckOf meanOf
+struck-by n b d l x y t r ex et er ey = rw (ey, et, er, ex)
+
+module _ (p : Float) (d : List ℕ) (w : ℕ) (e : w ≡ wholeOf p) where
+  pub draws-few : length d < w + 2 → 5 ≡ drawsRefusalOf (struckLen p) d
+  unfolding drawsRefusalOf struckLen
+  draws-few h = rw (← e, lt-leb (w + 2) (length d) h)
+
+  pub draws-large : w + 2 ≤ length d → drawsOk d (w + 2) ≡ false → 6 ≡ drawsRefusalOf (struckLen p) d
+  unfolding drawsRefusalOf struckLen
+  draws-large h k = rw (← e, le-leb (w + 2) (length d) h, k)
+
+  pub draws-good : w + 2 ≤ length d → drawsOk d (w + 2) ≡ true → 0 ≡ drawsRefusalOf (struckLen p) d
+  unfolding drawsRefusalOf struckLen
+  draws-good h k = rw (← e, le-leb (w + 2) (length d) h, k)
+
+pub draws-enough : (n : ℕ) (d : List ℕ) → drawsRefusalOf n d ≡ 0 → n ≤ length d
+unfolding drawsRefusalOf
+draws-enough n d e = go (leb n (length d)) (drawsOk d n) refl e
+  where
+    go : (a b : Bool) → leb n (length d) ≡ a → _≡_ {A = ℕ} (cond a (cond b 0 6) 5) 0 → n ≤ length d
+    go true b h k = leb-true n (length d) h
+    go false b h k = absurd (omega arith)
+
+pub strike-by : (s : KarplusStrong) (p b : Float) (d : List ℕ) (l x : List Float) (w : ℕ) (t : KarplusStrong) → w ≡ wholeOf p → x ≡ struckOf (w + 2) b d l → t ≡ restOf s (w + 2) (s .«trigger_edge») → record { out = t; line = x } ≡ strikeOf s p b d l
+unfolding strikeOf struckLen
+strike-by s p b d l x w t e ex et = rw (et, ex, e)
+
+pub strike-taken : (rising : Bool) (s : KarplusStrong) (p b g : Float) (d : List ℕ) (l : List Float) → rising ≡ true → g ≡ clampOf (finiteOr b half) zer one → strikeOf s p g d l ≡ strikeIf rising s p (clampOf (finiteOr b half) zer one) d l
+unfolding strikeIf
+strike-taken rising s p b g d l e eg = rw (e, eg)
+
+pub strike-none : (rising : Bool) (s : KarplusStrong) (p b : Float) (d : List ℕ) (l : List Float) → rising ≡ false → record { out = s; line = l } ≡ strikeIf rising s p b d l
+unfolding strikeIf
+strike-none rising s p b d l e = rw e
+
+-- the line and its place after it
+pub struck-ready : (rising : Bool) (s : KarplusStrong) (p b : Float) (d : List ℕ) (l : List Float) (n : ℕ) → s .«write_pos» < s .len → s .len ≤ n → struckLen p ≤ n
+    → (strikeIf rising s p b d l .out .«write_pos» < strikeIf rising s p b d l .out .len) × (strikeIf rising s p b d l .out .len ≤ n)
+unfolding strikeIf strikeOf struckLen
+struck-ready true s p b d l n h k g = (omega arith, g)
+struck-ready false s p b d l n h k g = (h, k)
+
+-- a struck line has room
+pub struck-room : (r f : Hertz) (p : Float) (n : ℕ) → p ≡ periodOf r f → rateOk r ≡ true → T (not (isNan (f .0))) → maxLenOf r + 2 ≤ n → struckLen p ≤ n
+unfolding struckLen
+struck-room r f p n ep e q h =
+    let w = period-range r f e q in
+    rw ep (room (wholeOf (periodOf r f)) (maxLenOf r) (w .1) h)
+  where
+    room : (w m : ℕ) → w + 1 ≤ m → m + 2 ≤ n → w + 2 ≤ n
+    room w m h k = omega arith
+
+-- and what the step asks of it holds
+pub sound-ready : (s t u : KarplusStrong) (edge : EdgeDetector) (memo : Memo1) (p b x y damping stretch : Float) (rising : Bool) (d : List ℕ) (l : List Float) (n k : ℕ)
+    → Sound s → maxLenOf (s .«sample_rate») + 2 ≤ n → T (not (isNan (memo .val .0))) → p ≡ periodOf (s .«sample_rate») (memo .val) → t ≡ heardString s edge memo → u ≡ strikeIf rising t p b d l .out → k ≡ n
+    → damping ≡ clampOf (finiteOr x half) zer one → stretch ≡ clampOf (finiteOr y zer) (neg one) one
+    → (u .«write_pos» < u .len) × (u .len ≤ k) × (wholeOf (targetDelayOf p (filterCoefOf damping) (apCoefOf stretch)) ≤ 9610)
+sound-ready s t u edge memo p b x y damping stretch rising d l n k a h q ep et eu ek ed es =
+    let m = a .most in
+    let z = a .place in
+    let r = struck-ready rising (heardString s edge memo) p b d l n z (omega arith) (struck-room (s .«sample_rate») (memo .val) p n ep (a .rate) q h) in
+    (rw (eu, et) (r .0), rw (ek, eu, et) (r .1), rw (ed, es, ep) (delay-range (s .«sample_rate») (memo .val) x y (a .rate) q))
+
+-- ---- the loop
+pub tap-by : (l : List Float) (from len : ℕ) (delay : Float) (w a b : ℕ) → w ≡ wholeOf delay → a ≡ (from + (len - w)) % len → b ≡ (from + (len - (w + 1))) % len
+    → add binary64 (mul binary64 (getD l a nan) (sub binary64 one (sub binary64 delay (realOf w)))) (mul binary64 (getD l b nan) (sub binary64 delay (realOf w))) ≡ tapOf l from len delay
+unfolding tapOf offsetOne offsetTwo
+tap-by l from len delay w a b ew ea eb =
+    let e : len - (w + 1) ≡ len - w - 1 = omega arith in
+    rw (ea, eb, e, ew)
+
+pub heard-clean : (v : Float) → isFin v ≡ true → answer.Clean (outOf v) ≡ heardOf v false
+unfolding heardOf markOf allFinite ruleOf answerOf ofBits
+heard-clean v e = rw e
+
+pub heard-cleared : answer.Cleared (outOf zer) ≡ heardOf zer true
+unfolding heardOf markOf allFinite ruleOf answerOf ofBits
+heard-cleared = refl
+
+module _ (s : KarplusStrong) (p d t : Float) (l : List Float) (delay sample : Float) (ed : delay ≡ targetDelayOf p (filterCoefOf d) (apCoefOf t)) (es : sample ≡ tapOf l (s .«write_pos») (s .len) delay) where
+  pub step-clean : isFin (mul binary64 (stretchedOf s (filteredOf s sample (filterCoefOf d)) (apCoefOf t)) loopLeak) ≡ true → (next : ℕ) (v : Volts) → next ≡ (s .«write_pos» + 1) % s .len → v ≡ outOf (mul binary64 (stretchedOf s (filteredOf s sample (filterCoefOf d)) (apCoefOf t)) loopLeak)
+      → record { out = record { answer = answer.Clean v; «karplus_strong» = record { len = s .len; «write_pos» = next; «sample_rate» = s .«sample_rate»; «lp_state» = filteredOf s sample (filterCoefOf d); «ap_x1» = filteredOf s sample (filterCoefOf d); «ap_y1» = stretchedOf s (filteredOf s sample (filterCoefOf d)) (apCoefOf t); «trigger_edge» = s .«trigger_edge»; «freq_memo» = s .«freq_memo» } }; line = set l (s .«write_pos») (mul binary64 (stretchedOf s (filteredOf s sample (filterCoefOf d)) (apCoefOf t)) loopLeak) } ≡ stepOf s p d t l
+  unfolding stepOf
+  step-clean h next v en ev = rw (← ed, ← es, h, en, ev, heard-clean (mul binary64 (stretchedOf s (filteredOf s sample (filterCoefOf d)) (apCoefOf t)) loopLeak) h)
+
+  pub step-cleared : isFin (mul binary64 (stretchedOf s (filteredOf s sample (filterCoefOf d)) (apCoefOf t)) loopLeak) ≡ false → (v : Volts) (u : KarplusStrong) → v ≡ outOf zer → u ≡ restOf s (s .len) (s .«trigger_edge») → record { out = record { answer = answer.Cleared v; «karplus_strong» = u }; line = blankOf 0 (s .len) l } ≡ stepOf s p d t l
+  unfolding stepOf
+  step-cleared h v u ev eu = rw (← ed, ← es, h, ev, eu, heard-cleared)
+
+-- ---- the tick
+tick-no : (k : ℕ) (s : KarplusStrong) (l : List Float) (t : Ticking) → (k ≡ 0 → ⊥) → record { out = refusedTick s k; line = l } ≡ tickUnless k s l t
+unfolding tickUnless
+tick-no zero s l t h = absurd (h refl)
+tick-no (suc k) s l t h = refl
+
+module _ (s : KarplusStrong) (c : KarplusStrongControls) (d : List ℕ) (l : List Float) (voct : Float) (memo : Memo1) (period : Float) (risen : Risen) (k : ℕ)
+    (ev : voct ≡ finiteOr (c .voct .0) zer) (em : memo ≡ recall1 voctToHzAt (s .«freq_memo») voct) (ep : period ≡ periodOf (s .«sample_rate») (memo .val))
+    (er : risen ≡ risingOf (s .«trigger_edge») (c .trigger)) (ek : k ≡ cond (risen .rising) (drawsRefusalOf (struckLen period) d) 0) where
+  pub sound-no : (k ≡ 0 → ⊥) → record { out = refusedTick s k; line = l } ≡ karplusStrongSoundOf s c d l
+  unfolding karplusStrongSoundOf
+  sound-no h = rw (← ev, ← em, ← ep, ← er, ← ek) (tick-no k s l _ h)
+
+  pub sound-by : k ≡ 0 → (damping stretch : Float) (heard struck : KarplusStrong) (x : List Float) → damping ≡ clampOf (finiteOr (c .damping) half) zer one → stretch ≡ clampOf (finiteOr (c .stretch) zer) (neg one) one
+      → heard ≡ heardString s (risen .edge) memo → struck ≡ strikeIf (risen .rising) heard period (clampOf (finiteOr (c .brightness) half) zer one) d l .out → x ≡ strikeIf (risen .rising) heard period (clampOf (finiteOr (c .brightness) half) zer one) d l .line
+      → stepOf struck period damping stretch x ≡ karplusStrongSoundOf s c d l
+  unfolding karplusStrongSoundOf tickUnless
+  sound-by h damping stretch heard struck x ed es eh et ex = rw (← ev, ← em, ← ep, ← er, ← ek, h, et, ex, eh, ed, es)
+
+module _ (s : KarplusStrong) (c : KarplusStrongControls) (d : List ℕ) (l : List Float) (k : ℕ) (e : k ≡ karplusStrongRefusalOf s (length l)) where
+  pub tick-refused : (k ≡ 0 → ⊥) → record { out = refusedTick s k; line = l } ≡ karplusStrongTickOf s c d l
+  unfolding karplusStrongTickOf
+  tick-refused h = rw (← e) (tick-no k s l (karplusStrongSoundOf s c d l) h)
+
+  pub tick-sound : k ≡ 0 → karplusStrongSoundOf s c d l ≡ karplusStrongTickOf s c d l
+  unfolding karplusStrongTickOf tickUnless
+  tick-sound h = rw (← e, h)

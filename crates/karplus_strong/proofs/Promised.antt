@@ -1,0 +1,197 @@
+-- The promises of a reached string: no call refuses but for its own input, and an edge can always be had.
+use mathlib.Core.Bool.{Bool, _&&_, true, false, cond}
+use mathlib.Core.List.{List}
+use mathlib.Core.Logic.{⊎-elim}
+use mathlib.Core.Path.{_≡_, refl, ap, _∙_}
+use Prim.Native.Nat.{ℕ, _≤_, zero, suc, _<_}
+use native.Mathlib.Nat.{not-suc-le-zero, eq-or-lt-of-le, le-of-suc-le-suc, le-trans}
+use native.Mathlib.Omega.{arith}
+use lib.Dec.{ltb}
+use lib.Ieee.{Float, binary64, lt, le, mul, ofBits, neg, low}
+use lib.ListN.{length, getD}
+use borrow.Author.Tests.{le-leb}
+use Rattle.answer.specs.Answer.{refusalOf, accepted}
+use Rattle.common.specs.Consts.{five, gateThreshold, half}
+use Rattle.common.specs.Edge.{risesAbove, risingAboveOf, risingOf}
+use Rattle.common.specs.Memo.{recall1, voctToHzAt}
+use Rattle.common.specs.Tests.{rateOk}
+use Rattle.laws.proofs.Order.{lt-false}
+use Rattle.laws.proofs.Tests.{of-true}
+use Rattle.laws.specs.Float.{zer, one, isFin}
+use Rattle.numeric.specs.Basic.{clampOf}
+use Rattle.karplus_strong.proofs.Parts.{max-len-range, period-range, memo-number, Sound, sound-line}
+use Rattle.karplus_strong.proofs.Reached.{Good, after-good, reached-good}
+use Rattle.karplus_strong.proofs.Ticks.{heard-number, heard-accepted, struckStep, soundRefusal, struck-heard, unless-number, twice-heard, twice-left, tick-is, good-refusal, good-room, good-none, good-tick}
+use Rattle.karplus_strong.specs.Calls.{Strung, madeReply, after, reply, Tick, Reset, SetSampleRate, Done}
+use Rattle.karplus_strong.specs.Consts.{loopLeak}
+use Rattle.karplus_strong.specs.KarplusStrong.{roomOf, karplusStrongRefusalOf, rateRefusalOf, madeUnless, karplusStrongNewOf, karplusStrongResetOf, karplusStrongSetSampleRateOf, finiteOr, struckLen, drawsRefusalOf, strikeOf, strikeIf, heardString, tickUnless, karplusStrongTickOf}
+use Rattle.karplus_strong.specs.Line.{drawsOk}
+use Rattle.karplus_strong.specs.Promises.{periodAt, risesAt, doneOr, Never-refused, New-there, Edge-comes, Clean-or-cleared, Refused-leaves, Keeps-rate}
+use Rattle.karplus_strong.specs.Step.{filterCoefOf, apCoefOf, targetDelayOf, tapOf, filteredOf, stretchedOf, Ticking, wroteOf, clearedOf, stepOf}
+use Rattle.common.specs.declared.EdgeDetector.{EdgeDetector}
+use Rattle.common.specs.declared.Hertz.{Hertz}
+use Rattle.karplus_strong.specs.declared.KarplusStrong.{KarplusStrong}
+use Rattle.karplus_strong.specs.declared.KarplusStrongControls.{KarplusStrongControls}
+use Rattle.karplus_strong.specs.declared.KarplusStrongMade.the-variants as made
+
+pub clean-or-cleared : Clean-or-cleared
+clean-or-cleared s c draws l e = rw (tick-is s c draws l) (twice-heard (karplusStrongRefusalOf s (length l)) (soundRefusal s c draws) s l (struckStep s c draws l) (struck-heard s c draws l) (rw (tick-is s c draws l) at e))
+
+pub refused-leaves : Refused-leaves
+refused-leaves s c draws l e = rw (tick-is s c draws l) (twice-left (karplusStrongRefusalOf s (length l)) (soundRefusal s c draws) s l (struckStep s c draws l) (struck-heard s c draws l) (rw (tick-is s c draws l) at e))
+
+-- ---- a reached string is ready
+good-number : (s : KarplusStrong) (c : KarplusStrongControls) (draws : List ℕ) (l : List Float) → Good s (length l) → refusalOf (karplusStrongTickOf s c draws l .out .answer) ≡ cond (risesAt s c) (drawsRefusalOf (struckLen (periodAt s c)) draws) 0
+unfolding soundRefusal
+good-number s c draws l g = ap (λ (t : Ticking). refusalOf (t .out .answer)) (good-tick s c draws l g) ∙ unless-number (soundRefusal s c draws) s l (struckStep s c draws l) (heard-number (struckStep s c draws l .out .answer) (struck-heard s c draws l))
+
+made-says : (k : ℕ) (t : KarplusStrong) (m l : List Float) → madeReply (madeUnless k (record { out = made.Made t; line = m }) l .out) ≡ doneOr k
+unfolding madeUnless madeReply doneOr
+made-says zero t m l = refl
+made-says (suc k) t m l = refl
+
+pub never-refused : Never-refused
+never-refused x h = record {
+  state = λ n. good-refusal (x .string) (length (x .line)) n g;
+  room = good-room (x .string) (length (x .line)) g;
+  tick = λ c draws. good-number (x .string) c draws (x .line) g;
+  reset = reset-says;
+  rate = rate-says;
+}
+  where
+    g : Good (x .string) (length (x .line))
+    g = reached-good x h
+
+    reset-says : reply x Reset ≡ Done
+    reset-says = unfold reply karplusStrongResetOf doneOr in made-says (karplusStrongRefusalOf (x .string) (length (x .line))) _ _ (x .line) ∙ ap doneOr (good-none (x .string) (length (x .line)) g)
+
+    both : (b : Bool) (k : ℕ) → _≡_ {A = ℕ} (cond (true && b) (cond true k 2) 1) (cond b k 1)
+    both true k = refl
+    both false k = refl
+
+    rate-says : (r : Hertz) → reply x (SetSampleRate r) ≡ doneOr (cond (rateOk r) (roomOf r (length (x .line))) 1)
+    rate-says r = unfold reply karplusStrongSetSampleRateOf rateRefusalOf in made-says (rateRefusalOf (x .string) r (length (x .line))) _ _ (x .line) ∙ ap doneOr (simp (g .sound .rate, sound-line (x .string) (g .sound)) (both (rateOk r) (roomOf r (length (x .line)))))
+
+pub new-there : New-there
+new-there x h l e = record {
+  rate = x .string .«sample_rate»;
+  lent = l;
+  is-new = unfold karplusStrongNewOf madeUnless in simp (g .sound .rate, e, good-room (x .string) (length (x .line)) g);
+}
+  where
+    g : Good (x .string) (length (x .line))
+    g = reached-good x h
+
+-- ---- an edge
+draws-less : (d : List ℕ) (n m : ℕ) → m ≤ n → drawsOk d n ≡ true → drawsOk d m ≡ true
+unfolding drawsOk
+draws-less d zero zero h e = e
+draws-less d zero (suc m) h e = absurd (not-suc-le-zero h)
+draws-less d (suc n) m h e = ⊎-elim (λ (q : m ≡ suc n). rw q e) (λ (q : m < suc n). draws-less d n m (le-of-suc-le-suc q) (first (drawsOk d n) (ltb (getD d n 0) 9007199254740992) e)) (eq-or-lt-of-le h)
+  where
+    first : (a b : Bool) → (a && b) ≡ true → a ≡ true
+    first true b k = refl
+    first false b k = k
+
+draws-fine : (n : ℕ) (d : List ℕ) → n ≤ 9611 → 9611 ≤ length d → drawsOk d 9611 ≡ true → drawsRefusalOf n d ≡ 0
+unfolding drawsRefusalOf
+draws-fine n d h k e = simp (le-leb n (length d) (le-trans h k), draws-less d 9611 n h e)
+
+good-accepted : (s : KarplusStrong) (c : KarplusStrongControls) (draws : List ℕ) (l : List Float) → Good s (length l) → soundRefusal s c draws ≡ 0 → accepted (karplusStrongTickOf s c draws l .out .answer) ≡ true
+unfolding tickUnless
+good-accepted s c draws l g e = ap (λ (t : Ticking). accepted (t .out .answer)) (good-tick s c draws l g ∙ ap (λ (k : ℕ). tickUnless k s l (struckStep s c draws l)) e) ∙ heard-accepted (struckStep s c draws l .out .answer) (struck-heard s c draws l)
+
+-- a step and a strike leave the rate and the edge record
+step-keeps : (s : KarplusStrong) (p d t : Float) (l : List Float) → (stepOf s p d t l .out .«karplus_strong» .«sample_rate» ≡ s .«sample_rate») × (stepOf s p d t l .out .«karplus_strong» .«trigger_edge» ≡ s .«trigger_edge»)
+unfolding stepOf
+step-keeps s p d t l = go (isFin v) y z v
+  where
+    y : Float
+    y = filteredOf s (tapOf l (s .«write_pos») (s .len) (targetDelayOf p (filterCoefOf d) (apCoefOf t))) (filterCoefOf d)
+
+    z : Float
+    z = stretchedOf s y (apCoefOf t)
+
+    v : Float
+    v = mul binary64 z loopLeak
+
+    go : (b : Bool) (y z v : Float) → (cond b (wroteOf s y z v l) (clearedOf s l) .out .«karplus_strong» .«sample_rate» ≡ s .«sample_rate») × (cond b (wroteOf s y z v l) (clearedOf s l) .out .«karplus_strong» .«trigger_edge» ≡ s .«trigger_edge»)
+    go true y z v = (refl, refl)
+    go false y z v = (refl, refl)
+
+struck-keeps : (rising : Bool) (t : KarplusStrong) (p b : Float) (draws : List ℕ) (l : List Float) → (strikeIf rising t p b draws l .out .«sample_rate» ≡ t .«sample_rate») × (strikeIf rising t p b draws l .out .«trigger_edge» ≡ t .«trigger_edge»)
+unfolding strikeIf strikeOf
+struck-keeps true t p b draws l = (refl, refl)
+struck-keeps false t p b draws l = (refl, refl)
+
+-- so both together leave the rate, and the edge record of the tick's trigger
+struck-step-keeps : (s : KarplusStrong) (c : KarplusStrongControls) (draws : List ℕ) (l : List Float)
+    → (struckStep s c draws l .out .«karplus_strong» .«sample_rate» ≡ s .«sample_rate») × (struckStep s c draws l .out .«karplus_strong» .«trigger_edge» ≡ risingOf (s .«trigger_edge») (c .trigger) .edge)
+unfolding struckStep
+struck-step-keeps s c draws l =
+    let t = heardString s (risingOf (s .«trigger_edge») (c .trigger) .edge) (recall1 voctToHzAt (s .«freq_memo») (finiteOr (c .voct .0) zer)) in
+    let struck = strikeIf (risesAt s c) t (periodAt s c) (clampOf (finiteOr (c .brightness) half) zer one) draws l in
+    let a = step-keeps (struck .out) (periodAt s c) (clampOf (finiteOr (c .damping) half) zer one) (clampOf (finiteOr (c .stretch) zer) (neg one) one) (struck .line) in
+    let b = struck-keeps (risesAt s c) t (periodAt s c) (clampOf (finiteOr (c .brightness) half) zer one) draws l in
+    (a .0 ∙ b .0, a .1 ∙ b .1)
+
+twice-rate : (k j : ℕ) (s : KarplusStrong) (l : List Float) (t : Ticking) → t .out .«karplus_strong» .«sample_rate» ≡ s .«sample_rate» → tickUnless k s l (tickUnless j s l t) .out .«karplus_strong» .«sample_rate» ≡ s .«sample_rate»
+unfolding tickUnless
+twice-rate zero zero s l t h = h
+twice-rate zero (suc j) s l t h = refl
+twice-rate (suc k) j s l t h = refl
+
+pub keeps-rate : Keeps-rate
+keeps-rate s c draws l = rw (tick-is s c draws l) (twice-rate (karplusStrongRefusalOf s (length l)) (soundRefusal s c draws) s l (struckStep s c draws l) (struck-step-keeps s c draws l .0))
+
+good-edge : (s : KarplusStrong) (c : KarplusStrongControls) (draws : List ℕ) (l : List Float) → Good s (length l) → soundRefusal s c draws ≡ 0 → karplusStrongTickOf s c draws l .out .«karplus_strong» .«trigger_edge» ≡ risingOf (s .«trigger_edge») (c .trigger) .edge
+unfolding tickUnless
+good-edge s c draws l g e =
+    ap (λ (t : Ticking). t .out .«karplus_strong» .«trigger_edge») (good-tick s c draws l g ∙ ap (λ (k : ℕ). tickUnless k s l (struckStep s c draws l)) e)
+    ∙ struck-step-keeps s c draws l .1
+
+-- what is not above the threshold is no edge, and 5.0 V after it is one
+low-rises : (s : KarplusStrong) (c : KarplusStrongControls) → le (c .trigger) gateThreshold ≡ true → risesAt s c ≡ false
+unfolding risingOf risingAboveOf risesAbove
+low-rises s c e = simp (lt-false gateThreshold (c .trigger) (of-true (le (c .trigger) gateThreshold) e))
+
+high-rises : (s : KarplusStrong) (c : KarplusStrongControls) (low : Float) → le low gateThreshold ≡ true → s .«trigger_edge» .prev ≡ low → c .trigger ≡ five → risesAt s c ≡ true
+unfolding risingOf risingAboveOf risesAbove
+high-rises s c low el ep eh = rw (eh, ep, el) (unfold lt ofBits in refl)
+
+low-sounds : (s : KarplusStrong) (c : KarplusStrongControls) (draws : List ℕ) → le (c .trigger) gateThreshold ≡ true → soundRefusal s c draws ≡ 0
+unfolding soundRefusal
+low-sounds s c draws e = simp (low-rises s c e)
+
+pub struck-short : (s : KarplusStrong) (c : KarplusStrongControls) → Sound s → struckLen (periodAt s c) ≤ 9611
+unfolding struckLen
+struck-short s c a =
+    let m = recall1 voctToHzAt (s .«freq_memo») (finiteOr (c .voct .0) zer) in
+    let w = period-range (s .«sample_rate») (m .val) (a .rate) (memo-number (s .«freq_memo») (c .voct .0) (finiteOr (c .voct .0) zer) m (a .value) refl refl) in
+    let k = max-len-range (s .«sample_rate») (a .rate) in
+    omega (arith, w .1, k .1)
+
+high-sounds : (s : KarplusStrong) (c : KarplusStrongControls) (draws : List ℕ) → Sound s → risesAt s c ≡ true → 9611 ≤ length draws → drawsOk draws 9611 ≡ true → soundRefusal s c draws ≡ 0
+unfolding soundRefusal
+high-sounds s c draws a e h k = simp (e, draws-fine (struckLen (periodAt s c)) draws (struck-short s c a) h k)
+
+pub edge-comes : Edge-comes
+edge-comes x h low high none draws f el eh n ok = (good-accepted (x .string) low none (x .line) g r, record { is-accepted = good-accepted (y .string) high draws (y .line) k (high-sounds (y .string) high draws (k .sound) e n ok); edge = e })
+  where
+    g : Good (x .string) (length (x .line))
+    g = reached-good x h
+
+    r : soundRefusal (x .string) low none ≡ 0
+    r = low-sounds (x .string) low none el
+
+    y : Strung
+    y = after x (Tick low none)
+
+    k : Good (y .string) (length (y .line))
+    k = after-good x (Tick low none) g f
+
+    prev : y .string .«trigger_edge» .prev ≡ low .trigger
+    prev = unfold after risingOf risingAboveOf in ap (λ (e : EdgeDetector). e .prev) (good-edge (x .string) low none (x .line) g r)
+
+    e : risesAt (y .string) high ≡ true
+    e = high-rises (y .string) high (low .trigger) el prev eh

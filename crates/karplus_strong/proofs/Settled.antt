@@ -1,0 +1,21 @@
+-- Each contract names the answer and the line, so two that it allows are equal.
+use mathlib.Core.Path.{_≡_, sym, _∙_}
+use Rattle.laws.specs.Machine.{Settles}
+use Rattle.karplus_strong.specs.Step.{Ticking}
+use Rattle.karplus_strong.specs.KarplusStrong.{Making, karplusStrongNewOf, karplusStrongTickOf, karplusStrongResetOf, karplusStrongSetSampleRateOf}
+use Rattle.karplus_strong.specs.Promises.{Settled}
+
+ticking : (t : Ticking) → Settles (λ (r : Ticking). (r .out ≡ t .out) × (r .line ≡ t .line))
+ticking t x y p q = (λ i. record { out = (p .0 ∙ sym (q .0)) i; line = (p .1 ∙ sym (q .1)) i })
+
+making : (t : Making) → Settles (λ (r : Making). (r .out ≡ t .out) × (r .line ≡ t .line))
+making t x y p q = (λ i. record { out = (p .0 ∙ sym (q .0)) i; line = (p .1 ∙ sym (q .1)) i })
+
+pub settled : Settled
+settled =
+    record {
+      new = λ rate l. making (karplusStrongNewOf rate l);
+      tick = λ s c draws l. ticking (karplusStrongTickOf s c draws l);
+      reset = λ s l. making (karplusStrongResetOf s l);
+      «set_sample_rate» = λ s rate l. making (karplusStrongSetSampleRateOf s rate l);
+    }

@@ -1,0 +1,387 @@
+-- A string whose stretch counts as 0.0 is never cleared: no cell of its line and no filter ever holds more than 8 V.
+use mathlib.Core.Bool.{Bool, Bool·beq, true, false, cond, not, _&&_, true≢false}
+use mathlib.Core.List.{List}
+use mathlib.Core.Logic.{⊎-elim}
+use mathlib.Core.Path.{_≡_, refl, sym, subst}
+use Prim.Native.Nat.{ℕ, zero, suc, _+_, _-_, _*_, _/_, _%_, _^_, _≤_, _<_, min}
+use native.Mathlib.Decide.{ℕ-discrete}
+use native.Mathlib.Nat.{le-trans, le-of-eq, le-of-suc-le-suc, eq-or-lt-of-le, add-le-add, mod-lt, mul-le-mul-right, mul-one, mul-pos, not-suc-le-zero}
+use native.Mathlib.Omega.{arith}
+use lib.Dec.{T, leb, ltb, lit<, lit≤}
+use lib.ListN.{length, getD, set}
+use lib.Seq.{getD-set-same, getD-set-other}
+use lib.Ieee.{Float, nan, inf, fin, binary64, add, sub, mul, sum, round, neg, lt, le, eq, isNan, fits, ofBits, toUnsigned}
+use lib.Ieee.Bits.{is-true}
+use lib.Ieee.Exact.{HasValue}
+use lib.Ieee.Fits.{cond-fits, sub-fits}
+use lib.Ieee.Positive.{positive, above, above-of-le}
+use borrow.Author.Tests.{ltb-true}
+use Rattle.laws.proofs.Always.{always}
+use Rattle.laws.proofs.Interval.{Within, part-of, round-sized, sized-mul, unit-within, within-finite, within-wider, within-mul, within-add}
+use Rattle.laws.proofs.Order.{le-of-lt-true, float-le-trans}
+use Rattle.laws.proofs.Tests.{of-true}
+use Rattle.laws.proofs.Values.{add-round, div-round, neg-value, exact-at, ofInt-val}
+use Rattle.laws.specs.Float.{F64, zer, one, isFin}
+use Rattle.laws.specs.Lists.{over}
+use Rattle.numeric.proofs.DrawLaws.{bipolar-exact}
+use Rattle.numeric.specs.Basic.{clampOf, maxOf, wholeOf, realOf}
+use Rattle.numeric.specs.Draw.{bipolarOf}
+use Rattle.common.specs.Consts.{half}
+use Rattle.common.specs.Edge.{newEdge, risingOf}
+use Rattle.common.specs.Memo.{recall1, voctToHzAt}
+use Rattle.common.specs.Tests.{rateOk}
+use Rattle.common.specs.declared.Hertz.{Hertz}
+use Rattle.common.specs.declared.Memo1.{Memo1}
+use Rattle.answer.specs.Answer.{markNumber, accepted}
+use Rattle.answer.specs.declared.Answer.{Answer}
+use Rattle.karplus_strong.specs.Consts.{loopLeak}
+use Rattle.karplus_strong.specs.Line.{blankAt, blankOf, impulseOf, pulseOf, excitedAt, excitedOf, sumTo, meanOf, levelAt, levelOf, struckOf, drawsOk}
+use Rattle.karplus_strong.specs.Step.{filterCoefOf, apCoefOf, filterDelayOf, apDelayOf, targetDelayOf, offsetOne, offsetTwo, tapOf, filteredOf, stretchedOf, Ticking, restOf, stepOf}
+use Rattle.karplus_strong.specs.KarplusStrong.{maxLenOf, karplusStrongRefusalOf, rateRefusalOf, madeUnless, karplusStrongResetOf, resizedString, karplusStrongSetSampleRateOf, finiteOr, periodOf, struckLen, drawsRefusalOf, strikeOf, strikeIf, heardString, tickUnless, karplusStrongTickOf}
+use Rattle.karplus_strong.specs.Calls.{Strung, Call, Tick, Reset, SetSampleRate, stringAfter, strungAfter, after, FitCall, First}
+use Rattle.karplus_strong.specs.Promises.{periodAt, risesAt, Unstretched, Never-cleared}
+use Rattle.karplus_strong.specs.declared.KarplusStrong.{KarplusStrong}
+use Rattle.karplus_strong.specs.declared.KarplusStrongControls.{KarplusStrongControls}
+use Rattle.karplus_strong.specs.declared.KarplusStrongMade.the-variants as made
+use Rattle.karplus_strong.proofs.Alike.{getD-over, length-struck}
+use Rattle.karplus_strong.proofs.Parts.{Sound, damped, delay-range, heard-clean, memo-number, struck-room}
+use Rattle.karplus_strong.proofs.Promised.{struck-short}
+use Rattle.karplus_strong.proofs.Reached.{Good, first-is, first-good, after-good}
+use Rattle.karplus_strong.proofs.Ticks.{struckStep, soundRefusal, good-tick}
+use Rattle.karplus_strong.proofs.Weights.{Under, Held, round-under, weighed, zero-times, zero-plus, minus-zero, tap-weights, filter-weights, held-upto}
+
+-- ---- sizes
+zero-within : Within 3 zer
+unfolding ofBits
+zero-within = (false, (0, 1, lit< tt, lit≤ tt, (refl, refl)))
+
+sub-within : (i : ℕ) (x y : Float) → suc i ≤ 1023 → Within i x → Within i y → Within (suc i) (sub binary64 x y)
+unfolding sub
+sub-within i x y I h k = let q = k .1 in within-add i x (neg y) I h (not (k .0), (q .0, q .1, q .2, q .3, neg-value y (k .0) (q .0) (q .1) (q .4)))
+
+sum-under : (s t : Bool) (a b c p d : ℕ) → 0 < c → 0 < d → (a + b) * d ≤ p * c → Held p d → (r : Bool) × Under p d r (sum binary64 s a t b c)
+unfolding sum
+sum-under s t a b c p d C D h top = go (Bool·beq s t) (ltb a b)
+  where
+    less : (m n d k : ℕ) → (m + n) * d ≤ k → (m - n) * d ≤ k
+    less m n d k h = le-trans (mul-le-mul-right d (under m n)) h
+      where
+        under : (m n : ℕ) → m - n ≤ m + n
+        under m n = omega arith
+
+    more : (m n d k : ℕ) → (m + n) * d ≤ k → (n - m) * d ≤ k
+    more m n d k h = le-trans (mul-le-mul-right d (under m n)) h
+      where
+        under : (m n : ℕ) → n - m ≤ m + n
+        under m n = omega arith
+
+    go : (x y : Bool) → (r : Bool) × Under p d r (cond x (round binary64 s (a + b) c) (cond y (round binary64 t (b - a) c) (round binary64 (s && ltb b a) (a - b) c)))
+    go true y = (s, round-under s (a + b) c p d C D h top)
+    go false true = (t, round-under t (b - a) c p d C D (more a b d (p * c) h) top)
+    go false false = (s && ltb b a, round-under (s && ltb b a) (a - b) c p d C D (less a b d (p * c) h) top)
+
+-- ---- a strike
+draw-below : (d : List ℕ) (n i : ℕ) → drawsOk d n ≡ true → i < n → getD d i 0 < 2 ^ 53
+unfolding drawsOk
+draw-below d zero i e h = absurd (not-suc-le-zero h)
+draw-below d (suc n) i e h = ⊎-elim (λ (q : i ≡ n). rw q (ltb-true (getD d n 0) 9007199254740992 (parts .1))) (λ (q : i < n). draw-below d n i (parts .0) q) (eq-or-lt-of-le (le-of-suc-le-suc h))
+  where
+    both : (a b : Bool) → (a && b) ≡ true → (a ≡ true) × (b ≡ true)
+    both true b e = (refl, e)
+    both false b e = absurd (true≢false (sym e))
+
+    parts : (drawsOk d n ≡ true) × (ltb (getD d n 0) 9007199254740992 ≡ true)
+    parts = both (drawsOk d n) (ltb (getD d n 0) 9007199254740992) e
+
+bipolar-within : (k : ℕ) → k < 2 ^ 53 → Within 0 (bipolarOf k)
+bipolar-within k h = (ltb (2 * k) (2 ^ 53), (cond (ltb (2 * k) (2 ^ 53)) (2 ^ 53 - 2 * k) (2 * k - 2 ^ 53), 2 ^ 53, lit< tt, small (ltb (2 * k) (2 ^ 53)) k h, bipolar-exact k h))
+  where
+    small : (b : Bool) (k : ℕ) → k < 9007199254740992 → cond b (9007199254740992 - 2 * k) (2 * k - 9007199254740992) ≤ 1 * 9007199254740992
+    small true k h = omega arith
+    small false k h = omega arith
+
+impulse-within : (n i : ℕ) → Within 0 (impulseOf n i)
+unfolding impulseOf ofBits
+impulse-within n i = go (ltb i (n / 4))
+  where
+    go : (b : Bool) → Within 0 (cond b one zer)
+    go true = (false, (1, 1, lit< tt, lit≤ tt, (refl, refl)))
+    go false = (false, (0, 1, lit< tt, lit≤ tt, (refl, refl)))
+
+pulse-within : (n i k : ℕ) (b : Float) → k < 2 ^ 53 → T (le zer b) → T (le b one) → Within 2 (pulseOf n b k i)
+unfolding pulseOf
+pulse-within n i k b h l u =
+    let w : Within 0 b = unit-within b (float-le-trans (neg one) zer b (unfold le lt eq neg ofBits in tt) l, u) in
+    let o : Within 0 one = unfold ofBits in (false, (1, 1, lit< tt, lit≤ tt, (refl, refl))) in
+    within-add 1 (mul binary64 (bipolarOf k) b) (mul binary64 (impulseOf n i) (sub binary64 one b)) (lit≤ tt)
+    (within-wider 0 (mul binary64 (bipolarOf k) b) (within-mul 0 0 (bipolarOf k) b (lit≤ tt) (bipolar-within k h) w))
+    (within-mul 0 1 (impulseOf n i) (sub binary64 one b) (lit≤ tt) (impulse-within n i) (sub-within 0 one b (lit≤ tt) o w))
+
+-- n cells of at most 4 add up to at most 4 n
+sum-within : (l : List Float) (n : ℕ) → n ≤ 9611 → ((i : ℕ) → i < n → Within 2 (getD l i nan)) → (s : Bool) × Under (4 * n) 1 s (sumTo l n)
+unfolding sumTo
+sum-within l zero h k = unfold neg ofBits in (true, (0, 1, lit< tt, lit≤ tt, (refl, refl)))
+sum-within l (suc n) h k =
+    let a = sum-within l n (le-trans (up n) h) (λ i q. k i (later i n q)) in
+    let b = k n (last n) in
+    let p = a .1 in
+    let q = b .1 in
+    subst (λ (x : Float). (s : Bool) × Under (4 * suc n) 1 s x) (sym (add-round (sumTo l n) (getD l n nan) (a .0) (b .0) (p .0) (p .1) (q .0) (q .1) (p .2) (q .2) (p .4) (q .4)))
+    (sum-under (a .0) (b .0) (p .0 * q .1) (q .0 * p .1) (p .1 * q .1) (4 * suc n) 1 (mul-pos (p .2) (q .2)) (lit< tt) (total (p .0) (p .1) (q .0) (q .1) n (p .3) (q .3)) (exact-at false (4 * suc n) 0 (small n h) (lit≤ tt)))
+  where
+    up : (n : ℕ) → n ≤ suc n
+    up n = omega arith
+
+    last : (n : ℕ) → n < suc n
+    last n = omega arith
+
+    later : (i n : ℕ) → i < n → i < suc n
+    later i n h = omega arith
+
+    small : (n : ℕ) → suc n ≤ 9611 → 4 * suc n < 9007199254740992
+    small n h = omega arith
+
+    total : (a c b d n : ℕ) → a * 1 ≤ 4 * n * c → b ≤ 4 * d → (a * d + b * c) * 1 ≤ 4 * suc n * (c * d)
+    total a c b d n h g = le-trans (le-of-eq (mul-one (a * d + b * c))) (le-trans (add-le-add (mul-le-mul-right d (le-trans (le-of-eq (sym (mul-one a))) h)) (mul-le-mul-right c g)) (le-of-eq (gather c d n)))
+      where
+        gather : (c d n : ℕ) → 4 * n * c * d + 4 * d * c ≡ 4 * suc n * (c * d)
+        gather c d n = omega arith
+
+mean-within : (l : List Float) (n : ℕ) → 0 < n → n ≤ 9611 → ((i : ℕ) → i < n → Within 2 (getD l i nan)) → Within 2 (meanOf n l)
+unfolding meanOf
+mean-within l n N h k =
+    let a = sum-within l n h k in
+    let p = a .1 in
+    subst (Within 2) (sym (div-round (sumTo l n) (realOf n) (a .0) (p .0) (p .1) n 1 (p .2) (lit< tt) N (p .4) (ofInt-val n (le-trans h (lit≤ tt)))))
+    (a .0, round-sized (a .0) 2 (p .0 * 1) (p .1 * n) (lit≤ tt) (mul-pos (p .2) N) (le-trans (p .3) (le-of-eq (turn (p .1) n))))
+  where
+    turn : (c n : ℕ) → 4 * n * c ≡ 4 * (c * n)
+    turn c n = omega arith
+
+struck-within : (n : ℕ) (b : Float) (d : List ℕ) (l : List Float) → 0 < n → n ≤ 9611 → drawsOk d n ≡ true → T (le zer b) → T (le b one) → (i : ℕ) → i < n → Within 3 (getD (struckOf n b d l) i nan)
+unfolding struckOf levelOf excitedOf levelAt excitedAt
+struck-within n b d l N h ok lo hi i q =
+    subst (Within 3) (sym (getD-over (levelAt (meanOf n x) x) n x i q))
+    (sub-within 2 (getD x i nan) (meanOf n x) (lit≤ tt) (cell i q) (mean-within x n N h cell))
+  where
+    x : List Float
+    x = over (excitedAt n b d) n l
+
+    cell : (i : ℕ) → i < n → Within 2 (getD x i nan)
+    cell i q = subst (Within 2) (sym (getD-over (excitedAt n b d) n l i q)) (pulse-within n i (getD d i 0) b (draw-below d n i ok q) lo hi)
+
+-- ---- a step
+-- nothing in the string is larger than 8
+record Calm (s : KarplusStrong) (l : List Float) : Type 0 where
+  cells : (i : ℕ) → i < s .len → Within 3 (getD l i nan)
+  lp : Within 3 (s .«lp_state»)
+  x1 : Within 3 (s .«ap_x1»)
+  y1 : Within 3 (s .«ap_y1»)
+
+record CalmTick (t : Ticking) : Type 0 where
+  calm : Calm (t .out .«karplus_strong») (t .line)
+  mark : accepted (t .out .answer) ≡ true → markNumber (t .out .answer) ≡ 4
+
+-- a delay that both taps can be read at
+record Delay (x : Float) : Type 0 where
+  fits : F64 x
+  sign : T (positive x)
+  least : T (le one x)
+  most : wholeOf x ≤ 9610
+
+tap-within : (l : List Float) (from len : ℕ) (x : Float) → from < len → Delay x → ((i : ℕ) → i < len → Within 3 (getD l i nan)) → Within 3 (tapOf l from len x)
+unfolding tapOf
+tap-within l from len x h d k =
+    let w = tap-weights x (d .fits) (d .sign) (d .least) (d .most) in
+    weighed 3 49 (2 ^ 52 - w .0) (w .0) (getD l ((from + offsetOne len (wholeOf x)) % len) nan) (getD l ((from + offsetTwo len (wholeOf x)) % len) nan) (sub binary64 one (sub binary64 x (realOf (wholeOf x)))) (sub binary64 x (realOf (wholeOf x))) (lit≤ tt)
+    (exact-at false (2 ^ 52 - w .0) 49 (less (w .0)) (lit≤ tt)) (exact-at false (w .0) 49 (short (w .0) (w .1)) (lit≤ tt)) (whole (w .0) (w .1))
+    (k ((from + offsetOne len (wholeOf x)) % len) (mod-lt (from + offsetOne len (wholeOf x)) {m = len} (omega arith)))
+    (k ((from + offsetTwo len (wholeOf x)) % len) (mod-lt (from + offsetTwo len (wholeOf x)) {m = len} (omega arith)))
+    (w .3) (w .2)
+  where
+    less : (r : ℕ) → 4503599627370496 - r < 9007199254740992
+    less r = omega arith
+
+    short : (r : ℕ) → r ≤ 4503599627370496 → r < 9007199254740992
+    short r h = omega arith
+
+    whole : (r : ℕ) → r ≤ 4503599627370496 → 4503599627370496 - r + r ≡ 4503599627370496
+    whole r h = omega arith
+
+filtered-within : (s : KarplusStrong) (x d : Float) → T (le zer d) → T (le d one) → Within 3 x → Within 3 (s .«lp_state») → Within 3 (filteredOf s x (filterCoefOf d))
+unfolding filteredOf filterCoefOf
+filtered-within s x d l h X L =
+    let w = filter-weights d l h in
+    let c = filterCoefOf d in
+    weighed 3 50 (w .0) (2 ^ 53 - w .0) x (s .«lp_state») c (sub binary64 one c) (lit≤ tt) (held-upto (w .0) (w .2)) (held-upto (2 ^ 53 - w .0) (less (w .0))) (whole (w .0) (w .2)) X L (w .3) (w .4)
+  where
+    less : (p : ℕ) → 9007199254740992 - p ≤ 9007199254740992
+    less p = omega arith
+
+    whole : (p : ℕ) → p ≤ 9007199254740992 → p + (9007199254740992 - p) ≡ 9007199254740992
+    whole p h = omega arith
+
+stretched-within : (s : KarplusStrong) (y : Float) → Within 3 y → Within 3 (s .«ap_x1») → Within 3 (s .«ap_y1») → Within 3 (stretchedOf s y (apCoefOf zer))
+unfolding stretchedOf
+stretched-within s y w x1 y1 =
+    let a = zero-times 3 (apCoefOf zer) y true none w in
+    let b = zero-times 3 (apCoefOf zer) (s .«ap_y1») true none y1 in
+    minus-zero 3 (add binary64 (mul binary64 (apCoefOf zer) y) (s .«ap_x1»)) (mul binary64 (apCoefOf zer) (s .«ap_y1»)) (b .0) (lit≤ tt) (b .1)
+    (zero-plus 3 (mul binary64 (apCoefOf zer) y) (s .«ap_x1») (a .0) (lit≤ tt) (a .1) x1)
+  where
+    none : HasValue (apCoefOf zer) true 0 1
+    none = unfold apCoefOf mul neg ofBits in (refl, refl)
+
+leaked-within : (x : Float) → Within 3 x → Within 3 (mul binary64 x loopLeak)
+leaked-within x h = (h .0, sized-mul (h .0) 3 x loopLeak (lit≤ tt) (h .1) (part-of 0 loopLeak (unfold ofBits in tt)))
+
+step-calm : (s : KarplusStrong) (p d : Float) (l : List Float) → s .«write_pos» < s .len → s .len ≤ length l → T (le zer d) → T (le d one) → Delay (targetDelayOf p (filterCoefOf d) (apCoefOf zer)) → Calm s l → CalmTick (stepOf s p d zer l)
+unfolding stepOf
+step-calm s p d l h k lo hi g c = rw (is-true (isFin v) (within-finite 3 v leaked)) (record { calm = record { cells = λ i q. cell i q (ℕ-discrete i (s .«write_pos»)); lp = filtered; x1 = filtered; y1 = bent }; mark = λ e. subst (λ (a : Answer). markNumber a ≡ 4) (heard-clean v (is-true (isFin v) (within-finite 3 v leaked))) (unfold markNumber in refl) })
+  where
+    x : Float
+    x = tapOf l (s .«write_pos») (s .len) (targetDelayOf p (filterCoefOf d) (apCoefOf zer))
+
+    y : Float
+    y = filteredOf s x (filterCoefOf d)
+
+    z : Float
+    z = stretchedOf s y (apCoefOf zer)
+
+    v : Float
+    v = mul binary64 z loopLeak
+
+    filtered : Within 3 y
+    filtered = filtered-within s x d lo hi (tap-within l (s .«write_pos») (s .len) (targetDelayOf p (filterCoefOf d) (apCoefOf zer)) h g (c .cells)) (c .lp)
+
+    bent : Within 3 z
+    bent = stretched-within s y filtered (c .x1) (c .y1)
+
+    leaked : Within 3 v
+    leaked = leaked-within z bent
+
+    cell : (i : ℕ) → i < s .len → Dec (i ≡ s .«write_pos») → Within 3 (getD (set l (s .«write_pos») v) i nan)
+    cell i q (yes e) = rw e (subst (Within 3) (sym (getD-set-same l (s .«write_pos») v nan (omega arith))) leaked)
+    cell i q (no e) = subst (Within 3) (sym (getD-set-other l (s .«write_pos») i v nan e)) (c .cells i q)
+
+-- ---- a tick
+-- 1 and more, but no infinity
+finite-positive : (x : Float) → T (above x) → wholeOf x ≤ 9610 → T (positive x)
+unfolding toUnsigned
+finite-positive nan a w = absurd a
+finite-positive (inf true) a w = absurd a
+finite-positive (inf false) a w = absurd (let q : 18446744073709551615 ≤ 9610 = w in omega arith)
+finite-positive (fin true m e) a w = absurd a
+finite-positive (fin false m e) a w = a
+
+-- the delay of a tick is such a one
+delay-fine : (r f : Hertz) (d : Float) → rateOk r ≡ true → T (not (isNan (f .0))) → Delay (targetDelayOf (periodOf r f) (filterCoefOf (clampOf (finiteOr d half) zer one)) (apCoefOf zer))
+delay-fine r f d e q = record { fits = max-fits; sign = finite-positive x (above-of-le one x (unfold ofBits in tt) least) most; least = least; most = most }
+  where
+    x : Float
+    x = targetDelayOf (periodOf r f) (filterCoefOf (clampOf (finiteOr d half) zer one)) (apCoefOf zer)
+
+    y : Float
+    y = sub binary64 (sub binary64 (periodOf r f) (filterDelayOf (filterCoefOf (clampOf (finiteOr d half) zer one)))) (apDelayOf (apCoefOf zer))
+
+    most : wholeOf x ≤ 9610
+    most = subst (λ (z : Float). wholeOf (targetDelayOf (periodOf r f) (filterCoefOf (clampOf (finiteOr d half) zer one)) (apCoefOf z)) ≤ 9610) still (delay-range r f d zer e q)
+      where
+        still : clampOf (finiteOr zer zer) (neg one) one ≡ zer
+        still = unfold clampOf finiteOr lt neg ofBits in refl
+
+    max-fits : F64 x
+    max-fits = unfold targetDelayOf maxOf in cond-fits binary64 (lt one y) y (cond (isNan one) y one) (sub-fits binary64 (sub binary64 (periodOf r f) (filterDelayOf (filterCoefOf (clampOf (finiteOr d half) zer one)))) (apDelayOf (apCoefOf zer))) (unfold isNan fits ofBits in tt)
+
+    least : T (le one x)
+    least = unfold targetDelayOf maxOf in go (lt one y) refl
+      where
+        go : (b : Bool) → lt one y ≡ b → T (le one (cond b y (cond (isNan one) y one)))
+        go true h = le-of-lt-true one y (of-true (lt one y) h)
+        go false h = unfold isNan le lt eq ofBits in tt
+
+draws-fine : (n : ℕ) (d : List ℕ) → drawsRefusalOf n d ≡ 0 → drawsOk d n ≡ true
+unfolding drawsRefusalOf
+draws-fine n d e = go (leb n (length d)) (drawsOk d n) refl e
+  where
+    go : (a b : Bool) → drawsOk d n ≡ b → _≡_ {A = ℕ} (cond a (cond b 0 6) 5) 0 → drawsOk d n ≡ true
+    go true true h k = h
+    go true false h k = absurd (omega arith)
+    go false b h k = absurd (omega arith)
+
+struck-calm : (rising : Bool) (t : KarplusStrong) (p b d : Float) (draws : List ℕ) (l : List Float)
+    → _≡_ {A = ℕ} (cond rising (drawsRefusalOf (struckLen p) draws) 0) 0 → struckLen p ≤ length l → struckLen p ≤ 9611 → t .«write_pos» < t .len → t .len ≤ length l → T (le zer b) → T (le b one) → T (le zer d) → T (le d one)
+    → Delay (targetDelayOf p (filterCoefOf d) (apCoefOf zer)) → Calm t l → CalmTick (stepOf (strikeIf rising t p b draws l .out) p d zer (strikeIf rising t p b draws l .line))
+struck-calm false t p b d draws l e r n h k bl bh dl dh g c = unfold strikeIf in step-calm t p d l h k dl dh g c
+struck-calm true t p b d draws l e r n h k bl bh dl dh g c =
+    unfold strikeIf strikeOf in
+    (let q = length-struck (struckLen p) b draws l r in
+    let z : 0 < struckLen p = unfold struckLen in omega arith in
+    step-calm (restOf t (struckLen p) (t .«trigger_edge»)) p d (struckOf (struckLen p) b draws l) z (omega arith) dl dh g
+    (record { cells = struck-within (struckLen p) b draws l z n (draws-fine (struckLen p) draws e) bl bh; lp = zero-within; x1 = zero-within; y1 = zero-within }))
+
+sound-calm : (s : KarplusStrong) (c : KarplusStrongControls) (draws : List ℕ) (l : List Float) → Good s (length l) → clampOf (finiteOr (c .stretch) zer) (neg one) one ≡ zer → soundRefusal s c draws ≡ 0 → Calm s l → CalmTick (struckStep s c draws l)
+unfolding struckStep soundRefusal
+sound-calm s c draws l g z e k =
+    rw z
+    (struck-calm (risesAt s c) (heardString s (risingOf (s .«trigger_edge») (c .trigger) .edge) memo) (periodAt s c) (clampOf (finiteOr (c .brightness) half) zer one) (clampOf (finiteOr (c .damping) half) zer one) draws l e
+    (struck-room (s .«sample_rate») (memo .val) (periodAt s c) (length l) refl (a .rate) number (g .room)) (struck-short s c a) (a .place) (let q = a .most in let r = g .room in omega arith) (damped (c .brightness) .0) (damped (c .brightness) .1) (damped (c .damping) .0) (damped (c .damping) .1)
+    (delay-fine (s .«sample_rate») (memo .val) (c .damping) (a .rate) number)
+    (record { cells = k .cells; lp = k .lp; x1 = k .x1; y1 = k .y1 }))
+  where
+    a : Sound s
+    a = g .sound
+
+    memo : Memo1
+    memo = recall1 voctToHzAt (s .«freq_memo») (finiteOr (c .voct .0) zer)
+
+    number : T (not (isNan (memo .val .0)))
+    number = memo-number (s .«freq_memo») (c .voct .0) (finiteOr (c .voct .0) zer) memo (a .value) refl refl
+
+tick-calm : (s : KarplusStrong) (c : KarplusStrongControls) (draws : List ℕ) (l : List Float) → Good s (length l) → clampOf (finiteOr (c .stretch) zer) (neg one) one ≡ zer → Calm s l → CalmTick (karplusStrongTickOf s c draws l)
+tick-calm s c draws l g z k = rw (good-tick s c draws l g) (pick (soundRefusal s c draws) refl)
+  where
+    pick : (n : ℕ) → soundRefusal s c draws ≡ n → CalmTick (tickUnless n s l (struckStep s c draws l))
+    pick zero e = unfold tickUnless in sound-calm s c draws l g z e k
+    pick (suc n) e = unfold tickUnless accepted in record { calm = k; mark = λ h. absurd (true≢false (sym h)) }
+
+-- ---- the other calls
+blank-within : (a n : ℕ) (l : List Float) → ((i : ℕ) → i < a → Within 3 (getD l i nan)) → (i : ℕ) → i < n → Within 3 (getD (blankOf a n l) i nan)
+unfolding blankOf blankAt
+blank-within a n l h i q = subst (Within 3) (sym (getD-over (blankAt a l) n l i q)) (go (ltb i a) refl)
+  where
+    go : (b : Bool) → ltb i a ≡ b → Within 3 (cond b (getD l i nan) zer)
+    go true e = h i (ltb-true i a e)
+    go false e = zero-within
+
+made-calm : (k : ℕ) (s t : KarplusStrong) (l m : List Float) → Calm s l → Calm t m → let x = strungAfter s (madeUnless k (record { out = made.Made t; line = m }) l) in Calm (x .string) (x .line)
+unfolding madeUnless stringAfter
+made-calm zero s t l m c d = d
+made-calm (suc k) s t l m c d = c
+
+after-calm : (x : Strung) (c : Call) → Good (x .string) (length (x .line)) → Unstretched c → Calm (x .string) (x .line) → Calm (after x c .string) (after x c .line)
+unfolding after karplusStrongResetOf karplusStrongSetSampleRateOf
+after-calm x (Tick c draws) g f k = tick-calm (x .string) c draws (x .line) g (f .1) k .calm
+after-calm x Reset g f k =
+    made-calm (karplusStrongRefusalOf (x .string) (length (x .line))) (x .string) (restOf (x .string) (x .string .len) newEdge) (x .line) (blankOf 0 (x .string .len) (x .line)) k
+    (record { cells = blank-within 0 (x .string .len) (x .line) (λ i q. absurd (not-suc-le-zero q)); lp = zero-within; x1 = zero-within; y1 = zero-within })
+after-calm x (SetSampleRate r) g f k =
+    made-calm (rateRefusalOf (x .string) r (length (x .line))) (x .string) (resizedString (x .string) r (maxLenOf r)) (x .line) (blankOf (min (x .string .len) (maxLenOf r)) (maxLenOf r) (x .line)) k
+    (record { cells = blank-within (min (x .string .len) (maxLenOf r)) (maxLenOf r) (x .line) (λ i q. k .cells i (omega arith)); lp = k .lp; x1 = k .x1; y1 = k .y1 })
+
+fit : (c : Call) → Unstretched c → FitCall c
+fit (Tick c draws) f = f .0
+fit Reset f = f
+fit (SetSampleRate rate) f = f
+
+first-calm : (x : Strung) → First x → Calm (x .string) (x .line)
+first-calm x f =
+    let i = first-is x f in
+    rw (i .2, i .3) (record { cells = blank-within 0 (maxLenOf (f .rate)) (f .lent) (λ j q. absurd (not-suc-le-zero q)); lp = zero-within; x1 = zero-within; y1 = zero-within })
+
+abbrev Quiet : Strung → Type 0
+Quiet y = Good (y .string) (length (y .line)) × Calm (y .string) (y .line)
+
+pub never-cleared : Never-cleared
+never-cleared x h c draws f = let k = always Quiet (λ (y : Strung) (i : First y). (first-good y i, first-calm y i)) (λ (y : Strung) (c : Call) (p : Quiet y) (u : Unstretched c). (after-good y c (p .0) (fit c u), after-calm y c (p .0) u (p .1))) h in
+    tick-calm (x .string) c draws (x .line) (k .0) (f .1) (k .1) .mark

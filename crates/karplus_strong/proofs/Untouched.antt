@@ -1,0 +1,166 @@
+-- What a call leaves alone: the cells from the string's length on, and the draws that it doesn't need.
+use mathlib.Core.Bool.{Bool, true, false, cond}
+use mathlib.Core.List.{List, _++_}
+use mathlib.Core.Path.{_≡_, refl, ap, _∙_}
+use Prim.Native.Nat.{ℕ, zero, suc, _+_, _-_, _≤_, _<_, min}
+use native.Mathlib.Omega.{arith}
+use lib.ListN.{length, getD, drop, length-set}
+use lib.Seq.{getD-append-add, getD-drop, getD-set-other}
+use lib.Ieee.{Float, nan, binary64, mul, neg}
+use borrow.Author.Tests.{le-leb}
+use Rattle.laws.proofs.Over.{length-tab, length-over, tab-ext}
+use Rattle.laws.specs.Float.{zer, one, isFin}
+use Rattle.laws.specs.Lists.{tab, over}
+use Rattle.numeric.specs.Basic.{clampOf}
+use Rattle.common.specs.Consts.{half}
+use Rattle.common.specs.Edge.{risingOf}
+use Rattle.common.specs.Memo.{recall1, voctToHzAt}
+use Rattle.common.specs.Tests.{rateOk}
+use Rattle.karplus_strong.specs.Consts.{loopLeak}
+use Rattle.karplus_strong.specs.Line.{blankAt, blankOf, excitedAt, excitedOf, meanOf, levelAt, levelOf, struckOf, drawsOk}
+use Rattle.karplus_strong.specs.Step.{filterCoefOf, apCoefOf, targetDelayOf, tapOf, filteredOf, stretchedOf, Ticking, restOf, wroteOf, clearedOf, stepOf}
+use Rattle.karplus_strong.specs.KarplusStrong.{maxLenOf, roomOf, karplusStrongRefusalOf, rateRefusalOf, madeUnless, newKarplusStrong, karplusStrongNewOf, karplusStrongResetOf, resizedString, karplusStrongSetSampleRateOf, finiteOr, struckLen, drawsRefusalOf, strikeOf, strikeIf, heardString, tickUnless, karplusStrongSoundOf, karplusStrongTickOf}
+use Rattle.karplus_strong.specs.Promises.{periodAt, SamePast, Past-untouched, Only-its-draws}
+use Rattle.karplus_strong.specs.declared.KarplusStrong.{KarplusStrong}
+use Rattle.karplus_strong.specs.declared.KarplusStrongControls.{KarplusStrongControls}
+use Rattle.karplus_strong.specs.declared.KarplusStrongMade.the-variants as made
+use Rattle.karplus_strong.proofs.Parts.{Sound, accepted, rate-accepted, memo-number, struck-room}
+use Rattle.karplus_strong.proofs.Reached.{new-taken}
+use Rattle.karplus_strong.proofs.Ticks.{struckStep, soundRefusal, tick-is}
+
+-- ---- cells
+getD-past : (f : ℕ → Float) (n : ℕ) (l : List Float) (i : ℕ) → n ≤ i → getD (over f n l) i nan ≡ getD l i nan
+unfolding over
+getD-past f n l i h =
+    let q : length (tab f n) ≡ n = length-tab f n in
+    let e : i ≡ length (tab f n) + (i - n) = omega arith in
+    let d : n + (i - n) ≡ i = omega arith in
+    ap (λ (j : ℕ). getD (tab f n ++ drop n l) j nan) e ∙ getD-append-add (tab f n) (drop n l) (i - n) nan ∙ getD-drop n l (i - n) nan ∙ ap (λ (j : ℕ). getD l j nan) d
+
+past-over : (f : ℕ → Float) (n : ℕ) (l : List Float) → n ≤ length l → SamePast n l (over f n l)
+past-over f n l h = record { size = length-over f n l h; cells = λ i q. getD-past f n l i q }
+
+past-none : (n : ℕ) (l : List Float) → SamePast n l l
+past-none n l = record { size = refl; cells = λ i q. refl }
+
+past-both : (n : ℕ) (l m k : List Float) → SamePast n l m → SamePast n m k → SamePast n l k
+past-both n l m k a b = record { size = b .size ∙ a .size; cells = λ i q. b .cells i q ∙ a .cells i q }
+
+past-blank : (a n : ℕ) (l : List Float) → n ≤ length l → SamePast n l (blankOf a n l)
+unfolding blankOf
+past-blank a n l h = past-over (blankAt a l) n l h
+
+past-struck : (n : ℕ) (b : Float) (d : List ℕ) (l : List Float) → n ≤ length l → SamePast n l (struckOf n b d l)
+unfolding struckOf levelOf excitedOf
+past-struck n b d l h =
+    let x = over (excitedAt n b d) n l in
+    let q : length x ≡ length l = length-over (excitedAt n b d) n l h in
+    past-both n l x (over (levelAt (meanOf n x) x) n x) (past-over (excitedAt n b d) n l h) (past-over (levelAt (meanOf n x) x) n x (omega arith))
+
+-- ---- the tick
+abbrev PastTick : List Float → Ticking → Type 0
+PastTick l t = SamePast (t .out .«karplus_strong» .len) l (t .line)
+
+past-step : (s : KarplusStrong) (p d t : Float) (l : List Float) → s .«write_pos» < s .len → s .len ≤ length l → PastTick l (stepOf s p d t l)
+unfolding stepOf
+past-step s p d t l h k = go (isFin v) y z v
+  where
+    y : Float
+    y = filteredOf s (tapOf l (s .«write_pos») (s .len) (targetDelayOf p (filterCoefOf d) (apCoefOf t))) (filterCoefOf d)
+
+    z : Float
+    z = stretchedOf s y (apCoefOf t)
+
+    v : Float
+    v = mul binary64 z loopLeak
+
+    behind : (i j n : ℕ) → j < n → n ≤ i → i ≡ j → ⊥
+    behind i j n h k e = omega arith
+
+    go : (b : Bool) (y z v : Float) → PastTick l (cond b (wroteOf s y z v l) (clearedOf s l))
+    go true y z v = record { size = length-set l (s .«write_pos») v; cells = λ i q. getD-set-other l (s .«write_pos») i v nan (behind i (s .«write_pos») (s .len) h q) }
+    go false y z v = past-blank 0 (s .len) l k
+
+past-struck-step : (t : KarplusStrong) (p b d c : Float) (draws : List ℕ) (l : List Float) → struckLen p ≤ length l → PastTick l (stepOf (restOf t (struckLen p) (t .«trigger_edge»)) p d c (struckOf (struckLen p) b draws l))
+past-struck-step t p b d c draws l h =
+    let u = restOf t (struckLen p) (t .«trigger_edge») in
+    let m = struckOf (struckLen p) b draws l in
+    let a : SamePast (struckLen p) l m = past-struck (struckLen p) b draws l h in
+    let e = a .size in
+    let z : 0 < struckLen p = unfold struckLen in omega arith in
+    let w : PastTick m (stepOf u p d c m) = past-step u p d c m z (omega arith) in
+    past-both (stepOf u p d c m .out .«karplus_strong» .len) l m (stepOf u p d c m .line) (wider (stepOf u p d c m .out .«karplus_strong» .len) (step-len u p d c m) a) w
+  where
+    step-len : (s : KarplusStrong) (p d t : Float) (l : List Float) → stepOf s p d t l .out .«karplus_strong» .len ≡ s .len
+    step-len s p d t l = unfold stepOf in pick (isFin (mul binary64 (stretchedOf s (filteredOf s (tapOf l (s .«write_pos») (s .len) (targetDelayOf p (filterCoefOf d) (apCoefOf t))) (filterCoefOf d)) (apCoefOf t)) loopLeak)) _ _ _
+      where
+        pick : (b : Bool) (y z v : Float) → cond b (wroteOf s y z v l) (clearedOf s l) .out .«karplus_strong» .len ≡ s .len
+        pick true y z v = refl
+        pick false y z v = refl
+
+    wider : {l m : List Float} {n : ℕ} (k : ℕ) → k ≡ n → SamePast n l m → SamePast k l m
+    wider k e a = rw e a
+
+past-sounded : (rising : Bool) (k : ℕ) (s t : KarplusStrong) (p b d c : Float) (draws : List ℕ) (l : List Float) → t .«write_pos» < t .len → t .len ≤ length l → struckLen p ≤ length l
+    → PastTick l (tickUnless k s l (stepOf (strikeIf rising t p b draws l .out) p d c (strikeIf rising t p b draws l .line)))
+past-sounded rising (suc k) s t p b d c draws l h g r = unfold tickUnless in past-none (s .len) l
+past-sounded false zero s t p b d c draws l h g r = unfold tickUnless strikeIf in past-step t p d c l h g
+past-sounded true zero s t p b d c draws l h g r = unfold tickUnless strikeIf strikeOf in past-struck-step t p b d c draws l r
+
+past-sound : (s : KarplusStrong) (c : KarplusStrongControls) (draws : List ℕ) (l : List Float) → Sound s → maxLenOf (s .«sample_rate») + 2 ≤ length l → PastTick l (karplusStrongSoundOf s c draws l)
+unfolding karplusStrongSoundOf
+past-sound s c draws l a r =
+    let memo = recall1 voctToHzAt (s .«freq_memo») (finiteOr (c .voct .0) zer) in
+    let risen = risingOf (s .«trigger_edge») (c .trigger) in
+    let q = a .most in
+    past-sounded (risen .rising) (cond (risen .rising) (drawsRefusalOf (struckLen (periodAt s c)) draws) 0) s (heardString s (risen .edge) memo) (periodAt s c) (clampOf (finiteOr (c .brightness) half) zer one) (clampOf (finiteOr (c .damping) half) zer one) (clampOf (finiteOr (c .stretch) zer) (neg one) one) draws l
+    (a .place) (omega arith)
+    (struck-room (s .«sample_rate») (memo .val) (periodAt s c) (length l) refl (a .rate) (memo-number (s .«freq_memo») (c .voct .0) (finiteOr (c .voct .0) zer) memo (a .value) refl refl) r)
+
+past-tick : (s : KarplusStrong) (c : KarplusStrongControls) (draws : List ℕ) (l : List Float) → PastTick l (karplusStrongTickOf s c draws l)
+unfolding karplusStrongTickOf tickUnless
+past-tick s c draws l = pick (karplusStrongRefusalOf s (length l)) refl
+  where
+    pick : (k : ℕ) → karplusStrongRefusalOf s (length l) ≡ k → PastTick l (tickUnless k s l (karplusStrongSoundOf s c draws l))
+    pick zero z = let a = accepted s (length l) z in past-sound s c draws l (a .0) (a .1)
+    pick (suc k) z = past-none (s .len) l
+
+-- ---- the other calls
+past-made : (k n : ℕ) (t : KarplusStrong) (l m : List Float) → (k ≡ 0 → SamePast n l m) → SamePast n l (madeUnless k (record { out = made.Made t; line = m }) l .line)
+unfolding madeUnless
+past-made zero n t l m h = h refl
+past-made (suc k) n t l m h = past-none n l
+
+pub past-untouched : Past-untouched
+past-untouched =
+    record {
+      new = λ rate l. unfold karplusStrongNewOf in past-made (cond (rateOk rate) (roomOf rate (length l)) 1) (maxLenOf rate) (newKarplusStrong rate) l (blankOf 0 (maxLenOf rate) l) (λ e. let h = new-taken rate (length l) e .1 in past-blank 0 (maxLenOf rate) l (omega arith));
+      tick = past-tick;
+      reset = λ s l. unfold karplusStrongResetOf in past-made (karplusStrongRefusalOf s (length l)) (s .len) _ l (blankOf 0 (s .len) l) (λ e. let a = accepted s (length l) e in let q = a .0 .most in let h = a .1 in past-blank 0 (s .len) l (omega arith));
+      «set_sample_rate» = λ s rate l. unfold karplusStrongSetSampleRateOf in past-made (rateRefusalOf s rate (length l)) (maxLenOf rate) (resizedString s rate (maxLenOf rate)) l (blankOf (min (s .len) (maxLenOf rate)) (maxLenOf rate) l) (λ e. let h = rate-accepted s rate (length l) e .2 in past-blank (min (s .len) (maxLenOf rate)) (maxLenOf rate) l (omega arith));
+    }
+
+-- ---- draws
+draws-same : (d e : List ℕ) (n : ℕ) → ((i : ℕ) → i < n → getD d i 0 ≡ getD e i 0) → drawsOk d n ≡ drawsOk e n
+unfolding drawsOk
+draws-same d e zero k = refl
+draws-same d e (suc n) k = rw (draws-same d e n (λ i q. k i (omega arith)), k n (omega arith))
+
+struck-draws : (n : ℕ) (b : Float) (d e : List ℕ) (l : List Float) → ((i : ℕ) → i < n → getD d i 0 ≡ getD e i 0) → struckOf n b d l ≡ struckOf n b e l
+unfolding struckOf excitedOf excitedAt over
+struck-draws n b d e l k = rw (tab-ext (excitedAt n b d) (excitedAt n b e) n (λ i q. rw (k i q)))
+
+refusal-draws : (n : ℕ) (d e : List ℕ) → n ≤ length d → n ≤ length e → ((i : ℕ) → i < n → getD d i 0 ≡ getD e i 0) → drawsRefusalOf n d ≡ drawsRefusalOf n e
+unfolding drawsRefusalOf
+refusal-draws n d e h g k = simp (le-leb n (length d) h, le-leb n (length e) g, draws-same d e n k)
+
+-- a tick's draws go to its refusal and its strike
+tick-draws : (s : KarplusStrong) (c : KarplusStrongControls) (d e : List ℕ) (l : List Float) → soundRefusal s c d ≡ soundRefusal s c e → struckStep s c d l ≡ struckStep s c e l → karplusStrongTickOf s c d l ≡ karplusStrongTickOf s c e l
+tick-draws s c d e l h k = rw (tick-is s c d l, tick-is s c e l, h, k)
+
+pub only-its-draws : Only-its-draws
+only-its-draws =
+    record {
+      struck = λ s c d e l h g k. tick-draws s c d e l (unfold soundRefusal in rw (refusal-draws (struckLen (periodAt s c)) d e h g k)) (unfold struckStep strikeIf strikeOf in rw (struck-draws (struckLen (periodAt s c)) (clampOf (finiteOr (c .brightness) half) zer one) d e l k));
+      unstruck = λ s c d e l h. tick-draws s c d e l (unfold soundRefusal in rw h) (unfold struckStep strikeIf in rw h);
+    }

@@ -1,0 +1,66 @@
+use mathlib.Core.Path.{_≡_, refl, ap, _∙_}
+use Prim.Native.Nat.{_≤_, _-_}
+use native.Mathlib.Nat.{le-antisymm}
+use native.Mathlib.Omega.{arith}
+use lib.ListN.{length, length-set}
+use lib.Ieee.{nan, binary64, sub}
+use Rattle.laws.specs.Lists.{over}
+use Rattle.laws.proofs.Over.{over-none, over-more, over-at}
+use Rattle.karplus_strong.specs.Line.{levelAt, levelOf}
+use Rattle.karplus_strong.proofs.level.Statement.{statement}
+use Rattle.karplus_strong.proofs.level.Tie as tie
+
+abbrev Inv-loop : tie.InvT-loop
+Inv-loop line₀ n mean i₀ line i = (i ≤ n) × (length line ≡ length line₀) × (line ≡ over (levelAt mean line₀) i line₀)
+
+abbrev μ-loop : tie.MeasureT-loop
+μ-loop line₀ n mean i₀ line i = n - i
+
+loop-holds : tie.Need-loop-holds Inv-loop μ-loop
+loop-holds c = (omega arith, refl, over-none _ _)
+
+mul-line : tie.Need-mul-line Inv-loop μ-loop
+mul-line c = omega arith
+
+slice-read-line : tie.Need-slice-read-line Inv-loop μ-loop
+slice-read-line c = omega arith
+
+mul-line-2 : tie.Need-mul-line-2 Inv-loop μ-loop
+mul-line-2 c = omega arith
+
+slice-write-line : tie.Need-slice-write-line Inv-loop μ-loop
+slice-write-line c = omega arith
+
+add-i : tie.Need-add-i Inv-loop μ-loop
+add-i c = omega arith
+
+loop-less : tie.Need-loop-less Inv-loop μ-loop
+loop-less c = omega arith
+
+loop-again : tie.Need-loop-again Inv-loop μ-loop
+unfolding levelAt
+loop-again c = let s = c .before .before .loop .inv in (omega arith, simp length-set (s .1), over-more _ _ _ _ _ (omega arith) (s .2) (ap (λ x. sub binary64 x (c .before .before .before .args .mean)) (rw (s .2) (over-at nan _ _ _ (omega arith)))))
+
+same-length : tie.Need-same-length Inv-loop μ-loop
+same-length c = c .before .loop .inv .1
+
+returns : tie.Need-returns Inv-loop μ-loop
+unfolding levelOf
+returns c = let s = c .before .loop .inv in s .2 ∙ ap (λ k. over (levelAt (c .before .before .args .mean) (c .before .before .args .line .now)) k (c .before .before .args .line .now)) (le-antisymm (s .0) (c .loop-test .left))
+
+pub level-spec : {M : Type 1} → statement M
+level-spec =
+    tie.close
+    (tie.spec
+    Inv-loop
+    μ-loop
+    loop-holds
+    mul-line
+    slice-read-line
+    mul-line-2
+    slice-write-line
+    add-i
+    loop-less
+    loop-again
+    same-length
+    returns)

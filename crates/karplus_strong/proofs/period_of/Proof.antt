@@ -1,0 +1,30 @@
+use Rattle.karplus_strong.specs.KarplusStrong.{periodOf}
+use Rattle.karplus_strong.proofs.Parts.{held, max-len-range, period-high, period-two}
+use Rattle.karplus_strong.proofs.Parts.{period-high, period-two}
+use borrow.Author.Needs.{needs}
+use Rattle.karplus_strong.proofs.period_of.Statement.{statement}
+use Rattle.karplus_strong.proofs.period_of.Tie as tie
+
+max-len-for-requires : tie.Need-max-len-for-requires
+max-len-for-requires c κs = search needs
+
+int-to-float-clamp : tie.Need-int-to-float-clamp
+int-to-float-clamp c = held _ (rw (c .before .max-len-for .ensures) (max-len-range _ (c .before .before .before .before .before .before .pre .0) .1))
+
+clamp-requires : tie.Need-clamp-requires
+clamp-requires c κs = search needs
+
+returns : tie.Need-returns
+returns c = period-high _ _ (c .before .before .before .before .before .pre .0) (c .before .if1 .taken) (c .if2 .taken)
+
+returns-2 : tie.Need-returns-2
+returns-2 c = period-two _ _ (c .before .before .before .before .before .pre .0) (c .before .before .before .before .before .pre .1) (c .if2 .left)
+
+returns-3 : tie.Need-returns-3
+unfolding periodOf
+returns-3 c = simp (c .clamp .ensures, c .before .before .max-len-for .ensures)
+
+pub period-of-spec : {M : Type 1} → statement M
+period-of-spec =
+    tie.close
+    (tie.spec max-len-for-requires int-to-float-clamp clamp-requires returns returns-2 returns-3)

@@ -1,0 +1,135 @@
+-- KarplusStrong, written from oscillators.rs. The line is lent, so each call says what it holds afterwards.
+use mathlib.Core.Bool.{Bool, cond, not, _&&_}
+use mathlib.Core.List.{List}
+use Prim.Native.Nat.{ℕ, zero, suc, _+_, min}
+use lib.Dec.{leb, ltb}
+use lib.ListN.{length}
+use lib.Ieee.{Float, binary64, sub, div, neg, isNan}
+use Rattle.laws.specs.Float.{zer, one, two, isFin}
+use Rattle.numeric.specs.Basic.{clampOf, wholeOf, realOf}
+use Rattle.common.specs.Consts.{half}
+use Rattle.common.specs.Edge.{newEdge, risingOf}
+use Rattle.common.specs.Memo.{newMemo1, recall1, voctToHzAt}
+use Rattle.common.specs.Tests.{rateOk}
+use Rattle.common.specs.declared.EdgeDetector.{EdgeDetector}
+use Rattle.common.specs.declared.Hertz.{Hertz}
+use Rattle.common.specs.declared.Memo1.{Memo1}
+use Rattle.answer.specs.declared.Answer.the-variants as answer
+use Rattle.karplus_strong.specs.Consts.{twenty}
+use Rattle.karplus_strong.specs.Line.{blankOf, struckOf, drawsOk}
+use Rattle.karplus_strong.specs.Step.{Ticking, restOf, stepOf}
+use Rattle.karplus_strong.specs.declared.KarplusStrong.{KarplusStrong}
+use Rattle.karplus_strong.specs.declared.KarplusStrongControls.{KarplusStrongControls}
+use Rattle.karplus_strong.specs.declared.KarplusStrongTicked.{KarplusStrongTicked}
+use Rattle.karplus_strong.specs.declared.KarplusStrongMade.{KarplusStrongMade}
+use Rattle.karplus_strong.specs.declared.KarplusStrongMade.the-variants as made
+
+-- max_len_for: (sample_rate / 20.0) as usize + 10
+unfoldable pub maxLenOf : Hertz → ℕ
+maxLenOf rate = wholeOf (div binary64 (rate .0) twenty) + 10
+
+-- ---- refusals 1, 2 and 3
+-- 2: a length from 4 to max_len + 1, a write position below it, and a memo's value that is no NaN
+unfoldable pub lineOk : KarplusStrong → ℕ → Bool
+lineOk s maxLen = leb 4 (s .len) && (leb (s .len) (maxLen + 1) && (ltb (s .«write_pos») (s .len) && not (isNan (s .«freq_memo» .val .0))))
+
+-- 3: a lent line of max_len + 2 cells or more
+unfoldable pub roomOf : Hertz → ℕ → ℕ
+roomOf rate n = cond (leb (maxLenOf rate + 2) n) 0 3
+
+unfoldable pub karplusStrongRefusalOf : KarplusStrong → ℕ → ℕ
+karplusStrongRefusalOf s n = cond (rateOk (s .«sample_rate»)) (cond (lineOk s (maxLenOf (s .«sample_rate»))) (roomOf (s .«sample_rate») n) 2) 1
+
+-- a rate change asks 1 of the old rate and the new, 2 by the old one's max_len and 3 by the new one's
+unfoldable pub rateRefusalOf : KarplusStrong → Hertz → ℕ → ℕ
+rateRefusalOf s rate n = cond (rateOk (s .«sample_rate») && rateOk rate) (cond (lineOk s (maxLenOf (s .«sample_rate»))) (roomOf rate n) 2) 1
+
+-- ---- making, reset and rate change
+-- what they answer, and what they leave in the line
+pub record Making : Type 0 where
+  pub out : KarplusStrongMade
+  pub line : List Float
+
+-- done, unless a refusal's number isn't 0
+unfoldable pub madeUnless : ℕ → Making → List Float → Making
+madeUnless zero m l = m
+madeUnless (suc n) m l = record { out = made.Refused (suc n); line = l }
+
+abbrev pub newKarplusStrong : Hertz → KarplusStrong
+newKarplusStrong rate = record { len = maxLenOf rate; «write_pos» = 0; «sample_rate» = rate; «lp_state» = zer; «ap_x1» = zer; «ap_y1» = zer; «trigger_edge» = newEdge; «freq_memo» = newMemo1 }
+
+unfoldable pub karplusStrongNewOf : Hertz → List Float → Making
+karplusStrongNewOf rate l = madeUnless (cond (rateOk rate) (roomOf rate (length l)) 1) (record { out = made.Made (newKarplusStrong rate); line = blankOf 0 (maxLenOf rate) l }) l
+
+-- clear_loop_state, and a new edge: the length stays, and so does the memo
+unfoldable pub karplusStrongResetOf : KarplusStrong → List Float → Making
+karplusStrongResetOf s l = madeUnless (karplusStrongRefusalOf s (length l)) (record { out = made.Made (restOf s (s .len) newEdge); line = blankOf 0 (s .len) l }) l
+
+-- 0 where the Rust would read past a shorter line
+unfoldable pub placeOf : ℕ → ℕ → ℕ
+placeOf pos len = cond (ltb pos len) pos 0
+
+abbrev pub resizedString : KarplusStrong → Hertz → ℕ → KarplusStrong
+resizedString s rate maxLen = record { len = maxLen; «write_pos» = placeOf (s .«write_pos») maxLen; «sample_rate» = rate; «lp_state» = s .«lp_state»; «ap_x1» = s .«ap_x1»; «ap_y1» = s .«ap_y1»; «trigger_edge» = s .«trigger_edge»; «freq_memo» = s .«freq_memo» }
+
+-- resize(max_len, 0.0): cut, or filled from the old length on
+unfoldable pub karplusStrongSetSampleRateOf : KarplusStrong → Hertz → List Float → Making
+karplusStrongSetSampleRateOf s rate l =
+    let maxLen = maxLenOf rate in
+    madeUnless (rateRefusalOf s rate (length l)) (record { out = made.Made (resizedString s rate maxLen); line = blankOf (min (s .len) maxLen) maxLen l }) l
+
+-- ---- the tick
+unfoldable pub finiteOr : Float → Float → Float
+finiteOr x default = cond (isFin x) x default
+
+-- (sample_rate / freq).clamp(2.0, max_len as f64 - 1.0)
+unfoldable pub periodOf : Hertz → Hertz → Float
+periodOf rate freq = clampOf (div binary64 (rate .0) (freq .0)) two (sub binary64 (realOf (maxLenOf rate)) one)
+
+-- the line's length after a strike: period as usize + 2
+unfoldable pub struckLen : Float → ℕ
+struckLen period = wholeOf period + 2
+
+-- 5: fewer draws than that; 6: a needed one is 2 ^ 53 or more
+unfoldable pub drawsRefusalOf : ℕ → List ℕ → ℕ
+drawsRefusalOf n draws = cond (leb n (length draws)) (cond (drawsOk draws n) 0 6) 5
+
+-- the string after a strike, and what that leaves in the line
+pub record Striking : Type 0 where
+  pub out : KarplusStrong
+  pub line : List Float
+
+unfoldable pub strikeOf : KarplusStrong → Float → Float → List ℕ → List Float → Striking
+strikeOf s period brightness draws l = record { out = restOf s (struckLen period) (s .«trigger_edge»); line = struckOf (struckLen period) brightness draws l }
+
+unfoldable pub strikeIf : Bool → KarplusStrong → Float → Float → List ℕ → List Float → Striking
+strikeIf rising s period brightness draws l = cond rising (strikeOf s period brightness draws l) (record { out = s; line = l })
+
+-- the string with what the tick heard: its trigger and its pitch
+abbrev pub heardString : KarplusStrong → EdgeDetector → Memo1 → KarplusStrong
+heardString s edge memo = record { len = s .len; «write_pos» = s .«write_pos»; «sample_rate» = s .«sample_rate»; «lp_state» = s .«lp_state»; «ap_x1» = s .«ap_x1»; «ap_y1» = s .«ap_y1»; «trigger_edge» = edge; «freq_memo» = memo }
+
+abbrev pub refusedTick : KarplusStrong → ℕ → KarplusStrongTicked
+refusedTick s n = record { answer = answer.Refused n; «karplus_strong» = s }
+
+-- a tick goes on, unless a refusal's number isn't 0
+unfoldable pub tickUnless : ℕ → KarplusStrong → List Float → Ticking → Ticking
+tickUnless zero s l t = t
+tickUnless (suc n) s l t = record { out = refusedTick s (suc n); line = l }
+
+-- a tick of a state and a line that refusals 1 to 3 let pass: edge, strike if it is taken, step
+unfoldable pub karplusStrongSoundOf : KarplusStrong → KarplusStrongControls → List ℕ → List Float → Ticking
+karplusStrongSoundOf s c draws l =
+    let voct = finiteOr (c .voct .0) zer in
+    let damping = clampOf (finiteOr (c .damping) half) zer one in
+    let brightness = clampOf (finiteOr (c .brightness) half) zer one in
+    let stretch = clampOf (finiteOr (c .stretch) zer) (neg one) one in
+    let memo = recall1 voctToHzAt (s .«freq_memo») voct in
+    let period = periodOf (s .«sample_rate») (memo .val) in
+    let risen = risingOf (s .«trigger_edge») (c .trigger) in
+    let struck = strikeIf (risen .rising) (heardString s (risen .edge) memo) period brightness draws l in
+    tickUnless (cond (risen .rising) (drawsRefusalOf (struckLen period) draws) 0) s l
+    (stepOf (struck .out) period damping stretch (struck .line))
+
+unfoldable pub karplusStrongTickOf : KarplusStrong → KarplusStrongControls → List ℕ → List Float → Ticking
+karplusStrongTickOf s c draws l = tickUnless (karplusStrongRefusalOf s (length l)) s l (karplusStrongSoundOf s c draws l)

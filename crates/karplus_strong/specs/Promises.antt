@@ -1,0 +1,133 @@
+-- What the string promises: the statements. The proofs of the same names in small letters stand in proofs/.
+use mathlib.Core.Bool.{Bool, true, false, cond}
+use mathlib.Core.List.{List, _∷_}
+use mathlib.Core.Logic.{_⊎_}
+use mathlib.Core.Path.{_≡_}
+use Prim.Native.Nat.{ℕ, zero, suc, _≤_, _<_}
+use lib.ListN.{length, getD}
+use lib.Ieee.{Float, nan, le, neg}
+use Rattle.laws.specs.Float.{zer, one, isFin}
+use Rattle.laws.specs.Machine.{Reached, replies, Settles}
+use Rattle.numeric.specs.Basic.{clampOf}
+use Rattle.common.specs.Consts.{gateThreshold, five}
+use Rattle.common.specs.Edge.{risingOf}
+use Rattle.common.specs.Memo.{recall1, voctToHzAt}
+use Rattle.common.specs.Tests.{rateOk}
+use Rattle.common.specs.declared.Hertz.{Hertz}
+use Rattle.answer.specs.Answer.{markNumber, voltsOf, refusalOf, accepted}
+use Rattle.karplus_strong.specs.Line.{blankOf, drawsOk}
+use Rattle.karplus_strong.specs.Step.{Ticking, outOf}
+use Rattle.karplus_strong.specs.KarplusStrong.{Making, maxLenOf, roomOf, karplusStrongRefusalOf, newKarplusStrong, finiteOr, periodOf, struckLen, drawsRefusalOf, karplusStrongNewOf, karplusStrongTickOf, karplusStrongResetOf, karplusStrongSetSampleRateOf}
+use Rattle.karplus_strong.specs.Calls.{Strung, Call, Tick, Reset, SetSampleRate, Reply, Done, Refused, after, reply, FitCall, First, ReachedString}
+use Rattle.karplus_strong.specs.declared.KarplusStrong.{KarplusStrong}
+use Rattle.karplus_strong.specs.declared.KarplusStrongControls.{KarplusStrongControls}
+
+-- ---- no call refuses but for its own input
+-- the period of the pitch that a tick is given
+abbrev pub periodAt : KarplusStrong → KarplusStrongControls → Float
+periodAt s c = periodOf (s .«sample_rate») (recall1 voctToHzAt (s .«freq_memo») (finiteOr (c .voct .0) zer) .val)
+
+abbrev pub risesAt : KarplusStrong → KarplusStrongControls → Bool
+risesAt s c = risingOf (s .«trigger_edge») (c .trigger) .rising
+
+unfoldable pub doneOr : ℕ → Reply
+doneOr zero = Done
+doneOr (suc n) = Refused (suc n)
+
+-- 1 and 2 never come, and 3 only where a caller lends a line that is too short: its own isn't. Then a tick is refused only
+-- where it takes its trigger, by its draws; a reset is done; and a rate change says only what the new rate asks.
+pub record Ready (x : Strung) : Type 0 where
+  pub state : (n : ℕ) → karplusStrongRefusalOf (x .string) n ≡ roomOf (x .string .«sample_rate») n
+  pub room : roomOf (x .string .«sample_rate») (length (x .line)) ≡ 0
+  pub tick : (c : KarplusStrongControls) (draws : List ℕ)
+      → refusalOf (karplusStrongTickOf (x .string) c draws (x .line) .out .answer) ≡ cond (risesAt (x .string) c) (drawsRefusalOf (struckLen (periodAt (x .string) c)) draws) 0
+  pub reset : reply x Reset ≡ Done
+  pub rate : (r : Hertz) → reply x (SetSampleRate r) ≡ doneOr (cond (rateOk r) (roomOf r (length (x .line))) 1)
+
+abbrev pub Never-refused : Type 0
+Never-refused = (x : Strung) → ReachedString x → Ready x
+
+-- ---- an edge forgets
+-- a tick that is accepted and takes the trigger's edge
+pub record Strikes (x : Strung) (c : KarplusStrongControls) (draws : List ℕ) : Type 0 where
+  pub is-accepted : accepted (karplusStrongTickOf (x .string) c draws (x .line) .out .answer) ≡ true
+  pub edge : risesAt (x .string) c ≡ true
+
+-- from that tick on the answers are those of any new string of its rate in a line of the same size, given this tick and the same calls
+abbrev pub Forgets : Type 0
+Forgets = (x : Strung) → ReachedString x → (c : KarplusStrongControls) (draws : List ℕ) → FitCall (Tick c draws) → Strikes x c draws
+    → (y : Strung) → First y → y .string .«sample_rate» ≡ x .string .«sample_rate» → length (y .line) ≡ length (x .line)
+    → (cs : List Call) → replies after reply x (Tick c draws ∷ cs) ≡ replies after reply y (Tick c draws ∷ cs)
+
+-- such a string there is
+abbrev pub New-there : Type 0
+New-there = (x : Strung) → ReachedString x → (l : List Float) → length l ≡ length (x .line) → First (record { string = newKarplusStrong (x .string .«sample_rate»); line = blankOf 0 (maxLenOf (x .string .«sample_rate»)) l })
+
+-- and such a tick: after one whose trigger is not above the threshold, one with 5.0 V and enough draws
+abbrev pub Edge-comes : Type 0
+Edge-comes = (x : Strung) → ReachedString x → (low high : KarplusStrongControls) (none draws : List ℕ) → FitCall (Tick low none) → le (low .trigger) gateThreshold ≡ true → high .trigger ≡ five → 9611 ≤ length draws → drawsOk draws 9611 ≡ true
+    → (accepted (karplusStrongTickOf (x .string) low none (x .line) .out .answer) ≡ true) × Strikes (after x (Tick low none)) high draws
+
+-- ---- only the cells below the length count
+-- two lines of one size that agree there
+pub record Alike (n : ℕ) (l m : List Float) : Type 0 where
+  pub size : length l ≡ length m
+  pub cells : (i : ℕ) → i < n → getD l i nan ≡ getD m i nan
+
+-- a tick says and does the same over both, and leaves them so
+pub record SameTick (t u : Ticking) : Type 0 where
+  pub out : t .out ≡ u .out
+  pub line : Alike (t .out .«karplus_strong» .len) (t .line) (u .line)
+
+abbrev pub Only-its-cells : Type 0
+Only-its-cells = (s : KarplusStrong) (c : KarplusStrongControls) (draws : List ℕ) (l m : List Float) → Alike (s .len) l m → SameTick (karplusStrongTickOf s c draws l) (karplusStrongTickOf s c draws m)
+
+-- and nothing is written from cell n on
+pub record SamePast (n : ℕ) (l m : List Float) : Type 0 where
+  pub size : length m ≡ length l
+  pub cells : (i : ℕ) → n ≤ i → getD m i nan ≡ getD l i nan
+
+-- n being the length after the call
+pub record Past-untouched : Type 0 where
+  pub new : (rate : Hertz) (l : List Float) → SamePast (maxLenOf rate) l (karplusStrongNewOf rate l .line)
+  pub tick : (s : KarplusStrong) (c : KarplusStrongControls) (draws : List ℕ) (l : List Float) → SamePast (karplusStrongTickOf s c draws l .out .«karplus_strong» .len) l (karplusStrongTickOf s c draws l .line)
+  pub reset : (s : KarplusStrong) (l : List Float) → SamePast (s .len) l (karplusStrongResetOf s l .line)
+  pub «set_sample_rate» : (s : KarplusStrong) (rate : Hertz) (l : List Float) → SamePast (maxLenOf rate) l (karplusStrongSetSampleRateOf s rate l .line)
+
+-- ---- only the draws that fill the line count, and without an edge none
+pub record Only-its-draws : Type 0 where
+  pub struck : (s : KarplusStrong) (c : KarplusStrongControls) (d e : List ℕ) (l : List Float) → struckLen (periodAt s c) ≤ length d → struckLen (periodAt s c) ≤ length e → ((i : ℕ) → i < struckLen (periodAt s c) → getD d i 0 ≡ getD e i 0)
+      → karplusStrongTickOf s c d l ≡ karplusStrongTickOf s c e l
+  pub unstruck : (s : KarplusStrong) (c : KarplusStrongControls) (d e : List ℕ) (l : List Float) → risesAt s c ≡ false → karplusStrongTickOf s c d l ≡ karplusStrongTickOf s c e l
+
+-- ---- marks, for every state: clean with a finite sample, or cleared with 0.0
+abbrev pub Clean-or-cleared : Type 0
+Clean-or-cleared = (s : KarplusStrong) (c : KarplusStrongControls) (draws : List ℕ) (l : List Float) → accepted (karplusStrongTickOf s c draws l .out .answer) ≡ true
+    → ((markNumber (karplusStrongTickOf s c draws l .out .answer) ≡ 4) × (isFin (voltsOf (karplusStrongTickOf s c draws l .out .answer) .p10) ≡ true))
+    ⊎ ((markNumber (karplusStrongTickOf s c draws l .out .answer) ≡ 1) × (voltsOf (karplusStrongTickOf s c draws l .out .answer) ≡ outOf zer))
+
+-- and while its stretch counts as 0.0 a string is never cleared, whatever its other controls do. With another it may be: at
+-- 48,000 Hz, voct 0.0 and damping 1.0, a stretch of -1.0 and 1.0 by turns drives the loop up until it overflows
+abbrev pub Unstretched : Call → Type 0
+Unstretched (Tick c draws) = FitCall (Tick c draws) × (clampOf (finiteOr (c .stretch) zer) (neg one) one ≡ zer)
+Unstretched Reset = Unit
+Unstretched (SetSampleRate rate) = Unit
+
+abbrev pub Never-cleared : Type 0
+Never-cleared = (x : Strung) → Reached First Unstretched after x → (c : KarplusStrongControls) (draws : List ℕ) → Unstretched (Tick c draws) → accepted (karplusStrongTickOf (x .string) c draws (x .line) .out .answer) ≡ true → markNumber (karplusStrongTickOf (x .string) c draws (x .line) .out .answer) ≡ 4
+
+-- a refused tick leaves string and line as they stood
+abbrev pub Refused-leaves : Type 0
+Refused-leaves = (s : KarplusStrong) (c : KarplusStrongControls) (draws : List ℕ) (l : List Float) → accepted (karplusStrongTickOf s c draws l .out .answer) ≡ false
+    → (karplusStrongTickOf s c draws l .out .«karplus_strong» ≡ s) × (karplusStrongTickOf s c draws l .line ≡ l)
+
+-- and every tick the rate
+abbrev pub Keeps-rate : Type 0
+Keeps-rate = (s : KarplusStrong) (c : KarplusStrongControls) (draws : List ℕ) (l : List Float) → karplusStrongTickOf s c draws l .out .«karplus_strong» .«sample_rate» ≡ s .«sample_rate»
+
+-- ---- each contract settles the answer and the line
+pub record Settled : Type 0 where
+  pub new : (rate : Hertz) (l : List Float) → Settles (λ (r : Making). (r .out ≡ karplusStrongNewOf rate l .out) × (r .line ≡ karplusStrongNewOf rate l .line))
+  pub tick : (s : KarplusStrong) (c : KarplusStrongControls) (draws : List ℕ) (l : List Float) → Settles (λ (r : Ticking). (r .out ≡ karplusStrongTickOf s c draws l .out) × (r .line ≡ karplusStrongTickOf s c draws l .line))
+  pub reset : (s : KarplusStrong) (l : List Float) → Settles (λ (r : Making). (r .out ≡ karplusStrongResetOf s l .out) × (r .line ≡ karplusStrongResetOf s l .line))
+  pub «set_sample_rate» : (s : KarplusStrong) (rate : Hertz) (l : List Float) → Settles (λ (r : Making). (r .out ≡ karplusStrongSetSampleRateOf s rate l .out) × (r .line ≡ karplusStrongSetSampleRateOf s rate l .line))

@@ -1,0 +1,600 @@
+// KarplusStrong of oscillators.rs: a plucked string. Its delay line is lent to each call, and so are the draws of its noise.
+use answer::Answer;
+use answer::Volts;
+use common::EdgeDetector;
+use common::Hertz;
+use common::Memo1;
+use common::VoltsPerOctave;
+ghost use mathlib.Core.Path.{_≡_};
+ghost use mathlib.Core.Bool.{cond, not, true};
+ghost use Prim.Native.Nat.{_≤_, _<_, _+_, _-_, _%_, min};
+ghost use lib.Dec.{T};
+ghost use lib.Ieee.{isNan};
+ghost use lib.ListN.{length};
+ghost use Rattle.laws.specs.Float.{isFin, zer, one};
+ghost use Rattle.numeric.specs.Basic.{clampOf, wholeOf};
+ghost use Rattle.common.specs.Consts.{half};
+ghost use Rattle.common.specs.Tests.{rateOk};
+ghost use Rattle.karplus_strong.specs.Ranges.{Cut};
+ghost use Rattle.karplus_strong.specs.Line.{blankOf, pulseOf, excitedOf, sumTo, levelOf, struckOf, drawsOk};
+ghost use Rattle.karplus_strong.specs.Step.{filterCoefOf, apCoefOf, targetDelayOf, tapOf, restOf, outOf, stepOf};
+ghost use Rattle.karplus_strong.specs.KarplusStrong.{maxLenOf, lineOk, roomOf, karplusStrongRefusalOf, rateRefusalOf, placeOf, resizedString, finiteOr, periodOf, struckLen, drawsRefusalOf, strikeOf, strikeIf, heardString, refusedTick, karplusStrongSoundOf, karplusStrongTickOf, karplusStrongNewOf, karplusStrongResetOf, karplusStrongSetSampleRateOf};
+
+// The Rust's fields less `max_len`, which follows from the rate, the lent line, of which the length stays, and the noise.
+pub struct KarplusStrong {
+    pub len: usize,
+    pub write_pos: usize,
+    pub sample_rate: Hertz,
+    pub lp_state: f64,
+    pub ap_x1: f64,
+    pub ap_y1: f64,
+    pub trigger_edge: EdgeDetector,
+    pub freq_memo: Memo1,
+}
+
+// Its inputs in port order.
+pub struct KarplusStrongControls {
+    pub voct: VoltsPerOctave,
+    pub trigger: f64,
+    pub damping: f64,
+    pub brightness: f64,
+    pub stretch: f64,
+}
+
+// What a tick answers (p10: out), with the string after it.
+pub struct KarplusStrongTicked {
+    pub answer: Answer,
+    pub karplus_strong: KarplusStrong,
+}
+
+// The string that was made, or the number that refused it.
+pub enum KarplusStrongMade {
+    Made(KarplusStrong),
+    Refused(u32),
+}
+
+// ---- numbers
+
+// `x as usize`, where x is known to be from 1 to below 2^52: its digits under their leading one, less those of the fraction.
+fn whole(x: f64) -> usize
+    requires { ⌜ Cut x ⌝ }
+    ensures { λ r. ⌜ r ≡ wholeOf x ⌝ }
+{
+    let bits: u64 = f64::to_bits(x);
+    let exponent: u64 = bits >> 52;
+    let digits: u64 = (bits & 0xf_ffff_ffff_ffff) | 0x10_0000_0000_0000;
+    (digits >> (1075 - exponent)) as usize
+}
+
+// Neither an infinity nor a NaN. Compilers hold a NaN for rare, so what follows a number stays the straight way.
+fn is_settled(x: f64) -> bool
+    ensures { λ r. ⌜ r ≡ isFin x ⌝ }
+{
+    let rest = x - x;
+    rest == rest
+}
+
+// `x` if it is finite, else `default`.
+fn finite_or(x: f64, default: f64) -> f64
+    ensures { λ r. ⌜ r ≡ finiteOr x default ⌝ }
+{
+    if numeric::is_finite(x) { x } else { default }
+}
+
+// finite_or(x, default).clamp(lo, hi); what lies between the ends is x itself.
+fn within(x: f64, default: f64, lo: f64, hi: f64) -> f64
+    requires { ⌜ (isFin lo ≡ true) × (isFin hi ≡ true) ⌝ }
+    ensures { λ r. ⌜ r ≡ clampOf (finiteOr x default) lo hi ⌝ }
+{
+    if x >= lo {
+        if x <= hi {
+            x
+        } else {
+            numeric::clamp(finite_or(x, default), lo, hi)
+        }
+    } else {
+        numeric::clamp(finite_or(x, default), lo, hi)
+    }
+}
+
+// ---- the line
+
+// Cells from `from` to below `to` become 0.0.
+fn blank(line: &mut [f64], from: usize, to: usize)
+    requires { ⌜ (from ≤ to) × (to ≤ length (now line)) ⌝ }
+    ensures { λ _. ⌜ now (line .exit) ≡ blankOf from to (now (line .entry)) ⌝ }
+{
+    let mut i = from;
+    while i < to {
+        line[i] = 0.0;
+        i += 1;
+    }
+}
+
+// Cell i of n: a blend of noise and impulse.
+fn pulse(n: usize, brightness: f64, draw: u64, i: usize) -> f64
+    ensures { λ r. ⌜ r ≡ pulseOf n brightness draw i ⌝ }
+{
+    let noise = numeric::bipolar(draw);
+    if i < n / 4 {
+        noise * brightness + 1.0 * (1.0 - brightness)
+    } else {
+        noise * brightness + 0.0 * (1.0 - brightness)
+    }
+}
+
+fn fill(line: &mut [f64], n: usize, brightness: f64, draws: &[u64])
+    requires { ⌜ (n ≤ length (now line)) × (n ≤ length (now draws)) ⌝ }
+    ensures { λ _. ⌜ now (line .exit) ≡ excitedOf n brightness (now (draws .entry)) (now (line .entry)) ⌝ }
+{
+    let mut i = 0;
+    while i < n {
+        line[i] = pulse(n, brightness, draws[i], i);
+        i += 1;
+    }
+}
+
+// Rust's sum of floats starts at -0.0.
+fn sum(line: &[f64], n: usize) -> f64
+    requires { ⌜ n ≤ length (now line) ⌝ }
+    ensures { λ r. ⌜ r ≡ sumTo (now (line .entry)) n ⌝ }
+{
+    let mut sum = -0.0;
+    let mut i = 0;
+    while i < n {
+        sum = sum + line[i];
+        i += 1;
+    }
+    sum
+}
+
+fn level(line: &mut [f64], n: usize, mean: f64)
+    requires { ⌜ n ≤ length (now line) ⌝ }
+    ensures { λ _. ⌜ now (line .exit) ≡ levelOf n mean (now (line .entry)) ⌝ }
+{
+    let mut i = 0;
+    while i < n {
+        line[i] = line[i] - mean;
+        i += 1;
+    }
+}
+
+// The Rust's excite, over the first n cells: noise and impulse, less their mean.
+fn excite(line: &mut [f64], n: usize, brightness: f64, draws: &[u64])
+    requires { ⌜ (n ≤ length (now line)) × (n ≤ length (now draws)) ⌝ }
+    ensures { λ _. ⌜ now (line .exit) ≡ struckOf n brightness (now (draws .entry)) (now (line .entry)) ⌝ }
+{
+    fill(line, n, brightness, draws);
+    let mean = sum(line, n) / numeric::of_u64(n as u64);
+    level(line, n, mean);
+}
+
+// Whether each of the first n draws is below 2^53.
+fn draws_ok(draws: &[u64], n: usize) -> bool
+    requires { ⌜ n ≤ length (now draws) ⌝ }
+    ensures { λ r. ⌜ r ≡ drawsOk (now (draws .entry)) n ⌝ }
+{
+    let mut i = 0;
+    while i < n {
+        if draws[i] >= 9007199254740992 {
+            return false;
+        }
+        i += 1;
+    }
+    true
+}
+
+// Refusals 5 and 6 of a trigger that is taken, or 0.
+fn draws_refusal(rising: bool, period: f64, draws: &[u64]) -> u32
+    requires { ⌜ Cut period ⌝ }
+    ensures { λ r. ⌜ r ≡ cond rising (drawsRefusalOf (struckLen period) (now (draws .entry))) 0 ⌝ }
+{
+    if rising {
+        let n = whole(period) + 2;
+        if draws.len() < n {
+            5
+        } else if draws_ok(draws, n) {
+            0
+        } else {
+            6
+        }
+    } else {
+        0
+    }
+}
+
+// ---- the loop
+
+// (pos + 1) % len
+fn after(pos: usize, len: usize) -> usize
+    requires { ⌜ pos < len ⌝ }
+    ensures { λ r. ⌜ r ≡ (pos + 1) % len ⌝ }
+{
+    if pos + 1 < len { pos + 1 } else { 0 }
+}
+
+// 0 where a cut line has no such place.
+fn placed(pos: usize, len: usize) -> usize
+    ensures { λ r. ⌜ r ≡ placeOf pos len ⌝ }
+{
+    if pos < len { pos } else { 0 }
+}
+
+fn lesser(a: usize, b: usize) -> usize
+    ensures { λ r. ⌜ r ≡ min a b ⌝ }
+{
+    if a < b { a } else { b }
+}
+
+// The cell that was written `delay` ticks ago, or the oldest one: (pos + len.saturating_sub(delay)) % len without a division.
+fn behind(pos: usize, len: usize, delay: usize) -> usize
+    requires { ⌜ pos < len ⌝ }
+    ensures { λ r. ⌜ r ≡ (pos + (len - delay)) % len ⌝ }
+{
+    if delay <= pos {
+        pos - delay
+    } else if delay < len {
+        pos + (len - delay)
+    } else {
+        pos
+    }
+}
+
+// The two taps at a delay, weighed by its fraction.
+fn tap(line: &[f64], pos: usize, len: usize, delay: f64) -> f64
+    requires { ⌜ (pos < len) × (len ≤ length (now line)) × (wholeOf delay ≤ 9610) ⌝ }
+    ensures { λ r. ⌜ r ≡ tapOf (now (line .entry)) pos len delay ⌝ }
+{
+    let delay_int = numeric::to_usize(delay);
+    let delay_frac = delay - (delay_int as f64);
+    let read = behind(pos, len, delay_int);
+    let read2 = behind(pos, len, delay_int + 1);
+    line[read] * (1.0 - delay_frac) + line[read2] * delay_frac
+}
+
+// The delay that is left for the line once the filters have theirs.
+fn target_delay(period: f64, filter_coef: f64, ap_coef: f64) -> f64
+    ensures { λ r. ⌜ r ≡ targetDelayOf period «filter_coef» «ap_coef» ⌝ }
+{
+    let ap_gd = (1.0 - ap_coef) / (1.0 + ap_coef);
+    let filter_gd = (1.0 - filter_coef) / filter_coef;
+    numeric::max(period - filter_gd - ap_gd, 1.0)
+}
+
+// A period in samples, (sample_rate / freq).clamp(2.0, max_len as f64 - 1.0). From 20 Hz on it is below max_len - 1.
+fn period_of(sample_rate: Hertz, freq: Hertz) -> f64
+    requires { ⌜ (rateOk «sample_rate» ≡ true) × T (not (isNan (freq .0))) ⌝ }
+    ensures { λ r. ⌜ r ≡ periodOf «sample_rate» freq ⌝ }
+{
+    let period = sample_rate.0 / freq.0;
+    if freq.0 >= 20.0 {
+        if period >= 2.0 { period } else { 2.0 }
+    } else {
+        let max_len = KarplusStrong::max_len_for(sample_rate);
+        numeric::clamp(period, 2.0, (max_len as f64) - 1.0)
+    }
+}
+
+// The one output, port 10.
+fn volts(v: f64) -> Volts
+    ensures { λ r. ⌜ r ≡ outOf v ⌝ }
+{
+    Volts {
+        p10: v,
+        p11: 0.0,
+        p12: 0.0,
+        p13: 0.0,
+        p14: 0.0,
+    }
+}
+
+impl KarplusStrong {
+    // Loop DC leak: a loop gain below 1, so that an offset dies away.
+    const LOOP_LEAK: f64 = 0.9995;
+
+    // The longest line, for a note of about 20 Hz.
+    fn max_len_for(sample_rate: Hertz) -> usize
+        requires { ⌜ rateOk «sample_rate» ≡ true ⌝ }
+        ensures { λ r. ⌜ r ≡ maxLenOf «sample_rate» ⌝ }
+    {
+        whole(sample_rate.0 / 20.0) + 10
+    }
+
+    // Refusal 3, or 0: room for the longest line and the two cells that a strike may add.
+    fn room(sample_rate: Hertz, n: usize) -> u32
+        requires { ⌜ rateOk «sample_rate» ≡ true ⌝ }
+        ensures { λ r. ⌜ r ≡ roomOf «sample_rate» n ⌝ }
+    {
+        if n < KarplusStrong::max_len_for(sample_rate) + 2 {
+            3
+        } else {
+            0
+        }
+    }
+
+    // Refusal 2 asks this of the state.
+    fn line_ok(self, max_len: usize) -> bool
+        requires { ⌜ «max_len» ≤ 9610 ⌝ }
+        ensures { λ r. ⌜ r ≡ lineOk self «max_len» ⌝ }
+    {
+        let memo = self.freq_memo;
+        let val = memo.val;
+        if self.len < 4 {
+            false
+        } else if self.len > max_len + 1 {
+            false
+        } else if self.write_pos >= self.len {
+            false
+        } else {
+            val.0 == val.0
+        }
+    }
+
+    // Refusals 1 to 3 of a call with a lent line of n cells, or 0.
+    fn refusal(self, n: usize) -> u32
+        ensures { λ r. ⌜ r ≡ karplusStrongRefusalOf self n ⌝ }
+    {
+        let sample_rate = self.sample_rate;
+        if common::rate_ok(sample_rate) {
+            if self.line_ok(KarplusStrong::max_len_for(sample_rate)) {
+                KarplusStrong::room(sample_rate, n)
+            } else {
+                2
+            }
+        } else {
+            1
+        }
+    }
+
+    pub fn new(sample_rate: Hertz, line: &mut [f64]) -> KarplusStrongMade
+        ensures { λ r. ⌜ (r ≡ karplusStrongNewOf «sample_rate» (now (line .entry)) .out) × (now (line .exit) ≡ karplusStrongNewOf «sample_rate» (now (line .entry)) .line) ⌝ }
+    {
+        if common::rate_ok(sample_rate) {
+            let refused = KarplusStrong::room(sample_rate, line.len());
+            if refused == 0 {
+                let max_len = KarplusStrong::max_len_for(sample_rate);
+                blank(line, 0, max_len);
+                let trigger_edge = EdgeDetector::new();
+                let freq_memo = Memo1::new();
+                KarplusStrongMade::Made(KarplusStrong {
+                    len: max_len,
+                    write_pos: 0,
+                    sample_rate,
+                    lp_state: 0.0,
+                    ap_x1: 0.0,
+                    ap_y1: 0.0,
+                    trigger_edge,
+                    freq_memo,
+                })
+            } else {
+                KarplusStrongMade::Refused(refused)
+            }
+        } else {
+            KarplusStrongMade::Refused(1)
+        }
+    }
+
+    // A loop at rest, of len cells: what clear_loop_state and excite leave beside the line.
+    fn at_rest(self, len: usize, trigger_edge: EdgeDetector) -> Self
+        ensures { λ r. ⌜ r ≡ restOf self len «trigger_edge» ⌝ }
+    {
+        let sample_rate = self.sample_rate;
+        let freq_memo = self.freq_memo;
+        KarplusStrong {
+            len,
+            write_pos: 0,
+            sample_rate,
+            lp_state: 0.0,
+            ap_x1: 0.0,
+            ap_y1: 0.0,
+            trigger_edge,
+            freq_memo,
+        }
+    }
+
+    // Strikes the string: the line gets its length from the period, and an excitation.
+    fn strike(self, period: f64, brightness: f64, draws: &[u64], line: &mut [f64]) -> Self
+        requires { ⌜ Cut period × (struckLen period ≤ length (now draws)) × (struckLen period ≤ length (now line)) ⌝ }
+        ensures { λ r. ⌜ (r ≡ strikeOf self period brightness (now (draws .entry)) (now (line .entry)) .out) × (now (line .exit) ≡ strikeOf self period brightness (now (draws .entry)) (now (line .entry)) .line) ⌝ }
+    {
+        let n = whole(period) + 2;
+        excite(line, n, brightness, draws);
+        let trigger_edge = self.trigger_edge;
+        self.at_rest(n, trigger_edge)
+    }
+
+    // Strikes it where the trigger was taken.
+    fn strike_if(
+        self,
+        rising: bool,
+        period: f64,
+        brightness: f64,
+        draws: &[u64],
+        line: &mut [f64],
+    ) -> Self
+        requires { ⌜ Cut period × (cond rising (drawsRefusalOf (struckLen period) (now draws)) 0 ≡ 0) × (struckLen period ≤ length (now line)) ⌝ }
+        ensures { λ r. ⌜ (r ≡ strikeIf rising self period (clampOf (finiteOr brightness half) zer one) (now (draws .entry)) (now (line .entry)) .out) × (now (line .exit) ≡ strikeIf rising self period (clampOf (finiteOr brightness half) zer one) (now (draws .entry)) (now (line .entry)) .line) ⌝ }
+    {
+        if rising {
+            self.strike(period, within(brightness, 0.5, 0.0, 1.0), draws, line)
+        } else {
+            self
+        }
+    }
+
+    // One sample: the loop turns once.
+    fn step(self, period: f64, damping: f64, stretch: f64, line: &mut [f64]) -> KarplusStrongTicked
+        requires { ⌜ (self .«write_pos» < self .len) × (self .len ≤ length (now line)) × (wholeOf (targetDelayOf period (filterCoefOf damping) (apCoefOf stretch)) ≤ 9610) ⌝ }
+        ensures { λ r. ⌜ (r ≡ stepOf self period damping stretch (now (line .entry)) .out) × (now (line .exit) ≡ stepOf self period damping stretch (now (line .entry)) .line) ⌝ }
+    {
+        let pos = self.write_pos;
+        let len = self.len;
+        let sample_rate = self.sample_rate;
+        let trigger_edge = self.trigger_edge;
+        let freq_memo = self.freq_memo;
+        let filter_coef = 0.5 + damping * 0.49;
+        let ap_coef = -0.5 * stretch;
+        let sample = tap(line, pos, len, target_delay(period, filter_coef, ap_coef));
+        let filtered = sample * filter_coef + self.lp_state * (1.0 - filter_coef);
+        let stretched = ap_coef * filtered + self.ap_x1 - ap_coef * self.ap_y1;
+        let leaked = stretched * KarplusStrong::LOOP_LEAK;
+        if is_settled(leaked) {
+            line[pos] = leaked;
+            let next = after(pos, len);
+            KarplusStrongTicked {
+                answer: Answer::Clean(volts(leaked)),
+                karplus_strong: KarplusStrong {
+                    len,
+                    write_pos: next,
+                    sample_rate,
+                    lp_state: filtered,
+                    ap_x1: filtered,
+                    ap_y1: stretched,
+                    trigger_edge,
+                    freq_memo,
+                },
+            }
+        } else {
+            blank(line, 0, len);
+            KarplusStrongTicked {
+                answer: Answer::Cleared(volts(0.0)),
+                karplus_strong: self.at_rest(len, trigger_edge),
+            }
+        }
+    }
+
+    // The string with what a tick heard: its trigger and its pitch.
+    fn heard(self, trigger_edge: EdgeDetector, freq_memo: Memo1) -> Self
+        ensures { λ r. ⌜ r ≡ heardString self «trigger_edge» «freq_memo» ⌝ }
+    {
+        let sample_rate = self.sample_rate;
+        KarplusStrong {
+            len: self.len,
+            write_pos: self.write_pos,
+            sample_rate,
+            lp_state: self.lp_state,
+            ap_x1: self.ap_x1,
+            ap_y1: self.ap_y1,
+            trigger_edge,
+            freq_memo,
+        }
+    }
+
+    fn refused(self, number: u32) -> KarplusStrongTicked
+        ensures { λ r. ⌜ r ≡ refusedTick self number ⌝ }
+    {
+        KarplusStrongTicked {
+            answer: Answer::Refused(number),
+            karplus_strong: self,
+        }
+    }
+
+    // The tick of a state and a line that refusals 1 to 3 let pass: edge, strike if it is taken, step.
+    fn sound(self, c: KarplusStrongControls, draws: &[u64], line: &mut [f64]) -> KarplusStrongTicked
+        requires { ⌜ karplusStrongRefusalOf self (length (now line)) ≡ 0 ⌝ }
+        ensures { λ r. ⌜ (r ≡ karplusStrongSoundOf self c (now (draws .entry)) (now (line .entry)) .out) × (now (line .exit) ≡ karplusStrongSoundOf self c (now (draws .entry)) (now (line .entry)) .line) ⌝ }
+    {
+        let voct = c.voct;
+        let memo = self.freq_memo;
+        let sample_rate = self.sample_rate;
+        let trigger_edge = self.trigger_edge;
+        let damping = within(c.damping, 0.5, 0.0, 1.0);
+        let stretch = within(c.stretch, 0.0, -1.0, 1.0);
+        let freq_memo = memo.voct_to_hz(VoltsPerOctave(finite_or(voct.0, 0.0)));
+        let freq = freq_memo.val;
+        let period = period_of(sample_rate, freq);
+        let risen = trigger_edge.rising(c.trigger);
+        let edge = risen.edge;
+        let refused = draws_refusal(risen.rising, period, draws);
+        if refused == 0 {
+            let heard = self.heard(edge, freq_memo);
+            let struck = heard.strike_if(risen.rising, period, c.brightness, draws, line);
+            struck.step(period, damping, stretch, line)
+        } else {
+            self.refused(refused)
+        }
+    }
+
+    pub fn tick(
+        self,
+        c: KarplusStrongControls,
+        draws: &[u64],
+        line: &mut [f64],
+    ) -> KarplusStrongTicked
+        ensures { λ r. ⌜ (r ≡ karplusStrongTickOf self c (now (draws .entry)) (now (line .entry)) .out) × (now (line .exit) ≡ karplusStrongTickOf self c (now (draws .entry)) (now (line .entry)) .line) ⌝ }
+    {
+        let refused = self.refusal(line.len());
+        if refused == 0 {
+            self.sound(c, draws, line)
+        } else {
+            self.refused(refused)
+        }
+    }
+
+    // The line is silent again; its length stays, and so does the memo.
+    pub fn reset(self, line: &mut [f64]) -> KarplusStrongMade
+        ensures { λ r. ⌜ (r ≡ karplusStrongResetOf self (now (line .entry)) .out) × (now (line .exit) ≡ karplusStrongResetOf self (now (line .entry)) .line) ⌝ }
+    {
+        let refused = self.refusal(line.len());
+        if refused == 0 {
+            let len = self.len;
+            let edge = self.trigger_edge;
+            blank(line, 0, len);
+            KarplusStrongMade::Made(self.at_rest(len, edge.reset()))
+        } else {
+            KarplusStrongMade::Refused(refused)
+        }
+    }
+
+    // Refusals 1 to 3 of a rate change, or 0.
+    fn rate_refusal(self, sample_rate: Hertz, n: usize) -> u32
+        ensures { λ r. ⌜ r ≡ rateRefusalOf self «sample_rate» n ⌝ }
+    {
+        let old = self.sample_rate;
+        if common::rate_ok(old) {
+            if common::rate_ok(sample_rate) {
+                if self.line_ok(KarplusStrong::max_len_for(old)) {
+                    KarplusStrong::room(sample_rate, n)
+                } else {
+                    2
+                }
+            } else {
+                1
+            }
+        } else {
+            1
+        }
+    }
+
+    // The string in a line of max_len cells. A write position that no longer lies in it goes to 0.
+    fn resized(self, sample_rate: Hertz, max_len: usize) -> Self
+        ensures { λ r. ⌜ r ≡ resizedString self «sample_rate» «max_len» ⌝ }
+    {
+        let trigger_edge = self.trigger_edge;
+        let freq_memo = self.freq_memo;
+        KarplusStrong {
+            len: max_len,
+            write_pos: placed(self.write_pos, max_len),
+            sample_rate,
+            lp_state: self.lp_state,
+            ap_x1: self.ap_x1,
+            ap_y1: self.ap_y1,
+            trigger_edge,
+            freq_memo,
+        }
+    }
+
+    // Cuts the line to the new rate's longest, or fills it up with 0.0.
+    pub fn set_sample_rate(self, sample_rate: Hertz, line: &mut [f64]) -> KarplusStrongMade
+        ensures { λ r. ⌜ (r ≡ karplusStrongSetSampleRateOf self «sample_rate» (now (line .entry)) .out) × (now (line .exit) ≡ karplusStrongSetSampleRateOf self «sample_rate» (now (line .entry)) .line) ⌝ }
+    {
+        let refused = self.rate_refusal(sample_rate, line.len());
+        if refused == 0 {
+            let max_len = KarplusStrong::max_len_for(sample_rate);
+            blank(line, lesser(self.len, max_len), max_len);
+            KarplusStrongMade::Made(self.resized(sample_rate, max_len))
+        } else {
+            KarplusStrongMade::Refused(refused)
+        }
+    }
+}

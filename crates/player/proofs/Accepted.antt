@@ -1,0 +1,97 @@
+-- No frame of a score with a good rate is refused: each tick's oscillator is reached from a new one.
+use Prim.Native.Nat.{ℕ, zero, suc}
+use mathlib.Core.Bool.{true}
+use mathlib.Core.Path.{_≡_, refl}
+use lib.Ieee.{binary64}
+use lib.Ieee.Fits.{nan-fits, div-fits}
+use Rattle.laws.specs.Float.{F64}
+use Rattle.laws.specs.Machine.{begun, more}
+use Rattle.answer.specs.Answer.{accepted}
+use Rattle.answer.specs.declared.Answer.{Answer}
+use Rattle.common.specs.Tests.{rateOk}
+use Rattle.common.specs.declared.Hertz.{Hertz}
+use Rattle.score.specs.Control.{voltsOf}
+use Rattle.score.specs.declared.Control.{Control}
+use Rattle.score.specs.declared.Control.the-variants.{Microvolts, Nan}
+use Rattle.score.specs.declared.VcoInputs.{VcoInputs}
+use Rattle.score.specs.declared.LfoInputs.{LfoInputs}
+use Rattle.score.specs.declared.Inputs.{Inputs}
+use Rattle.score.specs.declared.Inputs.the-variants as inputs
+use Rattle.vco.specs.Vco.{newVco, vcoTickOf}
+use Rattle.vco.specs.Calls as vco
+use Rattle.vco.specs.declared.Vco.{Vco}
+use Rattle.vco.proofs.Reached as vcos
+use Rattle.lfo.specs.Lfo.{newLfo, lfoNewOf, lfoTickOf}
+use Rattle.lfo.specs.Calls as lfo
+use Rattle.lfo.specs.declared.Lfo.{Lfo}
+use Rattle.lfo.proofs.Reached as lfos
+use Rattle.supersaw.specs.Supersaw.{newSupersaw, madeUnless, supersawNewOf, supersawTickOf}
+use Rattle.supersaw.specs.Calls as supersaw
+use Rattle.supersaw.specs.declared.Supersaw.{Supersaw}
+use Rattle.supersaw.specs.declared.SupersawControls.{SupersawControls}
+use Rattle.supersaw.proofs.Reached as supersaws
+use Rattle.formant_osc.specs.FormantOsc.{newFormantOsc, formantUnless, formantNewOf, formantTickOf}
+use Rattle.formant_osc.specs.Calls as formant
+use Rattle.formant_osc.specs.declared.FormantOsc.{FormantOsc}
+use Rattle.formant_osc.specs.declared.FormantControls.{FormantControls}
+use Rattle.formant_osc.proofs.Reached as formants
+use Rattle.player.specs.Begin.{rateOf, vcoControls, lfoControls, supersawControls, formantControls}
+use Rattle.player.specs.Play.{answers, heardFrom, heardOf}
+use Rattle.player.specs.Promises.{Every, Frames-accepted}
+
+-- what is accepted at each state that is reached is accepted in each tick
+every : {S : Type 0} (a : S → Answer) (n : S → S) (R : S → Type 0) → ((s : S) → R s → accepted (a s) ≡ true) → ((s : S) → R s → R (n s))
+    → (k : ℕ) (s : S) → R s → Every (λ x. accepted x ≡ true) (answers a n k s)
+unfolding answers Every
+every a n R ok next zero s r = tt
+every a n R ok next (suc k) s r = (ok s r, every a n R ok next k (n s) (next s r))
+
+volts-fit : (c : Control) → F64 (voltsOf c)
+unfolding voltsOf
+volts-fit (Microvolts n) = div-fits binary64 _ _
+volts-fit Nan = nan-fits binary64
+
+module _ (r : Hertz) (ok : rateOk r ≡ true) where
+  lfo-made : lfo.First (newLfo r)
+  unfolding lfoNewOf
+  lfo-made = (r, rw ok refl)
+
+  supersaw-made : supersaw.First (newSupersaw r)
+  unfolding supersawNewOf madeUnless
+  supersaw-made = (r, rw ok refl)
+
+  formant-made : formant.First (newFormantOsc r)
+  unfolding formantNewOf formantUnless
+  formant-made = (r, rw ok refl)
+
+-- a tick reaches the next state
+vco-next : (i : VcoInputs) (s : Vco) → vco.ReachedVco s → vco.ReachedVco (vcoTickOf s (vcoControls i) 15 .vco)
+unfolding vco.after vcoControls
+vco-next i s h = more h (vco.Tick (vcoControls i) 15) (volts-fit (i .voct), volts-fit (i .fm), volts-fit (i .«fm_lin»))
+
+lfo-next : (i : LfoInputs) (s : Lfo) → lfo.ReachedLfo s → lfo.ReachedLfo (lfoTickOf s (lfoControls i) 31 .lfo)
+unfolding lfo.after lfoControls
+lfo-next i s h = more h (lfo.Tick (lfoControls i) 31) (volts-fit (i .rate))
+
+supersaw-next : (c : SupersawControls) (s : Supersaw) → supersaw.ReachedSupersaw s → supersaw.ReachedSupersaw (supersawTickOf s c .supersaw)
+unfolding supersaw.after
+supersaw-next c s h = more h (supersaw.Tick c) tt
+
+formant-next : (c : FormantControls) (s : FormantOsc) → formant.ReachedFormant s → formant.ReachedFormant (formantTickOf s c .formant)
+unfolding formant.after
+formant-next c s h = more h (formant.Tick c) tt
+
+heard-accepted : (i : Inputs) (hz n : ℕ) → rateOk (rateOf hz) ≡ true → Every (λ x. accepted x ≡ true) (heardFrom i hz n)
+unfolding heardFrom
+heard-accepted (inputs.Vco i) hz n ok =
+    every _ _ vco.ReachedVco (λ s h. vcos.never-refused s h .tick (vcoControls i) 15) (vco-next i) n _ (begun (newVco (rateOf hz)) (rateOf hz, ok, refl))
+heard-accepted (inputs.Lfo i) hz n ok =
+    every _ _ lfo.ReachedLfo (λ s h. lfos.never-refused s h .ticks (lfoControls i) 31) (lfo-next i) n _ (begun (newLfo (rateOf hz)) (lfo-made (rateOf hz) ok))
+heard-accepted (inputs.Supersaw i) hz n ok =
+    every _ _ supersaw.ReachedSupersaw (λ s h. supersaws.never-refused s h .ticks (supersawControls i)) (supersaw-next (supersawControls i)) n _ (begun (newSupersaw (rateOf hz)) (supersaw-made (rateOf hz) ok))
+heard-accepted (inputs.Formant i) hz n ok =
+    every _ _ formant.ReachedFormant (λ s h. formants.never-refused s h .ticks (formantControls i)) (formant-next (formantControls i)) n _ (begun (newFormantOsc (rateOf hz)) (formant-made (rateOf hz) ok))
+
+pub frames-accepted : Frames-accepted
+unfolding heardOf
+frames-accepted s ok = heard-accepted (s .inputs) (s .hz) (s .frames) ok

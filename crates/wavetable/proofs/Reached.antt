@@ -1,0 +1,122 @@
+-- What every reached Wavetable has: a good rate, a phase in [0, 1), and a memo that holds what it would compute. So no call
+-- refuses it but for the bank's size.
+use mathlib.Core.Bool.{Bool, true, false, cond}
+use mathlib.Core.List.{List}
+use mathlib.Core.Logic.{inl}
+use mathlib.Core.Path.{_≡_, refl, sym, ap, subst, _∙_}
+use Prim.Native.Nat.{ℕ}
+use native.Mathlib.Omega.{arith}
+use lib.Dec.{eqb}
+use lib.Ieee.{Float, binary64, lt, le, ofBits, eq}
+use lib.Ieee.Fits.{add-fits}
+use lib.ListN.{length}
+use Rattle.answer.proofs.Laws.{mark-says}
+use Rattle.answer.specs.Answer.{accepted}
+use Rattle.common.proofs.MemoLaws.{recalled1}
+use Rattle.common.proofs.PhaseLaws.{wrap-in}
+use Rattle.common.specs.Memo.{voctToHzAt}
+use Rattle.common.specs.Phase.{turns}
+use Rattle.common.specs.Promises.{Coherent1}
+use Rattle.common.specs.Tests.{rateOk, phaseOk}
+use Rattle.laws.proofs.Always.{always}
+use Rattle.laws.specs.Float.{zer, F64}
+use Rattle.wavetable.specs.Calls.{Call, keptOr, toldOf, after, reply, FitCall, First, ReachedWavetable, Tick, Reset, SetSampleRate, Done, Refused}
+use Rattle.wavetable.specs.Promises.{Never-refused}
+use Rattle.wavetable.specs.Wavetable.{newWavetable, wavetableRefusalOf, wavetableTickRefusalOf, wavetableNewOf, wavetableSoundOf, wavetableTickOf, madeUnless, wavetableResetOf, rated, wavetableSetSampleRateOf}
+use Rattle.common.specs.declared.Hertz.{Hertz}
+use Rattle.answer.specs.declared.Answer.the-variants as answer
+use Rattle.wavetable.specs.declared.Wavetable.{Wavetable}
+use Rattle.wavetable.specs.declared.WavetableControls.{WavetableControls}
+use Rattle.wavetable.specs.declared.WavetableTicked.{WavetableTicked}
+use Rattle.wavetable.specs.declared.WavetableMade.the-variants as made
+
+pub record Good (s : Wavetable) : Type 0 where
+  pub rate : rateOk (s .«sample_rate») ≡ true
+  pub phase : phaseOk (s .phase) ≡ true
+  pub memo : Coherent1 voctToHzAt (s .«freq_memo»)
+
+-- ---- a good state is refused for its bank alone
+unrefused : (s : Wavetable) → Good s → wavetableRefusalOf s ≡ 0
+unfolding wavetableRefusalOf
+unrefused s g = simp (g .rate, g .phase)
+
+-- a tick that sounds where the bank's size is right, and is refused by 4 where it isn't
+abbrev sized : Bool → Wavetable → WavetableControls → List Float → WavetableTicked
+sized b s c bank = cond b (wavetableSoundOf s c bank) (record { answer = answer.Refused 4; wavetable = s })
+
+by-size : (b : Bool) (s : Wavetable) (c : WavetableControls) (bank : List Float)
+    → cond (eqb (cond b 0 4) 0) (wavetableSoundOf s c bank) (record { answer = answer.Refused (cond b 0 4); wavetable = s }) ≡ sized b s c bank
+by-size true s c bank = refl
+by-size false s c bank = refl
+
+tick-sized : (s : Wavetable) (c : WavetableControls) (bank : List Float) → Good s → wavetableTickOf s c bank ≡ sized (eqb (length bank) 16384) s c bank
+unfolding wavetableTickOf wavetableTickRefusalOf
+tick-sized s c bank g = rw (unrefused s g) (by-size (eqb (length bank) 16384) s c bank)
+
+pub tick-sounds : (s : Wavetable) (c : WavetableControls) (bank : List Float) → Good s → eqb (length bank) 16384 ≡ true → wavetableTickOf s c bank ≡ wavetableSoundOf s c bank
+tick-sounds s c bank g e = tick-sized s c bank g ∙ ap (λ (b : Bool). sized b s c bank) e
+
+sound-accepted : (s : Wavetable) (c : WavetableControls) (bank : List Float) → accepted (wavetableSoundOf s c bank .answer) ≡ true
+unfolding wavetableSoundOf
+sound-accepted s c bank = mark-says _ _ _ _ .is-accepted
+
+sized-accepted : (b : Bool) (s : Wavetable) (c : WavetableControls) (bank : List Float) → accepted (sized b s c bank .answer) ≡ b
+sized-accepted true s c bank = sound-accepted s c bank
+sized-accepted false s c bank = unfold accepted in refl
+
+pub tick-accepted : (s : Wavetable) (c : WavetableControls) (bank : List Float) → Good s → accepted (wavetableTickOf s c bank .answer) ≡ eqb (length bank) 16384
+tick-accepted s c bank g = rw (tick-sized s c bank g) (sized-accepted (eqb (length bank) 16384) s c bank)
+
+-- ---- it stays good
+zero-ok : phaseOk (turns zer) ≡ true
+unfolding phaseOk le lt eq ofBits
+zero-ok = refl
+
+pub good-new : (r : Hertz) → rateOk r ≡ true → Good (newWavetable r)
+unfolding newWavetable
+good-new r h = record { rate = h; phase = zero-ok; memo = inl refl }
+
+first-good : (s : Wavetable) → First s → Good s
+unfolding wavetableNewOf
+first-good s f = go (rateOk (f .0)) refl (f .1)
+  where
+    go : (b : Bool) → rateOk (f .0) ≡ b → cond b (made.Made (newWavetable (f .0))) (made.Refused 1) ≡ made.Made s → Good s
+    go true e h = subst Good (cc) (good-new (f .0) e)
+    go false e h = absurd (let z : _≡_ {A = ℕ} 0 1 = cc in omega arith)
+
+sound-good : (s : Wavetable) (c : WavetableControls) (bank : List Float) → Good s → F64 (c .«v_oct» .0) → Good (wavetableSoundOf s c bank .wavetable)
+unfolding wavetableSoundOf
+sound-good s c bank g f = record { rate = g .rate; phase = wrap-in _ (add-fits binary64 _ _); memo = recalled1 voctToHzAt (s .«freq_memo») (g .memo) (c .«v_oct» .0) f }
+
+sized-good : (b : Bool) (s : Wavetable) (c : WavetableControls) (bank : List Float) → Good s → F64 (c .«v_oct» .0) → Good (sized b s c bank .wavetable)
+sized-good true s c bank g f = sound-good s c bank g f
+sized-good false s c bank g f = g
+
+after-good : (s : Wavetable) (c : Call) → Good s → FitCall c → Good (after s c)
+unfolding after
+after-good s (Tick c bank) g f = subst (λ (t : WavetableTicked). Good (t .wavetable)) (sym (tick-sized s c bank g)) (sized-good (eqb (length bank) 16384) s c bank g f)
+after-good s Reset g f = unfold wavetableResetOf madeUnless in simp (unrefused s g) (record { rate = g .rate; phase = zero-ok; memo = g .memo })
+after-good s (SetSampleRate r) g f = unfold wavetableSetSampleRateOf madeUnless in go (rateOk r) refl
+  where
+    go : (b : Bool) → rateOk r ≡ b → Good (keptOr s (cond b (madeUnless (wavetableRefusalOf s) (rated s r)) (made.Refused 1)))
+    go true e = unfold madeUnless in simp (unrefused s g) (record { rate = e; phase = g .phase; memo = g .memo })
+    go false e = g
+
+pub good : {s : Wavetable} → ReachedWavetable s → Good s
+good = always Good first-good after-good
+
+-- ---- the promise
+pub never-refused : Never-refused
+unfolding reply
+never-refused s h =
+    let g = good h in
+    record {
+      phase = g .phase;
+      ticks = λ c bank. tick-accepted s c bank g;
+      resets = unfold wavetableResetOf madeUnless in simp (unrefused s g);
+      rates = λ r. unfold wavetableSetSampleRateOf madeUnless in rates r (rateOk r);
+    }
+  where
+    rates : (r : Hertz) (b : Bool) → toldOf (cond b (madeUnless (wavetableRefusalOf s) (rated s r)) (made.Refused 1)) ≡ cond b Done (Refused 1)
+    rates r true = unfold madeUnless in simp (unrefused s (good h))
+    rates r false = refl

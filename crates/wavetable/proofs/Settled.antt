@@ -1,0 +1,16 @@
+-- Each contract is one equation, so it settles its answer.
+use Rattle.wavetable.specs.Bank.{fillTableOf, fillBankOf}
+use Rattle.wavetable.specs.Promises.{Settled}
+use Rattle.wavetable.specs.Wavetable.{wavetableNewOf, wavetableTickOf, wavetableResetOf, wavetableSetSampleRateOf}
+use Rattle.laws.proofs.Settled as laws
+
+pub settled : Settled
+settled =
+    record {
+      new = λ r. laws.settled (wavetableNewOf r);
+      tick = λ s c bank. laws.settled (wavetableTickOf s c bank);
+      reset = λ s. laws.settled (wavetableResetOf s);
+      «set_sample_rate» = λ s r. laws.settled (wavetableSetSampleRateOf s r);
+      «fill_table» = λ table l. laws.settled (fillTableOf table l);
+      «fill_bank» = λ l. laws.settled (fillBankOf l);
+    }

@@ -1,0 +1,25 @@
+use borrow.Author.Needs.{needs}
+use Rattle.wavetable.specs.Wavetable.{wavetableRefusalOf}
+use Rattle.wavetable.proofs.Wavetable.refusal.Statement.{statement}
+use Rattle.wavetable.proofs.Wavetable.refusal.Tie as tie
+
+rate-ok-requires : tie.Need-rate-ok-requires
+rate-ok-requires c κs = search needs
+
+phase-ok-requires : tie.Need-phase-ok-requires
+phase-ok-requires c κs = search needs
+
+returns : tie.Need-returns
+unfolding wavetableRefusalOf
+returns c = simp (c .if2 .taken, ← c .before .phase-ok .ensures, c .before .before .if1 .taken, ← c .before .before .before .rate-ok .ensures)
+
+returns-2 : tie.Need-returns-2
+unfolding wavetableRefusalOf
+returns-2 c = simp (c .if2 .left, ← c .before .phase-ok .ensures, c .before .before .if1 .taken, ← c .before .before .before .rate-ok .ensures)
+
+returns-3 : tie.Need-returns-3
+unfolding wavetableRefusalOf
+returns-3 c = simp (c .if1 .left, ← c .before .rate-ok .ensures)
+
+pub refusal-spec : {M : Type 1} → statement M
+refusal-spec = tie.close (tie.spec rate-ok-requires phase-ok-requires returns returns-2 returns-3)

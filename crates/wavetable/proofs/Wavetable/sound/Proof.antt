@@ -1,0 +1,45 @@
+use borrow.Author.Needs.{needs}
+use Rattle.wavetable.proofs.Accepted.{index-few}
+use Rattle.wavetable.specs.Wavetable.{wavetableSoundOf}
+use Rattle.wavetable.proofs.Wavetable.sound.Statement.{statement}
+use Rattle.wavetable.proofs.Wavetable.sound.Tie as tie
+
+synced-requires : tie.Need-synced-requires
+synced-requires c κs = search needs
+
+restart-requires : tie.Need-restart-requires
+restart-requires c κs = search needs
+
+voct-to-hz-requires : tie.Need-voct-to-hz-requires
+voct-to-hz-requires c κs = search needs
+
+increment-requires : tie.Need-increment-requires
+increment-requires c κs = search needs
+
+table-pos-requires : tie.Need-table-pos-requires
+table-pos-requires c κs = search needs
+
+table-index-requires : tie.Need-table-index-requires
+table-index-requires c κs = search needs
+
+blended-requires : tie.Need-blended-requires
+blended-requires c κs = search needs
+
+mix-requires : tie.Need-mix-requires
+mix-requires c κs = (c .before .before .before .before .before .before .before .before .before .before .before .before .before .pre, index-few _ _ (c .before .table-index .ensures))
+
+is-finite-requires : tie.Need-is-finite-requires
+is-finite-requires c κs = search needs
+
+mark-requires : tie.Need-mark-requires
+mark-requires c κs = search needs
+
+wrap-phase-requires : tie.Need-wrap-phase-requires
+wrap-phase-requires c κs = search needs
+
+returns : tie.Need-returns
+unfolding wavetableSoundOf
+returns c = simp (c .wrap-phase .ensures, c .before .mark .ensures, c .before .before .is-finite .ensures, c .before .before .before .before .before .mix .ensures, c .before .before .before .before .before .before .blended .ensures, c .before .before .before .before .before .before .before .table-index .ensures, c .before .before .before .before .before .before .before .before .table-pos .ensures, c .before .before .before .before .before .before .before .before .before .increment .ensures, c .before .before .before .before .before .before .before .before .before .before .before .voct-to-hz .ensures, c .before .before .before .before .before .before .before .before .before .before .before .before .restart .ensures, c .before .before .before .before .before .before .before .before .before .before .before .before .before .synced .ensures)
+
+pub sound-spec : {M : Type 1} → statement M
+sound-spec = tie.close (tie.spec synced-requires restart-requires voct-to-hz-requires increment-requires table-pos-requires table-index-requires blended-requires mix-requires is-finite-requires mark-requires wrap-phase-requires returns)

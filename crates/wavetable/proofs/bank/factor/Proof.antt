@@ -1,0 +1,50 @@
+use borrow.Author.Tests.{eq-eqb, ne-eqb}
+use Rattle.wavetable.specs.Bank.{coefOf}
+use Rattle.wavetable.specs.Columns.{factorOf}
+use borrow.Author.Needs.{needs}
+use Rattle.wavetable.proofs.bank.factor.Statement.{statement}
+use Rattle.wavetable.proofs.bank.factor.Tie as tie
+
+harmonic-requires : tie.Need-harmonic-requires
+harmonic-requires c κs = search needs
+
+real-requires : tie.Need-real-requires
+real-requires c κs = search needs
+
+sin-requires : tie.Need-sin-requires
+sin-requires c κs = search needs
+
+harmonic-requires-2 : tie.Need-harmonic-requires-2
+harmonic-requires-2 c κs = search needs
+
+real-requires-2 : tie.Need-real-requires-2
+real-requires-2 c κs = search needs
+
+sin-requires-2 : tie.Need-sin-requires-2
+sin-requires-2 c κs = search needs
+
+returns : tie.Need-returns
+unfolding factorOf coefOf
+returns c = simp (eq-eqb _ _ (c .before .before .before .if1 .taken), c .sin .ensures, c .before .real .ensures, c .before .before .harmonic .ensures)
+
+returns-2 : tie.Need-returns-2
+unfolding factorOf coefOf
+returns-2 c = simp (ne-eqb _ _ (c .before .before .before .before .if1 .left), eq-eqb _ _ (c .before .before .before .if2 .taken), c .sin2 .ensures, c .before .real2 .ensures, c .before .before .harmonic2 .ensures)
+
+returns-3 : tie.Need-returns-3
+unfolding factorOf
+returns-3 c = simp (ne-eqb _ _ (c .before .if1 .left), ne-eqb _ _ (c .if2 .left), c .before .before .pre .1)
+
+pub factor-spec : {M : Type 1} → statement M
+factor-spec =
+    tie.close
+    (tie.spec
+    harmonic-requires
+    real-requires
+    sin-requires
+    harmonic-requires-2
+    real-requires-2
+    sin-requires-2
+    returns
+    returns-2
+    returns-3)

@@ -1,0 +1,64 @@
+use mathlib.Core.Path.{_≡_, refl, ap}
+use Prim.Native.Nat.{ℕ, _≤_, _<_, _-_}
+use native.Mathlib.Omega.{arith}
+use borrow.Author.Needs.{needs}
+use lib.ListN.{length, length-set, getD}
+use lib.Ieee.{nan, neg}
+use native.Mathlib.Numerals.{add-one}
+use native.Mathlib.Nat.{not-suc-le-zero}
+use Rattle.laws.proofs.Over.{cells-more, by-cells}
+use Rattle.wavetable.specs.Bank.{turned}
+use Rattle.wavetable.specs.Columns.{firstSign, factorOf}
+use Rattle.wavetable.proofs.bank.factors.Statement.{statement}
+use Rattle.wavetable.proofs.bank.factors.Tie as tie
+
+abbrev Inv-loop : tie.InvT-loop
+Inv-loop table f₀ sign₀ k₀ f sign k = (k ≤ 64) × (length f ≡ 64) × ((j : ℕ) → j < k → getD f j nan ≡ factorOf table j) × (sign ≡ turned k (firstSign table))
+
+abbrev μ-loop : tie.MeasureT-loop
+μ-loop table f₀ sign₀ k₀ f sign k = 64 - k
+
+first-sign-requires : tie.Need-first-sign-requires Inv-loop μ-loop
+first-sign-requires c κs = search needs
+
+loop-holds : tie.Need-loop-holds Inv-loop μ-loop
+unfolding turned
+loop-holds c = (omega arith, refl, λ j h. absurd (not-suc-le-zero h), c .first-sign .ensures)
+
+factor-requires : tie.Need-factor-requires Inv-loop μ-loop
+factor-requires c κs = (c .loop-test .taken, c .before .loop .inv .3)
+
+mul-f : tie.Need-mul-f Inv-loop μ-loop
+mul-f c = omega arith
+
+array-write-f : tie.Need-array-write-f Inv-loop μ-loop
+array-write-f c = omega arith
+
+add-k : tie.Need-add-k Inv-loop μ-loop
+add-k c = omega arith
+
+loop-less : tie.Need-loop-less Inv-loop μ-loop
+loop-less c = omega arith
+
+loop-again : tie.Need-loop-again Inv-loop μ-loop
+unfolding turned
+loop-again c = let s = c .before .before .loop .inv in (omega arith, simp length-set (s .1), cells-more nan _ _ (c .before .before .loop .f) _ (omega arith) (c .factor .ensures) (s .2), rw add-one (ap neg (s .3)))
+
+returns : tie.Need-returns Inv-loop μ-loop
+returns c = let s = c .before .loop .inv in by-cells nan _ 64 _ (s .1) (λ i h. s .2 i (omega arith))
+
+pub factors-spec : {M : Type 1} → statement M
+factors-spec =
+    tie.close
+    (tie.spec
+    Inv-loop
+    μ-loop
+    first-sign-requires
+    loop-holds
+    factor-requires
+    mul-f
+    array-write-f
+    add-k
+    loop-less
+    loop-again
+    returns)

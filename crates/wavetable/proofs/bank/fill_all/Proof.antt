@@ -1,0 +1,80 @@
+use mathlib.Core.Path.{_≡_, refl, sym, _∙_}
+use native.Mathlib.Omega.{arith}
+use Prim.Native.Nat.{_≤_, _-_, _*_}
+use lib.ListN.{length, take}
+use Rattle.wavetable.specs.Bank.{bankCell}
+use Rattle.laws.specs.Lists.{tab}
+use Rattle.wavetable.proofs.Cells.{next-table, all-tables}
+use Rattle.wavetable.proofs.bank.fill_all.Statement.{statement}
+use Rattle.wavetable.proofs.bank.fill_all.Tie as tie
+
+abbrev Inv-loop : tie.InvT-loop
+Inv-loop bank₀ table₀ bank table = (table ≤ 8) × (length bank ≡ 16384) × (take (2048 * table) bank ≡ tab bankCell (2048 * table))
+
+abbrev μ-loop : tie.MeasureT-loop
+μ-loop bank₀ table₀ bank table = 8 - table
+
+loop-holds : tie.Need-loop-holds Inv-loop μ-loop
+unfolding tab
+loop-holds c = (omega arith, c .before .pre, refl)
+
+mul-a : tie.Need-mul-a Inv-loop μ-loop
+mul-a c = omega arith
+
+add-e : tie.Need-add-e Inv-loop μ-loop
+add-e c = omega arith
+
+mul-fill-part : tie.Need-mul-fill-part Inv-loop μ-loop
+mul-fill-part c = omega arith
+
+sub-fill-part : tie.Need-sub-fill-part Inv-loop μ-loop
+sub-fill-part c = omega arith
+
+part-fill-part-start : tie.Need-part-fill-part-start Inv-loop μ-loop
+part-fill-part-start c = omega arith
+
+part-fill-part-end : tie.Need-part-fill-part-end Inv-loop μ-loop
+part-fill-part-end c = omega arith
+
+fill-part-requires : tie.Need-fill-part-requires Inv-loop μ-loop
+fill-part-requires c κs = omega arith
+
+add-table : tie.Need-add-table Inv-loop μ-loop
+add-table c = omega arith
+
+loop-less : tie.Need-loop-less Inv-loop μ-loop
+loop-less c = omega arith
+
+loop-again : tie.Need-loop-again Inv-loop μ-loop
+loop-again c =
+    let s = c .before .before .before .before .before .loop .inv in
+    (omega arith, c .before .bank .given .1 ∙ s .1, next-table (c .before .before .before .before .before .loop .table) (c .before .before .before .before .before .loop .bank) _ _ (s .1) (c .before .before .before .before .loop-test .taken) (s .2) (c .before .before .fill-part .ensures))
+
+same-length : tie.Need-same-length Inv-loop μ-loop
+same-length c = c .before .loop .inv .1 ∙ sym (c .before .before .before .pre)
+
+returns : tie.Need-returns Inv-loop μ-loop
+returns c =
+    let s = c .before .loop .inv in
+    let z : c .before .loop .table ≡ 8 = omega arith in
+    all-tables (c .before .loop .bank) (s .1) (rw z at (s .2))
+
+pub fill-all-spec : {M : Type 1} → statement M
+fill-all-spec =
+    tie.close
+    (tie.spec
+    Inv-loop
+    μ-loop
+    loop-holds
+    mul-a
+    add-e
+    mul-fill-part
+    sub-fill-part
+    part-fill-part-start
+    part-fill-part-end
+    fill-part-requires
+    add-table
+    loop-less
+    loop-again
+    same-length
+    returns)

@@ -1,0 +1,58 @@
+use mathlib.Core.Path.{_≡_, sym, _∙_}
+use Prim.Native.Nat.{_≤_, _-_}
+use native.Mathlib.Omega.{arith}
+use borrow.Author.Needs.{needs}
+use lib.ListN.{length}
+use Rattle.wavetable.specs.Columns.{Right}
+use Rattle.wavetable.proofs.Cells.{right-none, right-all}
+use Rattle.wavetable.proofs.bank.fill_series.Statement.{statement}
+use Rattle.wavetable.proofs.bank.fill_series.Tie as tie
+
+abbrev Inv-loop : tie.InvT-loop
+Inv-loop part₀ table f i₀ part i = (i ≤ 256) × (length part ≡ 2048) × Right table part i 8
+
+abbrev μ-loop : tie.MeasureT-loop
+μ-loop part₀ table f i₀ part i = 256 - i
+
+factors-requires : tie.Need-factors-requires Inv-loop μ-loop
+factors-requires c κs = search needs
+
+loop-holds : tie.Need-loop-holds Inv-loop μ-loop
+loop-holds c = (omega arith, c .before .before .pre .0, right-none (c .before .before .args .table) (c .before .before .args .part .now))
+
+column-requires : tie.Need-column-requires Inv-loop μ-loop
+column-requires c κs = let s = c .before .before .before .loop .inv in (s .1, c .before .before .loop-test .taken, c .before .before .before .before .before .before .pre .1, c .before .before .before .before .factors .ensures, s .2)
+
+add-i : tie.Need-add-i Inv-loop μ-loop
+add-i c = omega arith
+
+loop-less : tie.Need-loop-less Inv-loop μ-loop
+loop-less c = omega arith
+
+loop-again : tie.Need-loop-again Inv-loop μ-loop
+loop-again c = (omega arith, c .before .before .column .kept .0 ∙ c .before .before .before .before .before .before .loop .inv .1, c .before .before .column .ensures)
+
+same-length : tie.Need-same-length Inv-loop μ-loop
+same-length c = c .before .loop .inv .1 ∙ sym (c .before .before .before .before .pre .0)
+
+returns : tie.Need-returns Inv-loop μ-loop
+returns c =
+    let a = c .before .before .before .before in
+    let s = c .before .loop .inv in
+    let z : c .before .loop .i ≡ 256 = omega arith in
+    right-all (a .args .table) (c .before .loop .part) (s .1) (rw z at (s .2))
+
+pub fill-series-spec : {M : Type 1} → statement M
+fill-series-spec =
+    tie.close
+    (tie.spec
+    Inv-loop
+    μ-loop
+    factors-requires
+    loop-holds
+    column-requires
+    add-i
+    loop-less
+    loop-again
+    same-length
+    returns)

@@ -1,0 +1,26 @@
+use borrow.Author.Tests.{eq-eqb, ne-eqb, le-leb, lt-leb}
+use Rattle.wavetable.specs.Bank.{fillTableOf}
+use borrow.Author.Needs.{needs}
+use Rattle.wavetable.proofs.bank.fill_table.Statement.{statement}
+use Rattle.wavetable.proofs.bank.fill_table.Tie as tie
+
+fill-part-requires : tie.Need-fill-part-requires
+fill-part-requires c κs = search needs
+
+same-length : tie.Need-same-length
+same-length c = search needs
+
+returns : tie.Need-returns
+unfolding fillTableOf
+returns c = let e = eq-eqb _ _ (c .before .before .before .before .before .if1 .taken) in let f = le-leb _ _ (c .before .before .before .before .if2 .taken) in simp (e, f, c .before .before .fill-part .ensures)
+
+returns-2 : tie.Need-returns-2
+unfolding fillTableOf
+returns-2 c = let e = eq-eqb _ _ (c .before .if1 .taken) in let f = lt-leb _ _ (c .if2 .left) in simp (e, f)
+
+returns-3 : tie.Need-returns-3
+unfolding fillTableOf
+returns-3 c = let e = ne-eqb _ _ (c .if1 .left) in simp e
+
+pub fill-table-spec : {M : Type 1} → statement M
+fill-table-spec = tie.close (tie.spec fill-part-requires same-length returns returns-2 returns-3)

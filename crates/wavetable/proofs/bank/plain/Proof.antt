@@ -1,0 +1,36 @@
+use Rattle.wavetable.specs.Bank.{plainOf}
+use borrow.Author.Tests.{eq-eqb, ne-eqb}
+use borrow.Author.Needs.{needs}
+use Rattle.wavetable.proofs.bank.plain.Statement.{statement}
+use Rattle.wavetable.proofs.bank.plain.Tie as tie
+
+partial-requires : tie.Need-partial-requires
+partial-requires c κs = search needs
+
+max-harmonic-requires : tie.Need-max-harmonic-requires
+max-harmonic-requires c κs = search needs
+
+real-requires : tie.Need-real-requires
+real-requires c κs = search needs
+
+vowel-requires : tie.Need-vowel-requires
+vowel-requires c κs = search needs
+
+returns : tie.Need-returns
+unfolding plainOf
+returns c = simp (c .partial .ensures, eq-eqb _ _ (c .before .if1 .taken))
+
+returns-2 : tie.Need-returns-2
+unfolding plainOf
+returns-2 c = simp (c .vowel .ensures, c .before .real .ensures, c .before .before .max-harmonic .ensures, ne-eqb _ _ (c .before .before .before .if1 .left))
+
+pub plain-spec : {M : Type 1} → statement M
+plain-spec =
+    tie.close
+    (tie.spec
+    partial-requires
+    max-harmonic-requires
+    real-requires
+    vowel-requires
+    returns
+    returns-2)

@@ -1,0 +1,62 @@
+-- Theorems about the Wavetable: the statements. proofs/ proves each under the same name in small letters.
+use mathlib.Core.Bool.{Bool, true, cond}
+use mathlib.Core.List.{List, _∷_}
+use mathlib.Core.Path.{_≡_}
+use Prim.Native.Nat.{ℕ}
+use lib.Dec.{eqb}
+use lib.Ieee.{Float, le}
+use lib.ListN.{length}
+use Rattle.answer.specs.Answer.{accepted}
+use Rattle.common.specs.Consts.{gateThreshold, five}
+use Rattle.common.specs.Edge.{risesAbove}
+use Rattle.common.specs.Tests.{rateOk, phaseOk}
+use Rattle.laws.specs.Float.{F64}
+use Rattle.laws.specs.Machine.{replies, Settles}
+use Rattle.wavetable.specs.Bank.{Filled, fillTableOf, fillBankOf}
+use Rattle.wavetable.specs.Calls.{Call, after, reply, ReachedWavetable, Tick, Reset, SetSampleRate, Done, Refused}
+use Rattle.wavetable.specs.Wavetable.{newWavetable, wavetableNewOf, wavetableTickOf, wavetableResetOf, wavetableSetSampleRateOf}
+use Rattle.common.specs.declared.Hertz.{Hertz}
+use Rattle.wavetable.specs.declared.Wavetable.{Wavetable}
+use Rattle.wavetable.specs.declared.WavetableControls.{WavetableControls}
+use Rattle.wavetable.specs.declared.WavetableTicked.{WavetableTicked}
+use Rattle.wavetable.specs.declared.WavetableMade.{WavetableMade}
+use Rattle.wavetable.specs.declared.WavetableMade.the-variants as made
+
+-- ---- a reached state refuses no call but for the call's own input: a tick for its bank's size alone
+pub record Accepting (s : Wavetable) : Type 0 where
+  pub phase : phaseOk (s .phase) ≡ true
+  pub ticks : (c : WavetableControls) (bank : List Float) → accepted (wavetableTickOf s c bank .answer) ≡ eqb (length bank) 16384
+  pub resets : reply s Reset ≡ Done
+  pub rates : (r : Hertz) → reply s (SetSampleRate r) ≡ cond (rateOk r) Done (Refused 1)
+
+abbrev pub Never-refused : Type 0
+Never-refused = (s : Wavetable) → ReachedWavetable s → Accepting s
+
+-- ---- demand 3
+-- the tick takes the sync edge
+abbrev pub takesEdge : Wavetable → WavetableControls → Bool
+takesEdge s c = risesAbove gateThreshold (s .«prev_sync») (c .sync)
+
+-- a new one at that rate is to be had, and fed this tick and then any calls, each lent the same bank, it answers the same
+pub record Forgetting (s : Wavetable) (c : WavetableControls) (bank : List Float) : Type 0 where
+  pub new : wavetableNewOf (s .«sample_rate») ≡ made.Made (newWavetable (s .«sample_rate»))
+  pub same : (cs : List Call) → replies after reply s (Tick c bank ∷ cs) ≡ replies after reply (newWavetable (s .«sample_rate»)) (Tick c bank ∷ cs)
+
+abbrev pub Forgets : Type 0
+Forgets = (s : Wavetable) → ReachedWavetable s → (c : WavetableControls) (bank : List Float) → F64 (c .«v_oct» .0)
+    → accepted (wavetableTickOf s c bank .answer) ≡ true → takesEdge s c ≡ true → Forgetting s c bank
+
+-- and such a tick is always to be had: after one with sync not above the threshold, one with sync at 5 V
+abbrev pub Edge-comes : Type 0
+Edge-comes = (s : Wavetable) → ReachedWavetable s → (c d : WavetableControls) (bank : List Float) → F64 (c .«v_oct» .0) → length bank ≡ 16384
+    → le (c .sync) gateThreshold ≡ true → d .sync ≡ five
+    → (accepted (wavetableTickOf (after s (Tick c bank)) d bank .answer) ≡ true) × (takesEdge (after s (Tick c bank)) d ≡ true)
+
+-- ---- each contract settles its answer, and what a fill leaves in the lent slice
+pub record Settled : Type 0 where
+  pub new : (r : Hertz) → Settles (λ (a : WavetableMade). a ≡ wavetableNewOf r)
+  pub tick : (s : Wavetable) (c : WavetableControls) (bank : List Float) → Settles (λ (a : WavetableTicked). a ≡ wavetableTickOf s c bank)
+  pub reset : (s : Wavetable) → Settles (λ (a : WavetableMade). a ≡ wavetableResetOf s)
+  pub «set_sample_rate» : (s : Wavetable) (r : Hertz) → Settles (λ (a : WavetableMade). a ≡ wavetableSetSampleRateOf s r)
+  pub «fill_table» : (table : ℕ) (l : List Float) → Settles (λ (f : Filled). f ≡ fillTableOf table l)
+  pub «fill_bank» : (l : List Float) → Settles (λ (f : Filled). f ≡ fillBankOf l)

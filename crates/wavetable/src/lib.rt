@@ -1,0 +1,302 @@
+// The Wavetable of oscillators.rs, in its order: two neighbouring tables of a bank, each read at the level that the pitch
+// allows, and blended. The bank is a slice that the caller lends; bank.rt fills it. Its output: p10 out.
+pub mod bank;
+
+use answer::Answer;
+use answer::Volts;
+use common::Hertz;
+use common::Memo1;
+use common::Turns;
+use common::VoltsPerOctave;
+ghost use mathlib.Core.Path.{_≡_};
+ghost use Prim.Native.Nat.{_≤_, _<_, min};
+ghost use lib.Ieee.{binary64, div};
+ghost use lib.ListN.{length};
+ghost use Rattle.common.specs.Consts.{gateThreshold};
+ghost use Rattle.common.specs.Edge.{risesAbove};
+ghost use Rattle.common.specs.Phase.{turns};
+ghost use Rattle.numeric.specs.Basic.{realOf};
+ghost use Rattle.wavetable.specs.Harmonics.{maxHarmonic};
+ghost use Rattle.wavetable.specs.Reads.{allowedOf, selectLevel, readTable, restartOf, tablePosOf, tableIndexOf, blendOf, mixOf};
+ghost use Rattle.wavetable.specs.Wavetable.{wavetableRefusalOf, wavetableTickRefusalOf, wavetableNewOf, wavetableSoundOf, wavetableTickOf, wavetableResetOf, wavetableSetSampleRateOf};
+
+pub struct Wavetable {
+    pub phase: Turns,
+    pub prev_sync: f64,
+    pub sample_rate: Hertz,
+    pub freq_memo: Memo1,
+}
+
+// The inputs, in port order.
+pub struct WavetableControls {
+    pub v_oct: VoltsPerOctave,
+    pub table: f64,
+    pub morph: f64,
+    pub sync: f64,
+}
+
+pub struct WavetableTicked {
+    pub answer: Answer,
+    pub wavetable: Wavetable,
+}
+
+pub enum WavetableMade {
+    Made(Wavetable),
+    Refused(u32),
+}
+
+// Numbers in a bank: 8 tables, each of 8 levels, each of 256 numbers.
+const BANK_SIZE: usize = 16384;
+
+// The largest harmonic in the first level of each table.
+const BASE_HARMONICS: [usize; 8] = [1, 31, 64, 63, 64, 64, 10, 10];
+
+// Where a gate counts as high.
+const GATE_THRESHOLD_V: f64 = 2.5;
+
+// Rust's `as f64`.
+fn real(n: usize) -> f64
+    ensures { λ r. ⌜ r ≡ realOf n ⌝ }
+{
+    numeric::of_u64(n as u64)
+}
+
+fn least(a: usize, b: usize) -> usize
+    ensures { λ r. ⌜ r ≡ min a b ⌝ }
+{
+    if a < b { a } else { b }
+}
+
+// The largest harmonic in a level of a table: halved from level to level, at least 1.
+fn max_harmonic(table: usize, level: usize) -> usize
+    requires { ⌜ (table < 8) × (level < 8) ⌝ }
+    ensures { λ r. ⌜ r ≡ maxHarmonic table level ⌝ }
+{
+    let n = BASE_HARMONICS[table] >> level;
+    if n < 1 { 1 } else { n }
+}
+
+// The highest harmonic that stays below half the sample rate.
+fn allowed(phase_inc: Turns) -> f64
+    ensures { λ r. ⌜ r ≡ allowedOf («phase_inc» .0) ⌝ }
+{
+    numeric::floor(0.5 / numeric::max(numeric::fabs(phase_inc.0), 1e-9))
+}
+
+// The first level of a table whose harmonics are all allowed, or else the last.
+fn select_level(table: usize, phase_inc: Turns) -> usize
+    requires { ⌜ table < 8 ⌝ }
+    ensures { λ r. ⌜ r ≡ selectLevel table («phase_inc» .0) ⌝ }
+{
+    let most = allowed(phase_inc);
+    let mut level = 0;
+    while level < 8 {
+        if real(max_harmonic(table, level)) <= most {
+            return level;
+        }
+        level += 1;
+    }
+    7
+}
+
+// A level of a table, between two of its numbers.
+fn read_table(bank: &[f64], table_idx: usize, level: usize, phase: Turns) -> f64
+    requires { ⌜ length (now bank) ≡ 16384 ⌝ }
+    ensures { λ r. ⌜ r ≡ readTable (now (bank .entry)) «table_idx» level (phase .0) ⌝ }
+{
+    let pos = phase.0 * 256.0;
+    let first = table_idx % 8 * 2048 + least(level, 7) * 256;
+    let idx0 = numeric::to_usize(pos) % 256;
+    let idx1 = (idx0 + 1) % 256;
+    let frac = pos - numeric::floor(pos);
+    bank[first + idx0] * (1.0 - frac) + bank[first + idx1] * frac
+}
+
+// What the Rust asks of the sync input; it keeps the last sample itself.
+fn synced(prev_sync: f64, sync: f64) -> bool
+    ensures { λ r. ⌜ r ≡ risesAbove gateThreshold «prev_sync» sync ⌝ }
+{
+    sync > GATE_THRESHOLD_V && prev_sync <= GATE_THRESHOLD_V
+}
+
+// The phase that is read: 0 where the sync edge is taken.
+fn restart(phase: Turns, edge: bool) -> Turns
+    ensures { λ r. ⌜ r ≡ restartOf phase edge ⌝ }
+{
+    if edge { Turns(0.0) } else { phase }
+}
+
+// What the phase grows by in a tick.
+fn increment(freq: Hertz, sample_rate: Hertz) -> Turns
+    ensures { λ r. ⌜ r ≡ turns (div binary64 (freq .0) («sample_rate» .0)) ⌝ }
+{
+    Turns(freq.0 / sample_rate.0)
+}
+
+// From 0, the first table, to 7, the last. The clamp lets a NaN pass.
+fn table_pos(table: f64) -> f64
+    ensures { λ r. ⌜ r ≡ tablePosOf table ⌝ }
+{
+    numeric::clamp(table, 0.0, 1.0) * 7.0
+}
+
+// The lower of the two tables.
+fn table_index(pos: f64) -> usize
+    ensures { λ r. ⌜ r ≡ tableIndexOf pos ⌝ }
+{
+    least(numeric::to_usize(pos), 6)
+}
+
+// How much of the upper table; 1 where a control is NaN, since `min` gives the other number.
+fn blended(pos: f64, index: usize, morph: f64) -> f64
+    ensures { λ r. ⌜ r ≡ blendOf pos index morph ⌝ }
+{
+    let frac = pos - real(index);
+    numeric::min(frac + numeric::clamp(morph, 0.0, 1.0), 1.0)
+}
+
+// The sample in volts: both tables at their levels, blended.
+fn mix(bank: &[f64], index: usize, blend: f64, phase_inc: Turns, phase: Turns) -> f64
+    requires { ⌜ (length (now bank) ≡ 16384) × (index ≤ 6) ⌝ }
+    ensures { λ r. ⌜ r ≡ mixOf (now (bank .entry)) index blend («phase_inc» .0) (phase .0) ⌝ }
+{
+    let level0 = select_level(index, phase_inc);
+    let level1 = select_level(index + 1, phase_inc);
+    let sample0 = read_table(bank, index, level0, phase);
+    let sample1 = read_table(bank, index + 1, level1, phase);
+    (sample0 * (1.0 - blend) + sample1 * blend) * 5.0
+}
+
+impl Wavetable {
+    pub fn new(sample_rate: Hertz) -> WavetableMade
+        ensures { λ r. ⌜ r ≡ wavetableNewOf «sample_rate» ⌝ }
+    {
+        if common::rate_ok(sample_rate) {
+            WavetableMade::Made(Wavetable {
+                phase: Turns(0.0),
+                prev_sync: 0.0,
+                sample_rate,
+                freq_memo: Memo1::new(),
+            })
+        } else {
+            WavetableMade::Refused(1)
+        }
+    }
+
+    // 0, or the number that refuses this state: 1 its rate, 2 its phase.
+    fn refusal(self) -> u32
+        ensures { λ r. ⌜ r ≡ wavetableRefusalOf self ⌝ }
+    {
+        let sample_rate = self.sample_rate;
+        let phase = self.phase;
+        if common::rate_ok(sample_rate) {
+            if common::phase_ok(phase) { 0 } else { 2 }
+        } else {
+            1
+        }
+    }
+
+    // The same, then 4 for a bank of another size.
+    fn tick_refusal(self, size: usize) -> u32
+        ensures { λ r. ⌜ r ≡ wavetableTickRefusalOf self size ⌝ }
+    {
+        let n = self.refusal();
+        if n == 0 {
+            if size == BANK_SIZE { 0 } else { 4 }
+        } else {
+            n
+        }
+    }
+
+    // An accepted tick: the Rust's tick_generic.
+    fn sound(self, c: WavetableControls, bank: &[f64]) -> WavetableTicked
+        requires { ⌜ length (now bank) ≡ 16384 ⌝ }
+        ensures { λ r. ⌜ r ≡ wavetableSoundOf self c (now (bank .entry)) ⌝ }
+    {
+        let old = self.phase;
+        let sample_rate = self.sample_rate;
+        let memo = self.freq_memo;
+        let v_oct = c.v_oct;
+        let phase = restart(old, synced(self.prev_sync, c.sync));
+        let freq_memo = memo.voct_to_hz(v_oct);
+        let freq = freq_memo.val;
+        let phase_inc = increment(freq, sample_rate);
+        let pos = table_pos(c.table);
+        let index = table_index(pos);
+        let blend = blended(pos, index, c.morph);
+        let out = mix(bank, index, blend, phase_inc, phase);
+        let volts = Volts {
+            p10: out,
+            p11: 0.0,
+            p12: 0.0,
+            p13: 0.0,
+            p14: 0.0,
+        };
+        let next = Turns(phase.0 + phase_inc.0);
+        WavetableTicked {
+            answer: answer::mark(volts, false, true, numeric::is_finite(next.0)),
+            wavetable: Wavetable {
+                phase: common::wrap_phase(next),
+                prev_sync: c.sync,
+                sample_rate,
+                freq_memo,
+            },
+        }
+    }
+
+    pub fn tick(self, c: WavetableControls, bank: &[f64]) -> WavetableTicked
+        ensures { λ r. ⌜ r ≡ wavetableTickOf self c (now (bank .entry)) ⌝ }
+    {
+        let n = self.tick_refusal(bank.len());
+        if n == 0 {
+            self.sound(c, bank)
+        } else {
+            WavetableTicked {
+                answer: Answer::Refused(n),
+                wavetable: self,
+            }
+        }
+    }
+
+    // Phase and last sync sample start again; the memo stays.
+    pub fn reset(self) -> WavetableMade
+        ensures { λ r. ⌜ r ≡ wavetableResetOf self ⌝ }
+    {
+        let n = self.refusal();
+        if n == 0 {
+            let sample_rate = self.sample_rate;
+            let freq_memo = self.freq_memo;
+            WavetableMade::Made(Wavetable {
+                phase: Turns(0.0),
+                prev_sync: 0.0,
+                sample_rate,
+                freq_memo,
+            })
+        } else {
+            WavetableMade::Refused(n)
+        }
+    }
+
+    pub fn set_sample_rate(self, sample_rate: Hertz) -> WavetableMade
+        ensures { λ r. ⌜ r ≡ wavetableSetSampleRateOf self «sample_rate» ⌝ }
+    {
+        if common::rate_ok(sample_rate) {
+            let n = self.refusal();
+            if n == 0 {
+                let phase = self.phase;
+                let prev_sync = self.prev_sync;
+                let freq_memo = self.freq_memo;
+                WavetableMade::Made(Wavetable {
+                    phase,
+                    prev_sync,
+                    sample_rate,
+                    freq_memo,
+                })
+            } else {
+                WavetableMade::Refused(n)
+            }
+        } else {
+            WavetableMade::Refused(1)
+        }
+    }
+}

@@ -1,0 +1,299 @@
+//! The string on both sides, with the line that is lent to ours.
+use crate::draw::{Control, Draw, BOTH_WAYS, GATE, PITCH, UNIT};
+use crate::pair::rises;
+use crate::script::{alike, bad_rate, hex, mark, unchanged, Counts, Pair};
+use gruttisol::answer::{Mark, Refused};
+use gruttisol::karplus_strong as ours;
+use quiver::modules::oscillators as rust;
+use quiver::modules::oscillators::probe::Probe;
+use quiver::port::GraphModule;
+
+pub struct KarplusStrong {
+    ours: ours::KarplusStrong,
+    theirs: rust::KarplusStrong,
+    /// The line as ours left it.
+    line: Vec<f64>,
+    /// What it must hold: the Rust's line, and past its length what stood there before.
+    due: Vec<f64>,
+    /// Cells that are lent to the next call.
+    lent: usize,
+    draws: Vec<u64>,
+    /// Whether the last call may have changed more than `written`.
+    all: bool,
+    written: usize,
+    /// Ticks since every cell was compared.
+    unseen: u32,
+}
+
+/// What stands in a cell that no call has written.
+fn untouched(cell: usize) -> f64 {
+    f64::from_bits(0x7ffc_0000_0000_0000 + cell as u64)
+}
+
+fn same_bits(a: &[f64], b: &[f64]) -> bool {
+    a.iter().zip(b).fold(0, |apart, (x, y)| apart | x.to_bits() ^ y.to_bits()) == 0
+}
+
+impl KarplusStrong {
+    fn grow(&mut self, cells: usize) {
+        for cell in self.line.len()..cells {
+            self.line.push(untouched(cell));
+            self.due.push(untouched(cell));
+        }
+        self.lent = self.line.len();
+    }
+
+    /// Compares every cell that changed, and from time to time all of them.
+    fn same_line(&mut self, all: bool) -> Result<(), String> {
+        let theirs = self.theirs.line();
+        if !all {
+            self.due[self.written] = theirs[self.written];
+            let (a, b) = (self.line[self.written], self.due[self.written]);
+            return if alike(a, b) { Ok(()) } else { Err(apart(self.written, a, b)) };
+        }
+        self.unseen = 0;
+        self.due[..theirs.len()].copy_from_slice(theirs);
+        if same_bits(&self.line, &self.due) {
+            return Ok(());
+        }
+        // below the length any NaN is one; past it not a bit may change
+        for (cell, (&a, &b)) in self.line.iter().zip(&self.due).enumerate() {
+            let same = if cell < theirs.len() { alike(a, b) } else { a.to_bits() == b.to_bits() };
+            if !same {
+                return Err(apart(cell, a, b));
+            }
+        }
+        Ok(())
+    }
+
+    /// Puts an odd number into a cell of both lines.
+    fn poison(&mut self, draw: &mut Draw) {
+        let (cell, x) = (draw.below(self.theirs.line().len() as u64) as usize, draw.odd());
+        self.theirs.line_mut()[cell] = x;
+        self.line[cell] = x;
+        self.due[cell] = x;
+    }
+
+    /// A call that must be refused, with this much lent.
+    fn must_refuse(
+        &mut self,
+        number: u32,
+        lent: usize,
+        counts: &mut Counts,
+        call: impl FnOnce(&mut Self) -> Result<(), Refused>,
+    ) -> Result<(), String> {
+        let whole = std::mem::replace(&mut self.lent, lent);
+        unchanged(self, counts, number, call)?;
+        self.lent = whole;
+        self.same_line(true)
+    }
+}
+
+fn apart(cell: usize, a: f64, b: f64) -> String {
+    format!("cell {cell} is {}, and is due to be {}", hex(a), hex(b))
+}
+
+/// 2^53: the first number that is no draw.
+const NO_DRAW: u64 = 1 << 53;
+
+impl Pair for KarplusStrong {
+    const NAME: &'static str = "karplus_strong";
+    const CONTROLS: &'static [Control] = &[PITCH, GATE, UNIT, UNIT, BOTH_WAYS];
+    const PORTS: usize = 1;
+    const MASKED: bool = false;
+    type Floats = [f64; 6];
+    type Wholes = [u64; 4];
+
+    fn new(sample_rate: f64, draw: &mut Draw) -> Result<Self, Refused> {
+        let cells = ours::KarplusStrong::cells(if bad_rate(sample_rate) { 48000.0 } else { sample_rate });
+        let more = if draw.one_in(2) { draw.below(100) as usize } else { 0 };
+        let mut line: Vec<f64> = (0..cells + more).map(untouched).collect();
+        let due = line.clone();
+        let made = ours::KarplusStrong::new(sample_rate, &mut line);
+        assert!(made.is_ok() || same_bits(&line, &due), "refused, and the line isn't as it stood");
+        let (ours, mut theirs) = (made?, rust::KarplusStrong::new(sample_rate));
+        theirs.put_stream(draw.bits(), draw.bits());
+        let lent = line.len();
+        Ok(KarplusStrong { ours, theirs, line, due, lent, draws: vec![], all: true, written: 0, unseen: 0 })
+    }
+
+    fn ours(&self) -> ([f64; 6], [u64; 4]) {
+        let (floats, wholes) = self.ours.parts();
+        (*floats, *wholes)
+    }
+
+    fn theirs(&self) -> ([f64; 6], [u64; 4]) {
+        self.theirs.flat()
+    }
+
+    fn invent(&self, controls: &[f64], draw: &mut Draw) -> ([f64; 6], [u64; 4]) {
+        let rate = draw.state_rate();
+        let [key] = draw.keys([controls[0]]);
+        let floats = [rate, draw.level(), draw.level(), draw.level(), draw.previous(), draw.hertz()];
+        let most = ours::KarplusStrong::cells(rate.clamp(1000.0, 192000.0)) as u64 - 1;
+        let len = match draw.below(8) {
+            0 => draw.of(&[4, 5, most, most - 1]),
+            1 => draw.of(&[0, 1, 3, most + 1, most + 2, u64::MAX]),
+            _ => 4 + draw.below(most - 3),
+        };
+        let write_pos = match draw.below(8) {
+            0 => draw.of(&[len, len.wrapping_add(1), u64::MAX]),
+            1 => 0,
+            2 => len.wrapping_sub(1),
+            _ => draw.below(len.clamp(1, 1 << 20)),
+        };
+        (floats, [len, write_pos, key, draw.valid()])
+    }
+
+    fn put_ours(&mut self, floats: &[f64; 6], wholes: &[u64; 4]) {
+        self.ours = ours::KarplusStrong::of_parts(*floats, *wholes);
+        self.all = true;
+    }
+
+    /// The Rust's line becomes what ours holds below the state's length, some of it of a caller's own making.
+    fn put_theirs(&mut self, floats: &[f64; 6], wholes: &[u64; 4], draw: &mut Draw) {
+        self.grow(ours::KarplusStrong::cells(floats[0]));
+        let len = wholes[0] as usize;
+        match draw.below(4) {
+            0 => self.line[..len].fill_with(|| draw.between(-1.0, 1.0)),
+            1 => self.line[..len].fill_with(|| if draw.one_in(20) { draw.odd() } else { draw.between(-1.0, 1.0) }),
+            _ => {}
+        }
+        self.theirs.put_flat(floats, wholes);
+        self.theirs.line_mut().copy_from_slice(&self.line[..len]);
+        self.due.copy_from_slice(&self.line);
+        self.all = true;
+    }
+
+    fn refusal(floats: &[f64; 6], &[len, write_pos, ..]: &[u64; 4]) -> u32 {
+        let most = ours::KarplusStrong::cells(floats[0]) as u64 - 1;
+        if bad_rate(floats[0]) {
+            1
+        } else if !(4..=most).contains(&len) || write_pos >= len || floats[5].is_nan() {
+            2
+        } else {
+            0
+        }
+    }
+
+    /// Makes the draws ready that the Rust will draw, and tries short lines, too few draws and numbers that are no draws.
+    fn lend(&mut self, controls: &[f64], draw: &mut Draw, counts: &mut Counts) -> Result<(), String> {
+        self.lent = self.line.len();
+        let (floats, _) = self.theirs.flat();
+        if draw.one_in(500) {
+            let short = ours::KarplusStrong::cells(floats[0]) - 1;
+            self.must_refuse(3, short, counts, |pair| pair.ours_tick(controls, 1, &mut [0.0]).map(drop))?;
+            self.must_refuse(3, short, counts, |pair| pair.ours_reset())?;
+        }
+        if draw.one_in(1000) {
+            self.poison(draw);
+        }
+        if !rises(floats[4], controls[1]) {
+            // not looked at
+            self.draws = vec![draw.bits(); draw.below(3) as usize];
+            return Ok(());
+        }
+        match draw.below(8) {
+            0 => self.theirs.put_stream(0, 0),
+            1 => {
+                let first = draw.of(&[0, 1, 1 << 52, (1 << 52) - 1, (1 << 53) - 1]);
+                self.theirs.put_stream(first << 11, 0);
+            }
+            2 => {} // the stream goes on
+            _ => self.theirs.put_stream(draw.bits(), draw.bits()),
+        }
+        let mut twin = self.theirs.twin();
+        twin.body(controls.try_into().unwrap(), 1, &mut [0.0]);
+        let needed = twin.line().len();
+        self.draws = self.theirs.draws(needed);
+        if draw.one_in(4) {
+            let tick = |pair: &mut Self| pair.ours_tick(controls, 1, &mut [0.0]).map(drop);
+            let draws = self.draws.clone();
+            let at = draw.below(needed as u64) as usize;
+            self.draws[at] = draw.of(&[NO_DRAW, NO_DRAW + 1, u64::MAX, draws[at] + NO_DRAW]);
+            self.must_refuse(6, self.lent, counts, tick)?;
+            self.draws.truncate(draw.of(&[0, needed - 1, at]));
+            self.must_refuse(5, self.lent, counts, tick)?;
+            self.draws = draws;
+            self.draws.pop();
+            self.must_refuse(5, self.lent, counts, tick)?;
+            self.draws = self.theirs.draws(needed);
+        }
+        if draw.one_in(2) {
+            self.draws.extend([u64::MAX, 0, NO_DRAW]); // past those that are needed
+        }
+        Ok(())
+    }
+
+    /// Tries a line that is too short for the new rate, then lends one that is long enough, sometimes not a cell longer.
+    fn lend_for_rate(&mut self, rate: f64, draw: &mut Draw, counts: &mut Counts) -> Result<(), String> {
+        let cells = ours::KarplusStrong::cells(rate);
+        self.grow(cells);
+        if draw.one_in(2) {
+            self.must_refuse(3, cells - 1, counts, |pair| pair.ours_set_sample_rate(rate))?;
+            self.lent = cells;
+        }
+        Ok(())
+    }
+
+    fn ours_tick(&mut self, controls: &[f64], _wanted: u32, samples: &mut [f64]) -> Result<Mark, Refused> {
+        let [voct, trigger, damping, brightness, stretch] = *controls else { unreachable!() };
+        let controls = ours::Controls { voct, trigger, damping, brightness, stretch };
+        let ticked = self.ours.tick(&controls, &mut self.line[..self.lent], &self.draws)?;
+        samples.copy_from_slice(&[ticked.volts.out]);
+        Ok(ticked.mark)
+    }
+
+    /// Whether the line was zeroed is seen by the write position, which is 0 then. Where it would be 0 all the same, a
+    /// twin tells, which is turned by a cell and reads the same values.
+    fn theirs_tick(&mut self, controls: &[f64], wanted: u32, samples: &mut [f64]) -> Mark {
+        let controls: &[f64; 5] = controls.try_into().unwrap();
+        let (floats, [len, write_pos, ..]) = self.theirs.flat();
+        let taken = rises(floats[4], controls[1]);
+        let turned = (!taken && write_pos + 1 == len).then(|| {
+            let mut twin = self.theirs.twin();
+            twin.line_mut().rotate_right(1);
+            twin.put_write_pos(0);
+            twin.body(controls, wanted, &mut [0.0]);
+            twin.flat().1[1]
+        });
+        self.theirs.body(controls, wanted, samples.try_into().unwrap());
+        let cleared = turned.unwrap_or(self.theirs.flat().1[1]) == 0;
+        self.all = taken || cleared;
+        self.written = write_pos as usize;
+        self.unseen += 1;
+        if cleared {
+            Mark::Cleared
+        } else {
+            mark(samples.iter().copied(), [], [])
+        }
+    }
+
+    fn ours_reset(&mut self) -> Result<(), Refused> {
+        self.ours.reset(&mut self.line[..self.lent])
+    }
+
+    fn theirs_reset(&mut self) {
+        self.theirs.reset();
+        self.all = true;
+    }
+
+    fn ours_set_sample_rate(&mut self, sample_rate: f64) -> Result<(), Refused> {
+        self.ours.set_sample_rate(sample_rate, &mut self.line[..self.lent])
+    }
+
+    /// With our one repair: the Rust would panic at its next tick.
+    fn theirs_set_sample_rate(&mut self, sample_rate: f64, counts: &mut Counts) {
+        self.theirs.set_sample_rate(sample_rate);
+        let (_, [len, write_pos, ..]) = self.theirs.flat();
+        if write_pos >= len {
+            self.theirs.put_write_pos(0);
+            counts.repaired += 1;
+        }
+        self.all = true;
+    }
+
+    fn same_lent(&mut self) -> Result<(), String> {
+        self.same_line(self.all || self.unseen >= 64)
+    }
+}

@@ -1,0 +1,94 @@
+//! The wavetable oscillator on both sides, over one bank.
+use crate::draw::{under, Control, Draw, GATE, PITCH, UNIT};
+use crate::pair::{both, refusal, used};
+use crate::script::{mark, unchanged, Counts, Pair};
+use gruttisol::answer::{Mark, Refused};
+use gruttisol::wavetable as ours;
+use quiver::modules::oscillators as rust;
+use quiver::modules::oscillators::probe::{Bank, Probe};
+use quiver::port::GraphModule;
+use std::sync::OnceLock;
+
+pub struct Wavetable {
+    ours: ours::Wavetable,
+    theirs: rust::Wavetable,
+    bank: &'static [f64],
+}
+
+/// Banks that no fill makes: numbers of any size, and some that aren't finite.
+fn own_banks() -> &'static [Box<Bank>; 2] {
+    static BANKS: OnceLock<[Box<Bank>; 2]> = OnceLock::new();
+    BANKS.get_or_init(|| {
+        let mut draw = Draw::new(1);
+        [100, 3].map(|rarely| {
+            let mut bank: Box<Bank> = Box::new([[[0.0; 256]; 8]; 8]);
+            bank.as_flattened_mut().as_flattened_mut().fill_with(|| {
+                if draw.one_in(rarely) {
+                    draw.odd()
+                } else {
+                    draw.between(-1.0, 1.0)
+                }
+            });
+            bank
+        })
+    })
+}
+
+impl Pair for Wavetable {
+    const NAME: &'static str = "wavetable";
+    const CONTROLS: &'static [Control] = &[PITCH, UNIT, UNIT, GATE];
+    const PORTS: usize = 1;
+    const MASKED: bool = false;
+    both!(ours::Wavetable, 4, 2);
+
+    fn new(sample_rate: f64, draw: &mut Draw) -> Result<Self, Refused> {
+        let (ours, mut theirs) = (ours::Wavetable::new(sample_rate)?, rust::Wavetable::new(sample_rate));
+        if draw.one_in(4) {
+            theirs.lend(&own_banks()[draw.below(2) as usize]);
+        }
+        Ok(Wavetable { ours, bank: theirs.bank().as_flattened().as_flattened(), theirs })
+    }
+
+    fn invent(&self, controls: &[f64], draw: &mut Draw) -> ([f64; 4], [u64; 2]) {
+        let [key] = draw.keys([controls[0]]);
+        let val = under(&[key], draw.hertz());
+        ([draw.phase(), draw.state_rate(), draw.previous(), val], [key, draw.valid()])
+    }
+
+    fn refusal([phase, rate, ..]: &[f64; 4], _: &[u64; 2]) -> u32 {
+        refusal(*rate, &[*phase])
+    }
+
+    /// Tries banks of another size.
+    fn lend(&mut self, controls: &[f64], draw: &mut Draw, counts: &mut Counts) -> Result<(), String> {
+        if draw.one_in(200) {
+            let whole = self.bank;
+            let longer = [whole, &[0.0]].concat();
+            for bank in [&longer, &whole[1..], &whole[..draw.below(16384) as usize], &[]] {
+                unchanged(self, counts, 4, |pair| pair.tick_of(controls, bank).map(drop))?;
+            }
+        }
+        Ok(())
+    }
+
+    fn ours_tick(&mut self, controls: &[f64], _wanted: u32, samples: &mut [f64]) -> Result<Mark, Refused> {
+        let (mark, out) = self.tick_of(controls, self.bank)?;
+        samples.copy_from_slice(&[out]);
+        Ok(mark)
+    }
+
+    fn theirs_tick(&mut self, controls: &[f64], wanted: u32, samples: &mut [f64]) -> Mark {
+        let ([phase, _, previous, _], _) = self.theirs.flat();
+        self.theirs.body(controls.try_into().unwrap(), wanted, samples.try_into().unwrap());
+        let ([_, rate, _, freq], _) = self.theirs.flat();
+        mark(samples.iter().copied(), [], [used(phase, previous, controls[3]) + freq / rate])
+    }
+}
+
+impl Wavetable {
+    fn tick_of(&mut self, controls: &[f64], bank: &[f64]) -> Result<(Mark, f64), Refused> {
+        let [v_oct, table, morph, sync] = *controls else { unreachable!() };
+        let ticked = self.ours.tick(&ours::Controls { v_oct, table, morph, sync }, bank)?;
+        Ok((ticked.mark, ticked.volts.out))
+    }
+}

@@ -1,0 +1,8 @@
+//! The KarplusStrong against the Rust's, to the last bit, its line too.
+
+#[test]
+#[cfg_attr(not(quiver), ignore = "skipped: QUIVER_SRC not found")]
+fn two_million_ticks() {
+    #[cfg(quiver)]
+    compare::gate::<compare::karplus_strong::KarplusStrong>();
+}

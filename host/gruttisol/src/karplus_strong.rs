@@ -1,0 +1,89 @@
+//! The plucked string: noise that goes round a line which its caller keeps.
+use crate::answer::{done, ticked, Refused, Ticked};
+use crate::lent::{karplus_strong_new, karplus_strong_reset, karplus_strong_set_sample_rate, karplus_strong_tick};
+
+/// Inputs in port order. One that isn't finite counts as its default, the trigger excepted.
+#[derive(Clone, Copy, PartialEq, Debug)]
+pub struct Controls {
+    /// Pitch in volts per octave, 0 being middle C.
+    pub voct: f64,
+    /// A rise above 2.5 V plucks the string.
+    pub trigger: f64,
+    /// From 0 to 1, a string that rings longer.
+    pub damping: f64,
+    /// From 0, plucked by a push, to 1, plucked by noise.
+    pub brightness: f64,
+    /// From -1 to 1: lays the partials closer, or further apart.
+    pub stretch: f64,
+}
+
+/// The output.
+#[derive(Clone, Copy, PartialEq, Debug)]
+pub struct Volts {
+    pub out: f64,
+}
+
+/// Floats: sample rate, lowpass, allpass input, allpass output, previous trigger, memo's frequency. Wholes: length, write
+/// position, the memo's key, and whether it holds.
+///
+/// Every call is lent the line as the last call left it.
+#[derive(Clone, Copy, Debug)]
+pub struct KarplusStrong {
+    floats: [f64; 6],
+    wholes: [u64; 4],
+}
+
+impl KarplusStrong {
+    /// The cells that a line needs at a sample rate; more are left alone.
+    pub fn cells(sample_rate: f64) -> usize {
+        (sample_rate / 20.0) as usize + 12
+    }
+
+    /// A new one, its line zeroed; refused by 1 and 3.
+    pub fn new(sample_rate: f64, line: &mut [f64]) -> Result<Self, Refused> {
+        let mut made = KarplusStrong { floats: [0.0; 6], wholes: [0; 4] };
+        done(karplus_strong_new(sample_rate, &mut made.floats, &mut made.wholes, line))?;
+        Ok(made)
+    }
+
+    /// The state as it stands.
+    pub fn parts(&self) -> (&[f64; 6], &[u64; 4]) {
+        (&self.floats, &self.wholes)
+    }
+
+    /// A state of the caller's making; where it is no string's, every call refuses it.
+    pub fn of_parts(floats: [f64; 6], wholes: [u64; 4]) -> Self {
+        KarplusStrong { floats, wholes }
+    }
+
+    /// One sample. A trigger takes as many draws as the line gets cells, each below 2^53. Refused by 1, 2, 3, 5 and 6.
+    #[inline]
+    pub fn tick(&mut self, c: &Controls, line: &mut [f64], draws: &[u64]) -> Result<Ticked<Volts>, Refused> {
+        let mut samples = [0.0; 1];
+        let (floats, wholes) = (&mut self.floats, &mut self.wholes);
+        let code = karplus_strong_tick(
+            c.voct,
+            c.trigger,
+            c.damping,
+            c.brightness,
+            c.stretch,
+            floats,
+            wholes,
+            &mut samples,
+            line,
+            draws,
+        );
+        let [out] = samples;
+        ticked(code, Volts { out })
+    }
+
+    /// Silent, its length kept; refused by 1, 2 and 3.
+    pub fn reset(&mut self, line: &mut [f64]) -> Result<(), Refused> {
+        done(karplus_strong_reset(&mut self.floats, &mut self.wholes, line))
+    }
+
+    /// Goes on at another sample rate, the line cut or filled with 0.0; refused by 1, 2 and 3.
+    pub fn set_sample_rate(&mut self, sample_rate: f64, line: &mut [f64]) -> Result<(), Refused> {
+        done(karplus_strong_set_sample_rate(sample_rate, &mut self.floats, &mut self.wholes, line))
+    }
+}

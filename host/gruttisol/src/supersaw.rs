@@ -1,0 +1,37 @@
+//! The supersaw: seven saws side by side, and one an octave below.
+use crate::answer::{ticked, Refused, Ticked};
+use crate::lent::supersaw_tick;
+
+/// Inputs in port order.
+#[derive(Clone, Copy, PartialEq, Debug)]
+pub struct Controls {
+    /// Pitch in volts per octave, 0 being middle C.
+    pub voct: f64,
+    /// How far the saws lie apart, from 0 to 1.
+    pub detune: f64,
+    /// From 0, the middle saw alone, to 1, all seven.
+    pub mix: f64,
+}
+
+/// Outputs in port order.
+#[derive(Clone, Copy, PartialEq, Debug)]
+pub struct Volts {
+    pub out: f64,
+    pub sub: f64,
+}
+
+oscillator! {
+    /// Floats: seven phases, sub phase, sample rate, memo's frequency. Wholes: the memo's key, and whether it holds.
+    Supersaw: [f64; 10], [u64; 2], supersaw_new, supersaw_reset, supersaw_set_sample_rate
+}
+
+impl Supersaw {
+    /// One sample of both outputs; refused by 1 and 2.
+    #[inline]
+    pub fn tick(&mut self, c: &Controls) -> Result<Ticked<Volts>, Refused> {
+        let mut samples = [0.0; 2];
+        let code = supersaw_tick(c.voct, c.detune, c.mix, &mut self.floats, &mut self.wholes, &mut samples);
+        let [out, sub] = samples;
+        ticked(code, Volts { out, sub })
+    }
+}
