@@ -1,5 +1,5 @@
 //! Nanoseconds a call, ours and Rust's own in one run: `cargo run --release --offline -p bench`, and with names of
-//! oscillators behind it those alone.
+//! oscillators behind it, or `render`, those alone.
 //!
 //! Either side is a call that isn't inlined: ours into the archive, Rust's into the C library of the system. The two take
 //! turns, and the best of many short runs counts, since whatever else the machine does only adds.
