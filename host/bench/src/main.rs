@@ -23,8 +23,8 @@ const RUNS: usize = 100;
 
 fn main() -> ExitCode {
     let named: Vec<String> = std::env::args().skip(1).collect();
-    if named.iter().any(|word| word == render::RUST) {
-        return render::as_the_rust();
+    if named == [render::RUST] {
+        return reference::run();
     }
     if named.is_empty() {
         functions();

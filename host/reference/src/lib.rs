@@ -14,3 +14,26 @@ pub mod soak;
 
 #[cfg(quiver)]
 pub use play::{render, write};
+
+/// The reference as a program: a score from standard input, its text to standard output.
+#[cfg(quiver)]
+pub fn run() -> std::process::ExitCode {
+    use std::io::{self, Read, Write};
+    use std::process::ExitCode;
+
+    let (mut score, mut out) = (vec![], io::BufWriter::new(io::stdout().lock()));
+    let read = io::stdin().read_to_end(&mut score);
+    match read.and_then(|_| write(&score, &mut out)).and_then(|_| out.flush()) {
+        Ok(()) => ExitCode::SUCCESS,
+        Err(e) => {
+            eprintln!("{e}");
+            ExitCode::FAILURE
+        }
+    }
+}
+
+#[cfg(not(quiver))]
+pub fn run() -> std::process::ExitCode {
+    eprintln!("skipped: QUIVER_SRC not found");
+    std::process::ExitCode::from(2)
+}

@@ -108,26 +108,3 @@ fn volts(value: &[u8]) -> Result<f64, Refusal> {
     let microvolts = within(-LARGEST, number(value)?, LARGEST)?;
     Ok(microvolts as f64 / 1_000_000.0)
 }
-
-/// The names and their order are the Rust's.
-#[cfg(all(test, quiver))]
-mod tests {
-    use super::*;
-    use quiver::modules::oscillators as rust;
-    use quiver::port::GraphModule;
-
-    #[test]
-    fn ports_are_the_rusts() {
-        let theirs: [Box<dyn GraphModule>; 4] = [
-            Box::new(rust::Vco::new(48000.0)),
-            Box::new(rust::Lfo::new(48000.0)),
-            Box::new(rust::Supersaw::new(48000.0)),
-            Box::new(rust::FormantOsc::new(48000.0)),
-        ];
-        for (ours, theirs) in ALL.iter().zip(&theirs) {
-            let spec = theirs.port_spec();
-            assert!(spec.inputs.iter().map(|port| port.name.as_str()).eq(ours.inputs.iter().copied()), "{ours:?}");
-            assert!(spec.outputs.iter().map(|port| port.name.as_str()).eq(ours.outputs.iter().copied()), "{ours:?}");
-        }
-    }
-}
