@@ -30,6 +30,10 @@ more-or n h = omega arith
 half-less : (n l : ℕ) → n / 2 ^ (suc l) ≤ n / 2 ^ l
 half-less n l = div-mono n (2 ^ suc l) n (2 ^ l) (pow-pos (suc l)) (pow-pos l) (mul-le-mul-left n (let p = pow-pos l in omega arith))
 
+pub harmonics-least : (t l : ℕ) → 0 < maxHarmonic t l
+unfolding maxHarmonic
+harmonics-least t l = omega arith
+
 pub harmonics-fall : (t l : ℕ) → maxHarmonic t (suc l) ≤ maxHarmonic t l
 unfolding maxHarmonic
 harmonics-fall t l = let h = half-less (baseHarmonics t) l in omega arith
