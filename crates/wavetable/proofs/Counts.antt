@@ -1,12 +1,12 @@
 -- How many harmonics and terms a level has: at least 1, at most 64, and no fewer at a richer level.
-use mathlib.Core.Path.{_≡_, subst}
 use mathlib.Core.Bool.{Bool, true, false, cond}
+use mathlib.Core.Logic.{⊎-elim}
+use mathlib.Core.Path.{_≡_, subst}
 use Prim.Native.Nat.{ℕ, zero, suc, _+_, _-_, _/_, _^_, _<_, _≤_, max}
 use native.Mathlib.Nat.{le-trans, mul-le-mul-left, le-refl, eq-or-lt-of-le, le-of-suc-le-suc}
-use mathlib.Core.Logic.{⊎-elim}
-use lib.Pow.{pow-pos}
 use native.Mathlib.Omega.{arith}
 use lib.Ieee.Nearest.{div-mono}
+use lib.Pow.{pow-pos}
 use Rattle.wavetable.specs.Bank.{oddOnly, termsOf}
 use Rattle.wavetable.specs.Harmonics.{baseHarmonics, maxHarmonic}
 

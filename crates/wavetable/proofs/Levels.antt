@@ -5,8 +5,8 @@ use Prim.Native.Nat.{ℕ, zero, suc, _+_, _-_, _^_, _<_, _≤_}
 use native.Mathlib.Nat.{le-trans}
 use native.Mathlib.Omega.{arith}
 use lib.Dec.{T, leb, lit≤}
-use lib.Ieee.{Float, nan, lt, le, isNan, toUnsigned}
 use lib.Ieee.Bits.{is-true}
+use lib.Ieee.{Float, nan, lt, le, isNan, toUnsigned}
 use borrow.Author.Tests.{le-leb, lt-leb}
 use Rattle.laws.proofs.Number.{is-nan, value-finite, fin-number}
 use Rattle.laws.proofs.Order.{le-of-lt-false}

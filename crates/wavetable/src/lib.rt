@@ -10,12 +10,13 @@ use common::Turns;
 use common::VoltsPerOctave;
 ghost use mathlib.Core.Path.{_≡_};
 ghost use Prim.Native.Nat.{_≤_, _<_, min};
-ghost use lib.Ieee.{binary64, div};
+ghost use lib.Ieee.{binary64, sub, div};
 ghost use lib.ListN.{length};
 ghost use Rattle.common.specs.Consts.{gateThreshold};
 ghost use Rattle.common.specs.Edge.{risesAbove};
 ghost use Rattle.common.specs.Phase.{turns};
 ghost use Rattle.numeric.specs.Basic.{wholeOf, realOf};
+ghost use Rattle.numeric.specs.Floor.{floorOf};
 ghost use Rattle.wavetable.specs.Harmonics.{maxHarmonic};
 ghost use Rattle.wavetable.specs.Levels.{levelWithin};
 ghost use Rattle.wavetable.specs.Reads.{allowedOf, startOf, between, restartOf, tablePosOf, tableIndexOf, blendOf, mixOf};
@@ -116,6 +117,18 @@ fn read_table(bank: &[f64], first: usize, idx0: usize, frac: f64) -> f64
     bank[first + idx0] * (1.0 - frac) + bank[first + idx1] * frac
 }
 
+// How far pos is past its whole number. A floor would branch on which way pos rounds, and no guess of that is good.
+fn fraction(pos: f64, whole: usize) -> f64
+    requires { ⌜ whole ≡ wholeOf pos ⌝ }
+    ensures { λ r. ⌜ r ≡ sub binary64 pos (floorOf pos) ⌝ }
+{
+    if pos > 0.0 && pos < 256.0 {
+        pos - real(whole)
+    } else {
+        pos - numeric::floor(pos)
+    }
+}
+
 // What the Rust asks of the sync input; it keeps the last sample itself.
 fn synced(prev_sync: f64, sync: f64) -> bool
     ensures { λ r. ⌜ r ≡ risesAbove gateThreshold «prev_sync» sync ⌝ }
@@ -168,8 +181,9 @@ fn mix(bank: &[f64], index: usize, blend: f64, phase_inc: Turns, phase: Turns) -
     let first0 = start(index, select_level(index, most));
     let first1 = start(index + 1, select_level(index + 1, most));
     let pos = phase.0 * 256.0;
-    let idx0 = numeric::to_usize(pos) % 256;
-    let frac = pos - numeric::floor(pos);
+    let whole = numeric::to_usize(pos);
+    let idx0 = whole % 256;
+    let frac = fraction(pos, whole);
     let sample0 = read_table(bank, first0, idx0, frac);
     let sample1 = read_table(bank, first1, idx0, frac);
     (sample0 * (1.0 - blend) + sample1 * blend) * 5.0

@@ -30,8 +30,8 @@ start-requires-2 c κs = search needs
 to-usize-requires : tie.Need-to-usize-requires
 to-usize-requires c κs = search needs
 
-floor-requires : tie.Need-floor-requires
-floor-requires c κs = search needs
+fraction-requires : tie.Need-fraction-requires
+fraction-requires c κs = c .to-usize .ensures
 
 read-table-requires : tie.Need-read-table-requires
 read-table-requires c κs = (c .before .before .before .before .before .before .before .before .before .pre .0, start-few _ _ _ (c .before .before .before .before .before .start .ensures), omega arith)
@@ -41,7 +41,7 @@ read-table-requires-2 c κs = (c .before .before .before .before .before .before
 
 returns : tie.Need-returns
 unfolding mixOf readTable
-returns c = simp (c .read-table2 .ensures, c .before .read-table .ensures, c .before .before .floor .ensures, c .before .before .before .to-usize .ensures, c .before .before .before .before .before .start2 .ensures, c .before .before .before .before .before .before .select-level2 .ensures, c .before .before .before .before .before .before .before .start .ensures, c .before .before .before .before .before .before .before .before .select-level .ensures, c .before .before .before .before .before .before .before .before .before .allowed .ensures, select-is)
+returns c = simp (c .read-table2 .ensures, c .before .read-table .ensures, c .before .before .fraction .ensures, c .before .before .before .to-usize .ensures, c .before .before .before .before .before .start2 .ensures, c .before .before .before .before .before .before .select-level2 .ensures, c .before .before .before .before .before .before .before .start .ensures, c .before .before .before .before .before .before .before .before .select-level .ensures, c .before .before .before .before .before .before .before .before .before .allowed .ensures, select-is)
 
 pub mix-spec : {M : Type 1} → statement M
-mix-spec = tie.close (tie.spec allowed-requires select-level-requires start-requires add-start add-select-level select-level-requires-2 start-requires-2 to-usize-requires floor-requires read-table-requires read-table-requires-2 returns)
+mix-spec = tie.close (tie.spec allowed-requires select-level-requires start-requires add-start add-select-level select-level-requires-2 start-requires-2 to-usize-requires fraction-requires read-table-requires read-table-requires-2 returns)
