@@ -6,7 +6,7 @@ use native.Mathlib.Omega.{arith}
 use lib.Dec.{eqb}
 use lib.Ieee.{Float}
 use borrow.Author.Tests.{eqb-true, eqb-false}
-use Rattle.wavetable.specs.Reads.{tableIndexOf}
+use Rattle.wavetable.specs.Reads.{startOf, tableIndexOf}
 use Rattle.wavetable.specs.Wavetable.{wavetableRefusalOf, wavetableTickRefusalOf}
 use Rattle.wavetable.specs.declared.Wavetable.{Wavetable}
 
@@ -24,3 +24,8 @@ bank-sized s size = go (wavetableRefusalOf s) (eqb (wavetableRefusalOf s) 0) (eq
 pub index-few : (index : ℕ) (pos : Float) → index ≡ tableIndexOf pos → index ≤ 6
 unfolding tableIndexOf
 index-few index pos e = omega arith
+
+-- a level lies in the bank
+pub start-few : (first table level : ℕ) → first ≡ startOf table level → first ≤ 16128
+unfolding startOf
+start-few first table level e = omega arith

@@ -2,6 +2,7 @@ pub mod Counts
 pub mod Terms
 pub mod Cells
 pub mod Levels
+pub mod Fractions
 pub mod Accepted
 pub mod Reached
 pub mod Forget

@@ -7,8 +7,8 @@ use mathlib.Core.Path.{_≡_, refl, sym, ap, subst, _∙_}
 use Prim.Native.Nat.{ℕ}
 use native.Mathlib.Omega.{arith}
 use lib.Dec.{eqb}
-use lib.Ieee.{Float, binary64, lt, le, ofBits, eq}
 use lib.Ieee.Fits.{add-fits}
+use lib.Ieee.{Float, binary64, lt, le, ofBits, eq}
 use lib.ListN.{length}
 use Rattle.answer.proofs.Laws.{mark-says}
 use Rattle.answer.specs.Answer.{accepted}
@@ -23,12 +23,12 @@ use Rattle.laws.specs.Float.{zer, F64}
 use Rattle.wavetable.specs.Calls.{Call, keptOr, toldOf, after, reply, FitCall, First, ReachedWavetable, Tick, Reset, SetSampleRate, Done, Refused}
 use Rattle.wavetable.specs.Promises.{Never-refused}
 use Rattle.wavetable.specs.Wavetable.{newWavetable, wavetableRefusalOf, wavetableTickRefusalOf, wavetableNewOf, wavetableSoundOf, wavetableTickOf, madeUnless, wavetableResetOf, rated, wavetableSetSampleRateOf}
-use Rattle.common.specs.declared.Hertz.{Hertz}
 use Rattle.answer.specs.declared.Answer.the-variants as answer
+use Rattle.common.specs.declared.Hertz.{Hertz}
 use Rattle.wavetable.specs.declared.Wavetable.{Wavetable}
 use Rattle.wavetable.specs.declared.WavetableControls.{WavetableControls}
-use Rattle.wavetable.specs.declared.WavetableTicked.{WavetableTicked}
 use Rattle.wavetable.specs.declared.WavetableMade.the-variants as made
+use Rattle.wavetable.specs.declared.WavetableTicked.{WavetableTicked}
 
 pub record Good (s : Wavetable) : Type 0 where
   pub rate : rateOk (s .«sample_rate») ≡ true

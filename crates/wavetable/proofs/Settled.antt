@@ -1,8 +1,8 @@
 -- Each contract is one equation, so it settles its answer.
+use Rattle.laws.proofs.Settled as laws
 use Rattle.wavetable.specs.Bank.{fillTableOf, fillBankOf}
 use Rattle.wavetable.specs.Promises.{Settled}
 use Rattle.wavetable.specs.Wavetable.{wavetableNewOf, wavetableTickOf, wavetableResetOf, wavetableSetSampleRateOf}
-use Rattle.laws.proofs.Settled as laws
 
 pub settled : Settled
 settled =

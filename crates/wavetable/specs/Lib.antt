@@ -2,6 +2,7 @@ pub mod Consts
 pub mod Harmonics
 pub mod Bank
 pub mod Columns
+pub mod Levels
 pub mod Reads
 pub mod Wavetable
 pub mod Calls

@@ -32,11 +32,15 @@ between bank first idx0 frac =
     (mul binary64 (getD bank (first + idx0) nan) (sub binary64 one frac))
     (mul binary64 (getD bank (first + (idx0 + 1) % 256) nan) frac)
 
--- tables[table_idx % 8][level.min(7)] at pos = phase * 256
+-- where tables[table_idx % 8][level.min(7)] begins in the bank
+unfoldable pub startOf : ℕ → ℕ → ℕ
+startOf table level = table % 8 * 2048 + min level 7 * 256
+
+-- that level at pos = phase * 256
 unfoldable pub readTable : List Float → ℕ → ℕ → Float → Float
 readTable bank table level phase =
     let pos = mul binary64 phase tableSize in
-    between bank (table % 8 * 2048 + min level 7 * 256) (wholeOf pos % 256) (sub binary64 pos (floorOf pos))
+    between bank (startOf table level) (wholeOf pos % 256) (sub binary64 pos (floorOf pos))
 
 -- if sync > GATE_THRESHOLD_V && prev_sync <= GATE_THRESHOLD_V { phase = 0.0 }
 unfoldable pub restartOf : Turns → Bool → Turns

@@ -10,14 +10,16 @@ use common::Turns;
 use common::VoltsPerOctave;
 ghost use mathlib.Core.Path.{_≡_};
 ghost use Prim.Native.Nat.{_≤_, _<_, min};
-ghost use lib.Ieee.{binary64, div};
+ghost use lib.Ieee.{binary64, sub, div};
 ghost use lib.ListN.{length};
 ghost use Rattle.common.specs.Consts.{gateThreshold};
 ghost use Rattle.common.specs.Edge.{risesAbove};
 ghost use Rattle.common.specs.Phase.{turns};
-ghost use Rattle.numeric.specs.Basic.{realOf};
+ghost use Rattle.numeric.specs.Basic.{wholeOf, realOf};
+ghost use Rattle.numeric.specs.Floor.{floorOf};
 ghost use Rattle.wavetable.specs.Harmonics.{maxHarmonic};
-ghost use Rattle.wavetable.specs.Reads.{allowedOf, selectLevel, readTable, restartOf, tablePosOf, tableIndexOf, blendOf, mixOf};
+ghost use Rattle.wavetable.specs.Levels.{levelWithin};
+ghost use Rattle.wavetable.specs.Reads.{allowedOf, startOf, between, restartOf, tablePosOf, tableIndexOf, blendOf, mixOf};
 ghost use Rattle.wavetable.specs.Wavetable.{wavetableRefusalOf, wavetableTickRefusalOf, wavetableNewOf, wavetableSoundOf, wavetableTickOf, wavetableResetOf, wavetableSetSampleRateOf};
 
 pub struct Wavetable {
@@ -76,22 +78,22 @@ fn max_harmonic(table: usize, level: usize) -> usize
     if n < 1 { 1 } else { n }
 }
 
-// The highest harmonic that stays below half the sample rate.
-fn allowed(phase_inc: Turns) -> f64
-    ensures { λ r. ⌜ r ≡ allowedOf («phase_inc» .0) ⌝ }
+// The highest harmonic that stays below half the sample rate. The Rust works it out for each table and leaves it a float.
+fn allowed(phase_inc: Turns) -> usize
+    ensures { λ r. ⌜ r ≡ wholeOf (allowedOf («phase_inc» .0)) ⌝ }
 {
-    numeric::floor(0.5 / numeric::max(numeric::fabs(phase_inc.0), 1e-9))
+    let most = numeric::floor(0.5 / numeric::max(numeric::fabs(phase_inc.0), 1e-9));
+    numeric::to_usize(most)
 }
 
 // The first level of a table whose harmonics are all allowed, or else the last.
-fn select_level(table: usize, phase_inc: Turns) -> usize
+fn select_level(table: usize, most: usize) -> usize
     requires { ⌜ table < 8 ⌝ }
-    ensures { λ r. ⌜ r ≡ selectLevel table («phase_inc» .0) ⌝ }
+    ensures { λ r. ⌜ r ≡ levelWithin table most 8 ⌝ }
 {
-    let most = allowed(phase_inc);
     let mut level = 0;
     while level < 8 {
-        if real(max_harmonic(table, level)) <= most {
+        if max_harmonic(table, level) <= most {
             return level;
         }
         level += 1;
@@ -99,17 +101,32 @@ fn select_level(table: usize, phase_inc: Turns) -> usize
     7
 }
 
-// A level of a table, between two of its numbers.
-fn read_table(bank: &[f64], table_idx: usize, level: usize, phase: Turns) -> f64
-    requires { ⌜ length (now bank) ≡ 16384 ⌝ }
-    ensures { λ r. ⌜ r ≡ readTable (now (bank .entry)) «table_idx» level (phase .0) ⌝ }
+// Where a level of a table begins in the bank.
+fn start(table_idx: usize, level: usize) -> usize
+    ensures { λ r. ⌜ r ≡ startOf «table_idx» level ⌝ }
 {
-    let pos = phase.0 * 256.0;
-    let first = table_idx % 8 * 2048 + least(level, 7) * 256;
-    let idx0 = numeric::to_usize(pos) % 256;
+    table_idx % 8 * 2048 + least(level, 7) * 256
+}
+
+// The level that begins there, between two of its numbers.
+fn read_table(bank: &[f64], first: usize, idx0: usize, frac: f64) -> f64
+    requires { ⌜ (length (now bank) ≡ 16384) × (first ≤ 16128) × (idx0 < 256) ⌝ }
+    ensures { λ r. ⌜ r ≡ between (now (bank .entry)) first idx0 frac ⌝ }
+{
     let idx1 = (idx0 + 1) % 256;
-    let frac = pos - numeric::floor(pos);
     bank[first + idx0] * (1.0 - frac) + bank[first + idx1] * frac
+}
+
+// How far pos is past its whole number. A floor would branch on which way pos rounds, and no guess of that is good.
+fn fraction(pos: f64, whole: usize) -> f64
+    requires { ⌜ whole ≡ wholeOf pos ⌝ }
+    ensures { λ r. ⌜ r ≡ sub binary64 pos (floorOf pos) ⌝ }
+{
+    if pos > 0.0 && pos < 256.0 {
+        pos - real(whole)
+    } else {
+        pos - numeric::floor(pos)
+    }
 }
 
 // What the Rust asks of the sync input; it keeps the last sample itself.
@@ -155,15 +172,20 @@ fn blended(pos: f64, index: usize, morph: f64) -> f64
     numeric::min(frac + numeric::clamp(morph, 0.0, 1.0), 1.0)
 }
 
-// The sample in volts: both tables at their levels, blended.
+// The sample in volts: both tables at their levels, blended. What the two reads share is worked out once.
 fn mix(bank: &[f64], index: usize, blend: f64, phase_inc: Turns, phase: Turns) -> f64
     requires { ⌜ (length (now bank) ≡ 16384) × (index ≤ 6) ⌝ }
     ensures { λ r. ⌜ r ≡ mixOf (now (bank .entry)) index blend («phase_inc» .0) (phase .0) ⌝ }
 {
-    let level0 = select_level(index, phase_inc);
-    let level1 = select_level(index + 1, phase_inc);
-    let sample0 = read_table(bank, index, level0, phase);
-    let sample1 = read_table(bank, index + 1, level1, phase);
+    let most = allowed(phase_inc);
+    let first0 = start(index, select_level(index, most));
+    let first1 = start(index + 1, select_level(index + 1, most));
+    let pos = phase.0 * 256.0;
+    let whole = numeric::to_usize(pos);
+    let idx0 = whole % 256;
+    let frac = fraction(pos, whole);
+    let sample0 = read_table(bank, first0, idx0, frac);
+    let sample1 = read_table(bank, first1, idx0, frac);
     (sample0 * (1.0 - blend) + sample1 * blend) * 5.0
 }
 

@@ -1,6 +1,6 @@
-use Rattle.wavetable.specs.Harmonics.{maxHarmonic}
-use Rattle.wavetable.proofs.Counts.{one-or, more-or}
 use borrow.Author.Needs.{needs}
+use Rattle.wavetable.proofs.Counts.{one-or, more-or}
+use Rattle.wavetable.specs.Harmonics.{maxHarmonic}
 use Rattle.wavetable.proofs.max_harmonic.Statement.{statement}
 use Rattle.wavetable.proofs.max_harmonic.Tie as tie
 

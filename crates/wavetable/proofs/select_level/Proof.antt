@@ -1,35 +1,25 @@
-use mathlib.Core.Path.{_≡_, refl, ap, _∙_}
+use mathlib.Core.Path.{_≡_, refl}
 use Prim.Native.Nat.{_≤_, _-_}
 use native.Mathlib.Omega.{arith}
-use borrow.Author.Needs.{needs}
 use Rattle.wavetable.proofs.Levels.{level-here, level-on, level-none}
-use Rattle.wavetable.specs.Reads.{levelFrom, selectLevel}
+use Rattle.wavetable.specs.Levels.{levelWithin}
 use Rattle.wavetable.proofs.select_level.Statement.{statement}
 use Rattle.wavetable.proofs.select_level.Tie as tie
 
 abbrev Inv-loop : tie.InvT-loop
-Inv-loop table most level₀ level = (level ≤ 8) × (levelFrom table most (8 - level) ≡ levelFrom table most 8)
+Inv-loop table most level₀ level = (level ≤ 8) × (levelWithin table most (8 - level) ≡ levelWithin table most 8)
 
 abbrev μ-loop : tie.MeasureT-loop
 μ-loop table most level₀ level = 8 - level
-
-allowed-requires : tie.Need-allowed-requires Inv-loop μ-loop
-allowed-requires c κs = search needs
 
 loop-holds : tie.Need-loop-holds Inv-loop μ-loop
 loop-holds c = (omega arith, refl)
 
 max-harmonic-requires : tie.Need-max-harmonic-requires Inv-loop μ-loop
-max-harmonic-requires c κs = (c .before .before .before .pre, c .loop-test .taken)
-
-real-requires : tie.Need-real-requires Inv-loop μ-loop
-real-requires c κs = search needs
+max-harmonic-requires c κs = (c .before .before .pre, c .loop-test .taken)
 
 returns : tie.Need-returns Inv-loop μ-loop
-unfolding selectLevel
-returns c =
-    level-here _ _ _ _ _ (c .before .before .before .loop-test .taken) (c .before .before .max-harmonic .ensures) (c .before .real .ensures) (c .if1 .taken) (c .before .before .before .before .loop .inv .1)
-    ∙ ap (λ a. levelFrom (c .before .before .before .before .before .before .args .table) a 8) (c .before .before .before .before .before .allowed .ensures)
+returns c = level-here _ _ _ _ (c .before .before .loop-test .taken) (c .before .max-harmonic .ensures) (c .if1 .taken) (c .before .before .before .loop .inv .1)
 
 add-level : tie.Need-add-level Inv-loop μ-loop
 add-level c = omega arith
@@ -38,29 +28,12 @@ loop-less : tie.Need-loop-less Inv-loop μ-loop
 loop-less c = omega arith
 
 loop-again : tie.Need-loop-again Inv-loop μ-loop
-loop-again c = (
-  omega arith,
-  level-on _ _ _ _ _ (c .before .before .before .loop-test .taken) (c .before .before .max-harmonic .ensures) (c .before .real .ensures) (c .if1 .left) (c .before .before .before .before .loop .inv .1),
-)
+loop-again c = (omega arith, level-on _ _ _ _ (c .before .before .loop-test .taken) (c .before .max-harmonic .ensures) (c .if1 .left) (c .before .before .before .loop .inv .1))
 
 returns-2 : tie.Need-returns-2 Inv-loop μ-loop
-unfolding selectLevel
-returns-2 c =
-    level-none _ _ _ (c .loop-test .left) (c .before .loop .inv .1)
-    ∙ ap (λ a. levelFrom (c .before .before .before .args .table) a 8) (c .before .before .allowed .ensures)
+returns-2 c = level-none _ _ _ (c .loop-test .left) (c .before .loop .inv .1)
 
 pub select-level-spec : {M : Type 1} → statement M
 select-level-spec =
     tie.close
-    (tie.spec
-    Inv-loop
-    μ-loop
-    allowed-requires
-    loop-holds
-    max-harmonic-requires
-    real-requires
-    returns
-    add-level
-    loop-less
-    loop-again
-    returns-2)
+    (tie.spec Inv-loop μ-loop loop-holds max-harmonic-requires returns add-level loop-less loop-again returns-2)

@@ -1,13 +1,13 @@
 use mathlib.Core.Path.{_≡_, refl, sym, ap, _∙_}
 use Prim.Native.Nat.{ℕ, _≤_, _<_, _-_}
-use native.Mathlib.Omega.{arith}
-use borrow.Author.Needs.{needs}
 use native.Mathlib.Nat.{le-trans, le-of-eq}
+use native.Mathlib.Omega.{arith}
 use lib.ListN.{length, length-set}
+use borrow.Author.Needs.{needs}
+use Rattle.wavetable.proofs.Cells.{series-cell, series-within, right-more, right-next}
+use Rattle.wavetable.proofs.Counts.{terms-anti, terms-most}
 use Rattle.wavetable.specs.Bank.{sumOf, termsOf}
 use Rattle.wavetable.specs.Columns.{Right}
-use Rattle.wavetable.proofs.Counts.{terms-anti, terms-most}
-use Rattle.wavetable.proofs.Cells.{series-cell, series-within, right-more, right-next}
 use Rattle.wavetable.proofs.bank.column.Statement.{statement}
 use Rattle.wavetable.proofs.bank.column.Tie as tie
 

@@ -1,11 +1,11 @@
-use Rattle.laws.proofs.Over.{getD-tab}
-use lib.ListN.{getD}
-use lib.Ieee.{nan}
 use mathlib.Core.Path.{_≡_, ap, _∙_}
 use Prim.Native.Nat.{_≤_, _-_}
-use native.Mathlib.Omega.{arith}
-use native.Mathlib.Numerals.{add-one}
 use native.Mathlib.Nat.{le-antisymm}
+use native.Mathlib.Numerals.{add-one}
+use native.Mathlib.Omega.{arith}
+use lib.Ieee.{nan}
+use lib.ListN.{getD}
+use Rattle.laws.proofs.Over.{getD-tab}
 use Rattle.wavetable.specs.Bank.{sumOf}
 use Rattle.wavetable.proofs.bank.extend.Statement.{statement}
 use Rattle.wavetable.proofs.bank.extend.Tie as tie

@@ -1,7 +1,7 @@
+use borrow.Author.Needs.{needs}
 use borrow.Author.Tests.{eq-eqb, ne-eqb}
 use Rattle.wavetable.specs.Bank.{coefOf}
 use Rattle.wavetable.specs.Columns.{factorOf}
-use borrow.Author.Needs.{needs}
 use Rattle.wavetable.proofs.bank.factor.Statement.{statement}
 use Rattle.wavetable.proofs.bank.factor.Tie as tie
 

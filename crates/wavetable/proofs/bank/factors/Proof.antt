@@ -1,11 +1,11 @@
 use mathlib.Core.Path.{_≡_, refl, ap}
 use Prim.Native.Nat.{ℕ, _≤_, _<_, _-_}
-use native.Mathlib.Omega.{arith}
-use borrow.Author.Needs.{needs}
-use lib.ListN.{length, length-set, getD}
-use lib.Ieee.{nan, neg}
-use native.Mathlib.Numerals.{add-one}
 use native.Mathlib.Nat.{not-suc-le-zero}
+use native.Mathlib.Numerals.{add-one}
+use native.Mathlib.Omega.{arith}
+use lib.Ieee.{nan, neg}
+use lib.ListN.{length, length-set, getD}
+use borrow.Author.Needs.{needs}
 use Rattle.laws.proofs.Over.{cells-more, by-cells}
 use Rattle.wavetable.specs.Bank.{turned}
 use Rattle.wavetable.specs.Columns.{firstSign, factorOf}

@@ -1,10 +1,10 @@
 use mathlib.Core.Path.{_≡_, refl, sym, _∙_}
-use native.Mathlib.Omega.{arith}
 use Prim.Native.Nat.{_≤_, _-_, _*_}
+use native.Mathlib.Omega.{arith}
 use lib.ListN.{length, take}
-use Rattle.wavetable.specs.Bank.{bankCell}
 use Rattle.laws.specs.Lists.{tab}
 use Rattle.wavetable.proofs.Cells.{next-table, all-tables}
+use Rattle.wavetable.specs.Bank.{bankCell}
 use Rattle.wavetable.proofs.bank.fill_all.Statement.{statement}
 use Rattle.wavetable.proofs.bank.fill_all.Tie as tie
 

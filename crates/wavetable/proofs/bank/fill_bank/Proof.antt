@@ -1,6 +1,6 @@
+use borrow.Author.Needs.{needs}
 use borrow.Author.Tests.{eq-eqb, ne-eqb}
 use Rattle.wavetable.specs.Bank.{fillBankOf}
-use borrow.Author.Needs.{needs}
 use Rattle.wavetable.proofs.bank.fill_bank.Statement.{statement}
 use Rattle.wavetable.proofs.bank.fill_bank.Tie as tie
 

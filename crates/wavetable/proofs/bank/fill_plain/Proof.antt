@@ -1,12 +1,11 @@
-use Rattle.wavetable.proofs.Cells.{plain-cell}
-use Rattle.laws.proofs.Over.{over-all}
 use mathlib.Core.Path.{_≡_, refl, ap, _∙_}
 use Prim.Native.Nat.{_≤_, _-_}
+use native.Mathlib.Nat.{le-antisymm}
 use native.Mathlib.Omega.{arith}
 use lib.ListN.{length, length-set}
-use native.Mathlib.Nat.{le-antisymm}
+use Rattle.laws.proofs.Over.{over-all, over-none, over-more}
 use Rattle.laws.specs.Lists.{over}
-use Rattle.laws.proofs.Over.{over-none, over-more}
+use Rattle.wavetable.proofs.Cells.{plain-cell}
 use Rattle.wavetable.specs.Bank.{tableCell, tableOf}
 use Rattle.wavetable.proofs.bank.fill_plain.Statement.{statement}
 use Rattle.wavetable.proofs.bank.fill_plain.Tie as tie

@@ -1,10 +1,10 @@
 use mathlib.Core.Path.{_≡_, sym, _∙_}
 use Prim.Native.Nat.{_≤_, _-_}
 use native.Mathlib.Omega.{arith}
-use borrow.Author.Needs.{needs}
 use lib.ListN.{length}
-use Rattle.wavetable.specs.Columns.{Right}
+use borrow.Author.Needs.{needs}
 use Rattle.wavetable.proofs.Cells.{right-none, right-all}
+use Rattle.wavetable.specs.Columns.{Right}
 use Rattle.wavetable.proofs.bank.fill_series.Statement.{statement}
 use Rattle.wavetable.proofs.bank.fill_series.Tie as tie
 

@@ -1,6 +1,6 @@
+use borrow.Author.Needs.{needs}
 use borrow.Author.Tests.{eq-eqb, ne-eqb, le-leb, lt-leb}
 use Rattle.wavetable.specs.Bank.{fillTableOf}
-use borrow.Author.Needs.{needs}
 use Rattle.wavetable.proofs.bank.fill_table.Statement.{statement}
 use Rattle.wavetable.proofs.bank.fill_table.Tie as tie
 

@@ -1,5 +1,5 @@
-use Rattle.wavetable.specs.Bank.{gatedOf}
 use borrow.Author.Needs.{needs}
+use Rattle.wavetable.specs.Bank.{gatedOf}
 use Rattle.wavetable.proofs.bank.gated.Statement.{statement}
 use Rattle.wavetable.proofs.bank.gated.Tie as tie
 

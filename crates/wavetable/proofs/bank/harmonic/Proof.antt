@@ -1,6 +1,6 @@
-use Rattle.wavetable.specs.Bank.{harmonicOf}
-use borrow.Author.Tests.{eq-eqb, ne-eqb}
 use borrow.Author.Needs.{needs}
+use borrow.Author.Tests.{eq-eqb, ne-eqb}
+use Rattle.wavetable.specs.Bank.{harmonicOf}
 use Rattle.wavetable.proofs.bank.harmonic.Statement.{statement}
 use Rattle.wavetable.proofs.bank.harmonic.Tie as tie
 

@@ -1,5 +1,5 @@
-use Rattle.wavetable.specs.Bank.{partialOf}
 use borrow.Author.Needs.{needs}
+use Rattle.wavetable.specs.Bank.{partialOf}
 use Rattle.wavetable.proofs.bank.partial.Statement.{statement}
 use Rattle.wavetable.proofs.bank.partial.Tie as tie
 

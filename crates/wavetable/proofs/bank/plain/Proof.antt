@@ -1,6 +1,6 @@
-use Rattle.wavetable.specs.Bank.{plainOf}
-use borrow.Author.Tests.{eq-eqb, ne-eqb}
 use borrow.Author.Needs.{needs}
+use borrow.Author.Tests.{eq-eqb, ne-eqb}
+use Rattle.wavetable.specs.Bank.{plainOf}
 use Rattle.wavetable.proofs.bank.plain.Statement.{statement}
 use Rattle.wavetable.proofs.bank.plain.Tie as tie
 

@@ -1,5 +1,5 @@
-use Rattle.wavetable.specs.Bank.{scaleOf}
 use borrow.Author.Tests.{eq-eqb, ne-eqb}
+use Rattle.wavetable.specs.Bank.{scaleOf}
 use Rattle.wavetable.proofs.bank.scale.Statement.{statement}
 use Rattle.wavetable.proofs.bank.scale.Tie as tie
 

@@ -1,8 +1,8 @@
 use native.Mathlib.Omega.{arith}
+use borrow.Author.Needs.{needs}
+use borrow.Author.Tests.{eq-eqb, ne-eqb}
 use Rattle.wavetable.proofs.Counts.{harmonics-most}
 use Rattle.wavetable.specs.Bank.{termsOf}
-use borrow.Author.Tests.{eq-eqb, ne-eqb}
-use borrow.Author.Needs.{needs}
 use Rattle.wavetable.proofs.bank.terms.Statement.{statement}
 use Rattle.wavetable.proofs.bank.terms.Tie as tie
 

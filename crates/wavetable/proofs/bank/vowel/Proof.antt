@@ -1,6 +1,6 @@
-use Rattle.wavetable.specs.Bank.{vowelOf}
-use borrow.Author.Tests.{eq-eqb, ne-eqb}
 use borrow.Author.Needs.{needs}
+use borrow.Author.Tests.{eq-eqb, ne-eqb}
+use Rattle.wavetable.specs.Bank.{vowelOf}
 use Rattle.wavetable.proofs.bank.vowel.Statement.{statement}
 use Rattle.wavetable.proofs.bank.vowel.Tie as tie
 
