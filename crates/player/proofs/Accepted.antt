@@ -3,7 +3,8 @@ use Prim.Native.Nat.{ℕ, zero, suc}
 use mathlib.Core.Bool.{true}
 use mathlib.Core.Path.{_≡_, refl}
 use lib.Ieee.{binary64}
-use lib.Ieee.Fits.{nan-fits, div-fits}
+use lib.Ieee.Fits.{nan-fits, div-fits, ofInt-fits}
+use lib.IntN.{pos}
 use Rattle.laws.specs.Float.{F64}
 use Rattle.laws.specs.Machine.{begun, more}
 use Rattle.answer.specs.declared.Answer.{Answer}
@@ -14,6 +15,7 @@ use Rattle.score.specs.declared.Control.{Control}
 use Rattle.score.specs.declared.Control.the-variants.{Microvolts, Nan}
 use Rattle.score.specs.declared.VcoInputs.{VcoInputs}
 use Rattle.score.specs.declared.LfoInputs.{LfoInputs}
+use Rattle.score.specs.declared.FormantInputs.{FormantInputs}
 use Rattle.score.specs.declared.Inputs.{Inputs}
 use Rattle.score.specs.declared.Inputs.the-variants as inputs
 use Rattle.vco.specs.Vco.{newVco, vcoTickOf}
@@ -32,7 +34,6 @@ use Rattle.supersaw.proofs.Reached as supersaws
 use Rattle.formant_osc.specs.FormantOsc.{newFormantOsc, formantUnless, formantNewOf, formantTickOf}
 use Rattle.formant_osc.specs.Calls as formant
 use Rattle.formant_osc.specs.declared.FormantOsc.{FormantOsc}
-use Rattle.formant_osc.specs.declared.FormantControls.{FormantControls}
 use Rattle.formant_osc.proofs.Reached as formants
 use Rattle.player.specs.Begin.{rateOf, vcoControls, lfoControls, supersawControls, formantControls}
 use Rattle.player.specs.Play.{answers, heardFrom, heardOf}
@@ -59,9 +60,13 @@ module _ (r : Hertz) (ok : rateOk r ≡ true) where
   unfolding supersawNewOf madeUnless
   supersaw-made = (r, rw ok refl)
 
-  formant-made : formant.First (newFormantOsc r)
+  formant-made : F64 (r .0) → formant.First (newFormantOsc r)
   unfolding formantNewOf formantUnless
-  formant-made = (r, rw ok refl)
+  formant-made fit = (r, fit, rw ok refl)
+
+rate-fits : (hz : ℕ) → F64 (rateOf hz .0)
+unfolding rateOf
+rate-fits hz = ofInt-fits binary64 (pos hz)
 
 -- a tick reaches the next state
 vco-next : (i : VcoInputs) (s : Vco) → vco.ReachedVco s → vco.ReachedVco (vcoTickOf s (vcoControls i) 15 .vco)
@@ -76,9 +81,9 @@ supersaw-next : (c : SupersawControls) (s : Supersaw) → supersaw.ReachedSupers
 unfolding supersaw.after
 supersaw-next c s h = more h (supersaw.Tick c) tt
 
-formant-next : (c : FormantControls) (s : FormantOsc) → formant.ReachedFormant s → formant.ReachedFormant (formantTickOf s c .formant)
-unfolding formant.after
-formant-next c s h = more h (formant.Tick c) tt
+formant-next : (i : FormantInputs) (s : FormantOsc) → formant.ReachedFormant s → formant.ReachedFormant (formantTickOf s (formantControls i) .formant)
+unfolding formant.after formantControls
+formant-next i s h = more h (formant.Tick (formantControls i)) (volts-fit (i .vowel), volts-fit (i .«formant_shift»))
 
 heard-accepted : (i : Inputs) (hz n : ℕ) → rateOk (rateOf hz) ≡ true → Every Accepted (heardFrom i hz n)
 unfolding heardFrom
@@ -89,7 +94,7 @@ heard-accepted (inputs.Lfo i) hz n ok =
 heard-accepted (inputs.Supersaw i) hz n ok =
     every _ _ supersaw.ReachedSupersaw (λ s h. supersaws.never-refused s h .ticks (supersawControls i)) (supersaw-next (supersawControls i)) n _ (begun (newSupersaw (rateOf hz)) (supersaw-made (rateOf hz) ok))
 heard-accepted (inputs.Formant i) hz n ok =
-    every _ _ formant.ReachedFormant (λ s h. formants.never-refused s h .ticks (formantControls i)) (formant-next (formantControls i)) n _ (begun (newFormantOsc (rateOf hz)) (formant-made (rateOf hz) ok))
+    every _ _ formant.ReachedFormant (λ s h. formants.never-refused s h .ticks (formantControls i)) (formant-next i) n _ (begun (newFormantOsc (rateOf hz)) (formant-made (rateOf hz) ok (rate-fits hz)))
 
 pub frames-accepted : Frames-accepted
 unfolding heardOf
