@@ -5,7 +5,9 @@ use player::Player;
 use score::Reading;
 use score::Score;
 ghost use mathlib.Core.Path.{_≡_};
+ghost use Prim.Native.Nat.{_<_};
 ghost use lib.ListN.{length};
+ghost use Rattle.io.specs.Counts.{Counts};
 ghost use Rattle.frame.specs.End.{refusedText};
 ghost use Rattle.render.specs.Writes.{pieceOf, endOf};
 
@@ -52,10 +54,17 @@ fn play(out: &mut [u8], score: Score)
     write_end(&out[..to], score);
 }
 
+// Room for more than a score may have: of a longer text so much is read that it is refused, and no more.
+fn read_text(input: &mut [u8]) -> usize
+    requires { ⌜ 1024 < length (now input) ⌝ }
+    ensures { λ r. ⌜ Counts r (now (input .exit)) ⌝ }
+{
+    io::read_full(STDIN_FILENO, input)
+}
+
 fn main() {
-    // One byte more than a score may have: the reader refuses it, and nothing more need be read.
     let mut input = [0u8; 1025];
-    let n = io::read_full(STDIN_FILENO, &mut input);
+    let n = read_text(&mut input);
     let mut out = io::large_buffer();
     match score::read(&input[..n]) {
         Reading::Values(s) => play(&mut out, s),

@@ -8,11 +8,11 @@ use Rattle.render.proofs.Written.{refused-written}
 use Rattle.render.proofs.main.Statement.{statement}
 use Rattle.render.proofs.main.Tie as tie
 
-slice-aggregate-read-full : tie.Need-slice-aggregate-read-full
-slice-aggregate-read-full c = search needs
+slice-aggregate-read-text : tie.Need-slice-aggregate-read-text
+slice-aggregate-read-text c = search needs
 
-read-full-requires : tie.Need-read-full-requires
-read-full-requires c κs = search needs
+read-text-requires : tie.Need-read-text-requires
+read-text-requires c κs = search needs
 
 large-buffer-requires : tie.Need-large-buffer-requires
 large-buffer-requires c κs = search needs
@@ -63,8 +63,8 @@ pub main-spec : {M : Type 1} → statement M
 main-spec =
     tie.close
     (tie.spec
-    slice-aggregate-read-full
-    read-full-requires
+    slice-aggregate-read-text
+    read-text-requires
     large-buffer-requires
     array-share-prefix-input
     slice-aggregate-read
