@@ -50,7 +50,7 @@ rows =
     ∷ row (108 ∷ 102 ∷ 111 ∷ 95 ∷ 116 ∷ 105 ∷ 99 ∷ 107 ∷ []) 10 lfoWords  -- lfo_tick
     ∷ row (118 ∷ 99 ∷ 111 ∷ 95 ∷ 116 ∷ 105 ∷ 99 ∷ 107 ∷ []) 14 vcoWords  -- vco_tick
     ∷ row (115 ∷ 117 ∷ 112 ∷ 101 ∷ 114 ∷ 115 ∷ 97 ∷ 119 ∷ 95 ∷ 116 ∷ 105 ∷ 99 ∷ 107 ∷ []) 15 supersawWords  -- supersaw_tick
-    ∷ row (102 ∷ 111 ∷ 114 ∷ 109 ∷ 97 ∷ 110 ∷ 116 ∷ 95 ∷ 111 ∷ 115 ∷ 99 ∷ 95 ∷ 116 ∷ 105 ∷ 99 ∷ 107 ∷ []) 39 formantWords  -- formant_osc_tick
+    ∷ row (102 ∷ 111 ∷ 114 ∷ 109 ∷ 97 ∷ 110 ∷ 116 ∷ 95 ∷ 116 ∷ 105 ∷ 99 ∷ 107 ∷ []) 39 formantWords  -- formant_tick
     ∷ row (119 ∷ 97 ∷ 118 ∷ 101 ∷ 116 ∷ 97 ∷ 98 ∷ 108 ∷ 101 ∷ 95 ∷ 116 ∷ 105 ∷ 99 ∷ 107 ∷ []) 10 wavetableWords  -- wavetable_tick
     ∷ row (107 ∷ 97 ∷ 114 ∷ 112 ∷ 108 ∷ 117 ∷ 115 ∷ 95 ∷ 115 ∷ 116 ∷ 114 ∷ 111 ∷ 110 ∷ 103 ∷ 95 ∷ 116 ∷ 105 ∷ 99 ∷ 107 ∷ []) 139 karplusStrongWords  -- karplus_strong_tick
     ∷ []

@@ -19,8 +19,8 @@ use crate::words::value;
 use numeric::bits;
 
 // The names, a line each, in the order of `run`.
-pub const NAMES: [u8; 172] =
-    *b"sin\ncos\nexp2\npow3000\nfloor\nfabs\nis_finite\nclamp\nmin\nmax\nto_u64\nof_u64\nbits\ndraw\nbipolar\nlfo_tick\nvco_tick\nsupersaw_tick\nformant_osc_tick\nwavetable_tick\nkarplus_strong_tick\n";
+pub const NAMES: [u8; 168] =
+    *b"sin\ncos\nexp2\npow3000\nfloor\nfabs\nis_finite\nclamp\nmin\nmax\nto_u64\nof_u64\nbits\ndraw\nbipolar\nlfo_tick\nvco_tick\nsupersaw_tick\nformant_tick\nwavetable_tick\nkarplus_strong_tick\n";
 
 // A name's number; past the last for any other.
 pub fn number_of(name: &[u8]) -> usize

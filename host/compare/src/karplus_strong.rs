@@ -1,7 +1,7 @@
 //! The string on both sides, with the line that is lent to ours.
 use crate::draw::{Control, Draw, BOTH_WAYS, GATE, PITCH, UNIT};
 use crate::pair::rises;
-use crate::script::{alike, bad_rate, hex, mark, unchanged, Counts, Pair};
+use crate::script::{alike, bad_rate, hex, mark, one_nan, unchanged, Counts, Pair};
 use gruttisol::answer::{Mark, Refused};
 use gruttisol::karplus_strong as ours;
 use quiver::modules::oscillators as rust;
@@ -92,6 +92,9 @@ impl KarplusStrong {
 fn apart(cell: usize, a: f64, b: f64) -> String {
     format!("cell {cell} is {}, and is due to be {}", hex(a), hex(b))
 }
+
+/// Cells and draws of a string in the list of stored ticks.
+const STORED: usize = 62;
 
 /// 2^53: the first number that is no draw.
 const NO_DRAW: u64 = 1 << 53;
@@ -295,5 +298,20 @@ impl Pair for KarplusStrong {
 
     fn same_lent(&mut self) -> Result<(), String> {
         self.same_line(self.all || self.unseen >= 64)
+    }
+
+    /// The list has `STORED` cells and draws for a string, enough at rates from 1,000 to below 1,020.
+    fn storable(&self, floats: &[f64; 6]) -> bool {
+        (1000.0..1020.0).contains(&floats[0]) && self.line.len() <= STORED
+    }
+
+    fn stored_lent(&self) -> Vec<u64> {
+        let cells = self.line.iter().map(|x| x.to_bits());
+        let draws = self.draws.iter().copied().chain([u64::MAX; STORED]);
+        cells.chain([0; STORED]).take(STORED).chain(draws.take(STORED)).collect()
+    }
+
+    fn stored_left(&self) -> Vec<u64> {
+        self.line.iter().map(|x| one_nan(x.to_bits())).chain([0; STORED]).take(STORED).collect()
     }
 }

@@ -36,14 +36,23 @@ const fn of<P: Pair>() -> (&'static str, Run) {
 }
 
 /// The list's lines of an oscillator, as `ticks` has them.
-fn lines<P: Pair>(n: usize) -> String {
-    let words = |case: Vec<u64>| case.iter().map(|word| format!(" {word:016X}")).collect::<String>();
-    ticks::<P>(1, n).into_iter().map(|case| format!("{}_tick{}\n", P::NAME, words(case))).collect()
+fn lines<P: Pair>(n: usize) -> Result<String, String> {
+    let words = |case: &Vec<u64>| case.iter().map(|word| format!(" {word:016X}")).collect::<String>();
+    let cases = ticks::<P>(1, n).map_err(|said| format!("{}: {said}", P::NAME))?;
+    Ok(cases.iter().map(|case| format!("{}_tick{}\n", P::NAME, words(case))).collect())
 }
 
-/// The Rust's ticks in the list that the program `replay` runs.
-pub fn stored() -> String {
-    [lines::<lfo::Lfo>(200), lines::<vco::Vco>(200)].concat()
+/// The Rust's ticks in the list that the program `replay` runs; ours were compared with them on the way.
+pub fn stored() -> Result<String, String> {
+    Ok([
+        lines::<lfo::Lfo>(200)?,
+        lines::<vco::Vco>(200)?,
+        lines::<supersaw::Supersaw>(200)?,
+        lines::<formant_osc::FormantOsc>(120)?,
+        lines::<wavetable::Wavetable>(200)?,
+        lines::<karplus_strong::KarplusStrong>(60)?,
+    ]
+    .concat())
 }
 
 /// The run of the gate. It prints what was compared.

@@ -48,6 +48,19 @@ pub trait Pair: Sized {
     fn same_lent(&mut self) -> Result<(), String> {
         Ok(())
     }
+
+    /// Whether the list of stored ticks can hold what is lent to a state of these floats.
+    fn storable(&self, _floats: &Self::Floats) -> bool {
+        true
+    }
+    /// What stands in a stored tick after its controls: cells and draws that are lent.
+    fn stored_lent(&self) -> Vec<u64> {
+        vec![]
+    }
+    /// What stands after its samples: the cells as they were left.
+    fn stored_left(&self) -> Vec<u64> {
+        vec![]
+    }
 }
 
 /// What was run and compared.
@@ -96,51 +109,65 @@ pub fn run<P: Pair>(seed: u64, ticks: u64) -> Result<Counts, String> {
     Ok(counts)
 }
 
-/// So many ticks from a seed, in the words of the list that the program `replay` runs: a state, controls and the mask, and
-/// what the Rust makes of them. A state that document 01 refuses is answered by its number and left as it stood.
-pub fn ticks<P: Pair>(seed: u64, n: usize) -> Vec<Vec<u64>> {
+/// So many ticks from a seed, in the words of the list that the program `replay` runs: a state, controls, the mask and what is
+/// lent, and what the Rust makes of them. A state that document 01 refuses is answered by its number and left as it stood.
+pub fn ticks<P: Pair>(seed: u64, n: usize) -> Result<Vec<Vec<u64>>, String> {
     const CALLS: usize = 20; // of one oscillator
-    let mut draw = Draw::new(seed);
+    let (mut draw, mut counts) = (Draw::new(seed), Counts::default());
     let mut cases = vec![];
     while cases.len() < n {
         let mood = Mood { held: 3, gates: 2, rarely: 4, ..Mood::drawn(&mut draw) };
-        let mut pair = P::new(draw.rate(), &mut draw).unwrap_or_else(|n| panic!("{n}"));
+        let mut pair = P::new(draw.rate(), &mut draw).map_err(|n| n.to_string())?;
+        if !pair.storable(&pair.theirs().0) {
+            continue;
+        }
+        same(&mut pair)?;
         let mut controls: Vec<f64> = P::CONTROLS.iter().map(|control| draw.usual(control)).collect();
         for _ in 0..CALLS.min(n - cases.len()) {
             turn::<P>(&mut controls, &mood, &mut draw);
-            cases.push(case(&mut pair, &controls, &mut draw));
+            cases.push(case(&mut pair, &controls, &mut draw, &mut counts)?);
         }
     }
-    cases
+    Ok(cases)
 }
 
-fn case<P: Pair>(pair: &mut P, controls: &[f64], draw: &mut Draw) -> Vec<u64> {
-    let (mut state, mut refusal) = (pair.theirs(), 0);
-    if draw.one_in(4) {
-        state = pair.invent(controls, draw);
-        refusal = P::refusal(&state.0, &state.1);
-        if refusal == 0 {
-            pair.put_theirs(&state.0, &state.1, draw);
-        }
-    }
-    let mut samples = [f64::from_bits(UNWRITTEN); 5];
-    let mut words = raw::<P>(state);
-    words.extend(controls.iter().map(|x| x.to_bits()));
+fn case<P: Pair>(
+    pair: &mut P,
+    controls: &[f64],
+    draw: &mut Draw,
+    counts: &mut Counts,
+) -> Result<Vec<u64>, String> {
+    let invented = pair.invent(controls, draw);
+    let refusal = P::refusal(&invented.0, &invented.1);
     let wanted = mask::<P>(draw);
-    if P::MASKED {
-        words.push(wanted as u64);
+    let given = |pair: &P, state| {
+        let mut words = raw::<P>(state);
+        words.extend(controls.iter().map(|x| x.to_bits()));
+        words.extend(P::MASKED.then_some(wanted as u64));
+        words.extend(pair.stored_lent());
+        words
+    };
+    if draw.one_in(4) && pair.storable(&invented.0) {
+        if refusal > 0 {
+            let mut words = given(pair, invented);
+            words.push(refusal as u64);
+            words.extend(invented.0.as_ref().iter().map(|x| one_nan(x.to_bits())));
+            words.extend(invented.1.as_ref());
+            words.extend([0; 5].iter().take(P::PORTS));
+            words.extend(pair.stored_left());
+            return Ok(words);
+        }
+        pair.put_ours(&invented.0, &invented.1);
+        pair.put_theirs(&invented.0, &invented.1, draw);
     }
-    if refusal == 0 {
-        let mark = pair.theirs_tick(controls, wanted, &mut samples[..P::PORTS]);
-        words.push(mark as u64);
-        words.extend(raw::<P>(pair.theirs()).into_iter().map(one_nan));
-    } else {
-        words.push(refusal as u64);
-        words.extend(state.0.as_ref().iter().map(|x| one_nan(x.to_bits())));
-        words.extend(state.1.as_ref());
-    }
-    words.extend(samples[..P::PORTS].iter().map(|x| if x.to_bits() == UNWRITTEN { 0 } else { one_nan(x.to_bits()) }));
-    words
+    pair.lend(controls, draw, counts)?;
+    let mut words = given(pair, pair.theirs());
+    let (mark, samples) = sound(pair, controls, wanted)?;
+    words.push(mark as u64);
+    words.extend(raw::<P>(pair.theirs()).into_iter().map(one_nan));
+    words.extend(samples[..P::PORTS].iter().map(|x| one_nan(x.to_bits())));
+    words.extend(pair.stored_left());
+    Ok(words)
 }
 
 /// A state's floats, by their bits, and whole numbers.
@@ -257,8 +284,15 @@ fn tick<P: Pair>(pair: &mut P, controls: &[f64], draw: &mut Draw, counts: &mut C
         format!("tick of {controls:?}, wanted {wanted:#x}, from {floats:?} {wholes:x?}: {said}")
     };
     pair.lend(controls, draw, counts).map_err(told)?;
+    let (mark, _) = sound(pair, controls, wanted).map_err(told)?;
+    counts.marks[mark as usize - Mark::ALL[0] as usize] += 1;
+    Ok(())
+}
+
+/// A tick on both sides, with its mark and samples; an output that isn't wanted reads 0.0.
+fn sound<P: Pair>(pair: &mut P, controls: &[f64], wanted: u32) -> Result<(Mark, [f64; 5]), String> {
     let (mut ours, mut theirs) = ([1.0; 5], [f64::from_bits(UNWRITTEN); 5]);
-    let mark = pair.ours_tick(controls, wanted, &mut ours[..P::PORTS]).map_err(|n| told(n.to_string()))?;
+    let mark = pair.ours_tick(controls, wanted, &mut ours[..P::PORTS]).map_err(|n| n.to_string())?;
     let their_mark = pair.theirs_tick(controls, wanted, &mut theirs[..P::PORTS]);
     for port in 0..P::PORTS {
         let (a, b) = (ours[port], theirs[port]);
@@ -268,14 +302,14 @@ fn tick<P: Pair>(pair: &mut P, controls: &[f64], draw: &mut Draw, counts: &mut C
             a.to_bits() == 0 && b.to_bits() == UNWRITTEN
         };
         if !right {
-            return Err(told(format!("output {port} is {}, the Rust's {}", hex(a), hex(b))));
+            return Err(format!("output {port} is {}, the Rust's {}", hex(a), hex(b)));
         }
     }
     if mark != their_mark {
-        return Err(told(format!("marked {}, and by the Rust's values {}", mark.word(), their_mark.word())));
+        return Err(format!("marked {}, and by the Rust's values {}", mark.word(), their_mark.word()));
     }
-    counts.marks[mark as usize - Mark::ALL[0] as usize] += 1;
-    same(pair).map_err(told)
+    same(pair)?;
+    Ok((mark, ours))
 }
 
 fn reset<P: Pair>(pair: &mut P, counts: &mut Counts) -> Result<(), String> {

@@ -71,6 +71,11 @@ impl Pair for Wavetable {
         Ok(())
     }
 
+    /// The list holds no bank: `replay` fills the Rust's own.
+    fn storable(&self, _floats: &[f64; 4]) -> bool {
+        !own_banks().iter().any(|bank| std::ptr::eq(self.theirs.bank(), bank.as_ref()))
+    }
+
     fn ours_tick(&mut self, controls: &[f64], _wanted: u32, samples: &mut [f64]) -> Result<Mark, Refused> {
         let (mark, out) = self.tick_of(controls, self.bank)?;
         samples.copy_from_slice(&[out]);

@@ -7,8 +7,8 @@ fn the_list_is_the_rusts() {
     {
         let list = include_str!("../../../crates/replay/stdin");
         let stored: Vec<&str> = list.lines().filter(|line| line.contains("_tick ")).collect();
-        let fresh = compare::stored();
-        assert!(stored.len() >= 400, "{} ticks", stored.len());
+        let fresh = compare::stored().unwrap_or_else(|difference| panic!("{difference}"));
+        assert!(stored.len() >= 980, "{} ticks", stored.len());
         assert!(stored.iter().copied().eq(fresh.lines()), "the stored ticks are others than the Rust's");
         println!("{} stored ticks are the Rust's", stored.len());
     }

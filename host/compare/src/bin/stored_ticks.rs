@@ -5,7 +5,13 @@ use std::process::ExitCode;
 
 #[cfg(quiver)]
 fn main() -> ExitCode {
-    print!("{}", compare::stored());
+    match compare::stored() {
+        Ok(lines) => print!("{lines}"),
+        Err(difference) => {
+            eprintln!("{difference}");
+            return ExitCode::FAILURE;
+        }
+    }
     ExitCode::SUCCESS
 }
 
