@@ -196,6 +196,7 @@ impl Pair for KarplusStrong {
             self.draws = vec![draw.bits(); draw.below(3) as usize];
             return Ok(());
         }
+        counts.strikes += 1;
         match draw.below(8) {
             0 => self.theirs.put_stream(0, 0),
             1 => {

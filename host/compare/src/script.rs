@@ -73,6 +73,8 @@ pub struct Counts {
     /// States of a caller's own making that were taken.
     pub states: u64,
     pub refused: u64,
+    /// Ticks that struck the string.
+    pub strikes: u64,
     /// Write positions that a rate change left past the line's end, which ours puts to 0 and the Rust doesn't.
     pub repaired: u64,
 }
@@ -91,8 +93,8 @@ impl fmt::Display for Counts {
         }
         let Counts { resets, rate_changes, states, refused, .. } = self;
         write!(f, ", {resets} resets, {rate_changes} rate changes, {states} states put in, {refused} refused calls")?;
-        if self.repaired > 0 {
-            write!(f, ", {} write positions repaired", self.repaired)?;
+        if self.strikes > 0 {
+            write!(f, ", {} strikes, {} write positions repaired", self.strikes, self.repaired)?;
         }
         Ok(())
     }
