@@ -192,7 +192,7 @@ def no_copy(files):
 
 DECLARED = {
     ".antt": r"^(?:abbrev |unfoldable )?pub (?:use [^\n]*[{{ ,]|record |data )?{0}(?=[\s:,}}])",
-    ".rt": r"^\s*(?:pub )?(?:extern \"C\" )?(?:fn|struct|enum) {0}\b",
+    ".rt": r"^\s*(?:pub )?(?:extern \"C\" )?(?:fn|struct|enum|const) {0}\b",
 }
 
 
