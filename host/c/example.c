@@ -1,0 +1,42 @@
+/* Renders a vowel of 480 samples twice, once with a broken control value, and shows what is finished:
+ *
+ *     tools/library ../target/gruttisol
+ *     cc -I c c/example.c ../target/gruttisol/libgruttisol.a -o ../target/example && ../target/example
+ */
+#include "gruttisol.h"
+#include <math.h>
+#include <stdio.h>
+
+#define SAMPLES 480
+
+static int render(double vowel)
+{
+    double floats[GRUTTISOL_FORMANT_OSC_FLOATS], out[1];
+    uint64_t wholes[GRUTTISOL_FORMANT_OSC_WHOLES];
+    uint32_t counts[GRUTTISOL_COUNTS] = {0};
+
+    uint32_t refused = gruttisol_formant_osc_new(48000.0, floats, GRUTTISOL_FORMANT_OSC_FLOATS,
+                                                 wholes, GRUTTISOL_FORMANT_OSC_WHOLES);
+    if (refused)
+        return printf("refused=%u\n", refused);
+
+    for (int i = 0; i < SAMPLES; i++) {
+        uint32_t answer = gruttisol_formant_osc_tick(-1.0, vowel, 0.0, 0.0, floats, GRUTTISOL_FORMANT_OSC_FLOATS,
+                                                     wholes, GRUTTISOL_FORMANT_OSC_WHOLES, out, 1);
+        if (gruttisol_tally_take(answer, counts, GRUTTISOL_COUNTS))
+            return printf("the tally refused\n");
+    }
+    return printf("begun=%u finished=%u cleared=%u notfinite=%u lost=%u claimed=%s\n", counts[0], counts[1], counts[2],
+                  counts[3], counts[4], counts[0] == SAMPLES && counts[1] == SAMPLES ? "yes" : "no");
+}
+
+int main(void)
+{
+    double floats[GRUTTISOL_VCO_FLOATS] = {0};
+    uint64_t wholes[GRUTTISOL_VCO_WHOLES] = {0};
+
+    render(0.25);
+    render(NAN);
+    printf("a rate of 999.5 Hz: refused=%u\n", gruttisol_vco_new(999.5, floats, GRUTTISOL_VCO_FLOATS, wholes, GRUTTISOL_VCO_WHOLES));
+    return 0;
+}

@@ -1,0 +1,152 @@
+/* Gruttisol: six proved oscillators and their tally, for C and C++.
+ *
+ * Every function takes any numbers and any memory of the lengths that it is told: it ends, reads and writes inside the lent
+ * memory alone and keeps none of it. A lent array is two arguments, its first cell and its length; arrays lent to one
+ * call must not overlap.
+ *
+ * An oscillator's state is two arrays, `floats` and `wholes`, of the lengths given below. Make it by `.._new`; then lend it to
+ * each call as the last call left it. A state of your own making is taken or refused.
+ *
+ * A call answers a number:
+ *   0         done
+ *   11 to 14  an accepted tick: cleared, notfinite, lost, clean
+ *   1 to 7    refused, see gruttisol_refusal below
+ *   50 to 53  an array of another length: floats, wholes, samples, counts
+ * A refused call leaves every array as it stood.
+ */
+#ifndef GRUTTISOL_H
+#define GRUTTISOL_H
+
+#include <stddef.h>
+#include <stdint.h>
+
+#ifdef __cplusplus
+extern "C" {
+#endif
+
+enum gruttisol_mark {
+    GRUTTISOL_CLEARED = 11,   /* the string zeroed its line */
+    GRUTTISOL_NOTFINITE = 12, /* a wanted output isn't finite, or what stands before its clamp */
+    GRUTTISOL_LOST = 13,      /* a phase plus its increment isn't finite */
+    GRUTTISOL_CLEAN = 14      /* nothing of this: the only ticks that are finished */
+};
+
+enum gruttisol_refusal {
+    GRUTTISOL_BAD_RATE = 1,   /* a rate not from 1,000 to 192,000 */
+    GRUTTISOL_BAD_STATE = 2,  /* a state that is no oscillator's */
+    GRUTTISOL_SHORT_LINE = 3, /* a line too short for its rate */
+    GRUTTISOL_BAD_BANK = 4,   /* a bank, part or table of another size or number */
+    GRUTTISOL_FEW_DRAWS = 5,  /* a trigger, and too few draws */
+    GRUTTISOL_BAD_DRAW = 6,   /* a trigger, and a draw of 2^53 or more */
+    GRUTTISOL_BAD_TALLY = 7   /* counts that don't add up, or a full tally */
+};
+
+/* ---- the tally: counts are begun, finished, cleared, notfinite, lost; a new one is five zeros */
+#define GRUTTISOL_COUNTS 5
+
+/* Takes the number that a tick answered. */
+uint32_t gruttisol_tally_take(uint32_t answer, uint32_t *counts, size_t counts_len);
+
+/* ---- Vco: samples sin, tri, saw, sqr; bit i of `wanted` asks for the i-th, and one that isn't wanted reads 0.0 */
+#define GRUTTISOL_VCO_FLOATS 4
+#define GRUTTISOL_VCO_WHOLES 4
+#define GRUTTISOL_VCO_SAMPLES 4
+
+uint32_t gruttisol_vco_new(double sample_rate, double *floats, size_t floats_len, uint64_t *wholes, size_t wholes_len);
+uint32_t gruttisol_vco_tick(double voct, double fm, double pw, double sync, double fm_lin, uint32_t wanted,
+                            double *floats, size_t floats_len, uint64_t *wholes, size_t wholes_len,
+                            double *samples, size_t samples_len);
+uint32_t gruttisol_vco_reset(double *floats, size_t floats_len, uint64_t *wholes, size_t wholes_len);
+uint32_t gruttisol_vco_set_sample_rate(double sample_rate, double *floats, size_t floats_len,
+                                       uint64_t *wholes, size_t wholes_len);
+
+/* ---- Lfo: samples sin, tri, saw, sqr, sin_uni; `wanted` as above */
+#define GRUTTISOL_LFO_FLOATS 4
+#define GRUTTISOL_LFO_WHOLES 2
+#define GRUTTISOL_LFO_SAMPLES 5
+
+uint32_t gruttisol_lfo_new(double sample_rate, double *floats, size_t floats_len, uint64_t *wholes, size_t wholes_len);
+uint32_t gruttisol_lfo_tick(double rate, double depth, double reset, uint32_t wanted,
+                            double *floats, size_t floats_len, uint64_t *wholes, size_t wholes_len,
+                            double *samples, size_t samples_len);
+uint32_t gruttisol_lfo_reset(double *floats, size_t floats_len, uint64_t *wholes, size_t wholes_len);
+uint32_t gruttisol_lfo_set_sample_rate(double sample_rate, double *floats, size_t floats_len,
+                                       uint64_t *wholes, size_t wholes_len);
+
+/* ---- Supersaw: samples out, sub */
+#define GRUTTISOL_SUPERSAW_FLOATS 10
+#define GRUTTISOL_SUPERSAW_WHOLES 2
+#define GRUTTISOL_SUPERSAW_SAMPLES 2
+
+uint32_t gruttisol_supersaw_new(double sample_rate, double *floats, size_t floats_len,
+                                uint64_t *wholes, size_t wholes_len);
+uint32_t gruttisol_supersaw_tick(double voct, double detune, double mix,
+                                 double *floats, size_t floats_len, uint64_t *wholes, size_t wholes_len,
+                                 double *samples, size_t samples_len);
+uint32_t gruttisol_supersaw_reset(double *floats, size_t floats_len, uint64_t *wholes, size_t wholes_len);
+uint32_t gruttisol_supersaw_set_sample_rate(double sample_rate, double *floats, size_t floats_len,
+                                            uint64_t *wholes, size_t wholes_len);
+
+/* ---- Wavetable: a sample out, of a bank that is lent to each tick: 8 tables, of each 8 levels, of each 256 numbers */
+#define GRUTTISOL_WAVETABLE_FLOATS 4
+#define GRUTTISOL_WAVETABLE_WHOLES 2
+#define GRUTTISOL_WAVETABLE_SAMPLES 1
+#define GRUTTISOL_BANK 16384
+#define GRUTTISOL_TABLE 2048
+
+/* Fills a bank, or a part of GRUTTISOL_TABLE numbers with one table, from 0 to 7. */
+uint32_t gruttisol_wavetable_fill_bank(double *bank, size_t bank_len);
+uint32_t gruttisol_wavetable_fill_table(uint64_t table, double *part, size_t part_len);
+
+uint32_t gruttisol_wavetable_new(double sample_rate, double *floats, size_t floats_len,
+                                 uint64_t *wholes, size_t wholes_len);
+uint32_t gruttisol_wavetable_tick(double v_oct, double table, double morph, double sync,
+                                  double *floats, size_t floats_len, uint64_t *wholes, size_t wholes_len,
+                                  double *samples, size_t samples_len, const double *bank, size_t bank_len);
+uint32_t gruttisol_wavetable_reset(double *floats, size_t floats_len, uint64_t *wholes, size_t wholes_len);
+uint32_t gruttisol_wavetable_set_sample_rate(double sample_rate, double *floats, size_t floats_len,
+                                             uint64_t *wholes, size_t wholes_len);
+
+/* ---- FormantOsc: a sample out */
+#define GRUTTISOL_FORMANT_OSC_FLOATS 29
+#define GRUTTISOL_FORMANT_OSC_WHOLES 6
+#define GRUTTISOL_FORMANT_OSC_SAMPLES 1
+
+uint32_t gruttisol_formant_osc_new(double sample_rate, double *floats, size_t floats_len,
+                                   uint64_t *wholes, size_t wholes_len);
+uint32_t gruttisol_formant_osc_tick(double v_oct, double vowel, double formant_shift, double vibrato,
+                                    double *floats, size_t floats_len, uint64_t *wholes, size_t wholes_len,
+                                    double *samples, size_t samples_len);
+uint32_t gruttisol_formant_osc_reset(double *floats, size_t floats_len, uint64_t *wholes, size_t wholes_len);
+uint32_t gruttisol_formant_osc_set_sample_rate(double sample_rate, double *floats, size_t floats_len,
+                                               uint64_t *wholes, size_t wholes_len);
+
+/* ---- KarplusStrong: a sample out. Each call is lent the line as the last call left it, of sample_rate / 20 truncated and 12 cells
+ *      at least; a rate change one that is enough for the new rate. A tick that takes its trigger reads as many draws as
+ *      the string gets cells, each below 2^53. */
+#define GRUTTISOL_KARPLUS_STRONG_FLOATS 6
+#define GRUTTISOL_KARPLUS_STRONG_WHOLES 4
+#define GRUTTISOL_KARPLUS_STRONG_SAMPLES 1
+
+uint32_t gruttisol_karplus_strong_new(double sample_rate, double *floats, size_t floats_len,
+                                      uint64_t *wholes, size_t wholes_len, double *line, size_t line_len);
+uint32_t gruttisol_karplus_strong_tick(double voct, double trigger, double damping, double brightness, double stretch,
+                                       double *floats, size_t floats_len, uint64_t *wholes, size_t wholes_len,
+                                       double *samples, size_t samples_len, double *line, size_t line_len,
+                                       const uint64_t *draws, size_t draws_len);
+uint32_t gruttisol_karplus_strong_reset(double *floats, size_t floats_len, uint64_t *wholes, size_t wholes_len,
+                                        double *line, size_t line_len);
+uint32_t gruttisol_karplus_strong_set_sample_rate(double sample_rate, double *floats, size_t floats_len,
+                                                  uint64_t *wholes, size_t wholes_len, double *line, size_t line_len);
+
+/* ---- functions of numbers alone */
+double gruttisol_sin(double x);
+double gruttisol_cos(double x);
+double gruttisol_exp2(double x);
+double gruttisol_pow3000(double r);
+
+#ifdef __cplusplus
+}
+#endif
+
+#endif
