@@ -382,6 +382,10 @@ impl FormantOsc {
         let sample_rate = self.sample_rate;
         let freqs = self.freq_memo;
         let coefs = self.coef_memo;
+        // Here, far from the other phase: side by side the two become one pair, which the next tick can't read before the
+        // whole of this one is done.
+        let vibrato_next = Turns(vibrato_phase.0 + 5.5 / sample_rate.0);
+        let vibrato_wrapped = common::wrap_phase(vibrato_next);
         let v_oct = c.v_oct;
         let vowel = numeric::clamp(c.vowel, 0.0, 1.0);
         let depth = numeric::clamp(c.vibrato, 0.0, 1.0);
@@ -394,7 +398,6 @@ impl FormantOsc {
         let sum = rung.sum;
         let resonator_state = rung.state;
         let next = Turns(phase.0 + phase_inc);
-        let vibrato_next = Turns(vibrato_phase.0 + 5.5 / sample_rate.0);
         let volts = only(numeric::clamp(sum, -1.0, 1.0) * 5.0);
         let phases = both(
             numeric::is_finite(next.0),
@@ -404,7 +407,7 @@ impl FormantOsc {
             answer: answer::mark(volts, false, numeric::is_finite(sum), phases),
             formant: FormantOsc {
                 phase: common::wrap_phase(next),
-                vibrato_phase: common::wrap_phase(vibrato_next),
+                vibrato_phase: vibrato_wrapped,
                 resonator_state,
                 sample_rate,
                 freq_memo,
