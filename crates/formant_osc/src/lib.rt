@@ -271,12 +271,25 @@ fn glottal_pulse(phase: Turns) -> f64
 }
 
 // The pitch with its vibrato, at most half a semitone either way.
-fn pitch(v_oct: VoltsPerOctave, depth: f64, vibrato_phase: Turns) -> VoltsPerOctave
+fn vibrated(v_oct: VoltsPerOctave, depth: f64, vibrato_phase: Turns) -> VoltsPerOctave
     ensures { λ r. ⌜ r ≡ pitchOf «v_oct» depth («vibrato_phase» .0) ⌝ }
 {
     let vibrato = numeric::sin(vibrato_phase.0 * 2.0 * 3.141592653589793);
     let semitones = vibrato * depth * 0.5;
     VoltsPerOctave(v_oct.0 + semitones / 12.0)
+}
+
+// The same. A vibrato of no depth adds a zero, which leaves every pitch that isn't one itself: no sine is needed for it.
+fn pitch(v_oct: VoltsPerOctave, depth: f64, vibrato_phase: Turns) -> VoltsPerOctave
+    ensures { λ r. ⌜ r ≡ pitchOf «v_oct» depth («vibrato_phase» .0) ⌝ }
+{
+    let adds_zero = both(depth == 0.0, v_oct.0 != 0.0);
+    let is_still = both(common::phase_ok(vibrato_phase), adds_zero);
+    if is_still {
+        v_oct
+    } else {
+        vibrated(v_oct, depth, vibrato_phase)
+    }
 }
 
 // One resonator, Direct Form II transposed.
