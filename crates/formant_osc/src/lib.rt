@@ -271,12 +271,25 @@ fn glottal_pulse(phase: Turns) -> f64
 }
 
 // The pitch with its vibrato, at most half a semitone either way.
-fn pitch(v_oct: VoltsPerOctave, depth: f64, vibrato_phase: Turns) -> VoltsPerOctave
+fn vibrated(v_oct: VoltsPerOctave, depth: f64, vibrato_phase: Turns) -> VoltsPerOctave
     ensures { λ r. ⌜ r ≡ pitchOf «v_oct» depth («vibrato_phase» .0) ⌝ }
 {
     let vibrato = numeric::sin(vibrato_phase.0 * 2.0 * 3.141592653589793);
     let semitones = vibrato * depth * 0.5;
     VoltsPerOctave(v_oct.0 + semitones / 12.0)
+}
+
+// The same. A vibrato of no depth adds a zero, which leaves every pitch that isn't one itself: no sine is needed for it.
+fn pitch(v_oct: VoltsPerOctave, depth: f64, vibrato_phase: Turns) -> VoltsPerOctave
+    ensures { λ r. ⌜ r ≡ pitchOf «v_oct» depth («vibrato_phase» .0) ⌝ }
+{
+    let adds_zero = both(depth == 0.0, v_oct.0 != 0.0);
+    let is_still = both(common::phase_ok(vibrato_phase), adds_zero);
+    if is_still {
+        v_oct
+    } else {
+        vibrated(v_oct, depth, vibrato_phase)
+    }
 }
 
 // One resonator, Direct Form II transposed.
@@ -382,6 +395,10 @@ impl FormantOsc {
         let sample_rate = self.sample_rate;
         let freqs = self.freq_memo;
         let coefs = self.coef_memo;
+        // Here, far from the other phase: side by side the two become one pair, which the next tick can't read before the
+        // whole of this one is done.
+        let vibrato_next = Turns(vibrato_phase.0 + 5.5 / sample_rate.0);
+        let vibrato_wrapped = common::wrap_phase(vibrato_next);
         let v_oct = c.v_oct;
         let vowel = numeric::clamp(c.vowel, 0.0, 1.0);
         let depth = numeric::clamp(c.vibrato, 0.0, 1.0);
@@ -394,7 +411,6 @@ impl FormantOsc {
         let sum = rung.sum;
         let resonator_state = rung.state;
         let next = Turns(phase.0 + phase_inc);
-        let vibrato_next = Turns(vibrato_phase.0 + 5.5 / sample_rate.0);
         let volts = only(numeric::clamp(sum, -1.0, 1.0) * 5.0);
         let phases = both(
             numeric::is_finite(next.0),
@@ -404,7 +420,7 @@ impl FormantOsc {
             answer: answer::mark(volts, false, numeric::is_finite(sum), phases),
             formant: FormantOsc {
                 phase: common::wrap_phase(next),
-                vibrato_phase: common::wrap_phase(vibrato_next),
+                vibrato_phase: vibrato_wrapped,
                 resonator_state,
                 sample_rate,
                 freq_memo,

@@ -3,6 +3,9 @@ use borrow.Author.Needs.{needs}
 use Rattle.formant_osc.proofs.FormantOsc.sound.Statement.{statement}
 use Rattle.formant_osc.proofs.FormantOsc.sound.Tie as tie
 
+wrap-phase-requires : tie.Need-wrap-phase-requires
+wrap-phase-requires c κs = search needs
+
 clamp-requires : tie.Need-clamp-requires
 clamp-requires c κs = search needs
 
@@ -45,20 +48,18 @@ is-finite-requires-3 c κs = search needs
 mark-requires : tie.Need-mark-requires
 mark-requires c κs = search needs
 
-wrap-phase-requires : tie.Need-wrap-phase-requires
-wrap-phase-requires c κs = search needs
-
 wrap-phase-requires-2 : tie.Need-wrap-phase-requires-2
 wrap-phase-requires-2 c κs = search needs
 
 returns : tie.Need-returns
 unfolding formantSoundOf freqMemoOf coefMemoOf formantRung
-returns c = simp (c .wrap-phase2 .ensures, c .before .wrap-phase .ensures, c .before .before .mark .ensures, c .before .before .before .is-finite3 .ensures, c .before .before .before .before .both .ensures, c .before .before .before .before .before .is-finite2 .ensures, c .before .before .before .before .before .before .is-finite .ensures, c .before .before .before .before .before .before .before .only .ensures, c .before .before .before .before .before .before .before .before .clamp3 .ensures, c .before .before .before .before .before .before .before .before .before .before .before .before .before .ring .ensures, c .before .before .before .before .before .before .before .before .before .before .before .before .before .before .before .recall .ensures, c .before .before .before .before .before .before .before .before .before .before .before .before .before .before .before .before .glottal-pulse .ensures, c .before .before .before .before .before .before .before .before .before .before .before .before .before .before .before .before .before .before .before .voct-to-hz .ensures, c .before .before .before .before .before .before .before .before .before .before .before .before .before .before .before .before .before .before .before .before .pitch .ensures, c .before .before .before .before .before .before .before .before .before .before .before .before .before .before .before .before .before .before .before .before .before .clamp2 .ensures, c .before .before .before .before .before .before .before .before .before .before .before .before .before .before .before .before .before .before .before .before .before .before .clamp .ensures)
+returns c = simp (c .wrap-phase2 .ensures, c .before .mark .ensures, c .before .before .is-finite3 .ensures, c .before .before .before .both .ensures, c .before .before .before .before .is-finite2 .ensures, c .before .before .before .before .before .is-finite .ensures, c .before .before .before .before .before .before .only .ensures, c .before .before .before .before .before .before .before .clamp3 .ensures, c .before .before .before .before .before .before .before .before .before .before .ring .ensures, c .before .before .before .before .before .before .before .before .before .before .before .before .recall .ensures, c .before .before .before .before .before .before .before .before .before .before .before .before .before .glottal-pulse .ensures, c .before .before .before .before .before .before .before .before .before .before .before .before .before .before .before .before .voct-to-hz .ensures, c .before .before .before .before .before .before .before .before .before .before .before .before .before .before .before .before .before .pitch .ensures, c .before .before .before .before .before .before .before .before .before .before .before .before .before .before .before .before .before .before .clamp2 .ensures, c .before .before .before .before .before .before .before .before .before .before .before .before .before .before .before .before .before .before .before .clamp .ensures, c .before .before .before .before .before .before .before .before .before .before .before .before .before .before .before .before .before .before .before .before .before .wrap-phase .ensures)
 
 pub sound-spec : {M : Type 1} → statement M
 sound-spec =
     tie.close
     (tie.spec
+    wrap-phase-requires
     clamp-requires
     clamp-requires-2
     pitch-requires
@@ -73,6 +74,5 @@ sound-spec =
     both-requires
     is-finite-requires-3
     mark-requires
-    wrap-phase-requires
     wrap-phase-requires-2
     returns)
