@@ -61,6 +61,21 @@ fn wavetable() {
         state.tick(&wavetable::Controls { v_oct, table, morph, sync }, &bank).unwrap().volts
     };
     row("wavetable", [0.25, 0.4, 0.3, 0.0], [true, true, true, false], ours, theirs::wavetable());
+
+    let mut bank = vec![0.0; wavetable::Wavetable::BANK];
+    let (mut ours_best, mut theirs_best) = (f64::INFINITY, f64::INFINITY);
+    for _ in 0..RUNS {
+        ours_best = ours_best.min(milliseconds(|| wavetable::Wavetable::fill_bank(black_box(&mut bank)).unwrap()));
+        theirs_best = theirs_best.min(theirs::fill_bank().unwrap_or(f64::INFINITY));
+    }
+    let ratio = ours_best / theirs_best;
+    println!("{:<16} {:<10} {ours_best:>7.2} {theirs_best:>7.2} {ratio:>7.2}", "bank, ms a fill", "");
+}
+
+fn milliseconds(call: impl FnOnce()) -> f64 {
+    let start = Instant::now();
+    call();
+    start.elapsed().as_secs_f64() * 1e3
 }
 
 fn formant() {
@@ -152,6 +167,17 @@ mod theirs {
                 None
             }
         )*};
+    }
+
+    /// Milliseconds that the Rust's fill of a bank takes.
+    pub fn fill_bank() -> Option<f64> {
+        #[cfg(quiver)]
+        {
+            let mut bank: Box<rust::probe::Bank> = Box::new([[[0.0; 256]; 8]; 8]);
+            return Some(super::milliseconds(|| rust::Wavetable::fill(std::hint::black_box(&mut bank))));
+        }
+        #[cfg(not(quiver))]
+        None
     }
 
     bodies! {

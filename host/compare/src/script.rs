@@ -133,12 +133,7 @@ pub fn ticks<P: Pair>(seed: u64, n: usize) -> Result<Vec<Vec<u64>>, String> {
     Ok(cases)
 }
 
-fn case<P: Pair>(
-    pair: &mut P,
-    controls: &[f64],
-    draw: &mut Draw,
-    counts: &mut Counts,
-) -> Result<Vec<u64>, String> {
+fn case<P: Pair>(pair: &mut P, controls: &[f64], draw: &mut Draw, counts: &mut Counts) -> Result<Vec<u64>, String> {
     let invented = pair.invent(controls, draw);
     let refusal = P::refusal(&invented.0, &invented.1);
     let wanted = mask::<P>(draw);

@@ -52,11 +52,17 @@ fn presets_are_as_described() {
 }
 
 #[test]
-fn the_gallery_is_of_the_presets() {
+fn the_gallery_is_drawn_anew() {
     let page = fs::read_to_string(repository().join("docs/gallery.md")).unwrap();
     let pictures = names("docs/gallery", "svg");
     for name in &pictures {
-        let text = String::from_utf8(program::render(&fs::read(preset(name)).unwrap())).unwrap();
+        let text = match name.as_str() {
+            // render doesn't play these
+            "wavetable" => frames::wavetable().unwrap(),
+            "string" => frames::string().unwrap(),
+            _ => String::from_utf8(program::render(&fs::read(preset(name)).unwrap())).unwrap(),
+        };
+        assert!(text.contains("begun="), "{name}");
         let stored = fs::read_to_string(repository().join("docs/gallery").join(name).with_extension("svg")).unwrap();
         assert!(picture::svg(&text).unwrap() == stored, "{name}: its picture is drawn otherwise today");
         assert!(stored.len() < 60_000, "{name}: {} bytes", stored.len());

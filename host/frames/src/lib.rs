@@ -1,0 +1,74 @@
+//! The two oscillators that `render` doesn't play, over the safe crate, in the text that `render` prints: each frame with its mark,
+//! and the tally at the end. It shows how a service drives an oscillator, lends it a bank or a line, and counts what is
+//! finished.
+use gruttisol::answer::{Mark, Refused};
+use gruttisol::karplus_strong::{self, KarplusStrong};
+use gruttisol::tally::Tally;
+use gruttisol::wavetable::{self, Wavetable};
+use random::Random;
+use std::fmt::Write;
+
+const RATE: f64 = 48000.0;
+
+/// The frames so far and their tally.
+#[derive(Default)]
+struct Text {
+    text: String,
+    tally: Tally,
+}
+
+impl Text {
+    /// Adds a frame of one output.
+    fn frame(&mut self, mark: Mark, out: f64) -> Result<(), Refused> {
+        let [begun, ..] = *self.tally.counts();
+        let bits = if out.is_nan() { 0x7ff8_0000_0000_0000 } else { out.to_bits() };
+        write!(self.text, "n={begun}\nmark={}\nout={bits:016X}\n", mark.word()).unwrap();
+        self.tally.take(Ok(mark))
+    }
+
+    /// The whole, of so many frames.
+    fn end(mut self, frames: u32) -> String {
+        let [begun, finished, cleared, notfinite, lost] = *self.tally.counts();
+        let claimed = if finished == begun && begun == frames { "yes" } else { "no" };
+        writeln!(
+            self.text,
+            "begun={begun}\nfinished={finished}\ncleared={cleared}\nnotfinite={notfinite}\nlost={lost}"
+        )
+        .unwrap();
+        writeln!(self.text, "claimed={claimed}").unwrap();
+        self.text
+    }
+}
+
+/// Middle C, gliding from the first table of the bank to the last.
+pub fn wavetable() -> Result<String, Refused> {
+    const FRAMES: u32 = 1920;
+    let mut bank = vec![0.0; Wavetable::BANK];
+    Wavetable::fill_bank(&mut bank)?;
+    let mut oscillator = Wavetable::new(RATE)?;
+    let mut text = Text::default();
+    for frame in 0..FRAMES {
+        let table = f64::from(frame) / f64::from(FRAMES);
+        let controls = wavetable::Controls { v_oct: 0.0, table, morph: 0.0, sync: 0.0 };
+        let ticked = oscillator.tick(&controls, &bank)?;
+        text.frame(ticked.mark, ticked.volts.out)?;
+    }
+    Ok(text.end(FRAMES))
+}
+
+/// A string an octave above middle C, plucked in its first frame.
+pub fn string() -> Result<String, Refused> {
+    const FRAMES: u32 = 2400;
+    let mut line = vec![0.0; KarplusStrong::cells(RATE)];
+    let mut random = Random::new(1);
+    let draws: Vec<u64> = line.iter().map(|_| random.bits() >> 11).collect();
+    let mut string = KarplusStrong::new(RATE, &mut line)?;
+    let mut text = Text::default();
+    for frame in 0..FRAMES {
+        let trigger = if frame == 0 { 5.0 } else { 0.0 };
+        let controls = karplus_strong::Controls { voct: 1.0, trigger, damping: 0.2, brightness: 0.5, stretch: 0.0 };
+        let ticked = string.tick(&controls, &mut line, &draws)?;
+        text.frame(ticked.mark, ticked.volts.out)?;
+    }
+    Ok(text.end(FRAMES))
+}
