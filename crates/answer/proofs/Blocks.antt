@@ -13,10 +13,11 @@ use lib.Seq.{sets}
 use borrow.Author.Tests.{eqb-true, eqb-false, leb-true, leb-false, le-leb, lt-leb, ne-eqb}
 use Rattle.laws.specs.Lists.{tab, over}
 use Rattle.laws.proofs.Slices.{stored, sets-append}
-use Rattle.laws.proofs.Over.{getD-tab, length-tab, tab-ext}
+use Rattle.laws.proofs.Over.{getD-tab, length-tab, tab-ext, over-more, over-all}
 use Rattle.answer.specs.Answer.{markNumber, voltsOf}
 use Rattle.answer.specs.Block.{manyTo, countedTo, cellsOf, roomFor, marksTaken, joined, afterTicks, answerAt, markAt, frameAt, portsOf, block, blockRefusalOf, ticksOf, blockOf, grownBy}
 use Rattle.answer.specs.Tally.{addsUp, oneIf, sumOf, counted, tallyOf}
+use Rattle.answer.specs.declared.Volts.{Volts}
 use Rattle.answer.specs.declared.Answer.{Answer}
 use Rattle.answer.specs.declared.Tally.{Tally}
 
@@ -104,6 +105,43 @@ unfolding joined
 joined-ext f g zero h = refl
 joined-ext f g (suc n) h = let a : joined f n ≡ joined g n = joined-ext f g n h in let b : f n ≡ g n = h n in cc
 
+-- ---- a loop that puts one answer after another
+-- an oscillator has one output, two, four or five
+pub one-port : (v : Volts) → length (portsOf 1 v) ≡ 1
+unfolding portsOf
+one-port v = refl
+
+pub two-ports : (v : Volts) → length (portsOf 2 v) ≡ 2
+unfolding portsOf
+two-ports v = refl
+
+pub four-ports : (v : Volts) → length (portsOf 4 v) ≡ 4
+unfolding portsOf
+four-ports v = refl
+
+pub five-ports : (v : Volts) → length (portsOf 5 v) ≡ 5
+unfolding portsOf
+five-ports v = refl
+
+module _ {S : Type 0} (ports : ℕ) (whole : (v : Volts) → length (portsOf ports v) ≡ ports) (answer : S → Answer) (next : S → S) (s : S) where
+  frames-length : (n : ℕ) → length (joined (frameAt ports answer next s) n) ≡ ports * n
+  frames-length n = joined-length (frameAt ports answer next s) ports n (λ i. whole (voltsOf (answerAt answer next s i)))
+
+  pub frames-more : (i : ℕ) (l m : List Float) (a : Answer) → m ≡ sets l 0 (joined (frameAt ports answer next s) i) → a ≡ answerAt answer next s i
+      → sets m (ports * i) (portsOf ports (voltsOf a)) ≡ sets l 0 (joined (frameAt ports answer next s) (i + 1))
+  frames-more i l m a e q = joined-more (frameAt ports answer next s) i (ports * i) l m (portsOf ports (voltsOf a)) (sym (frames-length i)) e (ap (λ (b : Answer). portsOf ports (voltsOf b)) q)
+
+  pub frames-done : (i n : ℕ) (l m : List Float) → i ≡ n → length l ≡ ports * n → m ≡ sets l 0 (joined (frameAt ports answer next s) i) → m ≡ joined (frameAt ports answer next s) n
+  frames-done i n l m h k e =
+      e ∙ ap (λ (j : ℕ). sets l 0 (joined (frameAt ports answer next s) j)) h ∙ joined-all (frameAt ports answer next s) n l (k ∙ sym (frames-length n))
+
+  pub marks-more : (i : ℕ) (l m : List ℕ) (a : Answer) → i < length l → m ≡ over (markAt answer next s) i l → a ≡ answerAt answer next s i
+      → set m i (markNumber a) ≡ over (markAt answer next s) (i + 1) l
+  marks-more i l m a h e q = over-more (markAt answer next s) i l m (markNumber a) h e (ap markNumber q)
+
+  pub marks-done : (i n : ℕ) (l m : List ℕ) → i ≡ n → length l ≡ n → m ≡ over (markAt answer next s) i l → m ≡ tab (markAt answer next s) n
+  marks-done i n l m h k e = e ∙ ap (λ (j : ℕ). over (markAt answer next s) j l) h ∙ over-all (markAt answer next s) n l k
+
 -- ---- held controls: a machine with less state goes through the same ticks. `embed` is the whole state that a small one stands for,
 -- from the second tick on; before the first the whole state may still be another.
 pub record Holds {S H : Type 0} (answer : S → Answer) (next : S → S) (told : H → Answer) (step : H → H) (embed : H → S) (Good : H → Type 0) (s : S) (h : H) : Type 0 where
@@ -123,10 +161,14 @@ module _ {S H : Type 0} (answer : S → Answer) (next : S → S) (told : H → A
   good-at : (n : ℕ) → Good (afterTicks step n h)
   good-at n = good-after step Good h (w .good) (w .stays) n
 
-  pub held-state : (n : ℕ) → afterTicks next (suc n) s ≡ embed (afterTicks step (suc n) h)
+  held-state : (n : ℕ) → afterTicks next (suc n) s ≡ embed (afterTicks step (suc n) h)
   unfolding afterTicks
   held-state zero = w .second
   held-state (suc n) = ap next (held-state n) ∙ w .moves (afterTicks step (suc n) h) (good-at (suc n))
+
+  pub held-after : (n : ℕ) → 0 < n → afterTicks next n s ≡ embed (afterTicks step n h)
+  held-after zero z = absurd (omega arith)
+  held-after (suc n) z = held-state n
 
   held-answer : (i : ℕ) → answerAt answer next s i ≡ answerAt told step h i
   unfolding answerAt afterTicks
@@ -140,7 +182,7 @@ module _ {S H : Type 0} (answer : S → Answer) (next : S → S) (told : H → A
   held-frames ports n = joined-ext (frameAt ports answer next s) (frameAt ports told step h) n (λ i. ap (λ (a : Answer). portsOf ports (voltsOf a)) (held-answer i))
 
 -- ---- a block as its code has it
-pub not-refused : (fits : Bool) (number : ℕ) (t : Tally) (n : ℕ) → blockRefusalOf fits number t n ≡ 0 → (fits ≡ true) × (number ≡ 0) × (roomFor t n ≡ true)
+not-refused : (fits : Bool) (number : ℕ) (t : Tally) (n : ℕ) → blockRefusalOf fits number t n ≡ 0 → (fits ≡ true) × (number ≡ 0) × (roomFor t n ≡ true)
 unfolding blockRefusalOf
 not-refused fits number t n = go fits (eqb number 0) (roomFor t n) (eqb-true number 0) (eqb-false number 0)
   where
@@ -149,6 +191,10 @@ not-refused fits number t n = go fits (eqb number 0) (roomFor t n) (eqb-true num
     go true true false k l h = absurd (omega arith)
     go true false d k l h = absurd (l refl h)
     go false b d k l h = absurd (omega arith)
+
+pub block-fits : (ports number : ℕ) (t : Tally) (o : List Float) (m : List ℕ) (n : ℕ) → n ≡ blockRefusalOf (eqb (length o) (ports * length m)) number t (length m) → n ≡ 0
+    → (length o ≡ ports * length m) × (number ≡ 0) × (roomFor t (length m) ≡ true)
+block-fits ports number t o m n e h = let k = not-refused _ number t (length m) (sym e ∙ h) in (eqb-true (length o) (ports * length m) (k .0), k .1, k .2)
 
 nothing-counted : (t : Tally) (f : ℕ → ℕ) → countedTo t f 0 ≡ t
 unfolding countedTo grownBy manyTo
@@ -163,9 +209,6 @@ module _ {S : Type 0} (ports number : ℕ) (answer : S → Answer) (next : S →
   unfolding blockOf
   block-refused h = simp (← e, ne-eqb n 0 h)
 
-  pub block-fits : n ≡ 0 → (length o ≡ ports * length m) × (number ≡ 0) × (roomFor t (length m) ≡ true)
-  block-fits h = let k = not-refused _ number t (length m) (sym e ∙ h) in (eqb-true (length o) (ports * length m) (k .0), k .1, k .2)
-
   accepted-block : n ≡ 0 → blockOf ports number answer next s t o m ≡ ticksOf ports answer next (length m) s t
   unfolding blockOf
   accepted-block h = simp (← e, h)
@@ -176,11 +219,11 @@ module _ {S : Type 0} (ports number : ℕ) (answer : S → Answer) (next : S →
 
   pub block-empty : n ≡ 0 → length m ≡ 0 → block 0 s t o m ≡ blockOf ports number answer next s t o m
   block-empty h z =
-      let p : o ≡ [] = nil o (block-fits h .0 ∙ ap (λ (k : ℕ). ports * k) z ∙ mul-zero ports) in
+      let p : o ≡ [] = nil o (block-fits ports number t o m n e h .0 ∙ ap (λ (k : ℕ). ports * k) z ∙ mul-zero ports) in
       let q : m ≡ [] = nil m z in
       (λ i. block 0 s t (p i) (q i)) ∙ sym no-ticks ∙ ap (λ (k : ℕ). ticksOf ports answer next k s t) (sym z) ∙ sym (accepted-block h)
 
   pub block-done : n ≡ 0 → (u : Tally) (r : S) (p : List Float) (l : List ℕ) → r ≡ afterTicks next (length m) s → p ≡ joined (frameAt ports answer next s) (length m)
       → l ≡ tab (markAt answer next s) (length m) → u ≡ marksTaken t l → block 0 r u p l ≡ blockOf ports number answer next s t o m
   unfolding ticksOf
-  block-done h u r p l a b d g = simp (accepted-block h, a, b, g, d, counted-tab t (markAt answer next s) (length m) (block-fits h .2))
+  block-done h u r p l a b d g = simp (accepted-block h, a, b, g, d, counted-tab t (markAt answer next s) (length m) (block-fits ports number t o m n e h .2))

@@ -20,19 +20,19 @@ enum-told c = search needs
 
 returns : tie.Need-returns
 unfolding voltsOf
-returns c = simp (c .known-told .given .1, c .before .a .given .1)
+returns c = simp (c .before .a .given .1)
 
 returns-2 : tie.Need-returns-2
 unfolding voltsOf
-returns-2 c = simp (c .known-told2 .given .1, c .before .a2 .given .1)
+returns-2 c = simp (c .before .a2 .given .1)
 
 returns-3 : tie.Need-returns-3
 unfolding voltsOf
-returns-3 c = simp (c .known-told3 .given .1, c .before .a3 .given .1)
+returns-3 c = simp (c .before .a3 .given .1)
 
 returns-4 : tie.Need-returns-4
 unfolding voltsOf
-returns-4 c = simp (c .known-told4 .given .1, c .before .a4 .given .1)
+returns-4 c = simp (c .before .a4 .given .1)
 
 returns-5 : tie.Need-returns-5
 unfolding voltsOf
