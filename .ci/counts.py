@@ -51,17 +51,18 @@ def crate_counts(files):
 
 def axioms(files, crate):
     """What the prover named as a program's axioms, or the page does."""
-    log = ROOT / "target" / "log" / f"{crate}.say"
-    if log.exists():
-        named = re.findall(r"^axioms \S+: (.*) \(\d+ of the \d+ declared\)$", log.read_text(errors="replace"), re.M)
-        return ", ".join(named) or "none"
+    log = ROOT / "target" / "log" / f"{crate}.out"
+    said = log.read_text(errors="replace") if log.exists() else ""
+    if re.search(r"^logic=proved .*\baxioms=", said, re.M):
+        return ", ".join(re.findall(r"^axioms \S+: (.*) \(\d+ of the \d+ declared\)$", said, re.M)) or "none"
     said = re.search(rf"^\| `{crate}` \| (.*) \|$", files.get(PAGE, ""), re.M)
     return said[1] if said else "not known"
 
 
 def tables(files):
     counts = crate_counts(files)
-    rows = ["| crate | definitions | statements | public functions | of them settled | edits that must fail |", "|---|---|---|---|---|---|"]
+    rows = ["| crate | definitions | statements | public functions | of them settled | edits that must fail |"]
+    rows.append("|---|---|---|---|---|---|")
     rows += [f"| {crate} | " + " | ".join(map(str, counts[crate])) + " |" for crate in sorted(counts)]
     rows.append("| all | " + " | ".join(str(sum(column)) for column in zip(*counts.values())) + " |")
     programs = sorted(path.split("/")[1] for path in files if re.fullmatch(r"crates/\w+/src/main\.rt", path))
