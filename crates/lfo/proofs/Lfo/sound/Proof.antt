@@ -1,24 +1,25 @@
+use native.Mathlib.Omega.{arith}
 use Rattle.laws.specs.Lists.{tab}
 use Rattle.answer.specs.Block.{afterTicks, answerAt, joined, portsOf}
-use Rattle.lfo.proofs.Held.{one-tick}
+use Rattle.lfo.proofs.Blocks.{start-ok, state-after, frames-after, marks-after, one-tick}
 use borrow.Author.Needs.{needs}
 use Rattle.lfo.proofs.Lfo.sound.Statement.{statement}
 use Rattle.lfo.proofs.Lfo.sound.Tie as tie
 
-slice-aggregate-run : tie.Need-slice-aggregate-run
-slice-aggregate-run c = search needs
+held-requires : tie.Need-held-requires
+held-requires c κs = search needs
 
-slice-aggregate-run-2 : tie.Need-slice-aggregate-run-2
-slice-aggregate-run-2 c = search needs
+slice-aggregate-glide : tie.Need-slice-aggregate-glide
+slice-aggregate-glide c = search needs
 
-run-requires : tie.Need-run-requires
-run-requires c κs = search needs
+slice-aggregate-glide-2 : tie.Need-slice-aggregate-glide-2
+slice-aggregate-glide-2 c = search needs
 
-array-read-t14 : tie.Need-array-read-t14
-array-read-t14 c = search needs
+glide-requires : tie.Need-glide-requires
+glide-requires c κs = (rw (c .before .before .before .before .before .held .ensures) (start-ok _ _ (c .before .before .before .before .before .before .pre)), omega arith)
 
-array-read-t17 : tie.Need-array-read-t17
-array-read-t17 c = search needs
+array-read-t11 : tie.Need-array-read-t11
+array-read-t11 c = search needs
 
 array-read-t20 : tie.Need-array-read-t20
 array-read-t20 c = search needs
@@ -29,31 +30,41 @@ array-read-t23 c = search needs
 array-read-t26 : tie.Need-array-read-t26
 array-read-t26 c = search needs
 
+array-read-t29 : tie.Need-array-read-t29
+array-read-t29 c = search needs
+
 array-read-answer-of : tie.Need-array-read-answer-of
 array-read-answer-of c = search needs
 
 answer-of-requires : tie.Need-answer-of-requires
 answer-of-requires c κs = search needs
 
+at-requires : tie.Need-at-requires
+at-requires c κs = search needs
+
 returns : tie.Need-returns
 unfolding afterTicks answerAt joined portsOf tab
 returns c =
-    let a = c .before .before .before .before .before .before .args in
-    let r = c .before .before .before .run .ensures in
-    simp (c .answer-of .ensures, r .0, r .1 .0, r .1 .1) (one-tick (a .self) (a .c) (a .wanted) (c .before .before .before .before .before .before .pre))
+    let a = c .before .before .before .before .before .before .before .before .before .before .before .args in
+    let p = c .before .before .before .before .before .before .before .before .before .before .before .pre in
+    let e = c .before .before .before .before .before .before .before .before .before .before .held .ensures in
+    let g = c .before .before .before .before .glide .ensures in
+    simp (c .at .ensures, c .before .answer-of .ensures, state-after (a .self) (a .c) (a .wanted) p _ e 1 (omega arith) _ (g .0), frames-after (a .self) (a .c) (a .wanted) p _ e 1 _ (g .1 .0), marks-after (a .self) (a .c) (a .wanted) p _ e 1 _ (g .1 .1)) (one-tick (a .self) (a .c) (a .wanted) p)
 
 pub sound-spec : {M : Type 1} → statement M
 sound-spec =
     tie.close
     (tie.spec
-    slice-aggregate-run
-    slice-aggregate-run-2
-    run-requires
-    array-read-t14
-    array-read-t17
+    held-requires
+    slice-aggregate-glide
+    slice-aggregate-glide-2
+    glide-requires
+    array-read-t11
     array-read-t20
     array-read-t23
     array-read-t26
+    array-read-t29
     array-read-answer-of
     answer-of-requires
+    at-requires
     returns)
