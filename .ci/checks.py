@@ -10,6 +10,9 @@ import re
 import subprocess
 import sys
 
+sys.dont_write_bytecode = True  # no folder of compiled files beside this one
+import counts
+
 ROOT = pathlib.Path(__file__).resolve().parent.parent
 
 
@@ -59,6 +62,7 @@ def past(text, at):
 
 PROMISED = {"sinOf", "cosOf", "exp2Of", "pow3000Of"}
 OWNERS = ["crates/numeric/specs/Trig.antt", "crates/numeric/specs/Power.antt"]
+PROMISES = "crates/numeric/specs/Promises.antt"
 
 
 def entries(text, at):
@@ -86,8 +90,17 @@ def opened(text):
                 yield at, head[1]
 
 
+def below(files):
+    """Modules of numeric's proofs that look into sine, cosine or powers."""
+    for path, _, text in of_crates(files, ["proofs"], ".antt"):
+        if path.startswith("crates/numeric/") and re.search(r"\.specs\.(?:Trig|Power)\b", text):
+            yield path.split("/")[-1].removesuffix(".antt")
+
+
 def only_promises(files):
-    """No crate but numeric looks into sine, cosine and powers, or names what is below them."""
+    """No crate but numeric looks into sine, cosine and powers, or names what is below them or a law of them that is no promise."""
+    promises = {name.lower() for name in re.findall(r"^abbrev pub ([A-Z]\S*) :", files[PROMISES], re.M)}
+    inner = rf"Rattle.numeric\S*?\.proofs\.(?:{'|'.join(below(files))})\b(?:\.\{{([^}}]*)\}}|\.([\w-]+))?"
     defined = {name for path in OWNERS for name in re.findall(r"^unfoldable pub (\S+)", files[path], re.M)}
     if not PROMISED < defined:
         yield f"{OWNERS}: without {PROMISED - defined}"
@@ -95,10 +108,12 @@ def only_promises(files):
         if crate == "numeric":
             continue
         text = blanked(text, r"--.*|//.*")
-        for m in re.finditer(r"Rattle.numeric\S*?\.specs\.(?:Trig|Power)\b(?:\.\{([^}]*)\}|\.(\w+))?", text):
-            names = set(re.split(r"[\s,]+", (m[1] or m[2] or "*").strip())) - PROMISED
-            if names:
-                yield f"{path}:{line(text, m.start())}: names {', '.join(sorted(names))} of numeric"
+        outer = r"Rattle.numeric\S*?\.specs\.(?:Trig|Power)\b(?:\.\{([^}]*)\}|\.(\w+))?"
+        for pattern, allowed in [(outer, PROMISED), (inner, promises)]:
+            for m in re.finditer(pattern, text):
+                names = set(re.split(r"[\s,]+", (m[1] or m[2] or "*").strip())) - allowed
+                if names:
+                    yield f"{path}:{line(text, m.start())}: names {', '.join(sorted(names))} of numeric"
         for at, name in opened(text):
             if name.split(".")[-1] in PROMISED:
                 yield f"{path}:{line(text, at)}: unfolds {name}"
@@ -215,13 +230,12 @@ def no_copy(files):
             yield f"{path}: {found} lines of the Rust's source"
 
 
-# ---- the checks, each with examples that it must refuse
-
 # ---- the proof map
 
 DECLARED = {
     ".antt": r"^(?:abbrev |unfoldable )?pub (?:use [^\n]*[{{ ,]|record |data )?{0}(?=[\s:,}}])",
     ".rt": r"^\s*(?:pub )?(?:extern \"C\" )?(?:fn|struct|enum|const) {0}\b",
+    ".rs": r"^\s*(?:pub )?(?:fn|struct|enum|const|trait) {0}\b",
 }
 
 
@@ -229,7 +243,7 @@ def map_holds(files):
     """Each name of the proof map stands in the file that the map gives."""
     path = "docs/PROOFS.md"
     text = files.get(path, "")
-    spans = list(re.finditer(r"`([\w/]+(\.antt|\.rt)):([^`\s]+)`", text))
+    spans = list(re.finditer(r"`([\w/]+(\.antt|\.rt|\.rs)):([^`\s]+)`", text))
     if not spans:
         yield f"{path}: names nothing"
     for m in spans:
@@ -238,6 +252,14 @@ def map_holds(files):
             yield f"{path}:{line(text, m.start())}: {m[1]} has no {m[3]}"
 
 
+def counted(files):
+    """The counts on the page of the proof map are today's."""
+    if counts.tables(files) not in files[counts.PAGE]:
+        yield f"{counts.PAGE}: its counts are others than today's, which `python3 .ci/counts.py --write` puts there"
+
+
+# ---- the checks, each with examples that it must refuse
+
 CHECKS = {
     only_promises: [
         {"crates/x/proofs/A.antt": "a : A\nunfolding lt sinOf\na = refl\n"},
@@ -245,6 +267,8 @@ CHECKS = {
         {"crates/x/proofs/A.antt": "a c = simp (c .if1 (b, d), ← exp2Of, e)\n"},
         {"crates/x/proofs/A.antt": "use Rattle.numeric.specs.Trig.{sinOf, kernelSin}\n"},
         {"crates/x/specs/A.antt": "use Rattle.numeric.specs.Power as power\n"},
+        {"crates/x/proofs/A.antt": "use Rattle.numeric.proofs.TrigLaws.{sin-inside, kernel-inside}\n"},
+        {"crates/x/proofs/A.antt": "use Rattle.numeric.proofs.PowerLaws as laws\n"},
     ],
     settled: [
         {"crates/x/src/lib.rt": "pub fn f(x: [u8; 2]) -> [u8; 2] // ensures { x }\n{\n    x\n}\n"},
@@ -261,8 +285,10 @@ CHECKS = {
     map_holds: [
         {"docs/PROOFS.md": "`crates/laws/specs/Machine.antt:Settle`\n"},
         {"docs/PROOFS.md": "`crates/laws/specs/Gone.antt:Settles`\n"},
+        {"docs/PROOFS.md": "`host/gruttisol/tests/grid.rs:tangent`\n"},
         {"docs/PROOFS.md": "nothing\n"},
     ],
+    counted: [{"docs/PROOFS.md": "nothing\n"}],
 }
 
 

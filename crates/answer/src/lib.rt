@@ -1,9 +1,12 @@
 // Added by document 01: what a tick answers, how it is marked, and the tally of the answers. One text for all oscillators.
 ghost use mathlib.Core.Path.{_≡_};
-ghost use Prim.Native.Nat.{_<_};
-ghost use Rattle.answer.specs.Answer.{markNumber};
+ghost use Prim.Native.Nat.{_<_, _≤_, _+_};
+ghost use lib.ListN.{length};
+ghost use Rattle.answer.specs.Answer.{markNumber, voltsOf};
 ghost use Rattle.answer.specs.Mark.{allFinite, markOf};
 ghost use Rattle.answer.specs.Tally.{newTally, sumOf, addsUp, oneIf, counted, tallyOf};
+ghost use Rattle.answer.specs.Flat.{tallyFrom, countsPut};
+ghost use Rattle.answer.specs.Block.{manyTo, cellsOf, roomFor, grownBy, marksTaken, blockRefusalOf};
 
 // Sample volts: a field for each output port number of the Rust. An output that an oscillator doesn't have, or that isn't
 // wanted, reads 0.0.
@@ -40,6 +43,25 @@ pub fn mark_number(a: Answer) -> u32
         Answer::NotFinite(_) => 2,
         Answer::Lost(_) => 3,
         Answer::Refused(_) => 0,
+    }
+}
+
+// The samples; a refused tick has none.
+pub fn samples(a: Answer) -> Volts
+    ensures { λ r. ⌜ r ≡ voltsOf a ⌝ }
+{
+    match a {
+        Answer::Clean(v) => v,
+        Answer::Cleared(v) => v,
+        Answer::NotFinite(v) => v,
+        Answer::Lost(v) => v,
+        Answer::Refused(_) => Volts {
+            p10: 0.0,
+            p11: 0.0,
+            p12: 0.0,
+            p13: 0.0,
+            p14: 0.0,
+        },
     }
 }
 
@@ -108,6 +130,20 @@ fn one_if(n: u32, k: u32) -> u32
     if n == k { 1 } else { 0 }
 }
 
+// How many of the marks are k.
+fn count_of(marks: &[u32], k: u32) -> u32
+    requires { ⌜ length (now marks) ≤ 4294967295 ⌝ }
+    ensures { λ r. ⌜ r ≡ manyTo k (cellsOf (now (marks .entry))) (length (now (marks .entry))) ⌝ }
+{
+    let mut many = 0;
+    let mut i = 0;
+    while i < marks.len() {
+        many += one_if(marks[i], k);
+        i += 1;
+    }
+    many
+}
+
 impl Tally {
     pub fn new() -> Self
         ensures { λ r. ⌜ r ≡ newTally ⌝ }
@@ -118,6 +154,36 @@ impl Tally {
             cleared: 0,
             notfinite: 0,
             lost: 0,
+        }
+    }
+
+    // The tally that five counts stand for, in the order of the fields; a new one where there aren't five.
+    pub fn from_counts(counts: &[u32]) -> Self
+        ensures { λ r. ⌜ r ≡ tallyFrom (now (counts .entry)) ⌝ }
+    {
+        if counts.len() == 5 {
+            Tally {
+                begun: counts[0],
+                finished: counts[1],
+                cleared: counts[2],
+                notfinite: counts[3],
+                lost: counts[4],
+            }
+        } else {
+            Tally::new()
+        }
+    }
+
+    // Its five counts into a slice for five; another is left.
+    pub fn put_counts(self, counts: &mut [u32])
+        ensures { λ _. ⌜ now (counts .exit) ≡ countsPut self (now (counts .entry)) ⌝ }
+    {
+        if counts.len() == 5 {
+            counts[0] = self.begun;
+            counts[1] = self.finished;
+            counts[2] = self.cleared;
+            counts[3] = self.notfinite;
+            counts[4] = self.lost;
         }
     }
 
@@ -162,5 +228,62 @@ impl Tally {
         } else {
             Tallied::Refused(7)
         }
+    }
+
+    // Whether n more answers can be taken.
+    pub fn has_room(self, n: usize) -> bool
+        ensures { λ r. ⌜ r ≡ roomFor self n ⌝ }
+    {
+        if self.adds_up() {
+            n <= 4294967295 - (self.begun as usize)
+        } else {
+            false
+        }
+    }
+
+    // So many more answers of each mark.
+    fn grown(self, clean: u32, cleared: u32, notfinite: u32, lost: u32) -> Self
+        requires { ⌜ (self .begun ≡ sumOf self) × (self .begun + (clean + cleared + notfinite + lost) ≤ 4294967295) ⌝ }
+        ensures { λ r. ⌜ r ≡ grownBy self clean cleared notfinite lost ⌝ }
+    {
+        Tally {
+            begun: self.begun + (clean + cleared + notfinite + lost),
+            finished: self.finished + clean,
+            cleared: self.cleared + cleared,
+            notfinite: self.notfinite + notfinite,
+            lost: self.lost + lost,
+        }
+    }
+
+    // The tally given the marks of a block, by their numbers. Without room for all of them it stays.
+    pub fn take_marks(self, marks: &[u32]) -> Self
+        ensures { λ r. ⌜ r ≡ marksTaken self (now (marks .entry)) ⌝ }
+    {
+        if self.has_room(marks.len()) {
+            self.grown(
+                count_of(marks, 4),
+                count_of(marks, 1),
+                count_of(marks, 2),
+                count_of(marks, 3),
+            )
+        } else {
+            self
+        }
+    }
+}
+
+// 0, or what refuses a block of n ticks: 52 where the samples' buffer doesn't fit the marks', then what refuses its first
+// tick, then 7 where the tally has no room for n answers.
+pub fn block_refusal(fits: bool, number: u32, tally: Tally, n: usize) -> u32
+    ensures { λ r. ⌜ r ≡ blockRefusalOf fits number tally n ⌝ }
+{
+    if fits {
+        if number == 0 {
+            if tally.has_room(n) { 0 } else { 7 }
+        } else {
+            number
+        }
+    } else {
+        52
     }
 }

@@ -1,13 +1,14 @@
--- An edge for any previous sample is one for a new detector, whose previous sample is 0.
+-- An edge for any previous sample is one for a new detector, whose previous sample is 0; and no edge comes twice.
 use mathlib.Core.Bool.{Bool, _&&_, true, false}
-use mathlib.Core.Path.{_≡_}
+use mathlib.Core.Path.{_≡_, refl}
 use lib.Dec.{T}
 use lib.Ieee.{lt, le, ofBits, eq}
 use lib.Ieee.Bits.{is-true}
 use Rattle.laws.specs.Float.{zer}
+use Rattle.laws.proofs.Order.{le-false}
 use Rattle.common.specs.Consts.{gateThreshold}
 use Rattle.common.specs.Edge.{risesAbove}
-use Rattle.common.specs.Promises.{Rises-new}
+use Rattle.common.specs.Promises.{Rises-new, Rises-once}
 
 rises-left : (a b c : Bool) → (a && b) ≡ true → c ≡ true → (a && c) ≡ true
 rises-left true b c h e = e
@@ -21,3 +22,11 @@ rises-new threshold prev v t h = rises-left (lt threshold v) (le prev threshold)
 pub gate-above : T (le zer gateThreshold)
 unfolding le lt eq ofBits
 gate-above = tt
+
+pub rises-once : Rises-once
+unfolding risesAbove
+rises-once threshold v = go (lt threshold v) refl
+  where
+    go : (b : Bool) → lt threshold v ≡ b → (b && le v threshold) ≡ false
+    go true e = le-false threshold v (rw e tt)
+    go false e = refl

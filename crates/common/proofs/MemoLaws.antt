@@ -5,13 +5,13 @@ use mathlib.Core.Path.{_≡_, refl, sym, ap, _∙_}
 use lib.Dec.{eqb}
 use lib.Ieee.{Float, binary64, ofBits, toBits}
 use lib.Ieee.Bits.{ofBits-toBits}
-use borrow.Author.Tests.{eqb-true}
+use borrow.Author.Tests.{eqb-true, eq-eqb}
 use Rattle.laws.specs.Float.{F64}
 use Rattle.common.specs.declared.Hertz.{Hertz}
 use Rattle.common.specs.declared.Memo1.{Memo1}
 use Rattle.common.specs.declared.Memo3.{Memo3}
 use Rattle.common.specs.Memo.{hits1, filled1, recall1, hits3, filled3, recall3}
-use Rattle.common.specs.Promises.{Coherent1, Coherent3, Recall1-is, Recall3-is}
+use Rattle.common.specs.Promises.{Coherent1, Coherent3, Recall1-is, Recall3-is, Recall1-again, Recall3-again}
 
 -- one f64 for each pattern of bits
 pub bits-same : (x y : Float) → F64 x → F64 y → toBits binary64 x ≡ toBits binary64 y → x ≡ y
@@ -58,3 +58,26 @@ recalled1 f m h x t = inr (x, t, recall1-is f m h x t)
 
 pub recalled3 : (f : Float → Float → Float → Hertz) (m : Memo3) → Coherent3 f m → (x y z : Float) → F64 x → F64 y → F64 z → Coherent3 f (recall3 f m x y z)
 recalled3 f m h x y z t u v = inr (x, y, z, t, u, v, recall3-is f m h x y z t u v)
+
+-- what a recall leaves is a hit for the same keys
+pub recall1-again : Recall1-again
+unfolding recall1 hits1 filled1
+recall1-again f m x = go (m .valid && eqb (m .key) (toBits binary64 x)) refl
+  where
+    hit : Memo1
+    hit = filled1 x (f x)
+
+    go : (b : Bool) → (m .valid && eqb (m .key) (toBits binary64 x)) ≡ b → recall1 f (cond b m hit) x ≡ cond b m hit
+    go true e = simp e
+    go false e = simp (eq-eqb (toBits binary64 x) (toBits binary64 x) refl)
+
+pub recall3-again : Recall3-again
+unfolding recall3 hits3 filled3
+recall3-again f m x y z = go (hits3 m x y z) refl
+  where
+    hit : Memo3
+    hit = filled3 x y z (f x y z)
+
+    go : (b : Bool) → hits3 m x y z ≡ b → recall3 f (cond b m hit) x y z ≡ cond b m hit
+    go true e = simp e
+    go false e = simp (eq-eqb (toBits binary64 x) (toBits binary64 x) refl, eq-eqb (toBits binary64 y) (toBits binary64 y) refl, eq-eqb (toBits binary64 z) (toBits binary64 z) refl)

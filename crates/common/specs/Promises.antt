@@ -34,3 +34,14 @@ Recall3-is = (f : Float → Float → Float → Hertz) (m : Memo3) → Coherent3
 -- an edge is one for a new detector too, whose previous sample is 0, where the threshold isn't below 0
 abbrev pub Rises-new : Type 0
 Rises-new = (threshold prev v : Float) → T (le zer threshold) → risesAbove threshold prev v ≡ true → risesAbove threshold zer v ≡ true
+
+-- a sample that stands still gives no second edge
+abbrev pub Rises-once : Type 0
+Rises-once = (threshold v : Float) → risesAbove threshold v v ≡ false
+
+-- and keys that stand still are a hit, whatever the memo held
+abbrev pub Recall1-again : Type 0
+Recall1-again = (f : Float → Hertz) (m : Memo1) (x : Float) → recall1 f (recall1 f m x) x ≡ recall1 f m x
+
+abbrev pub Recall3-again : Type 0
+Recall3-again = (f : Float → Float → Float → Hertz) (m : Memo3) (x y z : Float) → recall3 f (recall3 f m x y z) x y z ≡ recall3 f m x y z

@@ -1,8 +1,10 @@
 -- The Lfo's calls, written from oscillators.rs, with document 01's refusals and marks.
 use mathlib.Core.Bool.{true, false, cond}
+use mathlib.Core.List.{List}
 use Prim.Native.Nat.{ℕ}
 use lib.Dec.{eqb}
 use lib.Ieee.{Float, binary64, mul, div, add}
+use Rattle.answer.specs.Block.{Block, blockOf}
 use Rattle.answer.specs.Mark.{markOf}
 use Rattle.common.specs.Consts.{five}
 use Rattle.common.specs.Edge.{newEdge, risingOf}
@@ -14,7 +16,9 @@ use Rattle.lfo.specs.Consts.{ten}
 use Rattle.lfo.specs.Waves.{rateToHz, restartOf, wants, sineOf, sinWave, triWave, sawWave, sqrWave, sinUniWave}
 use Rattle.common.specs.declared.Hertz.{Hertz}
 use Rattle.answer.specs.declared.Volts.{Volts}
+use Rattle.answer.specs.declared.Answer.{Answer}
 use Rattle.answer.specs.declared.Answer.the-variants as answer
+use Rattle.answer.specs.declared.Tally.{Tally}
 use Rattle.lfo.specs.declared.Lfo.{Lfo}
 use Rattle.lfo.specs.declared.LfoControls.{LfoControls}
 use Rattle.lfo.specs.declared.LfoTicked.{LfoTicked}
@@ -63,6 +67,16 @@ unfoldable pub lfoTickOf : Lfo → LfoControls → ℕ → LfoTicked
 lfoTickOf s c wanted =
     let n = lfoRefusalOf s in
     cond (eqb n 0) (lfoSoundOf s c wanted) (record { answer = answer.Refused n; lfo = s })
+
+-- a block of as many ticks with these controls as there are marks: five samples a tick
+abbrev pub lfoAnswerOf : LfoControls → ℕ → Lfo → Answer
+lfoAnswerOf c wanted s = lfoTickOf s c wanted .answer
+
+abbrev pub lfoNextOf : LfoControls → ℕ → Lfo → Lfo
+lfoNextOf c wanted s = lfoTickOf s c wanted .lfo
+
+unfoldable pub lfoBlockOf : Lfo → LfoControls → ℕ → Tally → List Float → List ℕ → Block Lfo
+lfoBlockOf s c wanted t o m = blockOf 5 (lfoRefusalOf s) (lfoAnswerOf c wanted) (lfoNextOf c wanted) s t o m
 
 -- s, unless n refuses
 unfoldable pub madeUnless : ℕ → Lfo → LfoMade

@@ -1,6 +1,7 @@
 // The Lfo of oscillators.rs, in its order: a slow oscillator with rate, depth and a reset trigger.
 // Its outputs: p10 sin, p11 tri, p12 saw, p13 sqr, p14 sin_uni.
 use answer::Answer;
+use answer::Tally;
 use answer::Volts;
 use common::EdgeDetector;
 use common::Hertz;
@@ -8,14 +9,23 @@ use common::Memo1;
 use common::Turns;
 ghost use mathlib.Core.Path.{_≡_};
 ghost use mathlib.Core.Bool.{true, false, cond, _||_};
+ghost use Prim.Native.Nat.{_<_, _*_};
+ghost use lib.Dec.{eqb};
 ghost use lib.Ieee.{binary64, div};
+ghost use lib.ListN.{length, set};
+ghost use lib.Seq.{sets};
+ghost use Rattle.laws.specs.Lists.{tab};
 ghost use Rattle.laws.specs.Float.{zer};
 ghost use Rattle.common.specs.Phase.{turns};
 ghost use Rattle.common.specs.Memo.{recall1};
+ghost use Rattle.common.specs.Tests.{phaseOk};
+ghost use Rattle.answer.specs.Answer.{markNumber, voltsOf};
 ghost use Rattle.answer.specs.Mark.{allFinite, markOf};
+ghost use Rattle.answer.specs.Block.{afterTicks, portsOf, joined, block, markAt, frameAt};
 ghost use Rattle.lfo.specs.Waves.{rateToHz, restartOf, sineOf, sinWave, triWave, sawWave, sqrWave, sinUniWave};
 ghost use Rattle.lfo.specs.Small.{isSmall};
-ghost use Rattle.lfo.specs.Lfo.{lfoRefusalOf, lfoNewOf, lfoOutputsOf, lfoSoundOf, lfoTickOf, lfoResetOf, lfoSetSampleRateOf};
+ghost use Rattle.lfo.specs.Held.{heldAnswer, heldNext};
+ghost use Rattle.lfo.specs.Lfo.{lfoRefusalOf, lfoNewOf, lfoOutputsOf, lfoSoundOf, lfoTickOf, lfoAnswerOf, lfoNextOf, lfoBlockOf, lfoResetOf, lfoSetSampleRateOf};
 
 pub struct Lfo {
     pub phase: Turns,
@@ -34,6 +44,13 @@ pub struct LfoControls {
 pub struct LfoTicked {
     pub answer: Answer,
     pub lfo: Lfo,
+}
+
+// What a block leaves beside its samples and marks: `refused` is 0, or the number that refused it.
+pub struct LfoBlock {
+    pub refused: u32,
+    pub lfo: Lfo,
+    pub tally: Tally,
 }
 
 pub enum LfoMade {
@@ -159,6 +176,32 @@ fn increment(freq: Hertz, sample_rate: Hertz) -> Turns
     Turns(freq.0 / sample_rate.0)
 }
 
+// Whether a block has five samples for each of n marks. A product could be too large.
+fn fits(samples: usize, n: usize) -> bool
+    ensures { λ r. ⌜ r ≡ eqb samples (5 * n) ⌝ }
+{
+    if samples % 5 == 0 {
+        samples / 5 == n
+    } else {
+        false
+    }
+}
+
+// What tick i of a block answers.
+fn put(a: Answer, i: usize, samples: &mut [f64], marks: &mut [u32])
+    requires { ⌜ (i < length (now marks)) × (length (now samples) ≡ 5 * length (now marks)) ⌝ }
+    ensures { λ _. ⌜ (now (samples .exit) ≡ sets (now (samples .entry)) (5 * i) (portsOf 5 (voltsOf a))) × (now (marks .exit) ≡ set (now (marks .entry)) i (markNumber a)) ⌝ }
+{
+    let v = answer::samples(a);
+    let at = 5 * i;
+    samples[at] = v.p10;
+    samples[at + 1] = v.p11;
+    samples[at + 2] = v.p12;
+    samples[at + 3] = v.p13;
+    samples[at + 4] = v.p14;
+    marks[i] = answer::mark_number(a);
+}
+
 impl Lfo {
     pub fn new(sample_rate: Hertz) -> LfoMade
         ensures { λ r. ⌜ r ≡ lfoNewOf «sample_rate» ⌝ }
@@ -254,6 +297,96 @@ impl Lfo {
             LfoTicked {
                 answer: Answer::Refused(n),
                 lfo: self,
+            }
+        }
+    }
+
+    // Ticks in which no edge is taken and the memo holds: only the phase moves.
+    fn glide(
+        start: Turns,
+        step: Turns,
+        depth: f64,
+        wanted: u32,
+        samples: &mut [f64],
+        marks: &mut [u32],
+    ) -> Turns
+        requires { ⌜ (phaseOk start ≡ true) × (length (now samples) ≡ 5 * length (now marks)) ⌝ }
+        ensures { λ r. ⌜ r ≡ afterTicks (heldNext step) (length (now (marks .entry))) start ⌝ }
+        ensures { λ r. ⌜ now (samples .exit) ≡ joined (frameAt 5 (heldAnswer wanted depth step) (heldNext step) start) (length (now (marks .entry))) ⌝ }
+        ensures { λ r. ⌜ now (marks .exit) ≡ tab (markAt (heldAnswer wanted depth step) (heldNext step) start) (length (now (marks .entry))) ⌝ }
+    {
+        let small = is_small(depth);
+        let mut phase = start;
+        let mut i = 0;
+        while i < marks.len() {
+            let next = Turns(phase.0 + step.0);
+            let volts = Self::outputs(wanted, phase, depth);
+            let heard = mark(volts, small, numeric::is_finite(next.0));
+            put(heard, i, &mut *samples, &mut *marks);
+            phase = common::wrap_phase(next);
+            i += 1;
+        }
+        phase
+    }
+
+    // The ticks of a block. Only the first can take the edge, and the memo holds from then on.
+    fn run(self, c: LfoControls, wanted: u32, samples: &mut [f64], marks: &mut [u32]) -> Self
+        requires { ⌜ (lfoRefusalOf self ≡ 0) × (0 < length (now marks)) × (length (now samples) ≡ 5 * length (now marks)) ⌝ }
+        ensures { λ r. ⌜ r ≡ afterTicks (lfoNextOf c wanted) (length (now (marks .entry))) self ⌝ }
+        ensures { λ r. ⌜ now (samples .exit) ≡ joined (frameAt 5 (lfoAnswerOf c wanted) (lfoNextOf c wanted) self) (length (now (marks .entry))) ⌝ }
+        ensures { λ r. ⌜ now (marks .exit) ≡ tab (markAt (lfoAnswerOf c wanted) (lfoNextOf c wanted) self) (length (now (marks .entry))) ⌝ }
+    {
+        let old = self.phase;
+        let sample_rate = self.sample_rate;
+        let edge = self.reset_edge;
+        let memo = self.freq_memo;
+        let freq_memo = recall(memo, c.rate);
+        let freq = freq_memo.val;
+        let risen = edge.rising(c.reset);
+        let reset_edge = risen.edge;
+        let start = restart(old, risen.rising);
+        let step = increment(freq, sample_rate);
+        Lfo {
+            phase: Self::glide(start, step, c.depth / 10.0, wanted, samples, marks),
+            sample_rate,
+            reset_edge,
+            freq_memo,
+        }
+    }
+
+    // As many ticks with these controls as there are marks. Their samples come one tick after another.
+    pub fn block(
+        self,
+        c: LfoControls,
+        wanted: u32,
+        tally: Tally,
+        samples: &mut [f64],
+        marks: &mut [u32],
+    ) -> LfoBlock
+        ensures { λ r. ⌜ block (r .refused) (r .lfo) (r .tally) (now (samples .exit)) (now (marks .exit)) ≡ lfoBlockOf self c wanted tally (now (samples .entry)) (now (marks .entry)) ⌝ }
+    {
+        let n = marks.len();
+        let refused = answer::block_refusal(fits(samples.len(), n), self.refusal(), tally, n);
+        if refused == 0 {
+            if n == 0 {
+                LfoBlock {
+                    refused: 0,
+                    lfo: self,
+                    tally,
+                }
+            } else {
+                let lfo = self.run(c, wanted, samples, marks);
+                LfoBlock {
+                    refused: 0,
+                    lfo,
+                    tally: tally.take_marks(marks),
+                }
+            }
+        } else {
+            LfoBlock {
+                refused,
+                lfo: self,
+                tally,
             }
         }
     }

@@ -1,0 +1,229 @@
+-- Laws of blocks: room in a tally, marks counted one by one, samples joined frame by frame.
+use mathlib.Core.Bool.{Bool, true, false, cond, _&&_, true≢false, false≢true}
+use mathlib.Core.List.{List, [], _∷_, _++_}
+use mathlib.Core.Path.{_≡_, refl, sym, ap, _∙_, subst}
+use Prim.Native.Nat.{ℕ, zero, suc, _+_, _-_, _*_, _≤_, _<_}
+use native.Mathlib.Nat.{zero-add, add-zero, mul-zero}
+use native.Mathlib.Numerals.{add-one}
+use native.Mathlib.Omega.{arith}
+use lib.Dec.{eqb, leb, lit≤}
+use lib.ListN.{length, length-append, set}
+use lib.Ieee.{Float}
+use lib.Seq.{sets}
+use borrow.Author.Tests.{eqb-true, eqb-false, leb-true, leb-false, le-leb, lt-leb, ne-eqb}
+use Rattle.laws.specs.Lists.{tab, over}
+use Rattle.laws.proofs.Slices.{stored, sets-append}
+use Rattle.laws.proofs.Over.{getD-tab, length-tab, tab-ext, over-more, over-all}
+use Rattle.answer.specs.Answer.{markNumber, voltsOf}
+use Rattle.answer.specs.Block.{manyTo, countedTo, cellsOf, roomFor, marksTaken, joined, afterTicks, answerAt, markAt, frameAt, portsOf, block, blockRefusalOf, ticksOf, blockOf, grownBy}
+use Rattle.answer.specs.Tally.{addsUp, oneIf, sumOf, counted, tallyOf}
+use Rattle.answer.specs.declared.Volts.{Volts}
+use Rattle.answer.specs.declared.Answer.{Answer}
+use Rattle.answer.specs.declared.Tally.{Tally}
+
+-- ---- room
+pub room-test : (b n : ℕ) → b ≤ 4294967295 → leb n (4294967295 - b) ≡ leb (b + n) 4294967295
+room-test b n h = go (leb n (4294967295 - b)) refl
+  where
+    go : (t : Bool) → leb n (4294967295 - b) ≡ t → leb n (4294967295 - b) ≡ leb (b + n) 4294967295
+    go true e = let k = leb-true n (4294967295 - b) e in e ∙ sym (le-leb (b + n) 4294967295 (omega arith))
+    go false e = let k = leb-false n (4294967295 - b) e in e ∙ sym (lt-leb (b + n) 4294967295 (omega arith))
+
+pub room-says : (t : Tally) (n : ℕ) → roomFor t n ≡ true → (t .begun ≡ sumOf t) × (t .begun + n ≤ 4294967295)
+unfolding roomFor addsUp
+room-says t n h = go (eqb (t .begun) (sumOf t)) (leb (t .begun + n) 4294967295) refl refl h
+  where
+    go : (a b : Bool) → eqb (t .begun) (sumOf t) ≡ a → leb (t .begun + n) 4294967295 ≡ b → (a && b) ≡ true → (t .begun ≡ sumOf t) × (t .begun + n ≤ 4294967295)
+    go true true e q z = (eqb-true (t .begun) (sumOf t) e, leb-true (t .begun + n) 4294967295 q)
+    go true false e q z = absurd (false≢true z)
+    go false b e q z = absurd (false≢true z)
+
+-- ---- how many
+one-of : (n : ℕ) → oneIf n 4 + oneIf n 1 + oneIf n 2 + oneIf n 3 ≤ 1
+unfolding oneIf
+one-of n = go (eqb n 4) (eqb n 1) (eqb n 2) (eqb n 3) (eqb-true n 4) (eqb-true n 1) (eqb-true n 2) (eqb-true n 3)
+  where
+    go : (a b c d : Bool) → (a ≡ true → n ≡ 4) → (b ≡ true → n ≡ 1) → (c ≡ true → n ≡ 2) → (d ≡ true → n ≡ 3) → cond a 1 0 + cond b 1 0 + cond c 1 0 + cond d 1 0 ≤ 1
+    go true true c d p q r s = let x = p refl in let y = q refl in absurd (omega arith)
+    go true false true d p q r s = let x = p refl in let y = r refl in absurd (omega arith)
+    go true false false true p q r s = let x = p refl in let y = s refl in absurd (omega arith)
+    go true false false false p q r s = lit≤ tt
+    go false true true d p q r s = let x = q refl in let y = r refl in absurd (omega arith)
+    go false true false true p q r s = let x = q refl in let y = s refl in absurd (omega arith)
+    go false true false false p q r s = lit≤ tt
+    go false false true true p q r s = let x = r refl in let y = s refl in absurd (omega arith)
+    go false false true false p q r s = lit≤ tt
+    go false false false true p q r s = lit≤ tt
+    go false false false false p q r s = lit≤ tt
+
+-- the four counts of n marks together
+pub many-most : (f : ℕ → ℕ) (n : ℕ) → manyTo 4 f n + manyTo 1 f n + manyTo 2 f n + manyTo 3 f n ≤ n
+unfolding manyTo
+many-most f zero = lit≤ tt
+many-most f (suc n) = let a = many-most f n in let b = one-of (f n) in omega arith
+
+pub many-ext : (k : ℕ) (f g : ℕ → ℕ) (n : ℕ) → ((i : ℕ) → i < n → f i ≡ g i) → manyTo k f n ≡ manyTo k g n
+unfolding manyTo
+many-ext k f g zero h = refl
+many-ext k f g (suc n) h =
+    let a : manyTo k f n ≡ manyTo k g n = many-ext k f g n (λ i l. h i (omega arith)) in
+    let b : f n ≡ g n = h n (omega arith) in
+    cc
+
+-- what the marks of a block add to a tally with room for them
+pub counted-tab : (t : Tally) (f : ℕ → ℕ) (n : ℕ) → roomFor t n ≡ true → marksTaken t (tab f n) ≡ countedTo t f n
+unfolding marksTaken countedTo
+counted-tab t f n h = go (length-tab f n)
+  where
+    same : (k : ℕ) → manyTo k (cellsOf (tab f n)) n ≡ manyTo k f n
+    same k = many-ext k (cellsOf (tab f n)) f n (λ i l. getD-tab 0 f n i l)
+
+    go : length (tab f n) ≡ n → cond (roomFor t (length (tab f n))) (countedTo t (cellsOf (tab f n)) (length (tab f n))) t ≡ countedTo t f n
+    go e = simp (e, h, same 1, same 2, same 3, same 4)
+
+-- ---- frames
+pub joined-length : {A : Type 0} (f : ℕ → List A) (k n : ℕ) → ((i : ℕ) → length (f i) ≡ k) → length (joined f n) ≡ k * n
+unfolding joined
+joined-length f k zero h = omega arith
+joined-length f k (suc n) h = let a = length-append (joined f n) (f n) in let b = joined-length f k n h in let c = h n in omega arith
+
+pub joined-none : {A : Type 0} (f : ℕ → List A) (l : List A) → l ≡ sets l 0 (joined f 0)
+unfolding joined
+joined-none f l = refl
+
+-- one turn of a loop that stores a frame after those before it
+pub joined-more : {A : Type 0} (f : ℕ → List A) (i at : ℕ) (l m v : List A) → at ≡ length (joined f i) → m ≡ sets l 0 (joined f i) → v ≡ f i → sets m at v ≡ sets l 0 (joined f (i + 1))
+unfolding joined
+joined-more f i at l m v h e q = rw (add-one, e, q, h ∙ sym (zero-add (length (joined f i)))) (sets-append l 0 (joined f i) (f i))
+
+-- a buffer of just the size
+pub joined-all : {A : Type 0} (f : ℕ → List A) (n : ℕ) (l : List A) → length l ≡ length (joined f n) → sets l 0 (joined f n) ≡ joined f n
+joined-all f n l h = stored l (joined f n) h
+
+pub joined-ext : {A : Type 0} (f g : ℕ → List A) (n : ℕ) → ((i : ℕ) → f i ≡ g i) → joined f n ≡ joined g n
+unfolding joined
+joined-ext f g zero h = refl
+joined-ext f g (suc n) h = let a : joined f n ≡ joined g n = joined-ext f g n h in let b : f n ≡ g n = h n in cc
+
+-- ---- a loop that puts one answer after another
+-- an oscillator has one output, two, four or five
+pub one-port : (v : Volts) → length (portsOf 1 v) ≡ 1
+unfolding portsOf
+one-port v = refl
+
+pub two-ports : (v : Volts) → length (portsOf 2 v) ≡ 2
+unfolding portsOf
+two-ports v = refl
+
+pub four-ports : (v : Volts) → length (portsOf 4 v) ≡ 4
+unfolding portsOf
+four-ports v = refl
+
+pub five-ports : (v : Volts) → length (portsOf 5 v) ≡ 5
+unfolding portsOf
+five-ports v = refl
+
+module _ {S : Type 0} (ports : ℕ) (whole : (v : Volts) → length (portsOf ports v) ≡ ports) (answer : S → Answer) (next : S → S) (s : S) where
+  frames-length : (n : ℕ) → length (joined (frameAt ports answer next s) n) ≡ ports * n
+  frames-length n = joined-length (frameAt ports answer next s) ports n (λ i. whole (voltsOf (answerAt answer next s i)))
+
+  pub frames-more : (i : ℕ) (l m : List Float) (a : Answer) → m ≡ sets l 0 (joined (frameAt ports answer next s) i) → a ≡ answerAt answer next s i
+      → sets m (ports * i) (portsOf ports (voltsOf a)) ≡ sets l 0 (joined (frameAt ports answer next s) (i + 1))
+  frames-more i l m a e q = joined-more (frameAt ports answer next s) i (ports * i) l m (portsOf ports (voltsOf a)) (sym (frames-length i)) e (ap (λ (b : Answer). portsOf ports (voltsOf b)) q)
+
+  pub frames-done : (i n : ℕ) (l m : List Float) → i ≡ n → length l ≡ ports * n → m ≡ sets l 0 (joined (frameAt ports answer next s) i) → m ≡ joined (frameAt ports answer next s) n
+  frames-done i n l m h k e =
+      e ∙ ap (λ (j : ℕ). sets l 0 (joined (frameAt ports answer next s) j)) h ∙ joined-all (frameAt ports answer next s) n l (k ∙ sym (frames-length n))
+
+  pub marks-more : (i : ℕ) (l m : List ℕ) (a : Answer) → i < length l → m ≡ over (markAt answer next s) i l → a ≡ answerAt answer next s i
+      → set m i (markNumber a) ≡ over (markAt answer next s) (i + 1) l
+  marks-more i l m a h e q = over-more (markAt answer next s) i l m (markNumber a) h e (ap markNumber q)
+
+  pub marks-done : (i n : ℕ) (l m : List ℕ) → i ≡ n → length l ≡ n → m ≡ over (markAt answer next s) i l → m ≡ tab (markAt answer next s) n
+  marks-done i n l m h k e = e ∙ ap (λ (j : ℕ). over (markAt answer next s) j l) h ∙ over-all (markAt answer next s) n l k
+
+-- ---- held controls: a machine with less state goes through the same ticks. `embed` is the whole state that a small one stands for,
+-- from the second tick on; before the first the whole state may still be another.
+pub record Holds {S H : Type 0} (answer : S → Answer) (next : S → S) (told : H → Answer) (step : H → H) (embed : H → S) (Good : H → Type 0) (s : S) (h : H) : Type 0 where
+  pub good : Good h
+  pub first : answer s ≡ told h
+  pub second : next s ≡ embed (step h)
+  pub stays : (g : H) → Good g → Good (step g)
+  pub answers : (g : H) → Good g → answer (embed g) ≡ told g
+  pub moves : (g : H) → Good g → next (embed g) ≡ embed (step g)
+
+good-after : {H : Type 0} (step : H → H) (Good : H → Type 0) (h : H) → Good h → ((g : H) → Good g → Good (step g)) → (n : ℕ) → Good (afterTicks step n h)
+unfolding afterTicks
+good-after step Good h z k zero = z
+good-after step Good h z k (suc n) = k (afterTicks step n h) (good-after step Good h z k n)
+
+module _ {S H : Type 0} (answer : S → Answer) (next : S → S) (told : H → Answer) (step : H → H) (embed : H → S) (Good : H → Type 0) (s : S) (h : H) (w : Holds answer next told step embed Good s h) where
+  good-at : (n : ℕ) → Good (afterTicks step n h)
+  good-at n = good-after step Good h (w .good) (w .stays) n
+
+  held-state : (n : ℕ) → afterTicks next (suc n) s ≡ embed (afterTicks step (suc n) h)
+  unfolding afterTicks
+  held-state zero = w .second
+  held-state (suc n) = ap next (held-state n) ∙ w .moves (afterTicks step (suc n) h) (good-at (suc n))
+
+  pub held-after : (n : ℕ) → 0 < n → afterTicks next n s ≡ embed (afterTicks step n h)
+  held-after zero z = absurd (omega arith)
+  held-after (suc n) z = held-state n
+
+  held-answer : (i : ℕ) → answerAt answer next s i ≡ answerAt told step h i
+  unfolding answerAt afterTicks
+  held-answer zero = w .first
+  held-answer (suc i) = ap answer (held-state i) ∙ w .answers (afterTicks step (suc i) h) (good-at (suc i))
+
+  pub held-marks : (n : ℕ) → tab (markAt answer next s) n ≡ tab (markAt told step h) n
+  held-marks n = tab-ext (markAt answer next s) (markAt told step h) n (λ i l. ap markNumber (held-answer i))
+
+  pub held-frames : (ports n : ℕ) → joined (frameAt ports answer next s) n ≡ joined (frameAt ports told step h) n
+  held-frames ports n = joined-ext (frameAt ports answer next s) (frameAt ports told step h) n (λ i. ap (λ (a : Answer). portsOf ports (voltsOf a)) (held-answer i))
+
+-- ---- a block as its code has it
+not-refused : (fits : Bool) (number : ℕ) (t : Tally) (n : ℕ) → blockRefusalOf fits number t n ≡ 0 → (fits ≡ true) × (number ≡ 0) × (roomFor t n ≡ true)
+unfolding blockRefusalOf
+not-refused fits number t n = go fits (eqb number 0) (roomFor t n) (eqb-true number 0) (eqb-false number 0)
+  where
+    go : (a b d : Bool) → (b ≡ true → number ≡ 0) → (b ≡ false → number ≡ 0 → ⊥) → _≡_ {A = ℕ} (cond a (cond b (cond d 0 7) number) 52) 0 → (a ≡ true) × (number ≡ 0) × (d ≡ true)
+    go true true true k l h = (refl, k refl, refl)
+    go true true false k l h = absurd (omega arith)
+    go true false d k l h = absurd (l refl h)
+    go false b d k l h = absurd (omega arith)
+
+pub block-fits : (ports number : ℕ) (t : Tally) (o : List Float) (m : List ℕ) (n : ℕ) → n ≡ blockRefusalOf (eqb (length o) (ports * length m)) number t (length m) → n ≡ 0
+    → (length o ≡ ports * length m) × (number ≡ 0) × (roomFor t (length m) ≡ true)
+block-fits ports number t o m n e h = let k = not-refused _ number t (length m) (sym e ∙ h) in (eqb-true (length o) (ports * length m) (k .0), k .1, k .2)
+
+nothing-counted : (t : Tally) (f : ℕ → ℕ) → countedTo t f 0 ≡ t
+unfolding countedTo grownBy manyTo
+nothing-counted t f = simp add-zero
+
+nil : {A : Type 0} (l : List A) → length l ≡ 0 → l ≡ []
+nil [] h = refl
+nil (x ∷ l) h = absurd (omega arith)
+
+module _ {S : Type 0} (ports number : ℕ) (answer : S → Answer) (next : S → S) (s : S) (t : Tally) (o : List Float) (m : List ℕ) (n : ℕ) (e : n ≡ blockRefusalOf (eqb (length o) (ports * length m)) number t (length m)) where
+  pub block-refused : (n ≡ 0 → ⊥) → block n s t o m ≡ blockOf ports number answer next s t o m
+  unfolding blockOf
+  block-refused h = simp (← e, ne-eqb n 0 h)
+
+  accepted-block : n ≡ 0 → blockOf ports number answer next s t o m ≡ ticksOf ports answer next (length m) s t
+  unfolding blockOf
+  accepted-block h = simp (← e, h)
+
+  no-ticks : ticksOf ports answer next 0 s t ≡ block 0 s t [] []
+  unfolding ticksOf afterTicks joined tab
+  no-ticks = ap (λ (u : Tally). block 0 s u [] []) (nothing-counted t (markAt answer next s))
+
+  pub block-empty : n ≡ 0 → length m ≡ 0 → block 0 s t o m ≡ blockOf ports number answer next s t o m
+  block-empty h z =
+      let p : o ≡ [] = nil o (block-fits ports number t o m n e h .0 ∙ ap (λ (k : ℕ). ports * k) z ∙ mul-zero ports) in
+      let q : m ≡ [] = nil m z in
+      (λ i. block 0 s t (p i) (q i)) ∙ sym no-ticks ∙ ap (λ (k : ℕ). ticksOf ports answer next k s t) (sym z) ∙ sym (accepted-block h)
+
+  pub block-done : n ≡ 0 → (u : Tally) (r : S) (p : List Float) (l : List ℕ) → r ≡ afterTicks next (length m) s → p ≡ joined (frameAt ports answer next s) (length m)
+      → l ≡ tab (markAt answer next s) (length m) → u ≡ marksTaken t l → block 0 r u p l ≡ blockOf ports number answer next s t o m
+  unfolding ticksOf
+  block-done h u r p l a b d g = simp (accepted-block h, a, b, g, d, counted-tab t (markAt answer next s) (length m) (block-fits ports number t o m n e h .2))

@@ -1,0 +1,64 @@
+use mathlib.Core.Path.{_≡_, refl, ap, _∙_}
+use Prim.Native.Nat.{_≤_, _-_}
+use native.Mathlib.Nat.{le-antisymm}
+use native.Mathlib.Numerals.{add-one}
+use native.Mathlib.Omega.{arith}
+use lib.ListN.{length}
+use Rattle.answer.proofs.Laws.{at-most-one}
+use Rattle.answer.specs.Block.{manyTo, cellsOf}
+use Rattle.answer.proofs.count_of.Statement.{statement}
+use Rattle.answer.proofs.count_of.Tie as tie
+
+abbrev Inv-loop : tie.InvT-loop
+Inv-loop marks k many₀ i₀ many i = (i ≤ length marks) × (many ≡ manyTo k (cellsOf marks) i) × (many ≤ i)
+
+abbrev μ-loop : tie.MeasureT-loop
+μ-loop marks k many₀ i₀ many i = length marks - i
+
+loop-holds : tie.Need-loop-holds Inv-loop μ-loop
+unfolding manyTo
+loop-holds c = (omega arith, refl, omega arith)
+
+mul-one-if : tie.Need-mul-one-if Inv-loop μ-loop
+mul-one-if c = omega arith
+
+shared-slice-read-one-if : tie.Need-shared-slice-read-one-if Inv-loop μ-loop
+shared-slice-read-one-if c = omega arith
+
+one-if-requires : tie.Need-one-if-requires Inv-loop μ-loop
+one-if-requires c κs = tt
+
+add-many : tie.Need-add-many Inv-loop μ-loop
+add-many c = let o = at-most-one _ _ _ (c .one-if .ensures) in omega arith
+
+add-i : tie.Need-add-i Inv-loop μ-loop
+add-i c = omega arith
+
+loop-less : tie.Need-loop-less Inv-loop μ-loop
+loop-less c = omega arith
+
+loop-again : tie.Need-loop-again Inv-loop μ-loop
+unfolding manyTo
+loop-again c =
+    let s = c .before .before .before .loop .inv in
+    let o = at-most-one _ _ _ (c .one-if .ensures) in
+    (omega arith, rw (add-one, s .1, c .one-if .ensures), omega arith)
+
+returns : tie.Need-returns Inv-loop μ-loop
+returns c = let s = c .before .loop .inv in s .1 ∙ ap (λ k. manyTo (c .before .before .before .args .k) (cellsOf (c .before .before .before .args .marks .now)) k) (le-antisymm (s .0) (c .loop-test .left))
+
+pub count-of-spec : {M : Type 1} → statement M
+count-of-spec =
+    tie.close
+    (tie.spec
+    Inv-loop
+    μ-loop
+    loop-holds
+    mul-one-if
+    shared-slice-read-one-if
+    one-if-requires
+    add-many
+    add-i
+    loop-less
+    loop-again
+    returns)

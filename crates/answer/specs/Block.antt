@@ -1,0 +1,95 @@
+-- A block: n ticks of one set of controls, one after another, and their tally. One text for every oscillator.
+use mathlib.Core.Bool.{Bool, cond, _&&_}
+use mathlib.Core.List.{List, [], _∷_, _++_}
+use Prim.Native.Nat.{ℕ, zero, suc, _+_, _*_}
+use lib.Dec.{eqb, leb}
+use lib.Ieee.{Float}
+use lib.ListN.{length, getD, take}
+use Rattle.laws.specs.Lists.{tab}
+use Rattle.answer.specs.Answer.{markNumber, voltsOf}
+use Rattle.answer.specs.Tally.{addsUp, oneIf}
+use Rattle.answer.specs.declared.Volts.{Volts}
+use Rattle.answer.specs.declared.Answer.{Answer}
+use Rattle.answer.specs.declared.Tally.{Tally}
+
+-- ---- the tally of many marks
+-- how many of f 0, .., f (n - 1) are k
+unfoldable pub manyTo : ℕ → (ℕ → ℕ) → ℕ → ℕ
+manyTo k f zero = 0
+manyTo k f (suc n) = manyTo k f n + oneIf (f n) k
+
+-- so many more answers of each mark
+unfoldable pub grownBy : Tally → ℕ → ℕ → ℕ → ℕ → Tally
+grownBy t clean cleared notfinite lost =
+    record {
+      begun = t .begun + (clean + cleared + notfinite + lost);
+      finished = t .finished + clean;
+      cleared = t .cleared + cleared;
+      notfinite = t .notfinite + notfinite;
+      lost = t .lost + lost;
+    }
+
+-- each count grows by the number of its marks among f 0, .., f (n - 1)
+unfoldable pub countedTo : Tally → (ℕ → ℕ) → ℕ → Tally
+countedTo t f n = grownBy t (manyTo 4 f n) (manyTo 1 f n) (manyTo 2 f n) (manyTo 3 f n)
+
+-- n more answers can be taken: neither reason for 7 comes
+unfoldable pub roomFor : Tally → ℕ → Bool
+roomFor t n = addsUp t && leb (t .begun + n) 4294967295
+
+abbrev pub cellsOf : List ℕ → ℕ → ℕ
+cellsOf l i = getD l i 0
+
+-- the marks of a buffer, if there is room for all
+unfoldable pub marksTaken : Tally → List ℕ → Tally
+marksTaken t m = cond (roomFor t (length m)) (countedTo t (cellsOf m) (length m)) t
+
+-- ---- ticks one after another; `next` is the state after a tick
+unfoldable pub afterTicks : {S : Type 0} → (S → S) → ℕ → S → S
+afterTicks next zero s = s
+afterTicks next (suc n) s = next (afterTicks next n s)
+
+-- the outputs of an oscillator that has so many, in port order
+unfoldable pub portsOf : ℕ → Volts → List Float
+portsOf ports v = take ports (v .p10 ∷ v .p11 ∷ v .p12 ∷ v .p13 ∷ v .p14 ∷ [])
+
+-- f 0, f 1, .., f (n - 1) joined
+unfoldable pub joined : {A : Type 0} → (ℕ → List A) → ℕ → List A
+joined f zero = []
+joined f (suc n) = joined f n ++ f n
+
+-- ---- a block of as many ticks as there are marks, its samples tick by tick
+pub record Block (S : Type 0) : Type 0 where
+  pub refused : ℕ
+  pub state : S
+  pub tally : Tally
+  pub samples : List Float
+  pub marks : List ℕ
+
+abbrev pub block : {S : Type 0} → ℕ → S → Tally → List Float → List ℕ → Block S
+block n s t o m = record { refused = n; state = s; tally = t; samples = o; marks = m }
+
+-- 0, or what refuses it: 52 where samples doesn't fit marks, then what refuses the first tick, then the tally's 7
+unfoldable pub blockRefusalOf : Bool → ℕ → Tally → ℕ → ℕ
+blockRefusalOf fits number t n = cond fits (cond (eqb number 0) (cond (roomFor t n) 0 7) number) 52
+
+-- what tick i answers: `answer` of the state that those before it leave; its mark's number and its samples
+unfoldable pub answerAt : {S : Type 0} → (S → Answer) → (S → S) → S → ℕ → Answer
+answerAt answer next s i = answer (afterTicks next i s)
+
+abbrev pub markAt : {S : Type 0} → (S → Answer) → (S → S) → S → ℕ → ℕ
+markAt answer next s i = markNumber (answerAt answer next s i)
+
+abbrev pub frameAt : {S : Type 0} → ℕ → (S → Answer) → (S → S) → S → ℕ → List Float
+frameAt ports answer next s i = portsOf ports (voltsOf (answerAt answer next s i))
+
+-- what n ticks leave
+unfoldable pub ticksOf : {S : Type 0} → ℕ → (S → Answer) → (S → S) → ℕ → S → Tally → Block S
+ticksOf ports answer next n s t =
+    block 0 (afterTicks next n s) (countedTo t (markAt answer next s) n) (joined (frameAt ports answer next s) n) (tab (markAt answer next s) n)
+
+-- a refused block leaves everything
+unfoldable pub blockOf : {S : Type 0} → ℕ → ℕ → (S → Answer) → (S → S) → S → Tally → List Float → List ℕ → Block S
+blockOf ports number answer next s t o m =
+    let n = blockRefusalOf (eqb (length o) (ports * length m)) number t (length m) in
+    cond (eqb n 0) (ticksOf ports answer next (length m) s t) (block n s t o m)

@@ -1,0 +1,96 @@
+use mathlib.Core.Bool.{true}
+use mathlib.Core.Path.{_≡_, refl, sym, ap, _∙_}
+use Prim.Native.Nat.{ℕ, _+_, _*_, _-_, _≤_, _<_}
+use native.Mathlib.Nat.{le-antisymm}
+use native.Mathlib.Omega.{arith}
+use lib.Ieee.{binary64}
+use lib.Ieee.Fits.{add-fits}
+use lib.ListN.{length, length-set}
+use lib.Seq.{sets, length-sets}
+use Rattle.laws.specs.Lists.{over}
+use Rattle.laws.proofs.Over.{over-none}
+use Rattle.answer.specs.Block.{afterTicks, markAt, frameAt, joined}
+use Rattle.answer.proofs.Blocks.{five-ports, joined-none, frames-more, frames-done, marks-more, marks-done}
+use Rattle.common.specs.Tests.{phaseOk}
+use Rattle.common.proofs.PhaseLaws.{wrap-in}
+use Rattle.lfo.specs.Held.{heldAnswer, heldNext}
+use Rattle.lfo.proofs.Held.{heard, moved}
+use Rattle.lfo.proofs.Small.{outputs-finite}
+use Rattle.lfo.proofs.Lfo.glide.Statement.{statement}
+use Rattle.lfo.proofs.Lfo.glide.Tie as tie
+
+abbrev Inv-loop : tie.InvT-loop
+Inv-loop step depth wanted samples₀ marks₀ small phase₀ i₀ samples marks phase i =
+    (i ≤ length marks₀) × (length samples ≡ length samples₀) × (length marks ≡ length marks₀) × (samples ≡ sets samples₀ 0 (joined (frameAt 5 (heldAnswer wanted depth step) (heldNext step) phase₀) i)) × (marks ≡ over (markAt (heldAnswer wanted depth step) (heldNext step) phase₀) i marks₀) × (phase ≡ afterTicks (heldNext step) i phase₀) × (phaseOk phase ≡ true)
+
+abbrev μ-loop : tie.MeasureT-loop
+μ-loop step depth wanted samples₀ marks₀ small phase₀ i₀ samples marks phase i = length marks₀ - i
+
+is-small-requires : tie.Need-is-small-requires Inv-loop μ-loop
+is-small-requires c κs = tt
+
+loop-holds : tie.Need-loop-holds Inv-loop μ-loop
+unfolding afterTicks
+loop-holds c = (omega arith, refl, refl, joined-none _ _, over-none _ _, refl, c .before .before .before .pre .0)
+
+outputs-requires : tie.Need-outputs-requires Inv-loop μ-loop
+outputs-requires c κs = tt
+
+is-finite-requires : tie.Need-is-finite-requires Inv-loop μ-loop
+is-finite-requires c κs = tt
+
+mark-requires : tie.Need-mark-requires Inv-loop μ-loop
+mark-requires c κs =
+    λ t. rw (c .before .outputs .ensures) (outputs-finite _ _ _ (c .before .before .before .before .before .loop .inv .6) (sym (c .before .before .before .before .before .before .is-small .ensures) ∙ t))
+
+put-requires : tie.Need-put-requires Inv-loop μ-loop
+put-requires c κs = (omega arith, omega arith)
+
+wrap-phase-requires : tie.Need-wrap-phase-requires Inv-loop μ-loop
+wrap-phase-requires c κs = tt
+
+add-i : tie.Need-add-i Inv-loop μ-loop
+add-i c = omega arith
+
+loop-less : tie.Need-loop-less Inv-loop μ-loop
+loop-less c = omega arith
+
+loop-again : tie.Need-loop-again Inv-loop μ-loop
+loop-again c =
+    let s = c .before .before .before .before .before .before .before .before .before .before .before .before .before .before .loop .inv in
+    let a = heard _ _ _ _ _ _ _ _ _ (c .before .before .before .before .before .before .before .before .mark .ensures) (c .before .before .before .before .before .before .before .before .before .before .outputs .ensures) (c .before .before .before .before .before .before .before .before .before .is-finite .ensures) (s .5) in
+    let p = c .before .before .before .before .before .put .ensures in
+    (omega arith, simp (p .0, length-sets) (s .1), simp (p .1, length-set) (s .2), rw (p .0) (frames-more 5 five-ports _ _ _ _ _ _ _ (s .3) a), rw (p .1) (marks-more 5 five-ports _ _ _ _ _ _ _ (omega arith) (s .4) a), moved _ _ _ _ _ (c .wrap-phase .ensures) (s .5), rw (c .wrap-phase .ensures) (wrap-in _ (add-fits binary64 _ _)))
+
+same-length : tie.Need-same-length Inv-loop μ-loop
+same-length c = c .before .loop .inv .1
+
+same-length-2 : tie.Need-same-length-2 Inv-loop μ-loop
+same-length-2 c = c .before .loop .inv .2
+
+returns : tie.Need-returns Inv-loop μ-loop
+returns c =
+    let s = c .before .loop .inv in
+    let a = c .before .before .before .before .before .args in
+    let n : c .before .loop .i ≡ length (a .marks .now) = le-antisymm (s .0) (omega arith) in
+    (s .5 ∙ ap (λ k. afterTicks (heldNext (a .step)) k (a .start)) n, (frames-done 5 five-ports _ _ _ _ _ _ _ n (c .before .before .before .before .before .pre .1) (s .3), marks-done 5 five-ports _ _ _ _ _ _ _ n refl (s .4)))
+
+pub glide-spec : {M : Type 1} → statement M
+glide-spec =
+    tie.close
+    (tie.spec
+    Inv-loop
+    μ-loop
+    is-small-requires
+    loop-holds
+    outputs-requires
+    is-finite-requires
+    mark-requires
+    put-requires
+    wrap-phase-requires
+    add-i
+    loop-less
+    loop-again
+    same-length
+    same-length-2
+    returns)

@@ -1,0 +1,17 @@
+-- A tick whose reset and rate stand still: no edge is taken and the memo holds, so only the phase moves. proofs/Held.antt shows
+-- that a block is made of such ticks.
+use mathlib.Core.Bool.{true, false}
+use Prim.Native.Nat.{ℕ}
+use lib.Ieee.{Float, binary64, add}
+use Rattle.answer.specs.Mark.{markOf}
+use Rattle.answer.specs.declared.Answer.{Answer}
+use Rattle.common.specs.Phase.{turns, wrapOf}
+use Rattle.common.specs.declared.Turns.{Turns}
+use Rattle.laws.specs.Float.{isFin}
+use Rattle.lfo.specs.Lfo.{lfoOutputsOf}
+
+unfoldable pub heldAnswer : ℕ → Float → Turns → Turns → Answer
+heldAnswer wanted depth step phase = markOf (lfoOutputsOf wanted (phase .0) depth) false true (isFin (add binary64 (phase .0) (step .0)))
+
+unfoldable pub heldNext : Turns → Turns → Turns
+heldNext step phase = turns (wrapOf (add binary64 (phase .0) (step .0)))
