@@ -1,0 +1,83 @@
+-- A block's ticks are ticks of the phase alone: its reset and its rate stand still.
+use mathlib.Core.Bool.{Bool, true, false, cond}
+use mathlib.Core.Path.{_≡_, refl, sym, ap, _∙_}
+use Prim.Native.Nat.{ℕ, _+_}
+use native.Mathlib.Numerals.{add-one}
+use lib.Ieee.{Float, binary64, add, div}
+use lib.Ieee.Fits.{add-fits}
+use lib.Dec.{eqb}
+use borrow.Author.Tests.{eq-eqb}
+use Rattle.answer.specs.Block.{afterTicks, answerAt}
+use Rattle.answer.proofs.Blocks.{Holds}
+use Rattle.answer.specs.Mark.{markOf}
+use Rattle.answer.specs.declared.Answer.{Answer}
+use Rattle.answer.specs.declared.Volts.{Volts}
+use Rattle.common.specs.Phase.{turns, wrapOf}
+use Rattle.common.specs.Edge.{risingOf, risingAboveOf, risesAbove}
+use Rattle.common.specs.Memo.{recall1}
+use Rattle.common.specs.Tests.{rateOk, phaseOk}
+use Rattle.common.proofs.EdgeLaws.{rises-once}
+use Rattle.common.proofs.MemoLaws.{recall1-again}
+use Rattle.common.proofs.PhaseLaws.{wrap-in}
+use Rattle.common.specs.declared.Turns.{Turns}
+use Rattle.laws.specs.Float.{isFin}
+use Rattle.lfo.specs.Held.{heldAnswer, heldNext}
+use Rattle.lfo.proofs.Accepted.{accepts, restart-ok}
+use Rattle.lfo.specs.Consts.{ten}
+use Rattle.lfo.specs.Lfo.{lfoRefusalOf, lfoOutputsOf, lfoSoundOf, lfoTickOf, lfoAnswerOf, lfoNextOf}
+use Rattle.lfo.specs.Waves.{rateToHz, restartOf}
+use Rattle.lfo.specs.declared.Lfo.{Lfo}
+use Rattle.lfo.specs.declared.LfoControls.{LfoControls}
+use Rattle.lfo.specs.declared.LfoTicked.{LfoTicked}
+use Rattle.common.specs.declared.Memo1.{Memo1}
+
+-- ---- a turn of the loop
+pub heard : (wanted : ℕ) (depth : Float) (step start : Turns) (i : ℕ) (p : Turns) (v : Volts) (f : Bool) (a : Answer) → a ≡ markOf v false true f
+    → v ≡ lfoOutputsOf wanted (p .0) depth → f ≡ isFin (add binary64 (p .0) (step .0)) → p ≡ afterTicks (heldNext step) i start
+    → a ≡ answerAt (heldAnswer wanted depth step) (heldNext step) start i
+unfolding answerAt heldAnswer
+heard wanted depth step start i p v f a e q w z = simp (e, q, w, z)
+
+pub moved : (step start : Turns) (i : ℕ) (p q : Turns) → q ≡ turns (wrapOf (add binary64 (p .0) (step .0))) → p ≡ afterTicks (heldNext step) i start → q ≡ afterTicks (heldNext step) (i + 1) start
+unfolding afterTicks heldNext
+moved step start i p q e z = rw add-one (simp (e, z))
+
+-- ---- the whole
+abbrev heldMemo : Lfo → LfoControls → Memo1
+heldMemo s c = recall1 rateToHz (s .«freq_memo») (c .rate)
+
+abbrev pub startOf : Lfo → LfoControls → Turns
+startOf s c = restartOf (s .phase) (risingOf (s .«reset_edge») (c .reset) .rising)
+
+abbrev pub stepOf : Lfo → LfoControls → Turns
+stepOf s c = turns (div binary64 (heldMemo s c .val .0) (s .«sample_rate» .0))
+
+-- the state in a block whose phase is p, from the second tick on
+abbrev pub stateOf : Lfo → LfoControls → Turns → Lfo
+stateOf s c p = record { phase = p; «sample_rate» = s .«sample_rate»; «reset_edge» = risingOf (s .«reset_edge») (c .reset) .edge; «freq_memo» = heldMemo s c }
+
+state-accepted : (s : Lfo) (c : LfoControls) (p : Turns) → lfoRefusalOf s ≡ 0 → phaseOk p ≡ true → lfoRefusalOf (stateOf s c p) ≡ 0
+unfolding lfoRefusalOf
+state-accepted s c p h k = simp (accepts s h .0, k)
+
+tick-sounds : (s : Lfo) (c : LfoControls) (wanted : ℕ) → lfoRefusalOf s ≡ 0 → lfoTickOf s c wanted ≡ lfoSoundOf s c wanted
+unfolding lfoTickOf
+tick-sounds s c wanted h = simp h
+
+-- in such a state a tick takes no edge and finds its rate in the memo
+held-sound : (s : Lfo) (c : LfoControls) (wanted : ℕ) (p : Turns)
+    → lfoSoundOf (stateOf s c p) c wanted ≡ record { answer = heldAnswer wanted (div binary64 (c .depth) ten) (stepOf s c) p; lfo = stateOf s c (heldNext (stepOf s c) p) }
+unfolding lfoSoundOf heldAnswer heldNext risingOf risingAboveOf restartOf
+held-sound s c wanted p = simp (recall1-again rateToHz (s .«freq_memo») (c .rate), rises-once)
+
+pub holds : (s : Lfo) (c : LfoControls) (wanted : ℕ) → lfoRefusalOf s ≡ 0
+    → Holds (lfoAnswerOf c wanted) (lfoNextOf c wanted) (heldAnswer wanted (div binary64 (c .depth) ten) (stepOf s c)) (heldNext (stepOf s c)) (stateOf s c) (λ p. phaseOk p ≡ true) s (startOf s c)
+holds s c wanted h =
+    record {
+      good = restart-ok (s .phase) (risingOf (s .«reset_edge») (c .reset) .rising) (accepts s h .1);
+      first = unfold lfoSoundOf heldAnswer in ap (λ (t : LfoTicked). t .answer) (tick-sounds s c wanted h);
+      second = unfold lfoSoundOf heldNext in ap (λ (t : LfoTicked). t .lfo) (tick-sounds s c wanted h);
+      stays = λ p k. unfold heldNext in wrap-in _ (add-fits binary64 _ _);
+      answers = λ p k. ap (λ (t : LfoTicked). t .answer) (tick-sounds (stateOf s c p) c wanted (state-accepted s c p h k) ∙ held-sound s c wanted p);
+      moves = λ p k. ap (λ (t : LfoTicked). t .lfo) (tick-sounds (stateOf s c p) c wanted (state-accepted s c p h k) ∙ held-sound s c wanted p);
+    }
