@@ -43,6 +43,11 @@ impl Mark {
     /// All marks, in the order of their numbers.
     pub const ALL: [Mark; 4] = [Mark::Cleared, Mark::NotFinite, Mark::Lost, Mark::Clean];
 
+    /// The mark that a number of a block stands for: 1 cleared, 2 notfinite, 3 lost, 4 clean.
+    pub fn of_block(number: u32) -> Option<Mark> {
+        Mark::ALL.into_iter().find(|&mark| mark as u32 == number.wrapping_add(10))
+    }
+
     /// The word that stands for it in texts.
     pub fn word(self) -> &'static str {
         match self {
