@@ -11,21 +11,20 @@
 
 static int render(double vowel)
 {
-    double floats[GRUTTISOL_FORMANT_OSC_FLOATS], out[1];
+    double floats[GRUTTISOL_FORMANT_OSC_FLOATS], out[SAMPLES];
     uint64_t wholes[GRUTTISOL_FORMANT_OSC_WHOLES];
-    uint32_t counts[GRUTTISOL_COUNTS] = {0};
+    uint32_t counts[GRUTTISOL_COUNTS] = {0}, marks[SAMPLES];
 
     uint32_t refused = gruttisol_formant_osc_new(48000.0, floats, GRUTTISOL_FORMANT_OSC_FLOATS,
                                                  wholes, GRUTTISOL_FORMANT_OSC_WHOLES);
     if (refused)
         return printf("refused=%u\n", refused);
 
-    for (int i = 0; i < SAMPLES; i++) {
-        uint32_t answer = gruttisol_formant_osc_tick(-1.0, vowel, 0.0, 0.0, floats, GRUTTISOL_FORMANT_OSC_FLOATS,
-                                                     wholes, GRUTTISOL_FORMANT_OSC_WHOLES, out, 1);
-        if (gruttisol_tally_take(answer, counts, GRUTTISOL_COUNTS))
-            return printf("the tally refused\n");
-    }
+    refused = gruttisol_formant_osc_block(-1.0, vowel, 0.0, 0.0, floats, GRUTTISOL_FORMANT_OSC_FLOATS,
+                                          wholes, GRUTTISOL_FORMANT_OSC_WHOLES, counts, GRUTTISOL_COUNTS,
+                                          out, SAMPLES, marks, SAMPLES);
+    if (refused)
+        return printf("refused=%u\n", refused);
     return printf("begun=%u finished=%u cleared=%u notfinite=%u lost=%u claimed=%s\n", counts[0], counts[1], counts[2],
                   counts[3], counts[4], counts[0] == SAMPLES && counts[1] == SAMPLES ? "yes" : "no");
 }

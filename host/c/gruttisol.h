@@ -8,11 +8,15 @@
  * each call as the last call left it. A state of your own making is taken or refused.
  *
  * A call answers a number:
- *   0         done
+ *   0         done, and so is a block
  *   11 to 14  an accepted tick: cleared, notfinite, lost, clean
  *   1 to 7    refused, and so is a score by 20 to 23; see gruttisol_refusal below
  *   50 to 53  an array of another length: floats, wholes, samples, counts
  * A refused call leaves every array as it stood.
+ *
+ * A block, `.._block`, is as many ticks with one set of controls as there are `marks`, and their tally: the same as so many calls of
+ * `.._tick` and of gruttisol_tally_take, in less time. `samples` takes a tick's samples for each mark, one tick after another,
+ * and each mark becomes 1 cleared, 2 notfinite, 3 lost or 4 clean.
  */
 #ifndef GRUTTISOL_H
 #define GRUTTISOL_H
@@ -60,6 +64,10 @@ uint32_t gruttisol_vco_new(double sample_rate, double *floats, size_t floats_len
 uint32_t gruttisol_vco_tick(double voct, double fm, double pw, double sync, double fm_lin, uint32_t wanted,
                             double *floats, size_t floats_len, uint64_t *wholes, size_t wholes_len,
                             double *samples, size_t samples_len);
+uint32_t gruttisol_vco_block(double voct, double fm, double pw, double sync, double fm_lin, uint32_t wanted,
+                             double *floats, size_t floats_len, uint64_t *wholes, size_t wholes_len,
+                             uint32_t *counts, size_t counts_len, double *samples, size_t samples_len,
+                             uint32_t *marks, size_t marks_len);
 uint32_t gruttisol_vco_reset(double *floats, size_t floats_len, uint64_t *wholes, size_t wholes_len);
 uint32_t gruttisol_vco_set_sample_rate(double sample_rate, double *floats, size_t floats_len,
                                        uint64_t *wholes, size_t wholes_len);
@@ -73,6 +81,10 @@ uint32_t gruttisol_lfo_new(double sample_rate, double *floats, size_t floats_len
 uint32_t gruttisol_lfo_tick(double rate, double depth, double reset, uint32_t wanted,
                             double *floats, size_t floats_len, uint64_t *wholes, size_t wholes_len,
                             double *samples, size_t samples_len);
+uint32_t gruttisol_lfo_block(double rate, double depth, double reset, uint32_t wanted,
+                             double *floats, size_t floats_len, uint64_t *wholes, size_t wholes_len,
+                             uint32_t *counts, size_t counts_len, double *samples, size_t samples_len,
+                             uint32_t *marks, size_t marks_len);
 uint32_t gruttisol_lfo_reset(double *floats, size_t floats_len, uint64_t *wholes, size_t wholes_len);
 uint32_t gruttisol_lfo_set_sample_rate(double sample_rate, double *floats, size_t floats_len,
                                        uint64_t *wholes, size_t wholes_len);
@@ -87,6 +99,10 @@ uint32_t gruttisol_supersaw_new(double sample_rate, double *floats, size_t float
 uint32_t gruttisol_supersaw_tick(double voct, double detune, double mix,
                                  double *floats, size_t floats_len, uint64_t *wholes, size_t wholes_len,
                                  double *samples, size_t samples_len);
+uint32_t gruttisol_supersaw_block(double voct, double detune, double mix,
+                                  double *floats, size_t floats_len, uint64_t *wholes, size_t wholes_len,
+                                  uint32_t *counts, size_t counts_len, double *samples, size_t samples_len,
+                                  uint32_t *marks, size_t marks_len);
 uint32_t gruttisol_supersaw_reset(double *floats, size_t floats_len, uint64_t *wholes, size_t wholes_len);
 uint32_t gruttisol_supersaw_set_sample_rate(double sample_rate, double *floats, size_t floats_len,
                                             uint64_t *wholes, size_t wholes_len);
@@ -107,6 +123,11 @@ uint32_t gruttisol_wavetable_new(double sample_rate, double *floats, size_t floa
 uint32_t gruttisol_wavetable_tick(double v_oct, double table, double morph, double sync,
                                   double *floats, size_t floats_len, uint64_t *wholes, size_t wholes_len,
                                   double *samples, size_t samples_len, const double *bank, size_t bank_len);
+uint32_t gruttisol_wavetable_block(double v_oct, double table, double morph, double sync,
+                                   double *floats, size_t floats_len, uint64_t *wholes, size_t wholes_len,
+                                   const double *bank, size_t bank_len,
+                                   uint32_t *counts, size_t counts_len, double *samples, size_t samples_len,
+                                   uint32_t *marks, size_t marks_len);
 uint32_t gruttisol_wavetable_reset(double *floats, size_t floats_len, uint64_t *wholes, size_t wholes_len);
 uint32_t gruttisol_wavetable_set_sample_rate(double sample_rate, double *floats, size_t floats_len,
                                              uint64_t *wholes, size_t wholes_len);
@@ -121,6 +142,10 @@ uint32_t gruttisol_formant_osc_new(double sample_rate, double *floats, size_t fl
 uint32_t gruttisol_formant_osc_tick(double v_oct, double vowel, double formant_shift, double vibrato,
                                     double *floats, size_t floats_len, uint64_t *wholes, size_t wholes_len,
                                     double *samples, size_t samples_len);
+uint32_t gruttisol_formant_osc_block(double v_oct, double vowel, double formant_shift, double vibrato,
+                                     double *floats, size_t floats_len, uint64_t *wholes, size_t wholes_len,
+                                     uint32_t *counts, size_t counts_len, double *samples, size_t samples_len,
+                                     uint32_t *marks, size_t marks_len);
 uint32_t gruttisol_formant_osc_reset(double *floats, size_t floats_len, uint64_t *wholes, size_t wholes_len);
 uint32_t gruttisol_formant_osc_set_sample_rate(double sample_rate, double *floats, size_t floats_len,
                                                uint64_t *wholes, size_t wholes_len);
@@ -138,6 +163,11 @@ uint32_t gruttisol_karplus_strong_tick(double voct, double trigger, double dampi
                                        double *floats, size_t floats_len, uint64_t *wholes, size_t wholes_len,
                                        double *samples, size_t samples_len, double *line, size_t line_len,
                                        const uint64_t *draws, size_t draws_len);
+uint32_t gruttisol_karplus_strong_block(double voct, double trigger, double damping, double brightness, double stretch,
+                                        double *floats, size_t floats_len, uint64_t *wholes, size_t wholes_len,
+                                        double *line, size_t line_len, const uint64_t *draws, size_t draws_len,
+                                        uint32_t *counts, size_t counts_len, double *samples, size_t samples_len,
+                                        uint32_t *marks, size_t marks_len);
 uint32_t gruttisol_karplus_strong_reset(double *floats, size_t floats_len, uint64_t *wholes, size_t wholes_len,
                                         double *line, size_t line_len);
 uint32_t gruttisol_karplus_strong_set_sample_rate(double sample_rate, double *floats, size_t floats_len,
