@@ -10,7 +10,7 @@ use lib.Dec.{eqb, leb, lit≤}
 use lib.ListN.{length, length-append, set}
 use lib.Ieee.{Float}
 use lib.Seq.{sets}
-use borrow.Author.Tests.{eqb-true, eqb-false, leb-true, leb-false, le-leb, lt-leb, ne-eqb}
+use borrow.Author.Tests.{eqb-true, eqb-false, eq-eqb, leb-true, leb-false, le-leb, lt-leb, ne-eqb}
 use Rattle.laws.specs.Lists.{tab, over}
 use Rattle.laws.proofs.Slices.{stored, sets-append}
 use Rattle.laws.proofs.Over.{getD-tab, length-tab, tab-ext, over-more, over-all}
@@ -21,6 +21,8 @@ use Rattle.answer.specs.declared.Volts.{Volts}
 use Rattle.answer.specs.declared.Answer.{Answer}
 use Rattle.answer.specs.declared.Answer.the-variants as answer
 use Rattle.answer.specs.declared.Tally.{Tally}
+use Rattle.answer.specs.declared.Tallied.the-variants as tallied
+use Rattle.answer.specs.Promises.{Block-counts}
 
 -- ---- room
 pub room-test : (b n : ℕ) → b ≤ 4294967295 → leb n (4294967295 - b) ≡ leb (b + n) 4294967295
@@ -237,3 +239,50 @@ answer-back (answer.Cleared v) h = refl
 answer-back (answer.NotFinite v) h = refl
 answer-back (answer.Lost v) h = refl
 answer-back (answer.Refused n) h = absurd (false≢true h)
+
+-- ---- the tally of a block is the one that is given each answer
+mark-one : (a : Answer) → accepted a ≡ true → (oneIf (markNumber a) 4 + oneIf (markNumber a) 1 + oneIf (markNumber a) 2 + oneIf (markNumber a) 3 ≡ 1) × (eqb (markNumber a) 0 ≡ false)
+unfolding markNumber oneIf accepted
+mark-one (answer.Clean v) h = (refl, refl)
+mark-one (answer.Cleared v) h = (refl, refl)
+mark-one (answer.NotFinite v) h = (refl, refl)
+mark-one (answer.Lost v) h = (refl, refl)
+mark-one (answer.Refused n) h = absurd (false≢true h)
+
+module _ (t : Tally) (a : ℕ → Answer) (h : (i : ℕ) → accepted (a i) ≡ true) where
+  abbrev marks : ℕ → ℕ
+  marks j = markNumber (a j)
+
+  many-all : (n : ℕ) → manyTo 4 marks n + manyTo 1 marks n + manyTo 2 marks n + manyTo 3 marks n ≡ n
+  unfolding manyTo
+  many-all zero = refl
+  many-all (suc n) = let p = many-all n in let q = mark-one (a n) (h n) .0 in omega arith
+
+  sums : (i : ℕ) → t .begun ≡ sumOf t → countedTo t marks i .begun ≡ sumOf (countedTo t marks i)
+  unfolding countedTo grownBy
+  sums i e = omega arith
+
+  begun-at : (i : ℕ) → countedTo t marks i .begun ≡ t .begun + i
+  unfolding countedTo grownBy
+  begun-at i = ap (λ (k : ℕ). t .begun + k) (many-all i)
+
+  one-more : (i : ℕ) → counted (countedTo t marks i) (marks i) ≡ countedTo t marks (suc i)
+  unfolding counted countedTo grownBy manyTo
+  one-more i =
+      let q = mark-one (a i) (h i) .0 in
+      let b : t .begun + (manyTo 4 marks i + manyTo 1 marks i + manyTo 2 marks i + manyTo 3 marks i) + 1 ≡ t .begun + (manyTo 4 marks i + oneIf (marks i) 4 + (manyTo 1 marks i + oneIf (marks i) 1) + (manyTo 2 marks i + oneIf (marks i) 2) + (manyTo 3 marks i + oneIf (marks i) 3)) = omega arith in
+      let f : t .finished + manyTo 4 marks i + oneIf (marks i) 4 ≡ t .finished + (manyTo 4 marks i + oneIf (marks i) 4) = omega arith in
+      let c : t .cleared + manyTo 1 marks i + oneIf (marks i) 1 ≡ t .cleared + (manyTo 1 marks i + oneIf (marks i) 1) = omega arith in
+      let n : t .notfinite + manyTo 2 marks i + oneIf (marks i) 2 ≡ t .notfinite + (manyTo 2 marks i + oneIf (marks i) 2) = omega arith in
+      let l : t .lost + manyTo 3 marks i + oneIf (marks i) 3 ≡ t .lost + (manyTo 3 marks i + oneIf (marks i) 3) = omega arith in
+      (λ j. record { begun = b j; finished = f j; cleared = c j; notfinite = n j; lost = l j })
+
+  taken-at : (i n : ℕ) → roomFor t n ≡ true → i < n → tallyOf (countedTo t marks i) (a i) ≡ tallied.Taken (countedTo t marks (suc i))
+  unfolding tallyOf addsUp
+  taken-at i n r l =
+      let w = room-says t n r in
+      let b = begun-at i in
+      simp (eq-eqb (countedTo t marks i .begun) (sumOf (countedTo t marks i)) (sums i (w .0)), mark-one (a i) (h i) .1, ne-eqb (countedTo t marks i .begun) 4294967295 (λ z. omega arith), one-more i)
+
+pub block-counts : Block-counts
+block-counts t a n h r i l = rw add-one (taken-at t a h i n r l)

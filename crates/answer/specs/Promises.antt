@@ -2,8 +2,9 @@
 use mathlib.Core.Path.{_≡_}
 use mathlib.Core.Bool.{Bool, true, false, not, _&&_}
 use mathlib.Core.List.{List, [], _∷_}
-use Prim.Native.Nat.{ℕ, _+_, _≤_}
+use Prim.Native.Nat.{ℕ, _+_, _≤_, _<_}
 use Rattle.answer.specs.Answer.{markNumber, voltsOf, accepted}
+use Rattle.answer.specs.Block.{roomFor, countedTo}
 use Rattle.answer.specs.Mark.{allFinite, markOf, ruleOf}
 use Rattle.answer.specs.Tally.{Run, run, newRun, sumOf, many, tallyOf}
 use Rattle.answer.specs.declared.Volts.{Volts}
@@ -36,3 +37,8 @@ Tally-counts = (xs : List Answer) → Counts (run newRun xs)
 -- a refused tick leaves a tally that adds up as it stood
 abbrev pub Refused-nowhere : Type 0
 Refused-nowhere = (t : Tally) (a : Answer) → accepted a ≡ false → t .begun ≡ sumOf t → tallyOf t a ≡ tallied.Taken t
+
+-- a block's tally is the one that is given each of its answers, in order: none of them is refused
+abbrev pub Block-counts : Type 0
+Block-counts = (t : Tally) (a : ℕ → Answer) (n : ℕ) → ((i : ℕ) → accepted (a i) ≡ true) → roomFor t n ≡ true
+    → (i : ℕ) → i < n → tallyOf (countedTo t (λ j. markNumber (a j)) i) (a i) ≡ tallied.Taken (countedTo t (λ j. markNumber (a j)) (i + 1))
