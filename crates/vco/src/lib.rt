@@ -303,49 +303,6 @@ impl Vco {
         }
     }
 
-    // An accepted tick.
-    fn sound(self, c: VcoControls, wanted: u32) -> VcoTicked
-        requires { ⌜ phaseOk (self .phase) ≡ true ⌝ }
-        ensures { λ r. ⌜ r ≡ vcoSoundOf self c wanted ⌝ }
-    {
-        let p_old = self.phase;
-        let sample_rate = self.sample_rate;
-        let edge = self.sync_edge;
-        let memo = self.freq_memo;
-        let voct = c.voct;
-        let fm = c.fm;
-        let freq_memo = tuned(memo, voct, fm, c.fm_lin);
-        let freq = freq_memo.val;
-        let dt = increment(freq, sample_rate);
-        let crossed = edge.rising_frac(c.sync);
-        let at = crossed.at;
-        let sync_edge = crossed.edge;
-        let phase = restart(p_old, at);
-        VcoTicked {
-            answer: Self::heard(at, phase, p_old, width(c.pw), dt, wanted),
-            vco: Vco {
-                phase: common::wrap_phase(Turns(phase.0 + dt.0)),
-                sample_rate,
-                sync_edge,
-                freq_memo,
-            },
-        }
-    }
-
-    pub fn tick(self, c: VcoControls, wanted: u32) -> VcoTicked
-        ensures { λ r. ⌜ r ≡ vcoTickOf self c wanted ⌝ }
-    {
-        let refusal = self.refusal();
-        if refusal == 0 {
-            self.sound(c, wanted)
-        } else {
-            VcoTicked {
-                answer: Answer::Refused(refusal),
-                vco: self,
-            }
-        }
-    }
-
     // Ticks whose memo holds. Only the first may take the edge: after it the sync stands still.
     fn glide(
         start: Turns,
@@ -399,6 +356,41 @@ impl Vco {
             sample_rate,
             sync_edge,
             freq_memo,
+        }
+    }
+
+    // An accepted tick is a block of one.
+    fn sound(self, c: VcoControls, wanted: u32) -> VcoTicked
+        requires { ⌜ vcoRefusalOf self ≡ 0 ⌝ }
+        ensures { λ r. ⌜ r ≡ vcoSoundOf self c wanted ⌝ }
+    {
+        let mut samples = [0.0; 4];
+        let mut marks = [0; 1];
+        let vco = self.run(c, wanted, &mut samples, &mut marks);
+        let volts = Volts {
+            p10: samples[0],
+            p11: samples[1],
+            p12: samples[2],
+            p13: samples[3],
+            p14: 0.0,
+        };
+        VcoTicked {
+            answer: answer::answer_of(marks[0], volts),
+            vco,
+        }
+    }
+
+    pub fn tick(self, c: VcoControls, wanted: u32) -> VcoTicked
+        ensures { λ r. ⌜ r ≡ vcoTickOf self c wanted ⌝ }
+    {
+        let refusal = self.refusal();
+        if refusal == 0 {
+            self.sound(c, wanted)
+        } else {
+            VcoTicked {
+                answer: Answer::Refused(refusal),
+                vco: self,
+            }
         }
     }
 

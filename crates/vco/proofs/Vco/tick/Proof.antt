@@ -1,5 +1,4 @@
 use mathlib.Core.Path.{sym, _∙_}
-use Rattle.vco.proofs.StateLaws.{unrefused}
 use Rattle.vco.specs.Vco.{vcoTickOf}
 use borrow.Author.Tests.{eq-eqb, ne-eqb}
 use borrow.Author.Needs.{needs}
@@ -10,7 +9,7 @@ refusal-requires : tie.Need-refusal-requires
 refusal-requires c κs = search needs
 
 sound-requires : tie.Need-sound-requires
-sound-requires c κs = unrefused (c .before .before .args .self) (sym (c .before .refusal .ensures) ∙ c .if1 .taken) .1
+sound-requires c κs = sym (c .before .refusal .ensures) ∙ c .if1 .taken
 
 returns : tie.Need-returns
 unfolding vcoTickOf
