@@ -6,11 +6,8 @@ use native.Mathlib.Numerals.{add-one}
 use native.Mathlib.Omega.{arith}
 use lib.Ieee.{Float, binary64, add, div}
 use lib.Ieee.Fits.{add-fits}
-use Rattle.answer.specs.Answer.{markNumber, voltsOf, answerOf, accepted}
 use Rattle.answer.specs.Block.{afterTicks, answerAt}
-use Rattle.answer.proofs.Blocks.{Holds, held-after, answer-back}
-use Rattle.answer.proofs.Laws.{mark-says}
-use Rattle.answer.specs.declared.Volts.{Volts}
+use Rattle.answer.proofs.Blocks.{Holds, held-after}
 use Rattle.answer.specs.declared.Answer.{Answer}
 use Rattle.common.specs.Consts.{gateThreshold}
 use Rattle.common.specs.Phase.{turns, wrapOf}
@@ -25,13 +22,12 @@ use Rattle.common.specs.declared.Memo3.{Memo3}
 use Rattle.common.specs.declared.EdgeDetector.{EdgeDetector}
 use Rattle.common.specs.declared.Crossing.{Crossing}
 use Rattle.common.specs.declared.Crossing.the-variants.{Nowhere, At}
-use Rattle.laws.specs.Float.{zer}
 use Rattle.numeric.specs.Basic.{clampOf}
 use Rattle.vco.specs.Consts.{pwLow, pwHigh}
-use Rattle.vco.specs.Vco.{frequencyOf, restartOf, vcoVoltsOf, vcoAnswerOf, vcoSoundOf, vcoRefusalOf, vcoTickOf, vcoToldOf, vcoNextOf}
+use Rattle.vco.specs.Vco.{frequencyOf, restartOf, vcoAnswerOf, vcoSoundOf, vcoRefusalOf, vcoTickOf, vcoToldOf, vcoNextOf}
 use Rattle.vco.specs.Held.{Held, held, heldAnswer, heldNext}
 use Rattle.vco.proofs.StateLaws.{unrefused}
-use Rattle.vco.proofs.Reached.{tick-sound, accepted-sound}
+use Rattle.vco.proofs.Reached.{tick-sound}
 use Rattle.vco.specs.declared.Vco.{Vco}
 use Rattle.vco.specs.declared.VcoControls.{VcoControls}
 use Rattle.vco.specs.declared.VcoTicked.{VcoTicked}
@@ -118,24 +114,3 @@ module _ (s : Vco) (c : VcoControls) where
   left wanted n h z =
       let e : crossedOf (s .«sync_edge») (c .sync) .edge ≡ edgeOf Nowhere = unfold edgeOf crossedOf crossedAboveOf in refl in
       simp (e, ← left-at n z) (sym (held-after _ _ _ _ _ _ _ _ (holds wanted h) n z))
-
-  -- ---- a tick is a block of one
-  -- four samples, and a fifth
-  abbrev pub withFifth : Volts → Float → Volts
-  withFifth v x = record { p10 = v .p10; p11 = v .p11; p12 = v .p12; p13 = v .p13; p14 = x }
-
-  abbrev heardAs : VcoTicked → Float → VcoTicked
-  heardAs t x = record { answer = answerOf (markNumber (t .answer)) (withFifth (voltsOf (t .answer)) x); vco = t .vco }
-
-  no-fifth : (wanted : ℕ) → voltsOf (vcoSoundOf s c wanted .answer) .p14 ≡ zer
-  unfolding vcoSoundOf vcoAnswerOf vcoVoltsOf
-  no-fifth wanted = ap (λ (v : Volts). v .p14) (mark-says _ _ _ _ .volts)
-
-  pub one-tick : (wanted : ℕ) → vcoRefusalOf s ≡ 0
-      → _≡_ {A = VcoTicked} (record { answer = answerOf (markNumber (vcoToldOf c wanted s)) (withFifth (voltsOf (vcoToldOf c wanted s)) zer); vco = vcoNextOf c wanted s }) (vcoSoundOf s c wanted)
-  one-tick wanted h =
-      let r = unrefused s h in
-      let t = vcoSoundOf s c wanted in
-      ap (λ (u : VcoTicked). heardAs u zer) (tick-sound s (record { rate = r .0; phase = r .1 }) c wanted)
-      ∙ ap (λ (x : Float). heardAs t x) (sym (no-fifth wanted))
-      ∙ ap (λ (a : Answer). record { answer = a; vco = t .vco }) (answer-back (t .answer) (accepted-sound s c wanted))

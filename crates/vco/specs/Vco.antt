@@ -68,6 +68,17 @@ vcoVoltsOf at p old pw dt wanted =
       p14 = zer;
     }
 
+-- the same where nothing is smoothed: those of a quiet tick
+abbrev pub plainVolts : Float → Float → ℕ → Volts
+plainVolts p pw wanted =
+    record {
+      p10 = sineOf (wants wanted 1) p;
+      p11 = outOf (wants wanted 2) (triOf p zer zer);
+      p12 = outOf (wants wanted 4) (sawOf p zer);
+      p13 = outOf (wants wanted 8) (sqrOf p pw zer zer);
+      p14 = zer;
+    }
+
 -- with their mark: no tick is cleared, no output has a clamp, and a tick is lost where phase + dt isn't finite
 unfoldable pub vcoAnswerOf : Crossing → Float → Float → Float → Float → ℕ → Answer
 vcoAnswerOf at p old pw dt wanted = markOf (vcoVoltsOf at p old pw (fabsOf dt) wanted) false true (isFin (add binary64 p dt))

@@ -1,4 +1,4 @@
-use mathlib.Core.Path.{_≡_}
+use mathlib.Core.Path.{_≡_, refl}
 use Prim.Native.Nat.{ℕ, suc, _+_, _*_}
 use native.Mathlib.Omega.{arith}
 use lib.ListN.{length-set}
@@ -6,9 +6,6 @@ use Rattle.answer.specs.Block.{portsOf}
 use borrow.Author.Needs.{needs}
 use Rattle.vco.proofs.put.Statement.{statement}
 use Rattle.vco.proofs.put.Tie as tie
-
-samples-requires : tie.Need-samples-requires
-samples-requires c κs = search needs
 
 mul-at : tie.Need-mul-at
 mul-at c = search needs
@@ -46,9 +43,6 @@ mul-samples-4 c = search needs
 slice-write-samples-4 : tie.Need-slice-write-samples-4
 slice-write-samples-4 c = simp length-set (omega arith)
 
-mark-number-requires : tie.Need-mark-number-requires
-mark-number-requires c κs = search needs
-
 mul-marks : tie.Need-mul-marks
 mul-marks c = search needs
 
@@ -66,13 +60,12 @@ after n = (omega arith, omega arith, omega arith)
 
 returns : tie.Need-returns
 unfolding portsOf
-returns c = let k = after (4 * c .before .before .before .before .args .i) in (simp (c .before .samples .ensures, k .0, k .1, k .2), simp (c .mark-number .ensures))
+returns c = let k = after (4 * c .args .i) in (simp (k .0, k .1, k .2), refl)
 
 pub put-spec : {M : Type 1} → statement M
 put-spec =
     tie.close
     (tie.spec
-    samples-requires
     mul-at
     mul-samples
     slice-write-samples
@@ -85,7 +78,6 @@ put-spec =
     add-samples-3
     mul-samples-4
     slice-write-samples-4
-    mark-number-requires
     mul-marks
     slice-write-marks
     same-length

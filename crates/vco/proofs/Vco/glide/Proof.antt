@@ -33,14 +33,11 @@ loop-holds c = (omega arith, refl, refl, joined-none _ _, over-none _ _, refl, c
 restart-requires : tie.Need-restart-requires Inv-loop μ-loop
 restart-requires c κs = tt
 
-heard-requires : tie.Need-heard-requires Inv-loop μ-loop
-heard-requires c κs = (rw (c .restart .ensures) (restart-ok _ _ (c .before .before .loop .inv .6)), c .before .before .before .before .before .pre .1)
+put-heard-requires : tie.Need-put-heard-requires Inv-loop μ-loop
+put-heard-requires c κs = (rw (c .before .before .restart .ensures) (restart-ok _ _ (c .before .before .before .before .loop .inv .6)), c .before .before .before .before .before .before .before .pre .1, omega arith, omega arith)
 
-put-requires : tie.Need-put-requires Inv-loop μ-loop
-put-requires c κs = (omega arith, omega arith)
-
-wrap-phase-requires : tie.Need-wrap-phase-requires Inv-loop μ-loop
-wrap-phase-requires c κs = tt
+advance-requires : tie.Need-advance-requires Inv-loop μ-loop
+advance-requires c κs = tt
 
 add-i : tie.Need-add-i Inv-loop μ-loop
 add-i c = omega arith
@@ -50,11 +47,11 @@ loop-less c = omega arith
 
 loop-again : tie.Need-loop-again Inv-loop μ-loop
 loop-again c =
-    let s = c .before .before .before .before .before .before .before .before .before .before .before .before .before .loop .inv in
-    let r = c .before .before .before .before .before .before .before .before .before .before .before .restart .ensures in
-    let a = heard-now _ _ _ _ _ _ _ _ _ (c .before .before .before .before .before .before .before .before .before .before .heard .ensures) r (s .5) in
-    let p = c .before .before .before .before .before .before .before .put .ensures in
-    (omega arith, simp (p .0, length-sets) (s .1), simp (p .1, length-set) (s .2), rw (p .0) (frames-more 4 four-ports _ _ _ _ _ _ _ (s .3) a), rw (p .1) (marks-more 4 four-ports _ _ _ _ _ _ _ (omega arith) (s .4) a), moved _ _ _ _ _ _ _ (c .wrap-phase .ensures) r (s .5), rw (c .wrap-phase .ensures) (wrap-in _ (add-fits binary64 _ _)))
+    let s = c .before .before .before .before .before .before .before .before .before .before .loop .inv in
+    let r = c .before .before .before .before .before .before .before .before .restart .ensures in
+    let a = heard-now _ _ _ _ _ _ _ _ _ refl r (s .5) in
+    let p = c .before .before .before .before .before .put-heard .ensures in
+    (omega arith, simp (p .0, length-sets) (s .1), simp (p .1, length-set) (s .2), rw (p .0) (frames-more 4 four-ports _ _ _ _ _ _ _ (s .3) a), rw (p .1) (marks-more 4 four-ports _ _ _ _ _ _ _ (omega arith) (s .4) a), moved _ _ _ _ _ _ _ (c .advance .ensures) r (s .5), rw (c .advance .ensures) (wrap-in _ (add-fits binary64 _ _)))
 
 same-length : tie.Need-same-length Inv-loop μ-loop
 same-length c = c .before .loop .inv .1
@@ -77,9 +74,8 @@ glide-spec =
     μ-loop
     loop-holds
     restart-requires
-    heard-requires
-    put-requires
-    wrap-phase-requires
+    put-heard-requires
+    advance-requires
     add-i
     loop-less
     loop-again

@@ -1,55 +1,44 @@
-use Rattle.laws.specs.Lists.{tab}
-use Rattle.answer.specs.Block.{afterTicks, answerAt, joined, portsOf}
-use Rattle.vco.proofs.Held.{one-tick}
+use Rattle.vco.proofs.PulseLaws.{clamp-width}
+use Rattle.vco.proofs.StateLaws.{restart-ok}
+use Rattle.vco.specs.Vco.{vcoSoundOf}
 use borrow.Author.Needs.{needs}
 use Rattle.vco.proofs.Vco.sound.Statement.{statement}
 use Rattle.vco.proofs.Vco.sound.Tie as tie
 
-slice-aggregate-run : tie.Need-slice-aggregate-run
-slice-aggregate-run c = search needs
+tuned-requires : tie.Need-tuned-requires
+tuned-requires c κs = search needs
 
-slice-aggregate-run-2 : tie.Need-slice-aggregate-run-2
-slice-aggregate-run-2 c = search needs
+increment-requires : tie.Need-increment-requires
+increment-requires c κs = search needs
 
-run-requires : tie.Need-run-requires
-run-requires c κs = search needs
+rising-frac-requires : tie.Need-rising-frac-requires
+rising-frac-requires c κs = search needs
 
-array-read-t14 : tie.Need-array-read-t14
-array-read-t14 c = search needs
+restart-requires : tie.Need-restart-requires
+restart-requires c κs = search needs
 
-array-read-t17 : tie.Need-array-read-t17
-array-read-t17 c = search needs
+width-requires : tie.Need-width-requires
+width-requires c κs = search needs
 
-array-read-t20 : tie.Need-array-read-t20
-array-read-t20 c = search needs
+heard-requires : tie.Need-heard-requires
+heard-requires c κs = let s = c .before .before .before .before .before .before .before .before .before .before .before .before .before in (simp (c .before .restart .ensures) (restart-ok (s .args .self .phase) _ (s .pre)), simp (c .width .ensures) (clamp-width _))
 
-array-read-t23 : tie.Need-array-read-t23
-array-read-t23 c = search needs
-
-array-read-answer-of : tie.Need-array-read-answer-of
-array-read-answer-of c = search needs
-
-answer-of-requires : tie.Need-answer-of-requires
-answer-of-requires c κs = search needs
+advance-requires : tie.Need-advance-requires
+advance-requires c κs = search needs
 
 returns : tie.Need-returns
-unfolding afterTicks answerAt joined portsOf tab
-returns c =
-    let a = c .before .before .before .before .before .before .args in
-    let r = c .before .before .before .run .ensures in
-    simp (c .answer-of .ensures, r .0, r .1 .0, r .1 .1) (one-tick (a .self) (a .c) (a .wanted) (c .before .before .before .before .before .before .pre))
+unfolding vcoSoundOf
+returns c = simp (c .advance .ensures, c .before .heard .ensures, c .before .before .width .ensures, c .before .before .before .restart .ensures, c .before .before .before .before .before .rising-frac .ensures, c .before .before .before .before .before .before .increment .ensures, c .before .before .before .before .before .before .before .before .tuned .ensures)
 
 pub sound-spec : {M : Type 1} → statement M
 sound-spec =
     tie.close
     (tie.spec
-    slice-aggregate-run
-    slice-aggregate-run-2
-    run-requires
-    array-read-t14
-    array-read-t17
-    array-read-t20
-    array-read-t23
-    array-read-answer-of
-    answer-of-requires
+    tuned-requires
+    increment-requires
+    rising-frac-requires
+    restart-requires
+    width-requires
+    heard-requires
+    advance-requires
     returns)

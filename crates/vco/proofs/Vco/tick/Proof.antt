@@ -1,4 +1,5 @@
 use mathlib.Core.Path.{sym, _∙_}
+use Rattle.vco.proofs.StateLaws.{unrefused}
 use Rattle.vco.specs.Vco.{vcoTickOf}
 use borrow.Author.Tests.{eq-eqb, ne-eqb}
 use borrow.Author.Needs.{needs}
@@ -9,7 +10,7 @@ refusal-requires : tie.Need-refusal-requires
 refusal-requires c κs = search needs
 
 sound-requires : tie.Need-sound-requires
-sound-requires c κs = sym (c .before .refusal .ensures) ∙ c .if1 .taken
+sound-requires c κs = unrefused (c .before .before .args .self) (sym (c .before .refusal .ensures) ∙ c .if1 .taken) .1
 
 returns : tie.Need-returns
 unfolding vcoTickOf
