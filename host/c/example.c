@@ -1,4 +1,4 @@
-/* Renders a vowel of 480 samples twice, once with a broken control value, and shows what is finished:
+/* Renders a vowel of 480 samples twice, once with a broken control value, and shows what is finished; then reads a score:
  *
  *     tools/library ../target/gruttisol
  *     cc -I c c/example.c ../target/gruttisol/libgruttisol.a -o ../target/example && ../target/example
@@ -11,32 +11,47 @@
 
 static int render(double vowel)
 {
-    double floats[GRUTTISOL_FORMANT_OSC_FLOATS], out[1];
+    double floats[GRUTTISOL_FORMANT_OSC_FLOATS], out[SAMPLES];
     uint64_t wholes[GRUTTISOL_FORMANT_OSC_WHOLES];
-    uint32_t counts[GRUTTISOL_COUNTS] = {0};
+    uint32_t counts[GRUTTISOL_COUNTS] = {0}, marks[SAMPLES];
 
     uint32_t refused = gruttisol_formant_osc_new(48000.0, floats, GRUTTISOL_FORMANT_OSC_FLOATS,
                                                  wholes, GRUTTISOL_FORMANT_OSC_WHOLES);
     if (refused)
         return printf("refused=%u\n", refused);
 
-    for (int i = 0; i < SAMPLES; i++) {
-        uint32_t answer = gruttisol_formant_osc_tick(-1.0, vowel, 0.0, 0.0, floats, GRUTTISOL_FORMANT_OSC_FLOATS,
-                                                     wholes, GRUTTISOL_FORMANT_OSC_WHOLES, out, 1);
-        if (gruttisol_tally_take(answer, counts, GRUTTISOL_COUNTS))
-            return printf("the tally refused\n");
-    }
+    refused = gruttisol_formant_osc_block(-1.0, vowel, 0.0, 0.0, floats, GRUTTISOL_FORMANT_OSC_FLOATS,
+                                          wholes, GRUTTISOL_FORMANT_OSC_WHOLES, counts, GRUTTISOL_COUNTS,
+                                          out, SAMPLES, marks, SAMPLES);
+    if (refused)
+        return printf("refused=%u\n", refused);
     return printf("begun=%u finished=%u cleared=%u notfinite=%u lost=%u claimed=%s\n", counts[0], counts[1], counts[2],
                   counts[3], counts[4], counts[0] == SAMPLES && counts[1] == SAMPLES ? "yes" : "no");
 }
 
+static void read_score(const char *score, size_t length)
+{
+    double volts[GRUTTISOL_SCORE_FLOATS];
+    uint64_t said[GRUTTISOL_SCORE_WHOLES];
+    uint32_t refused = gruttisol_score_read((const uint8_t *)score, length, volts, GRUTTISOL_SCORE_FLOATS,
+                                            said, GRUTTISOL_SCORE_WHOLES);
+    if (refused)
+        printf("a score: refused=%u\n", refused);
+    else
+        printf("a score: %s, %u Hz, frames=%u, first input %g V\n", said[0] == GRUTTISOL_OSC_LFO ? "lfo" : "another",
+               (unsigned)said[1], (unsigned)said[2], volts[0]);
+}
+
 int main(void)
 {
+    static const char score[] = "osc=lfo\nhz=48000\nframes=480\nrate=500000\ndepth=5000000\nreset=0\n";
     double floats[GRUTTISOL_VCO_FLOATS] = {0};
     uint64_t wholes[GRUTTISOL_VCO_WHOLES] = {0};
 
     render(0.25);
     render(NAN);
     printf("a rate of 999.5 Hz: refused=%u\n", gruttisol_vco_new(999.5, floats, GRUTTISOL_VCO_FLOATS, wholes, GRUTTISOL_VCO_WHOLES));
+    read_score(score, sizeof score - 1);
+    read_score(score, sizeof score - 2); /* without its last line feed */
     return 0;
 }

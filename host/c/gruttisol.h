@@ -1,4 +1,4 @@
-/* Gruttisol: six proved oscillators and their tally, for C and C++.
+/* Gruttisol: six proved oscillators, their tally and the reader of scores, for C and C++.
  *
  * Every function takes any numbers and any memory of the lengths that it is told: it ends, reads and writes inside the lent
  * memory alone and keeps none of it. A lent array is two arguments, its first cell and its length; arrays lent to one
@@ -8,11 +8,15 @@
  * each call as the last call left it. A state of your own making is taken or refused.
  *
  * A call answers a number:
- *   0         done
+ *   0         done, and so is a block
  *   11 to 14  an accepted tick: cleared, notfinite, lost, clean
- *   1 to 7    refused, see gruttisol_refusal below
+ *   1 to 7    refused, and so is a score by 20 to 23; see gruttisol_refusal below
  *   50 to 53  an array of another length: floats, wholes, samples, counts
  * A refused call leaves every array as it stood.
+ *
+ * A block, `.._block`, is as many ticks with one set of controls as there are `marks`, and their tally: the same as so many calls of
+ * `.._tick` and of gruttisol_tally_take, in less time. `samples` takes a tick's samples for each mark, one tick after another,
+ * and each mark becomes 1 cleared, 2 notfinite, 3 lost or 4 clean.
  */
 #ifndef GRUTTISOL_H
 #define GRUTTISOL_H
@@ -32,13 +36,17 @@ enum gruttisol_mark {
 };
 
 enum gruttisol_refusal {
-    GRUTTISOL_BAD_RATE = 1,   /* a rate not from 1,000 to 192,000 */
-    GRUTTISOL_BAD_STATE = 2,  /* a state that is no oscillator's */
-    GRUTTISOL_SHORT_LINE = 3, /* a line too short for its rate */
-    GRUTTISOL_BAD_BANK = 4,   /* a bank, part or table of another size or number */
-    GRUTTISOL_FEW_DRAWS = 5,  /* a trigger, and too few draws */
-    GRUTTISOL_BAD_DRAW = 6,   /* a trigger, and a draw of 2^53 or more */
-    GRUTTISOL_BAD_TALLY = 7   /* counts that don't add up, or a full tally */
+    GRUTTISOL_BAD_RATE = 1,     /* a rate not from 1,000 to 192,000 */
+    GRUTTISOL_BAD_STATE = 2,    /* a state that is no oscillator's */
+    GRUTTISOL_SHORT_LINE = 3,   /* a line too short for its rate */
+    GRUTTISOL_BAD_BANK = 4,     /* a bank, part or table of another size or number */
+    GRUTTISOL_FEW_DRAWS = 5,    /* a trigger, and too few draws */
+    GRUTTISOL_BAD_DRAW = 6,     /* a trigger, and a draw of 2^53 or more */
+    GRUTTISOL_BAD_TALLY = 7,    /* counts that don't add up, or a full tally */
+    GRUTTISOL_LONG_SCORE = 20,  /* a score of more than 1,024 bytes */
+    GRUTTISOL_BAD_LINE = 21,    /* a wrong, missing or extra line, or an oscillator that isn't known */
+    GRUTTISOL_BAD_NUMBER = 22,  /* no number as a score writes it */
+    GRUTTISOL_OUT_OF_RANGE = 23 /* a number out of its range */
 };
 
 /* ---- the tally: counts are begun, finished, cleared, notfinite, lost; a new one is five zeros */
@@ -56,6 +64,10 @@ uint32_t gruttisol_vco_new(double sample_rate, double *floats, size_t floats_len
 uint32_t gruttisol_vco_tick(double voct, double fm, double pw, double sync, double fm_lin, uint32_t wanted,
                             double *floats, size_t floats_len, uint64_t *wholes, size_t wholes_len,
                             double *samples, size_t samples_len);
+uint32_t gruttisol_vco_block(double voct, double fm, double pw, double sync, double fm_lin, uint32_t wanted,
+                             double *floats, size_t floats_len, uint64_t *wholes, size_t wholes_len,
+                             uint32_t *counts, size_t counts_len, double *samples, size_t samples_len,
+                             uint32_t *marks, size_t marks_len);
 uint32_t gruttisol_vco_reset(double *floats, size_t floats_len, uint64_t *wholes, size_t wholes_len);
 uint32_t gruttisol_vco_set_sample_rate(double sample_rate, double *floats, size_t floats_len,
                                        uint64_t *wholes, size_t wholes_len);
@@ -69,6 +81,10 @@ uint32_t gruttisol_lfo_new(double sample_rate, double *floats, size_t floats_len
 uint32_t gruttisol_lfo_tick(double rate, double depth, double reset, uint32_t wanted,
                             double *floats, size_t floats_len, uint64_t *wholes, size_t wholes_len,
                             double *samples, size_t samples_len);
+uint32_t gruttisol_lfo_block(double rate, double depth, double reset, uint32_t wanted,
+                             double *floats, size_t floats_len, uint64_t *wholes, size_t wholes_len,
+                             uint32_t *counts, size_t counts_len, double *samples, size_t samples_len,
+                             uint32_t *marks, size_t marks_len);
 uint32_t gruttisol_lfo_reset(double *floats, size_t floats_len, uint64_t *wholes, size_t wholes_len);
 uint32_t gruttisol_lfo_set_sample_rate(double sample_rate, double *floats, size_t floats_len,
                                        uint64_t *wholes, size_t wholes_len);
@@ -83,6 +99,10 @@ uint32_t gruttisol_supersaw_new(double sample_rate, double *floats, size_t float
 uint32_t gruttisol_supersaw_tick(double voct, double detune, double mix,
                                  double *floats, size_t floats_len, uint64_t *wholes, size_t wholes_len,
                                  double *samples, size_t samples_len);
+uint32_t gruttisol_supersaw_block(double voct, double detune, double mix,
+                                  double *floats, size_t floats_len, uint64_t *wholes, size_t wholes_len,
+                                  uint32_t *counts, size_t counts_len, double *samples, size_t samples_len,
+                                  uint32_t *marks, size_t marks_len);
 uint32_t gruttisol_supersaw_reset(double *floats, size_t floats_len, uint64_t *wholes, size_t wholes_len);
 uint32_t gruttisol_supersaw_set_sample_rate(double sample_rate, double *floats, size_t floats_len,
                                             uint64_t *wholes, size_t wholes_len);
@@ -103,6 +123,11 @@ uint32_t gruttisol_wavetable_new(double sample_rate, double *floats, size_t floa
 uint32_t gruttisol_wavetable_tick(double v_oct, double table, double morph, double sync,
                                   double *floats, size_t floats_len, uint64_t *wholes, size_t wholes_len,
                                   double *samples, size_t samples_len, const double *bank, size_t bank_len);
+uint32_t gruttisol_wavetable_block(double v_oct, double table, double morph, double sync,
+                                   double *floats, size_t floats_len, uint64_t *wholes, size_t wholes_len,
+                                   const double *bank, size_t bank_len,
+                                   uint32_t *counts, size_t counts_len, double *samples, size_t samples_len,
+                                   uint32_t *marks, size_t marks_len);
 uint32_t gruttisol_wavetable_reset(double *floats, size_t floats_len, uint64_t *wholes, size_t wholes_len);
 uint32_t gruttisol_wavetable_set_sample_rate(double sample_rate, double *floats, size_t floats_len,
                                              uint64_t *wholes, size_t wholes_len);
@@ -117,6 +142,10 @@ uint32_t gruttisol_formant_osc_new(double sample_rate, double *floats, size_t fl
 uint32_t gruttisol_formant_osc_tick(double v_oct, double vowel, double formant_shift, double vibrato,
                                     double *floats, size_t floats_len, uint64_t *wholes, size_t wholes_len,
                                     double *samples, size_t samples_len);
+uint32_t gruttisol_formant_osc_block(double v_oct, double vowel, double formant_shift, double vibrato,
+                                     double *floats, size_t floats_len, uint64_t *wholes, size_t wholes_len,
+                                     uint32_t *counts, size_t counts_len, double *samples, size_t samples_len,
+                                     uint32_t *marks, size_t marks_len);
 uint32_t gruttisol_formant_osc_reset(double *floats, size_t floats_len, uint64_t *wholes, size_t wholes_len);
 uint32_t gruttisol_formant_osc_set_sample_rate(double sample_rate, double *floats, size_t floats_len,
                                                uint64_t *wholes, size_t wholes_len);
@@ -134,10 +163,30 @@ uint32_t gruttisol_karplus_strong_tick(double voct, double trigger, double dampi
                                        double *floats, size_t floats_len, uint64_t *wholes, size_t wholes_len,
                                        double *samples, size_t samples_len, double *line, size_t line_len,
                                        const uint64_t *draws, size_t draws_len);
+uint32_t gruttisol_karplus_strong_block(double voct, double trigger, double damping, double brightness, double stretch,
+                                        double *floats, size_t floats_len, uint64_t *wholes, size_t wholes_len,
+                                        double *line, size_t line_len, const uint64_t *draws, size_t draws_len,
+                                        uint32_t *counts, size_t counts_len, double *samples, size_t samples_len,
+                                        uint32_t *marks, size_t marks_len);
 uint32_t gruttisol_karplus_strong_reset(double *floats, size_t floats_len, uint64_t *wholes, size_t wholes_len,
                                         double *line, size_t line_len);
 uint32_t gruttisol_karplus_strong_set_sample_rate(double sample_rate, double *floats, size_t floats_len,
                                                   uint64_t *wholes, size_t wholes_len, double *line, size_t line_len);
+
+/* ---- scores: what a text of at most 1,024 bytes says. floats are the volts of the oscillator's inputs in port order, 0.0 past its
+ *      last one; wholes are a gruttisol_osc, samples a second and frames. */
+#define GRUTTISOL_SCORE_FLOATS 5
+#define GRUTTISOL_SCORE_WHOLES 3
+
+enum gruttisol_osc {
+    GRUTTISOL_OSC_VCO = 0,
+    GRUTTISOL_OSC_LFO = 1,
+    GRUTTISOL_OSC_SUPERSAW = 2,
+    GRUTTISOL_OSC_FORMANT = 3
+};
+
+uint32_t gruttisol_score_read(const uint8_t *text, size_t text_len, double *floats, size_t floats_len,
+                              uint64_t *wholes, size_t wholes_len);
 
 /* ---- functions of numbers alone */
 double gruttisol_sin(double x);

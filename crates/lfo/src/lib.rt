@@ -260,6 +260,49 @@ impl Lfo {
         }
     }
 
+    // An accepted tick: the Rust's tick_wanted.
+    fn sound(self, c: LfoControls, wanted: u32) -> LfoTicked
+        requires { ⌜ lfoRefusalOf self ≡ 0 ⌝ }
+        ensures { λ r. ⌜ r ≡ lfoSoundOf self c wanted ⌝ }
+    {
+        let old = self.phase;
+        let sample_rate = self.sample_rate;
+        let edge = self.reset_edge;
+        let memo = self.freq_memo;
+        let depth = c.depth / 10.0;
+        let freq_memo = recall(memo, c.rate);
+        let freq = freq_memo.val;
+        let risen = edge.rising(c.reset);
+        let reset_edge = risen.edge;
+        let phase = restart(old, risen.rising);
+        let sine = Self::shared_sine(wanted, phase);
+        let volts = Self::outputs(wanted, phase, sine, depth);
+        let next = Turns(phase.0 + increment(freq, sample_rate).0);
+        LfoTicked {
+            answer: mark(volts, is_small(depth), numeric::is_finite(next.0)),
+            lfo: Lfo {
+                phase: common::wrap_phase(next),
+                sample_rate,
+                reset_edge,
+                freq_memo,
+            },
+        }
+    }
+
+    pub fn tick(self, c: LfoControls, wanted: u32) -> LfoTicked
+        ensures { λ r. ⌜ r ≡ lfoTickOf self c wanted ⌝ }
+    {
+        let n = self.refusal();
+        if n == 0 {
+            self.sound(c, wanted)
+        } else {
+            LfoTicked {
+                answer: Answer::Refused(n),
+                lfo: self,
+            }
+        }
+    }
+
     // Ticks in which no edge is taken and the memo holds: only the phase moves.
     fn glide(
         start: Turns,
@@ -311,41 +354,6 @@ impl Lfo {
             sample_rate,
             reset_edge,
             freq_memo,
-        }
-    }
-
-    // An accepted tick is a block of one.
-    fn sound(self, c: LfoControls, wanted: u32) -> LfoTicked
-        requires { ⌜ lfoRefusalOf self ≡ 0 ⌝ }
-        ensures { λ r. ⌜ r ≡ lfoSoundOf self c wanted ⌝ }
-    {
-        let mut samples = [0.0; 5];
-        let mut marks = [0; 1];
-        let lfo = self.run(c, wanted, &mut samples, &mut marks);
-        let volts = Volts {
-            p10: samples[0],
-            p11: samples[1],
-            p12: samples[2],
-            p13: samples[3],
-            p14: samples[4],
-        };
-        LfoTicked {
-            answer: answer::answer_of(marks[0], volts),
-            lfo,
-        }
-    }
-
-    pub fn tick(self, c: LfoControls, wanted: u32) -> LfoTicked
-        ensures { λ r. ⌜ r ≡ lfoTickOf self c wanted ⌝ }
-    {
-        let n = self.refusal();
-        if n == 0 {
-            self.sound(c, wanted)
-        } else {
-            LfoTicked {
-                answer: Answer::Refused(n),
-                lfo: self,
-            }
         }
     }
 

@@ -1,7 +1,9 @@
 //! Nanoseconds a tick, ours and the Rust's in one run.
 //!
 //! Ours is a call of the safe crate, with all checks and the mark. The Rust's is the bare body of a tick, over the functions
-//! of Rust's standard library. Held controls are one set for all ticks; moving ones glide, so that no memo ever holds.
+//! of Rust's standard library. Held controls are one set for all ticks; moving ones glide, so that no memo ever holds. Blocks
+//! are of held controls, with their tally, against the same bare body and against the Rust's own block call.
+use gruttisol::tally::Tally;
 use gruttisol::{formant_osc, karplus_strong, lfo, supersaw, vco, wavetable};
 use random::Random;
 use std::hint::black_box;
@@ -10,6 +12,8 @@ use std::time::Instant;
 const RATE: f64 = 48000.0;
 /// Ticks in a run, before which a string is plucked.
 const TICKS: usize = 8192;
+/// Ticks in a block.
+const BLOCK: usize = 256;
 /// Runs of either side.
 const RUNS: usize = 60;
 
@@ -36,7 +40,15 @@ fn vco() {
     let ours = move |&[voct, fm, pw, sync, fm_lin]: &[f64; 5]| {
         state.tick(&vco::Controls { voct, fm, pw, sync, fm_lin }, vco::Vco::WANT_ALL).unwrap().volts
     };
-    row("vco", [0.25, 0.0, 0.5, 0.0, 0.0], [true, true, true, false, true], ours, theirs::vco());
+    let held = [0.25, 0.0, 0.5, 0.0, 0.0];
+    row("vco", held, [true, true, true, false, true], ours, theirs::vco());
+    let [voct, fm, pw, sync, fm_lin] = held;
+    let controls = vco::Controls { voct, fm, pw, sync, fm_lin };
+    let mut state = vco::Vco::new(RATE).unwrap();
+    let ours = |tally: &mut Tally, samples: &mut [f64], marks: &mut [u32]| {
+        state.block(black_box(&controls), vco::Vco::WANT_ALL, tally, samples, marks).unwrap()
+    };
+    blocks("vco", 4, held, ours, theirs::vco(), theirs::blocks::vco());
 }
 
 fn lfo() {
@@ -44,23 +56,47 @@ fn lfo() {
     let ours = move |&[rate, depth, reset]: &[f64; 3]| {
         state.tick(&lfo::Controls { rate, depth, reset }, lfo::Lfo::WANT_ALL).unwrap().volts
     };
-    row("lfo", [0.5, 10.0, 0.0], [true, true, false], ours, theirs::lfo());
+    let held = [0.5, 10.0, 0.0];
+    row("lfo", held, [true, true, false], ours, theirs::lfo());
+    let [rate, depth, reset] = held;
+    let controls = lfo::Controls { rate, depth, reset };
+    let mut state = lfo::Lfo::new(RATE).unwrap();
+    let ours = |tally: &mut Tally, samples: &mut [f64], marks: &mut [u32]| {
+        state.block(black_box(&controls), lfo::Lfo::WANT_ALL, tally, samples, marks).unwrap()
+    };
+    blocks("lfo", 5, held, ours, theirs::lfo(), theirs::blocks::lfo());
 }
 
 fn supersaw() {
     let mut state = supersaw::Supersaw::new(RATE).unwrap();
     let ours =
         move |&[voct, detune, mix]: &[f64; 3]| state.tick(&supersaw::Controls { voct, detune, mix }).unwrap().volts;
-    row("supersaw", [0.25, 0.5, 0.7], [true; 3], ours, theirs::supersaw());
+    let held = [0.25, 0.5, 0.7];
+    row("supersaw", held, [true; 3], ours, theirs::supersaw());
+    let [voct, detune, mix] = held;
+    let controls = supersaw::Controls { voct, detune, mix };
+    let mut state = supersaw::Supersaw::new(RATE).unwrap();
+    let ours = |tally: &mut Tally, samples: &mut [f64], marks: &mut [u32]| {
+        state.block(black_box(&controls), tally, samples, marks).unwrap()
+    };
+    blocks("supersaw", 2, held, ours, theirs::supersaw(), theirs::blocks::supersaw());
 }
 
 fn wavetable() {
     let mut state = wavetable::Wavetable::new(RATE).unwrap();
     let bank: Vec<f64> = (0..wavetable::Wavetable::BANK).map(|cell| (cell as f64).sin()).collect();
-    let ours = move |&[v_oct, table, morph, sync]: &[f64; 4]| {
+    let ours = |&[v_oct, table, morph, sync]: &[f64; 4]| {
         state.tick(&wavetable::Controls { v_oct, table, morph, sync }, &bank).unwrap().volts
     };
-    row("wavetable", [0.25, 0.4, 0.3, 0.0], [true, true, true, false], ours, theirs::wavetable());
+    let held = [0.25, 0.4, 0.3, 0.0];
+    row("wavetable", held, [true, true, true, false], ours, theirs::wavetable());
+    let [v_oct, table, morph, sync] = held;
+    let controls = wavetable::Controls { v_oct, table, morph, sync };
+    let mut state = wavetable::Wavetable::new(RATE).unwrap();
+    let ours = |tally: &mut Tally, samples: &mut [f64], marks: &mut [u32]| {
+        state.block(black_box(&controls), &bank, tally, samples, marks).unwrap()
+    };
+    blocks("wavetable", 1, held, ours, theirs::wavetable(), theirs::blocks::wavetable());
 
     let mut bank = vec![0.0; wavetable::Wavetable::BANK];
     let (mut ours_best, mut theirs_best) = (f64::INFINITY, f64::INFINITY);
@@ -84,7 +120,15 @@ fn formant() {
         let ours = move |&[v_oct, vowel, formant_shift, vibrato]: &[f64; 4]| {
             state.tick(&formant_osc::Controls { v_oct, vowel, formant_shift, vibrato }).unwrap().volts
         };
-        row(name, [0.25, 0.3, 0.5, vibrato], [true, true, true, vibrato > 0.0], ours, theirs::formant_osc());
+        let held = [0.25, 0.3, 0.5, vibrato];
+        row(name, held, [true, true, true, vibrato > 0.0], ours, theirs::formant_osc());
+        let [v_oct, vowel, formant_shift, vibrato] = held;
+        let controls = formant_osc::Controls { v_oct, vowel, formant_shift, vibrato };
+        let mut state = formant_osc::FormantOsc::new(RATE).unwrap();
+        let ours = |tally: &mut Tally, samples: &mut [f64], marks: &mut [u32]| {
+            state.block(black_box(&controls), tally, samples, marks).unwrap()
+        };
+        blocks(name, 1, held, ours, theirs::formant_osc(), theirs::blocks::formant_osc());
     }
 }
 
@@ -93,11 +137,23 @@ fn karplus_strong() {
     let mut random = Random::new(1);
     let draws: Vec<u64> = line.iter().map(|_| random.bits() >> 11).collect();
     let mut state = karplus_strong::KarplusStrong::new(RATE, &mut line).unwrap();
-    let ours = move |&[voct, trigger, damping, brightness, stretch]: &[f64; 5]| {
+    let ours = |&[voct, trigger, damping, brightness, stretch]: &[f64; 5]| {
         let controls = karplus_strong::Controls { voct, trigger, damping, brightness, stretch };
         state.tick(&controls, &mut line, &draws).unwrap().volts
     };
-    row("karplus_strong", [0.25, 0.0, 0.5, 0.5, 0.2], [true, false, true, true, true], ours, theirs::karplus_strong());
+    let held = [0.25, 0.0, 0.5, 0.5, 0.2];
+    row("karplus_strong", held, [true, false, true, true, true], ours, theirs::karplus_strong());
+    let [voct, trigger, damping, brightness, stretch] = held;
+    let controls = karplus_strong::Controls { voct, trigger, damping, brightness, stretch };
+    state.tick(&karplus_strong::Controls { trigger: 5.0, ..controls }, &mut line, &draws).unwrap();
+    let ours = |tally: &mut Tally, samples: &mut [f64], marks: &mut [u32]| {
+        state.block(black_box(&controls), &mut line, &draws, tally, samples, marks).unwrap()
+    };
+    let theirs = theirs::karplus_strong().map(|mut body| {
+        body(&[voct, 5.0, damping, brightness, stretch]);
+        body
+    });
+    blocks("karplus_strong", 1, held, ours, theirs, theirs::blocks::karplus_strong());
 }
 
 /// Measures an oscillator with its controls held, then with those moving that may, and prints both lines.
@@ -132,6 +188,44 @@ fn row<const C: usize, V, W>(
         } else {
             println!("{name:<16} {what:<10} {ours_best:>7.2} (QUIVER_SRC not found)");
         }
+    }
+}
+
+/// Measures blocks of held controls, and prints their lines: against the Rust's bare body, and against its own block call.
+fn blocks<const C: usize, W>(
+    name: &str,
+    ports: usize,
+    held: [f64; C],
+    mut ours: impl FnMut(&mut Tally, &mut [f64], &mut [u32]),
+    body: Option<impl FnMut(&[f64; C]) -> W>,
+    block: Option<impl FnMut(&[f64; C])>,
+) {
+    let (mut samples, mut marks) = (vec![0.0; ports * BLOCK], vec![0; BLOCK]);
+    let mut ours = || {
+        let start = Instant::now();
+        let mut tally = Tally::new();
+        for _ in 0..TICKS / BLOCK {
+            ours(&mut tally, black_box(&mut samples), black_box(&mut marks));
+        }
+        black_box(tally);
+        start.elapsed().as_nanos() as f64 / TICKS as f64
+    };
+    let (mut ours_best, mut body_best, mut block_best) = (f64::INFINITY, f64::INFINITY, f64::INFINITY);
+    let (Some(mut body), Some(mut block)) = (body, block) else {
+        (0..RUNS).for_each(|_| ours_best = ours_best.min(ours()));
+        println!("{name:<16} {:<10} {ours_best:>7.2} (QUIVER_SRC not found)", "block");
+        return;
+    };
+    let controls = vec![held; TICKS];
+    for _ in 0..RUNS {
+        ours_best = ours_best.min(ours());
+        body_best = body_best.min(run(&controls, &mut body));
+        let start = Instant::now();
+        (0..TICKS / BLOCK).for_each(|_| block(black_box(&held)));
+        block_best = block_best.min(start.elapsed().as_nanos() as f64 / TICKS as f64);
+    }
+    for (what, theirs) in [("block", body_best), ("its block", block_best)] {
+        println!("{name:<16} {what:<10} {ours_best:>7.2} {theirs:>7.2} {:>7.2}", ours_best / theirs);
     }
 }
 
@@ -178,6 +272,47 @@ mod theirs {
         }
         #[cfg(not(quiver))]
         None
+    }
+
+    /// The Rust's own block call.
+    pub mod blocks {
+        #[cfg(quiver)]
+        use quiver_system::{
+            modules::oscillators as rust,
+            port::{BlockPortValues, GraphModule},
+        };
+
+        macro_rules! blocks {
+            ($($name:ident: $oscillator:ident, $controls:literal;)*) => {$(
+                #[cfg(quiver)]
+                pub fn $name() -> Option<impl FnMut(&[f64; $controls])> {
+                    let block = super::super::BLOCK;
+                    let mut state = rust::$oscillator::new(super::super::RATE);
+                    let (mut inputs, mut outputs) = (BlockPortValues::new(block), BlockPortValues::new(block));
+                    Some(move |controls: &[f64; $controls]| {
+                        for (port, &x) in controls.iter().enumerate() {
+                            inputs.get_buffer_mut(port as u32).fill(x);
+                        }
+                        state.process_block(&inputs, &mut outputs, block);
+                        std::hint::black_box(&outputs);
+                    })
+                }
+
+                #[cfg(not(quiver))]
+                pub fn $name() -> Option<fn(&[f64; $controls])> {
+                    None
+                }
+            )*};
+        }
+
+        blocks! {
+            vco: Vco, 5;
+            lfo: Lfo, 3;
+            supersaw: Supersaw, 3;
+            wavetable: Wavetable, 4;
+            formant_osc: FormantOsc, 4;
+            karplus_strong: KarplusStrong, 5;
+        }
     }
 
     bodies! {

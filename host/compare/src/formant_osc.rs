@@ -5,6 +5,7 @@ use crate::pair::{both, refusal};
 use crate::script::{Counts, Pair};
 use gruttisol::answer::{Mark, Refused};
 use gruttisol::formant_osc as ours;
+use gruttisol::tally::Tally;
 use quiver::modules::oscillators as rust;
 use quiver::modules::oscillators::probe::Probe;
 use quiver::port::GraphModule;
@@ -58,6 +59,19 @@ impl Pair for FormantOsc {
         let ticked = self.ours.tick(&ours::Controls { v_oct, vowel, formant_shift, vibrato })?;
         samples.copy_from_slice(&[ticked.volts.out]);
         Ok(ticked.mark)
+    }
+
+    fn ours_block(
+        &mut self,
+        controls: &[f64],
+        _wanted: u32,
+        tally: &mut Tally,
+        samples: &mut [f64],
+        marks: &mut [u32],
+    ) -> Result<(), Refused> {
+        let [v_oct, vowel, formant_shift, vibrato] = *controls else { unreachable!() };
+        let controls = ours::Controls { v_oct, vowel, formant_shift, vibrato };
+        self.ours.block(&controls, tally, samples, marks)
     }
 
     fn theirs_tick(&mut self, controls: &[f64], wanted: u32, samples: &mut [f64]) -> Mark {

@@ -4,6 +4,7 @@ use crate::pair::rises;
 use crate::script::{alike, bad_rate, hex, mark, one_nan, unchanged, Counts, Pair};
 use gruttisol::answer::{Mark, Refused};
 use gruttisol::karplus_strong as ours;
+use gruttisol::tally::Tally;
 use quiver::modules::oscillators as rust;
 use quiver::modules::oscillators::probe::Probe;
 use quiver::port::GraphModule;
@@ -211,7 +212,12 @@ impl Pair for KarplusStrong {
         let needed = twin.line().len();
         self.draws = self.theirs.draws(needed);
         if draw.one_in(4) {
-            let tick = |pair: &mut Self| pair.ours_tick(controls, 1, &mut [0.0]).map(drop);
+            let tick = |pair: &mut Self| {
+                let told = pair.ours_tick(controls, 1, &mut [0.0]).map(drop);
+                let (mut tally, mut samples, mut marks) = (Tally::new(), [0.0; 3], [0; 3]);
+                assert_eq!(pair.ours_block(controls, 1, &mut tally, &mut samples, &mut marks), told);
+                told
+            };
             let draws = self.draws.clone();
             let at = draw.below(needed as u64) as usize;
             self.draws[at] = draw.of(&[NO_DRAW, NO_DRAW + 1, u64::MAX, draws[at] + NO_DRAW]);
@@ -246,6 +252,19 @@ impl Pair for KarplusStrong {
         let ticked = self.ours.tick(&controls, &mut self.line[..self.lent], &self.draws)?;
         samples.copy_from_slice(&[ticked.volts.out]);
         Ok(ticked.mark)
+    }
+
+    fn ours_block(
+        &mut self,
+        controls: &[f64],
+        _wanted: u32,
+        tally: &mut Tally,
+        samples: &mut [f64],
+        marks: &mut [u32],
+    ) -> Result<(), Refused> {
+        let [voct, trigger, damping, brightness, stretch] = *controls else { unreachable!() };
+        let controls = ours::Controls { voct, trigger, damping, brightness, stretch };
+        self.ours.block(&controls, &mut self.line[..self.lent], &self.draws, tally, samples, marks)
     }
 
     /// Whether the line was zeroed is seen by the write position, which is 0 then. Where it would be 0 all the same, a
@@ -294,6 +313,10 @@ impl Pair for KarplusStrong {
             self.theirs.put_write_pos(0);
             counts.repaired += 1;
         }
+        self.all = true;
+    }
+
+    fn after_block(&mut self) {
         self.all = true;
     }
 

@@ -5,6 +5,7 @@ use crate::pair::{both, refusal};
 use crate::script::{Counts, Pair};
 use gruttisol::answer::{Mark, Refused};
 use gruttisol::lfo as ours;
+use gruttisol::tally::Tally;
 use quiver::modules::oscillators as rust;
 use quiver::modules::oscillators::probe::Probe;
 use quiver::port::GraphModule;
@@ -44,6 +45,19 @@ impl Pair for Lfo {
         let ours::Volts { sin, tri, saw, sqr, sin_uni } = ticked.volts;
         samples.copy_from_slice(&[sin, tri, saw, sqr, sin_uni]);
         Ok(ticked.mark)
+    }
+
+    fn ours_block(
+        &mut self,
+        controls: &[f64],
+        wanted: u32,
+        tally: &mut Tally,
+        samples: &mut [f64],
+        marks: &mut [u32],
+    ) -> Result<(), Refused> {
+        let [rate, depth, reset] = *controls else { unreachable!() };
+        let controls = ours::Controls { rate, depth, reset };
+        self.ours.block(&controls, wanted, tally, samples, marks)
     }
 
     fn theirs_tick(&mut self, controls: &[f64], wanted: u32, samples: &mut [f64]) -> Mark {

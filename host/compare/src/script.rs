@@ -1,6 +1,7 @@
 //! One script for every oscillator: calls drawn from a seed, made on both sides, and everything compared after each.
 use crate::draw::{Control, Draw};
 use gruttisol::answer::{Mark, Refused};
+use gruttisol::tally::Tally;
 use std::fmt;
 
 /// One oscillator on both sides.
@@ -31,6 +32,15 @@ pub trait Pair: Sized {
     fn ours_tick(&mut self, controls: &[f64], wanted: u32, samples: &mut [f64]) -> Result<Mark, Refused>;
     /// The mark is document 01's, of the Rust's values.
     fn theirs_tick(&mut self, controls: &[f64], wanted: u32, samples: &mut [f64]) -> Mark;
+    /// As many ticks as there are marks.
+    fn ours_block(
+        &mut self,
+        controls: &[f64],
+        wanted: u32,
+        tally: &mut Tally,
+        samples: &mut [f64],
+        marks: &mut [u32],
+    ) -> Result<(), Refused>;
     fn ours_reset(&mut self) -> Result<(), Refused>;
     fn theirs_reset(&mut self);
     fn ours_set_sample_rate(&mut self, sample_rate: f64) -> Result<(), Refused>;
@@ -44,6 +54,8 @@ pub trait Pair: Sized {
     fn lend_for_rate(&mut self, _rate: f64, _draw: &mut Draw, _counts: &mut Counts) -> Result<(), String> {
         Ok(())
     }
+    /// Makes ready to compare what is lent after a block.
+    fn after_block(&mut self) {}
     /// Compares what is lent.
     fn same_lent(&mut self) -> Result<(), String> {
         Ok(())
@@ -68,6 +80,8 @@ pub trait Pair: Sized {
 pub struct Counts {
     /// Accepted ticks, in the order of `Mark::ALL`.
     pub marks: [u64; 4],
+    /// Blocks among these.
+    pub blocks: u64,
     pub resets: u64,
     pub rate_changes: u64,
     /// States of a caller's own making that were taken.
@@ -91,8 +105,8 @@ impl fmt::Display for Counts {
         for (mark, n) in Mark::ALL.into_iter().zip(self.marks) {
             write!(f, "{n} {}{}", mark.word(), if mark == Mark::Clean { ")" } else { ", " })?;
         }
-        let Counts { resets, rate_changes, states, refused, .. } = self;
-        write!(f, ", {resets} resets, {rate_changes} rate changes, {states} states put in, {refused} refused calls")?;
+        let Counts { blocks, resets, rate_changes, states, refused, .. } = self;
+        write!(f, ", {blocks} blocks, {resets} resets, {rate_changes} rate changes, {states} states put in, {refused} refused calls")?;
         if self.strikes > 0 {
             write!(f, ", {} strikes, {} write positions repaired", self.strikes, self.repaired)?;
         }
@@ -191,7 +205,7 @@ struct Mood {
     gates: u64,
     /// Glides move every control by a step at each tick.
     glides: bool,
-    /// Of so many calls, four are something else than a tick.
+    /// Of so many calls, five are something else than a tick.
     ticks: u64,
 }
 
@@ -230,6 +244,7 @@ fn scene<P: Pair>(draw: &mut Draw, counts: &mut Counts) -> Result<(), String> {
                     match draw.below(8) {
                         0 => reset(&mut pair, counts)?,
                         1 => change_rate(&mut pair, draw, counts)?,
+                        2..=4 => block(&mut pair, &controls, draw, counts)?,
                         _ => tick(&mut pair, &controls, draw, counts)?,
                     }
                 }
@@ -238,6 +253,10 @@ fn scene<P: Pair>(draw: &mut Draw, counts: &mut Counts) -> Result<(), String> {
                 let bad = draw.bad_rate();
                 unchanged(&mut pair, counts, 1, |pair| pair.ours_set_sample_rate(bad))
                     .map_err(|said| format!("rate change to {bad:?}: {said}"))?;
+            }
+            4 => {
+                turn::<P>(&mut controls, &mood, draw);
+                block(&mut pair, &controls, draw, counts)?;
             }
             _ => {
                 turn::<P>(&mut controls, &mood, draw);
@@ -291,8 +310,14 @@ fn sound<P: Pair>(pair: &mut P, controls: &[f64], wanted: u32) -> Result<(Mark, 
     let (mut ours, mut theirs) = ([1.0; 5], [f64::from_bits(UNWRITTEN); 5]);
     let mark = pair.ours_tick(controls, wanted, &mut ours[..P::PORTS]).map_err(|n| n.to_string())?;
     let their_mark = pair.theirs_tick(controls, wanted, &mut theirs[..P::PORTS]);
-    for port in 0..P::PORTS {
-        let (a, b) = (ours[port], theirs[port]);
+    same_sound(wanted, (mark, &ours[..P::PORTS]), (their_mark, &theirs[..P::PORTS]))?;
+    same(pair)?;
+    Ok((mark, ours))
+}
+
+/// Compares marks and samples of a tick.
+fn same_sound(wanted: u32, (mark, ours): (Mark, &[f64]), (their_mark, theirs): (Mark, &[f64])) -> Result<(), String> {
+    for (port, (&a, &b)) in ours.iter().zip(theirs).enumerate() {
         let right = if wanted >> port & 1 == 1 {
             alike(a, b) && b.to_bits() != UNWRITTEN
         } else {
@@ -305,8 +330,76 @@ fn sound<P: Pair>(pair: &mut P, controls: &[f64], wanted: u32) -> Result<(Mark, 
     if mark != their_mark {
         return Err(format!("marked {}, and by the Rust's values {}", mark.word(), their_mark.word()));
     }
-    same(pair)?;
-    Ok((mark, ours))
+    Ok(())
+}
+
+/// A block against so many ticks of the Rust, and its tally against their marks. First it is tried with a tally that has no room,
+/// one that doesn't add up, and samples that don't fit.
+fn block<P: Pair>(pair: &mut P, controls: &[f64], draw: &mut Draw, counts: &mut Counts) -> Result<(), String> {
+    let wanted = mask::<P>(draw);
+    let n = match draw.below(8) {
+        0 => draw.of(&[0, 1, 256, 300]),
+        _ => draw.below(24) as usize,
+    };
+    let before = pair.theirs();
+    let told = |said: String| {
+        let (floats, wholes) = (before.0.as_ref(), before.1.as_ref());
+        format!("block of {n}, {controls:?}, wanted {wanted:#x}, from {floats:?} {wholes:x?}: {said}")
+    };
+    if n > 0 {
+        pair.lend(controls, draw, counts).map_err(told)?;
+    }
+    let full = u32::MAX - n as u32;
+    for bad in [[full + 1, full + 1, 0, 0, 0], [5, 1, 1, 1, 1]] {
+        if (n > 0 || bad[0] == 5) && draw.one_in(4) {
+            unused_block(pair, counts, 7, bad, controls, P::PORTS * n, n).map_err(told)?;
+        }
+    }
+    if draw.one_in(4) {
+        unused_block(pair, counts, 52, [0; 5], controls, P::PORTS * n + 1, n).map_err(told)?;
+    }
+    let started = draw.of(&[[0; 5], [full, 0, full, 0, 0], [10, 1, 2, 3, 4]]);
+    let (mut tally, mut due) = (Tally::of_counts(started), started);
+    let (mut samples, mut marks) = (vec![1.0; P::PORTS * n], vec![9; n]);
+    pair.ours_block(controls, wanted, &mut tally, &mut samples, &mut marks).map_err(|n| told(n.to_string()))?;
+    for i in 0..n {
+        let mut theirs = [f64::from_bits(UNWRITTEN); 5];
+        let their_mark = pair.theirs_tick(controls, wanted, &mut theirs[..P::PORTS]);
+        let Some(mark) = Mark::of_block(marks[i]) else { return Err(told(format!("tick {i} is marked {}", marks[i]))) };
+        let ours = &samples[P::PORTS * i..P::PORTS * (i + 1)];
+        same_sound(wanted, (mark, ours), (their_mark, &theirs[..P::PORTS]))
+            .map_err(|said| told(format!("tick {i}: {said}")))?;
+        let at = mark as usize - Mark::ALL[0] as usize;
+        counts.marks[at] += 1;
+        due[0] += 1;
+        due[[2, 3, 4, 1][at]] += 1;
+    }
+    if tally.counts() != &due {
+        return Err(told(format!("the tally is {:?}, and is due to be {due:?}", tally.counts())));
+    }
+    counts.blocks += 1;
+    pair.after_block();
+    same(pair).map_err(told)
+}
+
+/// A block that must be refused by this number, and change nothing.
+fn unused_block<P: Pair>(
+    pair: &mut P,
+    counts: &mut Counts,
+    number: u32,
+    tally: [u32; 5],
+    controls: &[f64],
+    samples: usize,
+    n: usize,
+) -> Result<(), String> {
+    let mut given = Tally::of_counts(tally);
+    let (mut samples, mut marks) = (vec![1.5; samples], vec![9; n]);
+    unchanged(pair, counts, number, |pair| pair.ours_block(controls, u32::MAX, &mut given, &mut samples, &mut marks))?;
+    if given.counts() == &tally && samples.iter().all(|&x| x == 1.5) && marks.iter().all(|&mark| mark == 9) {
+        Ok(())
+    } else {
+        Err(format!("a block refused by {number} wrote something"))
+    }
 }
 
 fn reset<P: Pair>(pair: &mut P, counts: &mut Counts) -> Result<(), String> {
@@ -341,6 +434,7 @@ fn put_state<P: Pair>(pair: &mut P, controls: &[f64], draw: &mut Draw, counts: &
     }
     let (rate, bad, mut samples) = (draw.rate(), draw.bad_rate(), [0.0; 5]);
     unchanged(pair, counts, number, |pair| pair.ours_tick(controls, u32::MAX, &mut samples[..P::PORTS]).map(drop))
+        .and_then(|_| unused_block(pair, counts, number, [0; 5], controls, 3 * P::PORTS, 3))
         .and_then(|_| unchanged(pair, counts, number, |pair| pair.ours_reset()))
         .and_then(|_| unchanged(pair, counts, number, |pair| pair.ours_set_sample_rate(rate)))
         .and_then(|_| unchanged(pair, counts, 1, |pair| pair.ours_set_sample_rate(bad)))

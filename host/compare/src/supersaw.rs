@@ -5,6 +5,7 @@ use crate::pair::{both, refusal};
 use crate::script::{Counts, Pair};
 use gruttisol::answer::{Mark, Refused};
 use gruttisol::supersaw as ours;
+use gruttisol::tally::Tally;
 use quiver::modules::oscillators as rust;
 use quiver::modules::oscillators::probe::Probe;
 use quiver::port::GraphModule;
@@ -45,6 +46,19 @@ impl Pair for Supersaw {
         let ticked = self.ours.tick(&ours::Controls { voct, detune, mix })?;
         samples.copy_from_slice(&[ticked.volts.out, ticked.volts.sub]);
         Ok(ticked.mark)
+    }
+
+    fn ours_block(
+        &mut self,
+        controls: &[f64],
+        _wanted: u32,
+        tally: &mut Tally,
+        samples: &mut [f64],
+        marks: &mut [u32],
+    ) -> Result<(), Refused> {
+        let [voct, detune, mix] = *controls else { unreachable!() };
+        let controls = ours::Controls { voct, detune, mix };
+        self.ours.block(&controls, tally, samples, marks)
     }
 
     fn theirs_tick(&mut self, controls: &[f64], wanted: u32, samples: &mut [f64]) -> Mark {

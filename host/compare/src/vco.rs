@@ -4,6 +4,7 @@ use crate::marked::Marked;
 use crate::pair::{both, refusal};
 use crate::script::{Counts, Pair};
 use gruttisol::answer::{Mark, Refused};
+use gruttisol::tally::Tally;
 use gruttisol::vco as ours;
 use quiver::modules::oscillators as rust;
 use quiver::modules::oscillators::probe::Probe;
@@ -43,6 +44,19 @@ impl Pair for Vco {
         let ours::Volts { sin, tri, saw, sqr } = ticked.volts;
         samples.copy_from_slice(&[sin, tri, saw, sqr]);
         Ok(ticked.mark)
+    }
+
+    fn ours_block(
+        &mut self,
+        controls: &[f64],
+        wanted: u32,
+        tally: &mut Tally,
+        samples: &mut [f64],
+        marks: &mut [u32],
+    ) -> Result<(), Refused> {
+        let [voct, fm, pw, sync, fm_lin] = *controls else { unreachable!() };
+        let controls = ours::Controls { voct, fm, pw, sync, fm_lin };
+        self.ours.block(&controls, wanted, tally, samples, marks)
     }
 
     fn theirs_tick(&mut self, controls: &[f64], wanted: u32, samples: &mut [f64]) -> Mark {

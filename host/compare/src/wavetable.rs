@@ -3,6 +3,7 @@ use crate::draw::{under, Control, Draw, GATE, PITCH, UNIT};
 use crate::pair::{both, refusal, used};
 use crate::script::{mark, unchanged, Counts, Pair};
 use gruttisol::answer::{Mark, Refused};
+use gruttisol::tally::Tally;
 use gruttisol::wavetable as ours;
 use quiver::modules::oscillators as rust;
 use quiver::modules::oscillators::probe::{Bank, Probe};
@@ -80,6 +81,19 @@ impl Pair for Wavetable {
         let (mark, out) = self.tick_of(controls, self.bank)?;
         samples.copy_from_slice(&[out]);
         Ok(mark)
+    }
+
+    fn ours_block(
+        &mut self,
+        controls: &[f64],
+        _wanted: u32,
+        tally: &mut Tally,
+        samples: &mut [f64],
+        marks: &mut [u32],
+    ) -> Result<(), Refused> {
+        let [v_oct, table, morph, sync] = *controls else { unreachable!() };
+        let controls = ours::Controls { v_oct, table, morph, sync };
+        self.ours.block(&controls, self.bank, tally, samples, marks)
     }
 
     fn theirs_tick(&mut self, controls: &[f64], wanted: u32, samples: &mut [f64]) -> Mark {

@@ -1,6 +1,7 @@
 //! The formant oscillator: a glottal pulse through five resonators that sound like a vowel.
-use crate::answer::{ticked, Refused, Ticked};
-use crate::lent::formant_osc_tick;
+use crate::answer::{done, ticked, Refused, Ticked};
+use crate::lent::{formant_osc_block, formant_osc_tick};
+use crate::tally::Tally;
 
 /// Inputs in port order.
 #[derive(Clone, Copy, PartialEq, Debug)]
@@ -37,5 +38,20 @@ impl FormantOsc {
         let code = formant_osc_tick(c.v_oct, c.vowel, c.formant_shift, c.vibrato, floats, wholes, &mut samples);
         let [out] = samples;
         ticked(code, Volts { out })
+    }
+
+    /// As many ticks with these controls as there are `marks`, and their tally: the same as so many calls of `tick`, in less
+    /// time. `samples` takes one volt for each tick, one tick after another, and `marks` a number for each, which
+    /// `Mark::of_block` reads. Refused by 52 where `samples` has another length, by what refuses the first tick, and by 7;
+    /// then nothing changes.
+    pub fn block(
+        &mut self,
+        c: &Controls,
+        tally: &mut Tally,
+        samples: &mut [f64],
+        marks: &mut [u32],
+    ) -> Result<(), Refused> {
+        let (floats, wholes, counts) = (&mut self.floats, &mut self.wholes, tally.counts_mut());
+        done(formant_osc_block(c.v_oct, c.vowel, c.formant_shift, c.vibrato, floats, wholes, counts, samples, marks))
     }
 }

@@ -1,6 +1,9 @@
 //! The plucked string: noise that goes round a line which its caller keeps.
 use crate::answer::{done, ticked, Refused, Ticked};
-use crate::lent::{karplus_strong_new, karplus_strong_reset, karplus_strong_set_sample_rate, karplus_strong_tick};
+use crate::lent::{
+    karplus_strong_block, karplus_strong_new, karplus_strong_reset, karplus_strong_set_sample_rate, karplus_strong_tick,
+};
+use crate::tally::Tally;
 
 /// Inputs in port order. One that isn't finite counts as its default, the trigger excepted.
 #[derive(Clone, Copy, PartialEq, Debug)]
@@ -85,5 +88,35 @@ impl KarplusStrong {
     /// Goes on at another sample rate, the line cut or filled with 0.0; refused by 1, 2 and 3.
     pub fn set_sample_rate(&mut self, sample_rate: f64, line: &mut [f64]) -> Result<(), Refused> {
         done(karplus_strong_set_sample_rate(sample_rate, &mut self.floats, &mut self.wholes, line))
+    }
+
+    /// As many ticks with these controls as there are `marks`, and their tally: the same as so many calls of `tick`, in less
+    /// time. `samples` takes one volt for each tick, one tick after another, and `marks` a number for each, which
+    /// `Mark::of_block` reads. Refused by 52 where `samples` has another length, by what refuses the first tick, and by 7;
+    /// then nothing changes.
+    pub fn block(
+        &mut self,
+        c: &Controls,
+        line: &mut [f64],
+        draws: &[u64],
+        tally: &mut Tally,
+        samples: &mut [f64],
+        marks: &mut [u32],
+    ) -> Result<(), Refused> {
+        let (floats, wholes, counts) = (&mut self.floats, &mut self.wholes, tally.counts_mut());
+        done(karplus_strong_block(
+            c.voct,
+            c.trigger,
+            c.damping,
+            c.brightness,
+            c.stretch,
+            floats,
+            wholes,
+            line,
+            draws,
+            counts,
+            samples,
+            marks,
+        ))
     }
 }

@@ -26,21 +26,25 @@ macro_rules! lent {
 lent! {
     fn vco_new(sample_rate: f64; floats: mut f64, wholes: mut u64);
     fn vco_tick(voct: f64, fm: f64, pw: f64, sync: f64, fm_lin: f64, wanted: u32; floats: mut f64, wholes: mut u64, samples: mut f64);
+    fn vco_block(voct: f64, fm: f64, pw: f64, sync: f64, fm_lin: f64, wanted: u32; floats: mut f64, wholes: mut u64, counts: mut u32, samples: mut f64, marks: mut u32);
     fn vco_reset(; floats: mut f64, wholes: mut u64);
     fn vco_set_sample_rate(sample_rate: f64; floats: mut f64, wholes: mut u64);
 
     fn lfo_new(sample_rate: f64; floats: mut f64, wholes: mut u64);
     fn lfo_tick(rate: f64, depth: f64, reset: f64, wanted: u32; floats: mut f64, wholes: mut u64, samples: mut f64);
+    fn lfo_block(rate: f64, depth: f64, reset: f64, wanted: u32; floats: mut f64, wholes: mut u64, counts: mut u32, samples: mut f64, marks: mut u32);
     fn lfo_reset(; floats: mut f64, wholes: mut u64);
     fn lfo_set_sample_rate(sample_rate: f64; floats: mut f64, wholes: mut u64);
 
     fn supersaw_new(sample_rate: f64; floats: mut f64, wholes: mut u64);
     fn supersaw_tick(voct: f64, detune: f64, mix: f64; floats: mut f64, wholes: mut u64, samples: mut f64);
+    fn supersaw_block(voct: f64, detune: f64, mix: f64; floats: mut f64, wholes: mut u64, counts: mut u32, samples: mut f64, marks: mut u32);
     fn supersaw_reset(; floats: mut f64, wholes: mut u64);
     fn supersaw_set_sample_rate(sample_rate: f64; floats: mut f64, wholes: mut u64);
 
     fn wavetable_new(sample_rate: f64; floats: mut f64, wholes: mut u64);
     fn wavetable_tick(v_oct: f64, table: f64, morph: f64, sync: f64; floats: mut f64, wholes: mut u64, samples: mut f64, bank: const f64);
+    fn wavetable_block(v_oct: f64, table: f64, morph: f64, sync: f64; floats: mut f64, wholes: mut u64, bank: const f64, counts: mut u32, samples: mut f64, marks: mut u32);
     fn wavetable_reset(; floats: mut f64, wholes: mut u64);
     fn wavetable_set_sample_rate(sample_rate: f64; floats: mut f64, wholes: mut u64);
     fn wavetable_fill_bank(; bank: mut f64);
@@ -48,15 +52,19 @@ lent! {
 
     fn formant_osc_new(sample_rate: f64; floats: mut f64, wholes: mut u64);
     fn formant_osc_tick(v_oct: f64, vowel: f64, formant_shift: f64, vibrato: f64; floats: mut f64, wholes: mut u64, samples: mut f64);
+    fn formant_osc_block(v_oct: f64, vowel: f64, formant_shift: f64, vibrato: f64; floats: mut f64, wholes: mut u64, counts: mut u32, samples: mut f64, marks: mut u32);
     fn formant_osc_reset(; floats: mut f64, wholes: mut u64);
     fn formant_osc_set_sample_rate(sample_rate: f64; floats: mut f64, wholes: mut u64);
 
     fn karplus_strong_new(sample_rate: f64; floats: mut f64, wholes: mut u64, line: mut f64);
     fn karplus_strong_tick(voct: f64, trigger: f64, damping: f64, brightness: f64, stretch: f64; floats: mut f64, wholes: mut u64, samples: mut f64, line: mut f64, draws: const u64);
+    fn karplus_strong_block(voct: f64, trigger: f64, damping: f64, brightness: f64, stretch: f64; floats: mut f64, wholes: mut u64, line: mut f64, draws: const u64, counts: mut u32, samples: mut f64, marks: mut u32);
     fn karplus_strong_reset(; floats: mut f64, wholes: mut u64, line: mut f64);
     fn karplus_strong_set_sample_rate(sample_rate: f64; floats: mut f64, wholes: mut u64, line: mut f64);
 
     fn tally_take(code: u32; counts: mut u32);
+
+    fn score_read(; text: const u8, floats: mut f64, wholes: mut u64);
 }
 
 /// An oscillator whose state alone is lent to making, reset and rate change.
@@ -109,9 +117,12 @@ mod tests {
     const NO_RATE: f64 = 0.0;
 
     /// Makes a call with slices of many lengths: by its first wrong length it is refused, by 50, 51 or 52, and where all
-    /// are right by 1, since neither the state's rate nor one that is given is a rate. Not a bit may change. A call
-    /// without samples says that it takes none.
-    fn refuses([floats, wholes, samples]: [usize; 3], call: impl Fn(&mut [f64], &mut [u64], &mut [f64]) -> u32) {
+    /// are right by `last`. Not a bit may change. A call without samples says that it takes none.
+    fn refuses_by(
+        last: u32,
+        [floats, wholes, samples]: [usize; 3],
+        call: impl Fn(&mut [f64], &mut [u64], &mut [f64]) -> u32,
+    ) {
         let lengths = |right: usize| if right == 0 { vec![0] } else { vec![0, right - 1, right, right + 1, 64] };
         for f in lengths(floats) {
             for w in lengths(wholes) {
@@ -121,7 +132,7 @@ mod tests {
                         (false, _, _) => 50,
                         (_, false, _) => 51,
                         (_, _, false) => 52,
-                        _ => 1,
+                        _ => last,
                     };
                     assert_eq!(call(&mut lent.0, &mut lent.1, &mut lent.2), number, "of {f}, {w} and {s}");
                     assert!(lent.0.iter().all(|x| x.to_bits() == UNTOUCHED));
@@ -130,6 +141,57 @@ mod tests {
                 }
             }
         }
+    }
+
+    /// A call that is refused by 1, since neither the state's rate nor one that is given is a rate.
+    fn refuses(lengths: [usize; 3], call: impl Fn(&mut [f64], &mut [u64], &mut [f64]) -> u32) {
+        refuses_by(1, lengths, call);
+    }
+
+    /// The same of a block, whose counts are tried too, and whose samples must be so many for each mark: then by 50, 51, 53
+    /// or 52, in this order.
+    fn refuses_block(
+        [floats, wholes, ports]: [usize; 3],
+        call: impl Fn(&mut [f64], &mut [u64], &mut [u32], &mut [f64], &mut [u32]) -> u32,
+    ) {
+        for f in [0, floats - 1, floats, floats + 1] {
+            for w in [0, wholes - 1, wholes, wholes + 1] {
+                for k in [0, 4, 5, 6] {
+                    for (s, m) in
+                        [(0, 0), (ports, 1), (ports * 7, 7), (ports * 7 + 1, 7), (ports * 7, 8), (1, 0), (0, 1)]
+                    {
+                        let mut lent = (vec![f64::from_bits(UNTOUCHED); f], vec![UNTOUCHED; w], vec![3; k]);
+                        let (mut samples, mut marks) = (vec![-0.0; s], vec![77; m]);
+                        let number = match (f == floats, w == wholes, k == 5, s == ports * m) {
+                            (false, ..) => 50,
+                            (_, false, ..) => 51,
+                            (_, _, false, _) => 53,
+                            (_, _, _, false) => 52,
+                            _ => 1,
+                        };
+                        let answer = call(&mut lent.0, &mut lent.1, &mut lent.2, &mut samples, &mut marks);
+                        assert_eq!(answer, number, "of {f}, {w}, {k}, {s} and {m}");
+                        assert!(lent.0.iter().all(|x| x.to_bits() == UNTOUCHED));
+                        assert!(lent.1.iter().all(|&n| n == UNTOUCHED));
+                        assert!(lent.2.iter().all(|&n| n == 3));
+                        assert!(samples.iter().all(|x: &f64| x.to_bits() == 1 << 63));
+                        assert!(marks.iter().all(|&n| n == 77));
+                    }
+                }
+            }
+        }
+    }
+
+    #[test]
+    fn blocks() {
+        refuses_block([4, 4, 4], |f, w, k, s, m| vco_block(0.0, 0.0, 0.5, 0.0, 0.0, u32::MAX, f, w, k, s, m));
+        refuses_block([4, 2, 5], |f, w, k, s, m| lfo_block(0.5, 10.0, 0.0, u32::MAX, f, w, k, s, m));
+        refuses_block([10, 2, 2], |f, w, k, s, m| supersaw_block(0.0, 0.5, 0.5, f, w, k, s, m));
+        refuses_block([4, 2, 1], |f, w, k, s, m| wavetable_block(0.0, 0.0, 0.0, 0.0, f, w, &[], k, s, m));
+        refuses_block([29, 6, 1], |f, w, k, s, m| formant_osc_block(0.0, 0.0, 0.0, 0.0, f, w, k, s, m));
+        refuses_block([6, 4, 1], |f, w, k, s, m| {
+            karplus_strong_block(0.0, 5.0, 0.5, 0.5, 0.0, f, w, &mut [], &[], k, s, m)
+        });
     }
 
     #[test]
@@ -187,5 +249,30 @@ mod tests {
             assert_eq!(tally_take(14, &mut counts), 53);
             assert!(counts.iter().all(|&count| count == 0));
         }
+    }
+
+    #[test]
+    fn score() {
+        let texts = [
+            (20, "x".repeat(1025)),
+            (21, "osc=\n".into()),
+            (22, "osc=lfo\nhz=x\n".into()),
+            (23, "osc=lfo\nhz=1\n".into()),
+        ];
+        for (number, text) in texts {
+            refuses_by(number, [5, 3, 0], |f, w, _| score_read(text.as_bytes(), f, w));
+        }
+    }
+
+    /// Cells past the last input are written too.
+    #[test]
+    fn score_that_is_read() {
+        let (mut floats, mut wholes) = ([f64::NAN; 5], [UNTOUCHED; 3]);
+        let text = b"osc=lfo\nhz=48000\nframes=7\nrate=500000\ndepth=-1\nreset=nan\n";
+        assert_eq!(score_read(text, &mut floats, &mut wholes), 0);
+        assert!(floats[2].is_nan());
+        floats[2] = 1.0;
+        assert_eq!(floats.map(f64::to_bits), [0.5, -1e-6, 1.0, 0.0, 0.0].map(f64::to_bits));
+        assert_eq!(wholes, [1, 48000, 7]);
     }
 }

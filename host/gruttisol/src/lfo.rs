@@ -1,6 +1,7 @@
 //! The low-frequency oscillator: sine, triangle, saw, square and a sine above zero of one slow phase.
-use crate::answer::{ticked, Refused, Ticked};
-use crate::lent::lfo_tick;
+use crate::answer::{done, ticked, Refused, Ticked};
+use crate::lent::{lfo_block, lfo_tick};
+use crate::tally::Tally;
 
 /// Inputs in port order.
 #[derive(Clone, Copy, PartialEq, Debug)]
@@ -45,5 +46,21 @@ impl Lfo {
         let code = lfo_tick(c.rate, c.depth, c.reset, wanted, floats, wholes, &mut samples);
         let [sin, tri, saw, sqr, sin_uni] = samples;
         ticked(code, Volts { sin, tri, saw, sqr, sin_uni })
+    }
+
+    /// As many ticks with these controls as there are `marks`, and their tally: the same as so many calls of `tick`, in less
+    /// time. `samples` takes five volts for each tick, one tick after another, and `marks` a number for each, which
+    /// `Mark::of_block` reads. Refused by 52 where `samples` has another length, by what refuses the first tick, and by 7;
+    /// then nothing changes.
+    pub fn block(
+        &mut self,
+        c: &Controls,
+        wanted: u32,
+        tally: &mut Tally,
+        samples: &mut [f64],
+        marks: &mut [u32],
+    ) -> Result<(), Refused> {
+        let (floats, wholes, counts) = (&mut self.floats, &mut self.wholes, tally.counts_mut());
+        done(lfo_block(c.rate, c.depth, c.reset, wanted, floats, wholes, counts, samples, marks))
     }
 }

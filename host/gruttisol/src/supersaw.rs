@@ -1,6 +1,7 @@
 //! The supersaw: seven saws side by side, and one an octave below.
-use crate::answer::{ticked, Refused, Ticked};
-use crate::lent::supersaw_tick;
+use crate::answer::{done, ticked, Refused, Ticked};
+use crate::lent::{supersaw_block, supersaw_tick};
+use crate::tally::Tally;
 
 /// Inputs in port order.
 #[derive(Clone, Copy, PartialEq, Debug)]
@@ -33,5 +34,20 @@ impl Supersaw {
         let code = supersaw_tick(c.voct, c.detune, c.mix, &mut self.floats, &mut self.wholes, &mut samples);
         let [out, sub] = samples;
         ticked(code, Volts { out, sub })
+    }
+
+    /// As many ticks with these controls as there are `marks`, and their tally: the same as so many calls of `tick`, in less
+    /// time. `samples` takes two volts for each tick, one tick after another, and `marks` a number for each, which
+    /// `Mark::of_block` reads. Refused by 52 where `samples` has another length, by what refuses the first tick, and by 7;
+    /// then nothing changes.
+    pub fn block(
+        &mut self,
+        c: &Controls,
+        tally: &mut Tally,
+        samples: &mut [f64],
+        marks: &mut [u32],
+    ) -> Result<(), Refused> {
+        let (floats, wholes, counts) = (&mut self.floats, &mut self.wholes, tally.counts_mut());
+        done(supersaw_block(c.voct, c.detune, c.mix, floats, wholes, counts, samples, marks))
     }
 }

@@ -23,6 +23,11 @@ impl Tally {
         &self.counts
     }
 
+    /// For calls that count their own ticks.
+    pub(crate) fn counts_mut(&mut self) -> &mut [u32; 5] {
+        &mut self.counts
+    }
+
     /// Takes a tick's answer, which is counted by its mark; a refused tick counts nowhere. Refused by 7.
     pub fn take(&mut self, answer: Result<Mark, Refused>) -> Result<(), Refused> {
         let code = match answer {

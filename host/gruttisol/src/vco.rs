@@ -1,6 +1,7 @@
 //! The voltage-controlled oscillator: sine, triangle, saw and square of one phase.
-use crate::answer::{ticked, Refused, Ticked};
-use crate::lent::vco_tick;
+use crate::answer::{done, ticked, Refused, Ticked};
+use crate::lent::{vco_block, vco_tick};
+use crate::tally::Tally;
 
 /// Inputs in port order.
 #[derive(Clone, Copy, PartialEq, Debug)]
@@ -47,5 +48,21 @@ impl Vco {
         let code = vco_tick(c.voct, c.fm, c.pw, c.sync, c.fm_lin, wanted, floats, wholes, &mut samples);
         let [sin, tri, saw, sqr] = samples;
         ticked(code, Volts { sin, tri, saw, sqr })
+    }
+
+    /// As many ticks with these controls as there are `marks`, and their tally: the same as so many calls of `tick`, in less
+    /// time. `samples` takes four volts for each tick, one tick after another, and `marks` a number for each, which
+    /// `Mark::of_block` reads. Refused by 52 where `samples` has another length, by what refuses the first tick, and by 7;
+    /// then nothing changes.
+    pub fn block(
+        &mut self,
+        c: &Controls,
+        wanted: u32,
+        tally: &mut Tally,
+        samples: &mut [f64],
+        marks: &mut [u32],
+    ) -> Result<(), Refused> {
+        let (floats, wholes, counts) = (&mut self.floats, &mut self.wholes, tally.counts_mut());
+        done(vco_block(c.voct, c.fm, c.pw, c.sync, c.fm_lin, wanted, floats, wholes, counts, samples, marks))
     }
 }

@@ -1,6 +1,7 @@
 //! The wavetable oscillator: it reads tables from a bank that its caller keeps.
 use crate::answer::{done, ticked, Refused, Ticked};
-use crate::lent::{wavetable_fill_bank, wavetable_fill_table, wavetable_tick};
+use crate::lent::{wavetable_block, wavetable_fill_bank, wavetable_fill_table, wavetable_tick};
+use crate::tally::Tally;
 
 /// Inputs in port order.
 #[derive(Clone, Copy, PartialEq, Debug)]
@@ -50,5 +51,21 @@ impl Wavetable {
         let code = wavetable_tick(c.v_oct, c.table, c.morph, c.sync, floats, wholes, &mut samples, bank);
         let [out] = samples;
         ticked(code, Volts { out })
+    }
+
+    /// As many ticks with these controls as there are `marks`, and their tally: the same as so many calls of `tick`, in less
+    /// time. `samples` takes one volt for each tick, one tick after another, and `marks` a number for each, which
+    /// `Mark::of_block` reads. Refused by 52 where `samples` has another length, by what refuses the first tick, and by 7;
+    /// then nothing changes.
+    pub fn block(
+        &mut self,
+        c: &Controls,
+        bank: &[f64],
+        tally: &mut Tally,
+        samples: &mut [f64],
+        marks: &mut [u32],
+    ) -> Result<(), Refused> {
+        let (floats, wholes, counts) = (&mut self.floats, &mut self.wholes, tally.counts_mut());
+        done(wavetable_block(c.v_oct, c.table, c.morph, c.sync, floats, wholes, bank, counts, samples, marks))
     }
 }
