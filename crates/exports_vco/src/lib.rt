@@ -22,7 +22,7 @@ ghost use mathlib.Core.List.{List};
 ghost use Prim.Native.Nat.{ℕ};
 ghost use lib.Ieee.{Float};
 ghost use lib.ListN.{length};
-ghost use Rattle.answer.specs.Answer.{voltsOf, refusalOf};
+ghost use Rattle.answer.specs.Answer.{refusalOf};
 ghost use Rattle.answer.specs.Block.{block};
 ghost use Rattle.answer.specs.Flat.{played, playedOf};
 ghost use Rattle.exports_vco.specs.State.{stateOf, floatsOf, wholesOf, samplesOf};
@@ -119,25 +119,6 @@ fn store_samples(v: Volts, samples: &mut [f64])
     samples[3] = v.p13;
 }
 
-// The volts of an answer; a refused tick has none.
-fn volts(a: Answer) -> Volts
-    ensures { λ r. ⌜ r ≡ voltsOf a ⌝ }
-{
-    match a {
-        Answer::Clean(v) => v,
-        Answer::Cleared(v) => v,
-        Answer::NotFinite(v) => v,
-        Answer::Lost(v) => v,
-        Answer::Refused(_) => Volts {
-            p10: 0.0,
-            p11: 0.0,
-            p12: 0.0,
-            p13: 0.0,
-            p14: 0.0,
-        },
-    }
-}
-
 // The number that refused a tick; an accepted one has none.
 fn refusal(a: Answer) -> u32
     ensures { λ r. ⌜ r ≡ refusalOf a ⌝ }
@@ -177,7 +158,7 @@ fn put_ticked(t: VcoTicked, floats: &mut [f64], wholes: &mut [u64], samples: &mu
         let s = t.vco;
         store_floats(s, &mut *floats);
         store_wholes(s, &mut *wholes);
-        store_samples(volts(a), &mut *samples);
+        store_samples(answer::samples(a), &mut *samples);
         10 + mark
     }
 }
