@@ -23,7 +23,7 @@ use Rattle.common.specs.Tests.{phaseOk}
 use Rattle.answer.specs.Answer.{answerOf}
 use Rattle.answer.specs.Mark.{allFinite, markOf, ruleOf}
 use Rattle.vco.specs.Waves.{outOf, sineOf, sawOf, levelOf, pwEdgeOf, sqrOf, cornerHalfOf, triOf, steppedOf, Quiet}
-use Rattle.vco.specs.Vco.{wants, vcoVoltsOf}
+use Rattle.vco.specs.Vco.{wants, plainVolts, vcoVoltsOf, vcoAnswerOf}
 use Rattle.vco.proofs.Within.{Rounded, rounded, Within, within-finite, within-mul, within-add, within-sub, within-to, within-fabs, within-neg, within-unit, within-inside, lt-le}
 use Rattle.vco.proofs.PulseLaws.{phase-value}
 use Rattle.vco.proofs.QuietLaws.{away}
@@ -63,17 +63,6 @@ fabs-twice (inf s) = refl
 fabs-twice (fin s m e) = refl
 
 -- ---- the samples
--- with every residual 0
-abbrev pub plainVolts : Float → Float → ℕ → Volts
-plainVolts p pw wanted =
-    record {
-      p10 = sineOf (wants wanted 1) p;
-      p11 = outOf (wants wanted 2) (triOf p zer zer);
-      p12 = outOf (wants wanted 4) (sawOf p zer);
-      p13 = outOf (wants wanted 8) (sqrOf p pw zer zer);
-      p14 = zer;
-    }
-
 -- a magnitude of at most 1: four of it are a number that isn't negative
 tick-value : (dt : Float) → T (le (fabsOf dt) one) → Within 0 dt × Rounded (mul binary64 four (fabsOf dt)) 0 4 0
 unfolding fabsOf
@@ -184,3 +173,8 @@ quiet-clean at p old pw dt wanted h q =
     let t = tick-value dt (q .small) in
     let w = phase-within p h in
     simp (quiet-volts at p old pw (fabsOf dt) wanted q (still (fabsOf dt) (t .1)), plain-finite p pw wanted w, within-finite 1 (add binary64 p dt) (within-add 0 p dt (lit≤ tt) w (t .0)))
+
+pub quiet-answer : (at : Crossing) (p old pw dt : Float) (wanted : ℕ) → phaseOk (turns p) ≡ true → Quiet at p (pwEdgeOf p pw) (fabsOf dt)
+    → answer.Clean (plainVolts p pw wanted) ≡ vcoAnswerOf at p old pw dt wanted
+unfolding vcoAnswerOf
+quiet-answer at p old pw dt wanted h q = quiet-clean at p old pw dt wanted h q

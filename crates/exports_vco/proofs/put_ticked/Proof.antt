@@ -18,8 +18,8 @@ store-floats-requires c κs = search needs
 store-wholes-requires : tie.Need-store-wholes-requires
 store-wholes-requires c κs = search needs
 
-volts-requires : tie.Need-volts-requires
-volts-requires c κs = search needs
+samples-requires : tie.Need-samples-requires
+samples-requires c κs = search needs
 
 store-samples-requires : tie.Need-store-samples-requires
 store-samples-requires c κs = search needs
@@ -40,7 +40,7 @@ same-length-3 : tie.Need-same-length-3
 same-length-3 c = search needs
 
 returns-2 : tie.Need-returns-2
-returns-2 c = ticked-heard (c .before .before .before .before .before .before .before .before .before .before .before .before .before .before .before .before .before .before .before .args .t) (c .before .before .before .before .before .before .before .before .before .before .before .before .before .before .before .before .before .before .before .args .floats .now) _ (c .before .before .before .before .before .before .before .before .before .before .before .before .before .before .before .before .before .before .before .args .wholes .now) _ (c .before .before .before .before .before .before .before .before .before .before .before .before .before .before .before .before .before .before .before .args .samples .now) _ _ (c .before .before .before .before .before .before .before .before .before .before .before .before .before .before .before .mark-number .ensures) (c .before .before .before .before .before .before .before .before .before .before .before .before .before .before .if1 .left) (c .before .before .before .before .before .before .before .before .before .before .before .store-floats .ensures) (c .before .before .before .before .before .before .before .store-wholes .ensures) (c .before .before .store-samples .ensures ∙ ap samplesOf (c .before .before .before .before .volts .ensures))
+returns-2 c = ticked-heard (c .before .before .before .before .before .before .before .before .before .before .before .before .before .before .before .before .before .before .before .args .t) (c .before .before .before .before .before .before .before .before .before .before .before .before .before .before .before .before .before .before .before .args .floats .now) _ (c .before .before .before .before .before .before .before .before .before .before .before .before .before .before .before .before .before .before .before .args .wholes .now) _ (c .before .before .before .before .before .before .before .before .before .before .before .before .before .before .before .before .before .before .before .args .samples .now) _ _ (c .before .before .before .before .before .before .before .before .before .before .before .before .before .before .before .mark-number .ensures) (c .before .before .before .before .before .before .before .before .before .before .before .before .before .before .if1 .left) (c .before .before .before .before .before .before .before .before .before .before .before .store-floats .ensures) (c .before .before .before .before .before .before .before .store-wholes .ensures) (c .before .before .store-samples .ensures ∙ ap samplesOf (c .before .before .before .before .samples .ensures))
 
 pub put-ticked-spec : {M : Type 1} → statement M
 put-ticked-spec =
@@ -50,7 +50,7 @@ put-ticked-spec =
     refusal-requires
     store-floats-requires
     store-wholes-requires
-    volts-requires
+    samples-requires
     store-samples-requires
     add-result
     returns
