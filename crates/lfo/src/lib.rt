@@ -22,7 +22,7 @@ ghost use Rattle.common.specs.Tests.{phaseOk};
 ghost use Rattle.answer.specs.Answer.{markNumber, voltsOf};
 ghost use Rattle.answer.specs.Mark.{allFinite, markOf};
 ghost use Rattle.answer.specs.Block.{afterTicks, portsOf, joined, block, markAt, frameAt};
-ghost use Rattle.lfo.specs.Waves.{rateToHz, restartOf, sineOf, sinWave, triWave, sawWave, sqrWave, sinUniWave};
+ghost use Rattle.lfo.specs.Waves.{rateToHz, restartOf, sharedSine, sinWave, triWave, sawWave, sqrWave, sinUniWave};
 ghost use Rattle.lfo.specs.Small.{isSmall};
 ghost use Rattle.lfo.specs.Held.{heldAnswer, heldNext};
 ghost use Rattle.lfo.specs.Lfo.{lfoRefusalOf, lfoNewOf, lfoOutputsOf, lfoSoundOf, lfoTickOf, lfoAnswerOf, lfoNextOf, lfoBlockOf, lfoResetOf, lfoSetSampleRateOf};
@@ -91,17 +91,6 @@ fn either(a: bool, b: bool) -> bool
     ensures { λ r. ⌜ r ≡ (a || b) ⌝ }
 {
     a || b
-}
-
-// The sine that sin and sin_uni share: the Rust computes it for each of them.
-fn sine(want: bool, phase: Turns) -> f64
-    ensures { λ r. ⌜ r ≡ cond want (sineOf (phase .0)) zer ⌝ }
-{
-    if want {
-        numeric::sin(phase.0 * TAU)
-    } else {
-        0.0
-    }
 }
 
 fn sin(want: bool, sine: f64, scale: f64) -> f64
@@ -229,20 +218,32 @@ impl Lfo {
 
     const WANT_SIN_UNI: u32 = 1 << 4;
 
-    // The outputs, each where it is wanted; sin and sin_uni share one sine.
-    fn outputs(wanted: u32, phase: Turns, depth: f64) -> Volts
+    // The sine that sin and sin_uni share: the Rust computes it for each of them.
+    fn shared_sine(wanted: u32, phase: Turns) -> f64
+        ensures { λ r. ⌜ r ≡ sharedSine wanted (phase .0) ⌝ }
+    {
+        if either(
+            wanted & Self::WANT_SIN != 0,
+            wanted & Self::WANT_SIN_UNI != 0,
+        ) {
+            numeric::sin(phase.0 * TAU)
+        } else {
+            0.0
+        }
+    }
+
+    // The outputs, each where it is wanted, over the sine that two of them share.
+    fn outputs(wanted: u32, phase: Turns, sine: f64, depth: f64) -> Volts
+        requires { ⌜ sine ≡ sharedSine wanted (phase .0) ⌝ }
         ensures { λ r. ⌜ r ≡ lfoOutputsOf wanted (phase .0) depth ⌝ }
     {
         let scale = 5.0 * depth;
-        let want_sin = wanted & Self::WANT_SIN != 0;
-        let want_uni = wanted & Self::WANT_SIN_UNI != 0;
-        let shared = sine(either(want_sin, want_uni), phase);
         Volts {
-            p10: sin(want_sin, shared, scale),
+            p10: sin(wanted & Self::WANT_SIN != 0, sine, scale),
             p11: tri(wanted & Self::WANT_TRI != 0, phase, scale),
             p12: saw(wanted & Self::WANT_SAW != 0, phase, scale),
             p13: sqr(wanted & Self::WANT_SQR != 0, phase, scale),
-            p14: sin_uni(want_uni, shared, depth),
+            p14: sin_uni(wanted & Self::WANT_SIN_UNI != 0, sine, depth),
         }
     }
 
@@ -274,7 +275,8 @@ impl Lfo {
         let risen = edge.rising(c.reset);
         let reset_edge = risen.edge;
         let phase = restart(old, risen.rising);
-        let volts = Self::outputs(wanted, phase, depth);
+        let sine = Self::shared_sine(wanted, phase);
+        let volts = Self::outputs(wanted, phase, sine, depth);
         let next = Turns(phase.0 + increment(freq, sample_rate).0);
         LfoTicked {
             answer: mark(volts, is_small(depth), numeric::is_finite(next.0)),
@@ -320,7 +322,8 @@ impl Lfo {
         let mut i = 0;
         while i < marks.len() {
             let next = Turns(phase.0 + step.0);
-            let volts = Self::outputs(wanted, phase, depth);
+            let sine = Self::shared_sine(wanted, phase);
+            let volts = Self::outputs(wanted, phase, sine, depth);
             let heard = mark(volts, small, numeric::is_finite(next.0));
             put(heard, i, &mut *samples, &mut *marks);
             phase = common::wrap_phase(next);

@@ -13,8 +13,11 @@ rising-requires c κs = search needs
 restart-requires : tie.Need-restart-requires
 restart-requires c κs = search needs
 
+shared-sine-requires : tie.Need-shared-sine-requires
+shared-sine-requires c κs = search needs
+
 outputs-requires : tie.Need-outputs-requires
-outputs-requires c κs = search needs
+outputs-requires c κs = c .shared-sine .ensures
 
 increment-requires : tie.Need-increment-requires
 increment-requires c κs = search needs
@@ -26,14 +29,14 @@ is-finite-requires : tie.Need-is-finite-requires
 is-finite-requires c κs = search needs
 
 mark-requires : tie.Need-mark-requires
-mark-requires c κs = sound-finite _ _ _ _ _ _ _ (c .before .before .before .before .before .before .before .before .before .before .before .before .before .before .before .before .pre) (c .before .before .before .before .before .before .restart .ensures) (c .before .before .before .before .before .outputs .ensures) (c .before .is-small .ensures)
+mark-requires c κs = sound-finite _ _ _ _ _ _ _ (c .before .before .before .before .before .before .before .before .before .before .before .before .before .before .before .before .before .pre) (c .before .before .before .before .before .before .before .restart .ensures) (c .before .before .before .before .before .outputs .ensures) (c .before .is-small .ensures)
 
 wrap-phase-requires : tie.Need-wrap-phase-requires
 wrap-phase-requires c κs = search needs
 
 returns : tie.Need-returns
 unfolding lfoSoundOf
-returns c = simp (c .wrap-phase .ensures, c .before .mark .ensures, c .before .before .is-finite .ensures, c .before .before .before .before .before .before .increment .ensures, c .before .before .before .before .before .before .before .outputs .ensures, c .before .before .before .before .before .before .before .before .restart .ensures, c .before .before .before .before .before .before .before .before .before .before .rising .ensures, c .before .before .before .before .before .before .before .before .before .before .before .before .recall .ensures)
+returns c = simp (c .wrap-phase .ensures, c .before .mark .ensures, c .before .before .is-finite .ensures, c .before .before .before .before .before .before .increment .ensures, c .before .before .before .before .before .before .before .outputs .ensures, c .before .before .before .before .before .before .before .before .before .restart .ensures, c .before .before .before .before .before .before .before .before .before .before .before .rising .ensures, c .before .before .before .before .before .before .before .before .before .before .before .before .before .recall .ensures)
 
 pub sound-spec : {M : Type 1} → statement M
 sound-spec =
@@ -42,6 +45,7 @@ sound-spec =
     recall-requires
     rising-requires
     restart-requires
+    shared-sine-requires
     outputs-requires
     increment-requires
     is-small-requires
