@@ -32,7 +32,6 @@ use Rattle.formant_osc.proofs.Still.{still-pitch}
 use Rattle.formant_osc.specs.Consts.{vibratoRate}
 use Rattle.formant_osc.specs.FormantOsc.{formantRefusalOf, freqMemoOf, coefMemoOf, formantRung, formantSoundOf, formantTickOf, formantAnswerOf, formantNextOf}
 use Rattle.formant_osc.specs.Held.{driveMemo, phaseSum, vibratoSum, driveNext, pulseAt, keptOf, keptMark, keptAt, voicedOf, cellsAt, voicedAt}
-use Rattle.formant_osc.specs.Memo.{coefRecall}
 use Rattle.formant_osc.specs.Sound.{glottalPulse, pitchOf, rungOf}
 use Rattle.formant_osc.specs.declared.CoefMemo.{CoefMemo}
 use Rattle.formant_osc.specs.declared.Driver.{Driver}
@@ -278,10 +277,10 @@ recalled-again m r p q e h =
     ap (λ (v : VoltsPerOctave). recall1 voctToHzAt r (v .0)) (sym h) ∙ ap (λ (n : Memo1). recall1 voctToHzAt n (p .0)) e ∙ recall1-again voctToHzAt m (p .0) ∙ sym e
 
 -- each call's own law, one after another
-pub ran : (s : FormantOsc) (c : FormantControls) (n : ℕ) (vowel depth : Float) (pitch : VoltsPerOctave) (memo : Memo1) (coefs : CoefMemo) (end : Driver) (xs : List Float) (ms : List ℕ) (cells ys : List Float) (ns : List ℕ)
+pub ran : (s : FormantOsc) (c : FormantControls) (n : ℕ) (depth : Float) (pitch : VoltsPerOctave) (memo : Memo1) (coefs : CoefMemo) (end : Driver) (xs : List Float) (ms : List ℕ) (cells ys : List Float) (ns : List ℕ)
     → formantRefusalOf s ≡ 0 → 0 < n
-    → vowel ≡ clampOf (c .vowel) zer one → depth ≡ depthOf c → pitch ≡ pitchOf (c .«v_oct») depth (s .«vibrato_phase» .0)
-    → memo ≡ recall1 voctToHzAt (s .«freq_memo») (pitch .0) → coefs ≡ coefRecall (s .«coef_memo») vowel (c .«formant_shift») (s .«sample_rate» .0)
+    → depth ≡ depthOf c → pitch ≡ pitchOf (c .«v_oct») depth (s .«vibrato_phase» .0)
+    → memo ≡ recall1 voctToHzAt (s .«freq_memo») (pitch .0) → coefs ≡ coefMemoOf s c
     → end ≡ afterTicks (driveNext (c .«v_oct») depth (s .«sample_rate»)) n (driver (s .phase) (s .«vibrato_phase») memo)
     → xs ≡ tab (pulseAt (c .«v_oct») depth (s .«sample_rate») (driver (s .phase) (s .«vibrato_phase») memo)) n
     → ms ≡ tab (keptAt (c .«v_oct») depth (s .«sample_rate») (driver (s .phase) (s .«vibrato_phase») memo)) n
@@ -298,9 +297,8 @@ pub ran : (s : FormantOsc) (c : FormantControls) (n : ℕ) (vowel depth : Float)
     }
     ≡ afterTicks (formantNextOf c) n s)
     × ((ys ≡ joined (frameAt 1 (formantAnswerOf c) (formantNextOf c) s) n) × (ns ≡ tab (markAt (formantAnswerOf c) (formantNextOf c) s) n))
-ran s c n vowel depth pitch memo coefs end xs ms cells ys ns e z ev ed ep em ec ee ex ek el ey en =
+ran s c n depth pitch memo coefs end xs ms cells ys ns e z ed ep em b ee ex ek el ey en =
     let a : memo ≡ freqMemoOf s c = unfold freqMemoOf in em ∙ ap (λ (p : VoltsPerOctave). recall1 voctToHzAt (s .«freq_memo») (p .0)) ep ∙ ap (λ (d : Float). recall1 voctToHzAt (s .«freq_memo») (pitchOf (c .«v_oct») d (s .«vibrato_phase» .0) .0)) ed in
-    let b : coefs ≡ coefMemoOf s c = unfold coefMemoOf in ec ∙ ap (λ (x : Float). coefRecall (s .«coef_memo») x (c .«formant_shift») (s .«sample_rate» .0)) ev in
     let w : length ms ≡ n = ap length ek ∙ length-tab (keptAt (c .«v_oct») depth (s .«sample_rate») (driver (s .phase) (s .«vibrato_phase») memo)) n in
     let x : xs ≡ tab (pulseAt (c .«v_oct») (depthOf c) (s .«sample_rate») (startOf s c)) n = ex ∙ (λ k. tab (pulseAt (c .«v_oct») (ed k) (s .«sample_rate») (driver (s .phase) (s .«vibrato_phase») (a k))) n) in
     let m : ms ≡ tab (keptAt (c .«v_oct») (depthOf c) (s .«sample_rate») (startOf s c)) n = ek ∙ (λ k. tab (keptAt (c .«v_oct») (ed k) (s .«sample_rate») (driver (s .phase) (s .«vibrato_phase») (a k))) n) in

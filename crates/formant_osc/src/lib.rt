@@ -23,7 +23,7 @@ ghost use Rattle.answer.specs.Block.{afterTicks, joined, block, markAt, frameAt
 ghost use Rattle.formant_osc.specs.Coefs.{spotOf, formantOf, getFormants, coefOf, resonatorCoefs};
 ghost use Rattle.formant_osc.specs.Memo.{newCoefMemo, coefHits, coefFilled, coefRecall};
 ghost use Rattle.formant_osc.specs.Sound.{glottalPulse, pitchOf, resonateOf, rungOf, onlyOf};
-ghost use Rattle.formant_osc.specs.FormantOsc.{formantAtRest, formantRefusalOf, formantNewOf, formantSoundOf, formantTickOf, formantAnswerOf, formantNextOf, formantBlockOf, formantResetOf, formantSetSampleRateOf};
+ghost use Rattle.formant_osc.specs.FormantOsc.{formantAtRest, formantRefusalOf, formantNewOf, coefMemoOf, formantSoundOf, formantTickOf, formantAnswerOf, formantNextOf, formantBlockOf, formantResetOf, formantSetSampleRateOf};
 ghost use Rattle.formant_osc.specs.Held.{driveNext, pulseAt, keptMark, keptAt, voicedOf, voicedAt, cellsAt};
 
 // The Rust's Memo<3, [[f64; 3]; 5]>: b0/norm, a1/norm and a2/norm of each of the five resonators, one after another.
@@ -268,6 +268,14 @@ impl CoefMemo {
         }
     }
 
+    // A memo of coefficients that are worked out now.
+    fn made(vowel: f64, shift: f64, sample_rate: Hertz) -> Self
+        ensures { λ r. ⌜ r ≡ coefFilled vowel shift («sample_rate» .0) (resonatorCoefs vowel shift («sample_rate» .0)) ⌝ }
+    {
+        let val = resonator_coefs(vowel, shift, sample_rate);
+        CoefMemo::filled(vowel, shift, sample_rate.0, val)
+    }
+
     // The Rust's get_or_compute; its answer is the new memo's val.
     fn recall(self, vowel: f64, shift: f64, sample_rate: Hertz) -> Self
         ensures { λ r. ⌜ r ≡ coefRecall self vowel shift («sample_rate» .0) ⌝ }
@@ -275,8 +283,7 @@ impl CoefMemo {
         if self.hits(vowel, shift, sample_rate.0) {
             self
         } else {
-            let val = resonator_coefs(vowel, shift, sample_rate);
-            CoefMemo::filled(vowel, shift, sample_rate.0, val)
+            CoefMemo::made(vowel, shift, sample_rate)
         }
     }
 }
@@ -577,9 +584,15 @@ impl FormantOsc {
         }
     }
 
-    // The ticks of a block. Its coefficients are those of the first.
-    fn run(self, c: FormantControls, samples: &mut [f64], marks: &mut [u32]) -> Self
-        requires { ⌜ (formantRefusalOf self ≡ 0) × (0 < length (now marks)) × (length (now samples) ≡ length (now marks)) ⌝ }
+    // The ticks of a block, whose coefficients are those of the first.
+    fn play(
+        self,
+        c: FormantControls,
+        coef_memo: CoefMemo,
+        samples: &mut [f64],
+        marks: &mut [u32],
+    ) -> Self
+        requires { ⌜ (formantRefusalOf self ≡ 0) × (0 < length (now marks)) × (length (now samples) ≡ length (now marks)) × («coef_memo» ≡ coefMemoOf self c) ⌝ }
         ensures { λ r. ⌜ r ≡ afterTicks (formantNextOf c) (length (now (marks .entry))) self ⌝ }
         ensures { λ r. ⌜ now (samples .exit) ≡ joined (frameAt 1 (formantAnswerOf c) (formantNextOf c) self) (length (now (marks .entry))) ⌝ }
         ensures { λ r. ⌜ now (marks .exit) ≡ tab (markAt (formantAnswerOf c) (formantNextOf c) self) (length (now (marks .entry))) ⌝ }
@@ -589,16 +602,13 @@ impl FormantOsc {
         let cells = self.resonator_state;
         let sample_rate = self.sample_rate;
         let freqs = self.freq_memo;
-        let coefs = self.coef_memo;
         let v_oct = c.v_oct;
-        let vowel = numeric::clamp(c.vowel, 0.0, 1.0);
         let depth = numeric::clamp(c.vibrato, 0.0, 1.0);
         let start = Driver {
             phase,
             vibrato_phase,
             freq_memo: freqs.voct_to_hz(pitch(v_oct, depth, vibrato_phase)),
         };
-        let coef_memo = coefs.recall(vowel, c.formant_shift, sample_rate);
         let val = coef_memo.val;
         let end = drive(start, v_oct, depth, sample_rate, &mut *samples, &mut *marks);
         let phase = end.phase;
@@ -611,6 +621,25 @@ impl FormantOsc {
             sample_rate,
             freq_memo,
             coef_memo,
+        }
+    }
+
+    // The same with the coefficients known already or made now. This isn't by `recall`, which stays a tick's alone: with
+    // two callers it would be compiled as a call, and a tick would copy its memo for it.
+    fn run(self, c: FormantControls, samples: &mut [f64], marks: &mut [u32]) -> Self
+        requires { ⌜ (formantRefusalOf self ≡ 0) × (0 < length (now marks)) × (length (now samples) ≡ length (now marks)) ⌝ }
+        ensures { λ r. ⌜ r ≡ afterTicks (formantNextOf c) (length (now (marks .entry))) self ⌝ }
+        ensures { λ r. ⌜ now (samples .exit) ≡ joined (frameAt 1 (formantAnswerOf c) (formantNextOf c) self) (length (now (marks .entry))) ⌝ }
+        ensures { λ r. ⌜ now (marks .exit) ≡ tab (markAt (formantAnswerOf c) (formantNextOf c) self) (length (now (marks .entry))) ⌝ }
+    {
+        let sample_rate = self.sample_rate;
+        let coefs = self.coef_memo;
+        let vowel = numeric::clamp(c.vowel, 0.0, 1.0);
+        if coefs.hits(vowel, c.formant_shift, sample_rate.0) {
+            self.play(c, coefs, samples, marks)
+        } else {
+            let made = CoefMemo::made(vowel, c.formant_shift, sample_rate);
+            self.play(c, made, samples, marks)
         }
     }
 

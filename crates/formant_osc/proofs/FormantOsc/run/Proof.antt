@@ -1,7 +1,5 @@
-use mathlib.Core.Path.{sym, ap, _∙_}
-use lib.ListN.{length}
-use Rattle.laws.proofs.Over.{length-tab}
-use Rattle.formant_osc.proofs.Held.{accepts, recalled-again, ran}
+use Rattle.formant_osc.specs.FormantOsc.{coefMemoOf}
+use Rattle.formant_osc.specs.Memo.{coefRecall}
 use borrow.Author.Needs.{needs}
 use Rattle.formant_osc.proofs.FormantOsc.run.Statement.{statement}
 use Rattle.formant_osc.proofs.FormantOsc.run.Tie as tie
@@ -9,23 +7,19 @@ use Rattle.formant_osc.proofs.FormantOsc.run.Tie as tie
 clamp-requires : tie.Need-clamp-requires
 clamp-requires c κs = search needs
 
-clamp-requires-2 : tie.Need-clamp-requires-2
-clamp-requires-2 c κs = search needs
+hits-requires : tie.Need-hits-requires
+hits-requires c κs = search needs
 
-pitch-requires : tie.Need-pitch-requires
-pitch-requires c κs = search needs
+play-requires : tie.Need-play-requires
+unfolding coefMemoOf coefRecall
+play-requires c κs = let p = c .before .before .before .before .before .before .before .before .before .pre in (p .0, p .1, p .2, simp (← c .before .before .before .before .clamp .ensures, ← c .before .before .before .hits .ensures, c .before .before .if1 .taken))
 
-voct-to-hz-requires : tie.Need-voct-to-hz-requires
-voct-to-hz-requires c κs = search needs
+made-requires : tie.Need-made-requires
+made-requires c κs = search needs
 
-recall-requires : tie.Need-recall-requires
-recall-requires c κs = search needs
-
-drive-requires : tie.Need-drive-requires
-drive-requires c κs = (accepts _ (c .before .before .before .before .before .before .before .before .before .before .before .before .before .before .before .before .before .pre .0) .2, recalled-again _ _ _ _ (c .before .before .before .before .voct-to-hz .ensures) (c .before .before .before .before .before .pitch .ensures), c .before .before .before .before .before .before .before .before .before .before .before .before .before .before .before .before .before .pre .2)
-
-voice-requires : tie.Need-voice-requires
-voice-requires c κs = let g = c .before .before .before .before .before .before .before .before .before .drive .ensures in ap length (g .1 .0) ∙ length-tab _ _ ∙ sym (ap length (g .1 .1) ∙ length-tab _ _)
+play-requires-2 : tie.Need-play-requires-2
+unfolding coefMemoOf coefRecall
+play-requires-2 c κs = let p = c .before .before .before .before .before .before .before .before .before .before .pre in (p .0, p .1, p .2, simp (c .before .before .made .ensures, ← c .before .before .before .before .before .clamp .ensures, ← c .before .before .before .before .hits .ensures, c .before .before .before .if1 .left))
 
 same-length : tie.Need-same-length
 same-length c = search needs
@@ -34,24 +28,29 @@ same-length-2 : tie.Need-same-length-2
 same-length-2 c = search needs
 
 returns : tie.Need-returns
-returns c =
-    let a = c .before .before .before .before .before .before .before .before .before .before .before .before .before .before .before .before .before .before .before .before .before .before .before .before .before .before .before .before .before .before .before .before .args in
-    let p = c .before .before .before .before .before .before .before .before .before .before .before .before .before .before .before .before .before .before .before .before .before .before .before .before .before .before .before .before .before .before .before .before .pre in
-    let g = c .before .before .before .before .before .before .before .before .before .before .before .before .before .before .drive .ensures in
-    let v = c .before .before .before .before .voice .ensures in
-    ran (a .self) (a .c) (length (a .marks .now)) _ _ _ _ _ _ _ _ _ _ _ (p .0) (p .1) (c .before .before .before .before .before .before .before .before .before .before .before .before .before .before .before .before .before .before .before .before .before .before .clamp .ensures) (c .before .before .before .before .before .before .before .before .before .before .before .before .before .before .before .before .before .before .before .before .before .clamp2 .ensures) (c .before .before .before .before .before .before .before .before .before .before .before .before .before .before .before .before .before .before .before .before .pitch .ensures) (c .before .before .before .before .before .before .before .before .before .before .before .before .before .before .before .before .before .before .before .voct-to-hz .ensures) (c .before .before .before .before .before .before .before .before .before .before .before .before .before .before .before .before .before .before .recall .ensures) (g .0) (g .1 .0) (g .1 .1) (v .0) (v .1 .0) (v .1 .1)
+returns c = c .before .before .before .before .play .ensures
+
+same-length-3 : tie.Need-same-length-3
+same-length-3 c = search needs
+
+same-length-4 : tie.Need-same-length-4
+same-length-4 c = search needs
+
+returns-2 : tie.Need-returns-2
+returns-2 c = c .before .before .before .before .play2 .ensures
 
 pub run-spec : {M : Type 1} → statement M
 run-spec =
     tie.close
     (tie.spec
     clamp-requires
-    clamp-requires-2
-    pitch-requires
-    voct-to-hz-requires
-    recall-requires
-    drive-requires
-    voice-requires
+    hits-requires
+    play-requires
+    made-requires
+    play-requires-2
     same-length
     same-length-2
-    returns)
+    returns
+    same-length-3
+    same-length-4
+    returns-2)
