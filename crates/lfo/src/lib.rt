@@ -22,9 +22,9 @@ ghost use Rattle.common.specs.Tests.{phaseOk};
 ghost use Rattle.answer.specs.Answer.{markNumber, voltsOf};
 ghost use Rattle.answer.specs.Mark.{allFinite, markOf};
 ghost use Rattle.answer.specs.Block.{afterTicks, portsOf, joined, block, markAt, frameAt};
-ghost use Rattle.lfo.specs.Waves.{rateToHz, restartOf, sineOf, sinWave, triWave, sawWave, sqrWave, sinUniWave};
+ghost use Rattle.lfo.specs.Waves.{rateToHz, restartOf, sharedSine, sinWave, triWave, sawWave, sqrWave, sinUniWave};
 ghost use Rattle.lfo.specs.Small.{isSmall};
-ghost use Rattle.lfo.specs.Held.{heldAnswer, heldNext};
+ghost use Rattle.lfo.specs.Held.{heldOf, heldAt, heldAnswer, heldNext};
 ghost use Rattle.lfo.specs.Lfo.{lfoRefusalOf, lfoNewOf, lfoOutputsOf, lfoSoundOf, lfoTickOf, lfoAnswerOf, lfoNextOf, lfoBlockOf, lfoResetOf, lfoSetSampleRateOf};
 
 pub struct Lfo {
@@ -51,6 +51,15 @@ pub struct LfoBlock {
     pub refused: u32,
     pub lfo: Lfo,
     pub tally: Tally,
+}
+
+// A state whose reset and rate stand still: only the phase moves from `start` on, by `step` a tick.
+struct Held {
+    start: Turns,
+    step: Turns,
+    sample_rate: Hertz,
+    reset_edge: EdgeDetector,
+    freq_memo: Memo1,
 }
 
 pub enum LfoMade {
@@ -91,17 +100,6 @@ fn either(a: bool, b: bool) -> bool
     ensures { λ r. ⌜ r ≡ (a || b) ⌝ }
 {
     a || b
-}
-
-// The sine that sin and sin_uni share: the Rust computes it for each of them.
-fn sine(want: bool, phase: Turns) -> f64
-    ensures { λ r. ⌜ r ≡ cond want (sineOf (phase .0)) zer ⌝ }
-{
-    if want {
-        numeric::sin(phase.0 * TAU)
-    } else {
-        0.0
-    }
 }
 
 fn sin(want: bool, sine: f64, scale: f64) -> f64
@@ -202,6 +200,23 @@ fn put(a: Answer, i: usize, samples: &mut [f64], marks: &mut [u32])
     marks[i] = answer::mark_number(a);
 }
 
+impl Held {
+    // The state after a tick that leaves the phase there.
+    fn at(self, phase: Turns) -> Lfo
+        ensures { λ r. ⌜ r ≡ heldAt self phase ⌝ }
+    {
+        let sample_rate = self.sample_rate;
+        let reset_edge = self.reset_edge;
+        let freq_memo = self.freq_memo;
+        Lfo {
+            phase,
+            sample_rate,
+            reset_edge,
+            freq_memo,
+        }
+    }
+}
+
 impl Lfo {
     pub fn new(sample_rate: Hertz) -> LfoMade
         ensures { λ r. ⌜ r ≡ lfoNewOf «sample_rate» ⌝ }
@@ -229,20 +244,32 @@ impl Lfo {
 
     const WANT_SIN_UNI: u32 = 1 << 4;
 
-    // The outputs, each where it is wanted; sin and sin_uni share one sine.
-    fn outputs(wanted: u32, phase: Turns, depth: f64) -> Volts
+    // The sine that sin and sin_uni share: the Rust computes it for each of them.
+    fn shared_sine(wanted: u32, phase: Turns) -> f64
+        ensures { λ r. ⌜ r ≡ sharedSine wanted (phase .0) ⌝ }
+    {
+        if either(
+            wanted & Self::WANT_SIN != 0,
+            wanted & Self::WANT_SIN_UNI != 0,
+        ) {
+            numeric::sin(phase.0 * TAU)
+        } else {
+            0.0
+        }
+    }
+
+    // The outputs, each where it is wanted, over the sine that two of them share.
+    fn outputs(wanted: u32, phase: Turns, sine: f64, depth: f64) -> Volts
+        requires { ⌜ sine ≡ sharedSine wanted (phase .0) ⌝ }
         ensures { λ r. ⌜ r ≡ lfoOutputsOf wanted (phase .0) depth ⌝ }
     {
         let scale = 5.0 * depth;
-        let want_sin = wanted & Self::WANT_SIN != 0;
-        let want_uni = wanted & Self::WANT_SIN_UNI != 0;
-        let shared = sine(either(want_sin, want_uni), phase);
         Volts {
-            p10: sin(want_sin, shared, scale),
+            p10: sin(wanted & Self::WANT_SIN != 0, sine, scale),
             p11: tri(wanted & Self::WANT_TRI != 0, phase, scale),
             p12: saw(wanted & Self::WANT_SAW != 0, phase, scale),
             p13: sqr(wanted & Self::WANT_SQR != 0, phase, scale),
-            p14: sin_uni(want_uni, shared, depth),
+            p14: sin_uni(wanted & Self::WANT_SIN_UNI != 0, sine, depth),
         }
     }
 
@@ -256,48 +283,6 @@ impl Lfo {
             if common::phase_ok(phase) { 0 } else { 2 }
         } else {
             1
-        }
-    }
-
-    // An accepted tick: the Rust's tick_wanted.
-    fn sound(self, c: LfoControls, wanted: u32) -> LfoTicked
-        requires { ⌜ lfoRefusalOf self ≡ 0 ⌝ }
-        ensures { λ r. ⌜ r ≡ lfoSoundOf self c wanted ⌝ }
-    {
-        let old = self.phase;
-        let sample_rate = self.sample_rate;
-        let edge = self.reset_edge;
-        let memo = self.freq_memo;
-        let depth = c.depth / 10.0;
-        let freq_memo = recall(memo, c.rate);
-        let freq = freq_memo.val;
-        let risen = edge.rising(c.reset);
-        let reset_edge = risen.edge;
-        let phase = restart(old, risen.rising);
-        let volts = Self::outputs(wanted, phase, depth);
-        let next = Turns(phase.0 + increment(freq, sample_rate).0);
-        LfoTicked {
-            answer: mark(volts, is_small(depth), numeric::is_finite(next.0)),
-            lfo: Lfo {
-                phase: common::wrap_phase(next),
-                sample_rate,
-                reset_edge,
-                freq_memo,
-            },
-        }
-    }
-
-    pub fn tick(self, c: LfoControls, wanted: u32) -> LfoTicked
-        ensures { λ r. ⌜ r ≡ lfoTickOf self c wanted ⌝ }
-    {
-        let n = self.refusal();
-        if n == 0 {
-            self.sound(c, wanted)
-        } else {
-            LfoTicked {
-                answer: Answer::Refused(n),
-                lfo: self,
-            }
         }
     }
 
@@ -320,7 +305,8 @@ impl Lfo {
         let mut i = 0;
         while i < marks.len() {
             let next = Turns(phase.0 + step.0);
-            let volts = Self::outputs(wanted, phase, depth);
+            let sine = Self::shared_sine(wanted, phase);
+            let volts = Self::outputs(wanted, phase, sine, depth);
             let heard = mark(volts, small, numeric::is_finite(next.0));
             put(heard, i, &mut *samples, &mut *marks);
             phase = common::wrap_phase(next);
@@ -329,12 +315,9 @@ impl Lfo {
         phase
     }
 
-    // The ticks of a block. Only the first can take the edge, and the memo holds from then on.
-    fn run(self, c: LfoControls, wanted: u32, samples: &mut [f64], marks: &mut [u32]) -> Self
-        requires { ⌜ (lfoRefusalOf self ≡ 0) × (0 < length (now marks)) × (length (now samples) ≡ 5 * length (now marks)) ⌝ }
-        ensures { λ r. ⌜ r ≡ afterTicks (lfoNextOf c wanted) (length (now (marks .entry))) self ⌝ }
-        ensures { λ r. ⌜ now (samples .exit) ≡ joined (frameAt 5 (lfoAnswerOf c wanted) (lfoNextOf c wanted) self) (length (now (marks .entry))) ⌝ }
-        ensures { λ r. ⌜ now (marks .exit) ≡ tab (markAt (lfoAnswerOf c wanted) (lfoNextOf c wanted) self) (length (now (marks .entry))) ⌝ }
+    // What these controls make of the state: an edge is taken now or not at all, and the memo holds from now on.
+    fn held(self, c: LfoControls) -> Held
+        ensures { λ r. ⌜ r ≡ heldOf self c ⌝ }
     {
         let old = self.phase;
         let sample_rate = self.sample_rate;
@@ -344,13 +327,57 @@ impl Lfo {
         let freq = freq_memo.val;
         let risen = edge.rising(c.reset);
         let reset_edge = risen.edge;
-        let start = restart(old, risen.rising);
-        let step = increment(freq, sample_rate);
-        Lfo {
-            phase: Self::glide(start, step, c.depth / 10.0, wanted, samples, marks),
+        Held {
+            start: restart(old, risen.rising),
+            step: increment(freq, sample_rate),
             sample_rate,
             reset_edge,
             freq_memo,
+        }
+    }
+
+    // An accepted tick is a block of one.
+    fn sound(self, c: LfoControls, wanted: u32) -> LfoTicked
+        requires { ⌜ lfoRefusalOf self ≡ 0 ⌝ }
+        ensures { λ r. ⌜ r ≡ lfoSoundOf self c wanted ⌝ }
+    {
+        let mut samples = [0.0; 5];
+        let mut marks = [0; 1];
+        let h = self.held(c);
+        let start = h.start;
+        let step = h.step;
+        let phase = Self::glide(
+            start,
+            step,
+            c.depth / 10.0,
+            wanted,
+            &mut samples,
+            &mut marks,
+        );
+        let volts = Volts {
+            p10: samples[0],
+            p11: samples[1],
+            p12: samples[2],
+            p13: samples[3],
+            p14: samples[4],
+        };
+        LfoTicked {
+            answer: answer::answer_of(marks[0], volts),
+            lfo: h.at(phase),
+        }
+    }
+
+    pub fn tick(self, c: LfoControls, wanted: u32) -> LfoTicked
+        ensures { λ r. ⌜ r ≡ lfoTickOf self c wanted ⌝ }
+    {
+        let n = self.refusal();
+        if n == 0 {
+            self.sound(c, wanted)
+        } else {
+            LfoTicked {
+                answer: Answer::Refused(n),
+                lfo: self,
+            }
         }
     }
 
@@ -375,10 +402,13 @@ impl Lfo {
                     tally,
                 }
             } else {
-                let lfo = self.run(c, wanted, samples, marks);
+                let h = self.held(c);
+                let start = h.start;
+                let step = h.step;
+                let phase = Self::glide(start, step, c.depth / 10.0, wanted, samples, marks);
                 LfoBlock {
                     refused: 0,
-                    lfo,
+                    lfo: h.at(phase),
                     tally: tally.take_marks(marks),
                 }
             }
