@@ -3,7 +3,7 @@ use mathlib.Core.Bool.{Bool, true, false, not, cond}
 use mathlib.Core.Path.{_≡_, refl}
 use lib.Dec.{eqb}
 use lib.Ieee.{nan}
-use Rattle.exports_supersaw.specs.Calls.{supersawNewAt, supersawResetAt, supersawSetSampleRateAt, supersawTickAt}
+use Rattle.exports_supersaw.specs.Calls.{supersawNewAt, supersawResetAt, supersawSetSampleRateAt, supersawTickAt, supersawBlockAt}
 use Rattle.exports_supersaw.specs.Promises.{Read-back, Settled}
 use Rattle.exports_supersaw.specs.State.{stateOf, floatsOf, wholesOf}
 use Rattle.laws.proofs.Over.{by-cells}
@@ -26,6 +26,7 @@ settled =
     record {
       new = λ rate f w. laws.settled (supersawNewAt rate f w);
       tick = λ voct detune mix f w o. laws.settled (supersawTickAt voct detune mix f w o);
+      block = λ voct detune mix f w k o m. laws.settled (supersawBlockAt voct detune mix f w k o m);
       reset = λ f w. laws.settled (supersawResetAt f w);
       «set_sample_rate» = λ rate f w. laws.settled (supersawSetSampleRateAt rate f w);
     }

@@ -1,17 +1,18 @@
--- What each exported call answers, and what it leaves in the lent slices. f, w and o are floats, wholes and samples as they stood.
+-- What each exported call answers, and what it leaves in the lent slices. f, w, k, o and m are floats, wholes, counts, samples and
+-- marks as they stood.
 use mathlib.Core.Bool.{cond}
 use mathlib.Core.List.{List}
 use Prim.Native.Nat.{ℕ, _+_}
 use lib.Dec.{eqb}
 use lib.Ieee.{Float}
 use lib.ListN.{length}
-use Rattle.answer.specs.Flat.{Kept, kept, Heard, heard}
+use Rattle.answer.specs.Flat.{Kept, kept, Heard, heard, Played, played, playedOf, tallyFrom}
 use Rattle.answer.specs.declared.Outcome.{Outcome}
 use Rattle.answer.specs.declared.Outcome.the-variants as outcome
 use Rattle.answer.specs.Answer.{markNumber, voltsOf, refusalOf, accepted}
 use Rattle.supersaw.specs.Calls.{Refused}
-use Rattle.supersaw.specs.Supersaw.{supersawNewOf, supersawTickOf, supersawResetOf, supersawSetSampleRateOf}
-use Rattle.exports_supersaw.specs.State.{sizesOf, tickSizesOf, stateOf, floatsOf, wholesOf, samplesOf}
+use Rattle.supersaw.specs.Supersaw.{supersawNewOf, supersawTickOf, supersawBlockOf, supersawResetOf, supersawSetSampleRateOf}
+use Rattle.exports_supersaw.specs.State.{sizesOf, tickSizesOf, blockSizesOf, stateOf, floatsOf, wholesOf, samplesOf}
 use Rattle.supersaw.specs.declared.SupersawMade.{SupersawMade}
 use Rattle.supersaw.specs.declared.Supersaw.{Supersaw}
 use Rattle.supersaw.specs.declared.SupersawTicked.{SupersawTicked}
@@ -49,3 +50,11 @@ heardSized h f w o = let n = tickSizesOf (length f) (length w) (length o) in con
 unfoldable pub supersawTickAt : Float → Float → Float → List Float → List ℕ → List Float → Heard
 supersawTickAt voct detune mix f w o =
     heardSized (heardOf (supersawTickOf (stateOf f w) (record { voct = record { 0 = voct }; detune = detune; mix = mix })) f w o) f w o
+
+-- a block: 0, the state, the counts, the samples and the marks after it, or what refused it
+unfoldable pub supersawBlockAt : Float → Float → Float → List Float → List ℕ → List ℕ → List Float → List ℕ → Played
+supersawBlockAt voct detune mix f w k o m =
+    let n = blockSizesOf (length f) (length w) (length k) in
+    cond (eqb n 0)
+    (playedOf floatsOf wholesOf (supersawBlockOf (stateOf f w) (record { voct = record { 0 = voct }; detune = detune; mix = mix }) (tallyFrom k) o m) f w k)
+    (played n f w k o m)
