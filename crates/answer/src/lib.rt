@@ -2,9 +2,10 @@
 ghost use mathlib.Core.Path.{_≡_};
 ghost use Prim.Native.Nat.{_<_, _≤_, _+_};
 ghost use lib.ListN.{length};
-ghost use Rattle.answer.specs.Answer.{markNumber, voltsOf};
+ghost use Rattle.answer.specs.Answer.{markNumber, voltsOf, answerOf};
 ghost use Rattle.answer.specs.Mark.{allFinite, markOf};
 ghost use Rattle.answer.specs.Tally.{newTally, sumOf, addsUp, oneIf, counted, tallyOf};
+ghost use Rattle.answer.specs.Flat.{tallyFrom, countsPut};
 ghost use Rattle.answer.specs.Block.{manyTo, cellsOf, roomFor, grownBy, marksTaken, blockRefusalOf};
 
 // Sample volts: a field for each output port number of the Rust. An output that an oscillator doesn't have, or that isn't
@@ -61,6 +62,21 @@ pub fn samples(a: Answer) -> Volts
             p13: 0.0,
             p14: 0.0,
         },
+    }
+}
+
+// The accepted answer with a mark's number; any other number than 1 to 3 is a clean one's.
+pub fn answer_of(mark: u32, v: Volts) -> Answer
+    ensures { λ r. ⌜ r ≡ answerOf mark v ⌝ }
+{
+    if mark == 1 {
+        Answer::Cleared(v)
+    } else if mark == 2 {
+        Answer::NotFinite(v)
+    } else if mark == 3 {
+        Answer::Lost(v)
+    } else {
+        Answer::Clean(v)
     }
 }
 
@@ -153,6 +169,36 @@ impl Tally {
             cleared: 0,
             notfinite: 0,
             lost: 0,
+        }
+    }
+
+    // The tally that five counts stand for, in the order of the fields; a new one where there aren't five.
+    pub fn from_counts(counts: &[u32]) -> Self
+        ensures { λ r. ⌜ r ≡ tallyFrom (now (counts .entry)) ⌝ }
+    {
+        if counts.len() == 5 {
+            Tally {
+                begun: counts[0],
+                finished: counts[1],
+                cleared: counts[2],
+                notfinite: counts[3],
+                lost: counts[4],
+            }
+        } else {
+            Tally::new()
+        }
+    }
+
+    // Its five counts into a slice for five; another is left.
+    pub fn put_counts(self, counts: &mut [u32])
+        ensures { λ _. ⌜ now (counts .exit) ≡ countsPut self (now (counts .entry)) ⌝ }
+    {
+        if counts.len() == 5 {
+            counts[0] = self.begun;
+            counts[1] = self.finished;
+            counts[2] = self.cleared;
+            counts[3] = self.notfinite;
+            counts[4] = self.lost;
         }
     }
 

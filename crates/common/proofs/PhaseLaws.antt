@@ -44,14 +44,6 @@ pub wrap-two : (x : Float) → F64 x → lt zer x ≡ true → lt x one ≡ fals
 unfolding wrapOf
 wrap-two x t h k l = simp (finite-between x two h l, floor-one x t k l h, rest-below x t k l h)
 
--- above 0 and below 2
-pub wrap-fold : (x : Float) → F64 x → lt zer x ≡ true → lt x two ≡ true → wrapOf x ≡ cond (lt x one) x (sub binary64 x one)
-wrap-fold x t h k = go (lt x one) refl
-  where
-    go : (b : Bool) → lt x one ≡ b → wrapOf x ≡ cond b x (sub binary64 x one)
-    go true e = wrap-unit x t h e
-    go false e = wrap-two x t h e k
-
 -- above -1 and below 0: and 1, which may round to 1
 pub wrap-minus : (x : Float) → lt x zer ≡ true → lt (neg one) x ≡ true → wrapOf x ≡ cond (le one (add binary64 x one)) zer (add binary64 x one)
 unfolding wrapOf

@@ -1,9 +1,6 @@
 // common.rs of the Rust, item by item: what the oscillators share. After it the tests behind refusals 1 and 2.
 // Volts per octave, hertz and turns are three kinds of quantity; each helper takes only its own.
 ghost use mathlib.Core.Path.{_≡_};
-ghost use mathlib.Core.Bool.{cond};
-ghost use lib.Ieee.{binary64, lt, sub};
-ghost use Rattle.laws.specs.Float.{one};
 ghost use Rattle.common.specs.Pitch.{voctToHz};
 ghost use Rattle.common.specs.Phase.{turns, wrapOf, polyblepOf, polyblampOf};
 ghost use Rattle.common.specs.Memo.{newMemo1, hits1, filled1, newMemo3, hits3, filled3, recall1, voctToHzAt};
@@ -47,19 +44,19 @@ fn wrapped(x: f64) -> f64
     }
 }
 
-// One turn taken off from 1 on: a choice of two values and no branch, since a phase comes by here at any time.
-fn folded(x: f64) -> f64
-    ensures { λ r. ⌜ r ≡ cond (lt x one) x (sub binary64 x one) ⌝ }
-{
-    if x < 1.0 { x } else { x - 1.0 }
-}
-
-// The same without a floor where x is above -1 and below 2, as a phase and an increment nearly always are.
+// The same without a floor where x is above -1 and below 2, as a phase and an increment nearly always are. Below 1 is a way of its
+// own: most phases take it, and the next tick needn't wait for a choice.
 fn wrapped_near(x: f64) -> f64
     ensures { λ r. ⌜ r ≡ wrapOf x ⌝ }
 {
     if x > 0.0 {
-        if x < 2.0 { folded(x) } else { wrapped(x) }
+        if x < 1.0 {
+            x
+        } else if x < 2.0 {
+            x - 1.0
+        } else {
+            wrapped(x)
+        }
     } else if x < 0.0 {
         if x > -1.0 {
             let w = x + 1.0;

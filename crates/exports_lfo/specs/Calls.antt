@@ -1,15 +1,16 @@
--- What each exported call answers, and what it leaves in the lent slices. f, w and o are floats, wholes and samples as they stood.
+-- What each exported call answers, and what it leaves in the lent slices. f, w, k, o and m are floats, wholes, counts, samples and
+-- marks as they stood.
 use mathlib.Core.Bool.{cond}
 use mathlib.Core.List.{List}
 use Prim.Native.Nat.{ℕ, _+_}
 use lib.Dec.{eqb}
 use lib.Ieee.{Float}
 use lib.ListN.{length}
-use Rattle.answer.specs.Flat.{Kept, kept, Heard, heard}
+use Rattle.answer.specs.Flat.{Kept, kept, Heard, heard, Played, played, playedOf, tallyFrom}
 use Rattle.answer.specs.Answer.{markNumber, voltsOf, refusalOf, accepted}
 use Rattle.lfo.specs.Calls.{Refused}
-use Rattle.lfo.specs.Lfo.{lfoNewOf, lfoTickOf, lfoResetOf, lfoSetSampleRateOf}
-use Rattle.exports_lfo.specs.State.{sizesOf, tickSizesOf, stateOf, floatsOf, wholesOf, samplesOf}
+use Rattle.lfo.specs.Lfo.{lfoNewOf, lfoTickOf, lfoBlockOf, lfoResetOf, lfoSetSampleRateOf}
+use Rattle.exports_lfo.specs.State.{sizesOf, tickSizesOf, blockSizesOf, stateOf, floatsOf, wholesOf, samplesOf}
 use Rattle.lfo.specs.declared.LfoMade.{LfoMade}
 use Rattle.lfo.specs.declared.LfoMade.the-variants as made
 use Rattle.lfo.specs.declared.LfoTicked.{LfoTicked}
@@ -44,3 +45,11 @@ heardSized h f w o = let n = tickSizesOf (length f) (length w) (length o) in con
 unfoldable pub lfoTickAt : Float → Float → Float → ℕ → List Float → List ℕ → List Float → Heard
 lfoTickAt rate depth reset wanted f w o =
     heardSized (heardOf (lfoTickOf (stateOf f w) (record { rate = rate; depth = depth; reset = reset }) wanted) f w o) f w o
+
+-- a block: 0, the state, the counts, the samples and the marks after it, or what refused it
+unfoldable pub lfoBlockAt : Float → Float → Float → ℕ → List Float → List ℕ → List ℕ → List Float → List ℕ → Played
+lfoBlockAt rate depth reset wanted f w k o m =
+    let n = blockSizesOf (length f) (length w) (length k) in
+    cond (eqb n 0)
+    (playedOf floatsOf wholesOf (lfoBlockOf (stateOf f w) (record { rate = rate; depth = depth; reset = reset }) wanted (tallyFrom k) o m) f w k)
+    (played n f w k o m)

@@ -1,22 +1,30 @@
 // The Lfo for hosts, over lent slices. A state is floats [phase, sample_rate, reset_edge.prev, freq_memo.val] and
 // wholes [freq_memo.key, freq_memo.valid], the last 0 or not; samples are [sin, tri, saw, sqr, sin_uni].
 // Each call answers a number: 0 done; of an accepted tick 11 cleared, 12 notfinite, 13 lost, 14 clean; of a refused call
-// 1 to 7 as document 01 has them, or 50, 51, 52 where floats, wholes or samples have another length. A refused call writes nothing.
+// 1 to 7 as document 01 has them, or 50, 51, 52, 53 where floats, wholes, samples or counts have another length. A refused
+// call writes nothing. A block answers 0, with the tick's samples one after another, their marks as 1 cleared, 2 notfinite,
+// 3 lost, 4 clean, and the tally's five counts: begun, finished, cleared, notfinite, lost.
 use answer::Answer;
+use answer::Tally;
 use answer::Volts;
 use common::EdgeDetector;
 use common::Hertz;
 use common::Memo1;
 use common::Turns;
 use lfo::Lfo;
+use lfo::LfoBlock;
 use lfo::LfoControls;
 use lfo::LfoMade;
 use lfo::LfoTicked;
 ghost use mathlib.Core.Path.{_≡_};
+ghost use mathlib.Core.List.{List};
+ghost use Prim.Native.Nat.{ℕ};
+ghost use lib.Ieee.{Float};
 ghost use lib.ListN.{length};
-ghost use Rattle.answer.specs.Flat.{kept, heard};
-ghost use Rattle.exports_lfo.specs.State.{sizesOf, tickSizesOf, stateOf, floatsOf, wholesOf, samplesOf};
-ghost use Rattle.exports_lfo.specs.Calls.{keptOf, heardOf, lfoNewAt, lfoTickAt, lfoResetAt, lfoSetSampleRateAt};
+ghost use Rattle.answer.specs.Block.{block};
+ghost use Rattle.answer.specs.Flat.{kept, heard, played, playedOf};
+ghost use Rattle.exports_lfo.specs.State.{sizesOf, tickSizesOf, blockSizesOf, stateOf, floatsOf, wholesOf, samplesOf};
+ghost use Rattle.exports_lfo.specs.Calls.{keptOf, heardOf, lfoNewAt, lfoTickAt, lfoBlockAt, lfoResetAt, lfoSetSampleRateAt};
 
 // 0, or the number that refuses these lengths.
 fn sizes(floats: &[f64], wholes: &[u64]) -> u32
@@ -35,6 +43,17 @@ fn tick_sizes(floats: &[f64], wholes: &[u64], samples: &[f64]) -> u32
     let n = sizes(floats, wholes);
     if n == 0 {
         if samples.len() == 5 { 0 } else { 52 }
+    } else {
+        n
+    }
+}
+
+fn block_sizes(floats: &[f64], wholes: &[u64], counts: &[u32]) -> u32
+    ensures { λ r. ⌜ r ≡ blockSizesOf (length (now (floats .entry))) (length (now (wholes .entry))) (length (now (counts .entry))) ⌝ }
+{
+    let n = sizes(floats, wholes);
+    if n == 0 {
+        if counts.len() == 5 { 0 } else { 53 }
     } else {
         n
     }
@@ -160,6 +179,48 @@ pub extern "C" fn gruttisol_lfo_tick(
             wholes,
             samples,
         )
+    } else {
+        n
+    }
+}
+
+// The state and the counts after a block; a refused one leaves them.
+fn put_block(b: LfoBlock, floats: &mut [f64], wholes: &mut [u64], counts: &mut [u32]) -> u32
+    requires { ⌜ (length (now floats) ≡ 4) × (length (now wholes) ≡ 2) × (length (now counts) ≡ 5) ⌝ }
+    ensures { λ r. ⌜ ((o : List Float) → (m : List ℕ) → played r (now (floats .exit)) (now (wholes .exit)) (now (counts .exit)) o m ≡ playedOf floatsOf wholesOf (block (b .refused) (b .lfo) (b .tally) o m) (now (floats .entry)) (now (wholes .entry)) (now (counts .entry))) ⌝ }
+{
+    let refused = b.refused;
+    if refused == 0 {
+        let s = b.lfo;
+        let tally = b.tally;
+        store(s, &mut *floats, &mut *wholes);
+        tally.put_counts(counts);
+        0
+    } else {
+        refused
+    }
+}
+
+#[no_mangle]
+pub extern "C" fn gruttisol_lfo_block(
+    rate: f64,
+    depth: f64,
+    reset: f64,
+    wanted: u32,
+    floats: &mut [f64],
+    wholes: &mut [u64],
+    counts: &mut [u32],
+    samples: &mut [f64],
+    marks: &mut [u32],
+) -> u32
+    ensures { λ r. ⌜ played r (now (floats .exit)) (now (wholes .exit)) (now (counts .exit)) (now (samples .exit)) (now (marks .exit)) ≡ lfoBlockAt rate depth reset wanted (now (floats .entry)) (now (wholes .entry)) (now (counts .entry)) (now (samples .entry)) (now (marks .entry)) ⌝ }
+{
+    let n = block_sizes(floats, wholes, counts);
+    if n == 0 {
+        let c = LfoControls { rate, depth, reset };
+        let tally = Tally::from_counts(counts);
+        let b = state(floats, wholes).block(c, wanted, tally, samples, marks);
+        put_block(b, floats, wholes, counts)
     } else {
         n
     }

@@ -8,7 +8,9 @@ use lib.Ieee.Fits.{add-fits}
 use lib.Dec.{eqb}
 use borrow.Author.Tests.{eq-eqb}
 use Rattle.answer.specs.Block.{afterTicks, answerAt}
-use Rattle.answer.proofs.Blocks.{Holds}
+use Rattle.answer.specs.Answer.{markNumber, voltsOf, answerOf, accepted}
+use Rattle.answer.proofs.Blocks.{Holds, answer-back}
+use Rattle.answer.proofs.Laws.{mark-says}
 use Rattle.answer.specs.Mark.{markOf}
 use Rattle.answer.specs.declared.Answer.{Answer}
 use Rattle.answer.specs.declared.Volts.{Volts}
@@ -81,3 +83,10 @@ holds s c wanted h =
       answers = λ p k. ap (λ (t : LfoTicked). t .answer) (tick-sounds (stateOf s c p) c wanted (state-accepted s c p h k) ∙ held-sound s c wanted p);
       moves = λ p k. ap (λ (t : LfoTicked). t .lfo) (tick-sounds (stateOf s c p) c wanted (state-accepted s c p h k) ∙ held-sound s c wanted p);
     }
+
+-- ---- a tick is a block of one
+pub one-tick : (s : Lfo) (c : LfoControls) (wanted : ℕ) → lfoRefusalOf s ≡ 0
+    → _≡_ {A = LfoTicked} (record { answer = answerOf (markNumber (lfoAnswerOf c wanted s)) (voltsOf (lfoAnswerOf c wanted s)); lfo = lfoNextOf c wanted s }) (lfoSoundOf s c wanted)
+one-tick s c wanted h =
+    ap (λ (a : Answer). record { answer = a; lfo = lfoNextOf c wanted s }) (answer-back (lfoAnswerOf c wanted s) (ap (λ (t : LfoTicked). accepted (t .answer)) (tick-sounds s c wanted h) ∙ unfold lfoSoundOf in mark-says _ _ _ _ .is-accepted))
+    ∙ tick-sounds s c wanted h

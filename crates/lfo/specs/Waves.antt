@@ -1,5 +1,5 @@
 -- The Lfo's rate map and its five waveforms, written from Lfo::tick_wanted. One that isn't wanted reads 0.0.
-use mathlib.Core.Bool.{Bool, not, cond}
+use mathlib.Core.Bool.{Bool, not, cond, _||_}
 use Prim.Native.Nat.{ℕ}
 use lib.Bits.{bitAnd}
 use lib.Dec.{eqb}
@@ -28,6 +28,10 @@ wants wanted bit = not (eqb (bitAnd wanted bit) 0)
 -- sin(phase * TAU)
 unfoldable pub sineOf : Float → Float
 sineOf phase = sinOf (mul binary64 phase tau)
+
+-- that sine, where sin or sin_uni is wanted
+unfoldable pub sharedSine : ℕ → Float → Float
+sharedSine wanted phase = cond (wants wanted 1 || wants wanted 16) (sineOf phase) zer
 
 -- sin(phase * TAU) * scale, over that sine
 unfoldable pub sinWave : Bool → Float → Float → Float

@@ -22,7 +22,7 @@ ghost use Rattle.common.specs.Tests.{phaseOk};
 ghost use Rattle.answer.specs.Answer.{markNumber, voltsOf};
 ghost use Rattle.answer.specs.Mark.{allFinite, markOf};
 ghost use Rattle.answer.specs.Block.{afterTicks, portsOf, joined, block, markAt, frameAt};
-ghost use Rattle.lfo.specs.Waves.{rateToHz, restartOf, sineOf, sinWave, triWave, sawWave, sqrWave, sinUniWave};
+ghost use Rattle.lfo.specs.Waves.{rateToHz, restartOf, sharedSine, sinWave, triWave, sawWave, sqrWave, sinUniWave};
 ghost use Rattle.lfo.specs.Small.{isSmall};
 ghost use Rattle.lfo.specs.Held.{heldAnswer, heldNext};
 ghost use Rattle.lfo.specs.Lfo.{lfoRefusalOf, lfoNewOf, lfoOutputsOf, lfoSoundOf, lfoTickOf, lfoAnswerOf, lfoNextOf, lfoBlockOf, lfoResetOf, lfoSetSampleRateOf};
@@ -91,17 +91,6 @@ fn either(a: bool, b: bool) -> bool
     ensures { λ r. ⌜ r ≡ (a || b) ⌝ }
 {
     a || b
-}
-
-// The sine that sin and sin_uni share: the Rust computes it for each of them.
-fn sine(want: bool, phase: Turns) -> f64
-    ensures { λ r. ⌜ r ≡ cond want (sineOf (phase .0)) zer ⌝ }
-{
-    if want {
-        numeric::sin(phase.0 * TAU)
-    } else {
-        0.0
-    }
 }
 
 fn sin(want: bool, sine: f64, scale: f64) -> f64
@@ -229,20 +218,32 @@ impl Lfo {
 
     const WANT_SIN_UNI: u32 = 1 << 4;
 
-    // The outputs, each where it is wanted; sin and sin_uni share one sine.
-    fn outputs(wanted: u32, phase: Turns, depth: f64) -> Volts
+    // The sine that sin and sin_uni share: the Rust computes it for each of them.
+    fn shared_sine(wanted: u32, phase: Turns) -> f64
+        ensures { λ r. ⌜ r ≡ sharedSine wanted (phase .0) ⌝ }
+    {
+        if either(
+            wanted & Self::WANT_SIN != 0,
+            wanted & Self::WANT_SIN_UNI != 0,
+        ) {
+            numeric::sin(phase.0 * TAU)
+        } else {
+            0.0
+        }
+    }
+
+    // The outputs, each where it is wanted, over the sine that two of them share.
+    fn outputs(wanted: u32, phase: Turns, sine: f64, depth: f64) -> Volts
+        requires { ⌜ sine ≡ sharedSine wanted (phase .0) ⌝ }
         ensures { λ r. ⌜ r ≡ lfoOutputsOf wanted (phase .0) depth ⌝ }
     {
         let scale = 5.0 * depth;
-        let want_sin = wanted & Self::WANT_SIN != 0;
-        let want_uni = wanted & Self::WANT_SIN_UNI != 0;
-        let shared = sine(either(want_sin, want_uni), phase);
         Volts {
-            p10: sin(want_sin, shared, scale),
+            p10: sin(wanted & Self::WANT_SIN != 0, sine, scale),
             p11: tri(wanted & Self::WANT_TRI != 0, phase, scale),
             p12: saw(wanted & Self::WANT_SAW != 0, phase, scale),
             p13: sqr(wanted & Self::WANT_SQR != 0, phase, scale),
-            p14: sin_uni(want_uni, shared, depth),
+            p14: sin_uni(wanted & Self::WANT_SIN_UNI != 0, sine, depth),
         }
     }
 
@@ -256,48 +257,6 @@ impl Lfo {
             if common::phase_ok(phase) { 0 } else { 2 }
         } else {
             1
-        }
-    }
-
-    // An accepted tick: the Rust's tick_wanted.
-    fn sound(self, c: LfoControls, wanted: u32) -> LfoTicked
-        requires { ⌜ lfoRefusalOf self ≡ 0 ⌝ }
-        ensures { λ r. ⌜ r ≡ lfoSoundOf self c wanted ⌝ }
-    {
-        let old = self.phase;
-        let sample_rate = self.sample_rate;
-        let edge = self.reset_edge;
-        let memo = self.freq_memo;
-        let depth = c.depth / 10.0;
-        let freq_memo = recall(memo, c.rate);
-        let freq = freq_memo.val;
-        let risen = edge.rising(c.reset);
-        let reset_edge = risen.edge;
-        let phase = restart(old, risen.rising);
-        let volts = Self::outputs(wanted, phase, depth);
-        let next = Turns(phase.0 + increment(freq, sample_rate).0);
-        LfoTicked {
-            answer: mark(volts, is_small(depth), numeric::is_finite(next.0)),
-            lfo: Lfo {
-                phase: common::wrap_phase(next),
-                sample_rate,
-                reset_edge,
-                freq_memo,
-            },
-        }
-    }
-
-    pub fn tick(self, c: LfoControls, wanted: u32) -> LfoTicked
-        ensures { λ r. ⌜ r ≡ lfoTickOf self c wanted ⌝ }
-    {
-        let n = self.refusal();
-        if n == 0 {
-            self.sound(c, wanted)
-        } else {
-            LfoTicked {
-                answer: Answer::Refused(n),
-                lfo: self,
-            }
         }
     }
 
@@ -320,7 +279,8 @@ impl Lfo {
         let mut i = 0;
         while i < marks.len() {
             let next = Turns(phase.0 + step.0);
-            let volts = Self::outputs(wanted, phase, depth);
+            let sine = Self::shared_sine(wanted, phase);
+            let volts = Self::outputs(wanted, phase, sine, depth);
             let heard = mark(volts, small, numeric::is_finite(next.0));
             put(heard, i, &mut *samples, &mut *marks);
             phase = common::wrap_phase(next);
@@ -351,6 +311,41 @@ impl Lfo {
             sample_rate,
             reset_edge,
             freq_memo,
+        }
+    }
+
+    // An accepted tick is a block of one.
+    fn sound(self, c: LfoControls, wanted: u32) -> LfoTicked
+        requires { ⌜ lfoRefusalOf self ≡ 0 ⌝ }
+        ensures { λ r. ⌜ r ≡ lfoSoundOf self c wanted ⌝ }
+    {
+        let mut samples = [0.0; 5];
+        let mut marks = [0; 1];
+        let lfo = self.run(c, wanted, &mut samples, &mut marks);
+        let volts = Volts {
+            p10: samples[0],
+            p11: samples[1],
+            p12: samples[2],
+            p13: samples[3],
+            p14: samples[4],
+        };
+        LfoTicked {
+            answer: answer::answer_of(marks[0], volts),
+            lfo,
+        }
+    }
+
+    pub fn tick(self, c: LfoControls, wanted: u32) -> LfoTicked
+        ensures { λ r. ⌜ r ≡ lfoTickOf self c wanted ⌝ }
+    {
+        let n = self.refusal();
+        if n == 0 {
+            self.sound(c, wanted)
+        } else {
+            LfoTicked {
+                answer: Answer::Refused(n),
+                lfo: self,
+            }
         }
     }
 

@@ -21,7 +21,7 @@ use Rattle.lfo.proofs.Lfo.glide.Tie as tie
 
 abbrev Inv-loop : tie.InvT-loop
 Inv-loop step depth wanted samples₀ marks₀ small phase₀ i₀ samples marks phase i =
-    (i ≤ length marks₀) × (length samples ≡ length samples₀) × (length marks ≡ length marks₀) × (samples ≡ sets samples₀ 0 (joined (frameAt 5 (heldAnswer wanted depth step) (heldNext step) phase₀) i)) × (marks ≡ over (markAt (heldAnswer wanted depth step) (heldNext step) phase₀) i marks₀) × (phase ≡ afterTicks (heldNext step) i phase₀) × (phaseOk phase ≡ true)
+    (i ≤ length marks₀) × (length samples ≡ length samples₀) × (length marks ≡ length marks₀) × (samples ≡ sets samples₀ 0 (joined (frameAt 5 (heldAnswer wanted depth step) (heldNext step) phase₀) i)) × (marks ≡ over (markAt (heldAnswer wanted depth step) (heldNext step) phase₀) i marks₀) × (phase ≡ afterTicks (heldNext step) i phase₀) × (phaseOk phase ≡ true) × (length marks₀ < 18446744073709551616)
 
 abbrev μ-loop : tie.MeasureT-loop
 μ-loop step depth wanted samples₀ marks₀ small phase₀ i₀ samples marks phase i = length marks₀ - i
@@ -31,17 +31,20 @@ is-small-requires c κs = tt
 
 loop-holds : tie.Need-loop-holds Inv-loop μ-loop
 unfolding afterTicks
-loop-holds c = (omega arith, refl, refl, joined-none _ _, over-none _ _, refl, c .before .before .before .pre .0)
+loop-holds c = (omega arith, refl, refl, joined-none _ _, over-none _ _, refl, c .before .before .before .pre .0, omega arith)
+
+shared-sine-requires : tie.Need-shared-sine-requires Inv-loop μ-loop
+shared-sine-requires c κs = tt
 
 outputs-requires : tie.Need-outputs-requires Inv-loop μ-loop
-outputs-requires c κs = tt
+outputs-requires c κs = c .shared-sine .ensures
 
 is-finite-requires : tie.Need-is-finite-requires Inv-loop μ-loop
 is-finite-requires c κs = tt
 
 mark-requires : tie.Need-mark-requires Inv-loop μ-loop
 mark-requires c κs =
-    λ t. rw (c .before .outputs .ensures) (outputs-finite _ _ _ (c .before .before .before .before .before .loop .inv .6) (sym (c .before .before .before .before .before .before .is-small .ensures) ∙ t))
+    λ t. rw (c .before .outputs .ensures) (outputs-finite _ _ _ (c .before .before .before .before .before .before .loop .inv .6) (sym (c .before .before .before .before .before .before .before .is-small .ensures) ∙ t))
 
 put-requires : tie.Need-put-requires Inv-loop μ-loop
 put-requires c κs = (omega arith, omega arith)
@@ -50,17 +53,17 @@ wrap-phase-requires : tie.Need-wrap-phase-requires Inv-loop μ-loop
 wrap-phase-requires c κs = tt
 
 add-i : tie.Need-add-i Inv-loop μ-loop
-add-i c = omega arith
+add-i c = let s = c .before .before .before .before .before .before .before .before .before .before .before .before .before .before .before .loop .inv in let t = c .before .before .before .before .before .before .before .before .before .before .before .before .before .before .loop-test .taken in omega arith
 
 loop-less : tie.Need-loop-less Inv-loop μ-loop
-loop-less c = omega arith
+loop-less c = let t = c .before .before .before .before .before .before .before .before .before .before .before .before .before .before .loop-test .taken in omega arith
 
 loop-again : tie.Need-loop-again Inv-loop μ-loop
 loop-again c =
-    let s = c .before .before .before .before .before .before .before .before .before .before .before .before .before .before .loop .inv in
+    let s = c .before .before .before .before .before .before .before .before .before .before .before .before .before .before .before .loop .inv in
     let a = heard _ _ _ _ _ _ _ _ _ (c .before .before .before .before .before .before .before .before .mark .ensures) (c .before .before .before .before .before .before .before .before .before .before .outputs .ensures) (c .before .before .before .before .before .before .before .before .before .is-finite .ensures) (s .5) in
     let p = c .before .before .before .before .before .put .ensures in
-    (omega arith, simp (p .0, length-sets) (s .1), simp (p .1, length-set) (s .2), rw (p .0) (frames-more 5 five-ports _ _ _ _ _ _ _ (s .3) a), rw (p .1) (marks-more 5 five-ports _ _ _ _ _ _ _ (omega arith) (s .4) a), moved _ _ _ _ _ (c .wrap-phase .ensures) (s .5), rw (c .wrap-phase .ensures) (wrap-in _ (add-fits binary64 _ _)))
+    (omega arith, simp (p .0, length-sets) (s .1), simp (p .1, length-set) (s .2), rw (p .0) (frames-more 5 five-ports _ _ _ _ _ _ _ (s .3) a), rw (p .1) (marks-more 5 five-ports _ _ _ _ _ _ _ (omega arith) (s .4) a), moved _ _ _ _ _ (c .wrap-phase .ensures) (s .5), rw (c .wrap-phase .ensures) (wrap-in _ (add-fits binary64 _ _)), s .7)
 
 same-length : tie.Need-same-length Inv-loop μ-loop
 same-length c = c .before .loop .inv .1
@@ -83,6 +86,7 @@ glide-spec =
     μ-loop
     is-small-requires
     loop-holds
+    shared-sine-requires
     outputs-requires
     is-finite-requires
     mark-requires

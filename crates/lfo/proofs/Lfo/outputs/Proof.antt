@@ -1,14 +1,9 @@
-use borrow.Author.Needs.{needs}
 use Rattle.lfo.proofs.Shared.{sin-shared, uni-shared}
 use Rattle.lfo.specs.Lfo.{lfoOutputsOf}
+use Rattle.lfo.specs.Waves.{sharedSine}
+use borrow.Author.Needs.{needs}
 use Rattle.lfo.proofs.Lfo.outputs.Statement.{statement}
 use Rattle.lfo.proofs.Lfo.outputs.Tie as tie
-
-either-requires : tie.Need-either-requires
-either-requires c κs = search needs
-
-sine-requires : tie.Need-sine-requires
-sine-requires c κs = search needs
 
 sin-requires : tie.Need-sin-requires
 sin-requires c κs = search needs
@@ -26,18 +21,10 @@ sin-uni-requires : tie.Need-sin-uni-requires
 sin-uni-requires c κs = search needs
 
 returns : tie.Need-returns
-unfolding lfoOutputsOf
-returns c = simp (c .sin-uni .ensures, c .before .sqr .ensures, c .before .before .saw .ensures, c .before .before .before .tri .ensures, c .before .before .before .before .sin .ensures, c .before .before .before .before .before .sine .ensures, c .before .before .before .before .before .before .either .ensures, sin-shared, uni-shared)
+unfolding lfoOutputsOf sharedSine
+returns c = simp (c .sin-uni .ensures, c .before .sqr .ensures, c .before .before .saw .ensures, c .before .before .before .tri .ensures, c .before .before .before .before .sin .ensures, c .before .before .before .before .before .pre, sin-shared, uni-shared)
 
 pub outputs-spec : {M : Type 1} → statement M
 outputs-spec =
     tie.close
-    (tie.spec
-    either-requires
-    sine-requires
-    sin-requires
-    tri-requires
-    saw-requires
-    sqr-requires
-    sin-uni-requires
-    returns)
+    (tie.spec sin-requires tri-requires saw-requires sqr-requires sin-uni-requires returns)
