@@ -1,8 +1,6 @@
 use native.Mathlib.Nat.{one-mul}
 use Rattle.karplus_strong.proofs.fits.Statement.{statement}
 use Rattle.karplus_strong.proofs.fits.Tie as tie
-use Rattle.karplus_strong.proofs.fits.Reads as reads
-use Rattle.karplus_strong.proofs.fits.Lts as lts
 
 returns : tie.Need-returns
 returns c = simp one-mul

@@ -3,10 +3,6 @@ use native.Mathlib.Nat.{one-mul}
 use borrow.Author.Needs.{needs}
 use Rattle.karplus_strong.proofs.put.Statement.{statement}
 use Rattle.karplus_strong.proofs.put.Tie as tie
-use Rattle.karplus_strong.proofs.put.Reads as reads
-use Rattle.karplus_strong.proofs.put.Lts as lts
-use Rattle.answer.proofs.mark_number.Reads as mark-number-reads
-use Rattle.answer.proofs.samples.Reads as samples-reads
 
 samples-requires : tie.Need-samples-requires
 samples-requires c κs = search needs

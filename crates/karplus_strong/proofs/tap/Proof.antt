@@ -4,9 +4,6 @@ use native.Mathlib.Omega.{arith}
 use borrow.Author.Needs.{needs}
 use Rattle.karplus_strong.proofs.tap.Statement.{statement}
 use Rattle.karplus_strong.proofs.tap.Tie as tie
-use Rattle.karplus_strong.proofs.tap.Reads as reads
-use Rattle.karplus_strong.proofs.tap.Lts as lts
-use Rattle.karplus_strong.proofs.behind.Reads as behind-reads
 
 behind-requires : tie.Need-behind-requires
 behind-requires c κs = search needs

@@ -4,10 +4,6 @@ use mathlib.Core.Path.{refl}
 use borrow.Author.Needs.{needs}
 use Rattle.karplus_strong.proofs.tuned.Statement.{statement}
 use Rattle.karplus_strong.proofs.tuned.Tie as tie
-use Rattle.karplus_strong.proofs.tuned.Reads as reads
-use Rattle.karplus_strong.proofs.tuned.Lts as lts
-use Rattle.karplus_strong.proofs.target_delay.Reads as target-delay-reads
-use Rattle.numeric.proofs.to_usize.Reads as to-usize-reads
 
 target-delay-requires : tie.Need-target-delay-requires
 target-delay-requires c κs = search needs

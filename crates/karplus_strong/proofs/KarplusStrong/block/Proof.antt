@@ -6,13 +6,6 @@ use native.Mathlib.Omega.{arith}
 use borrow.Author.Needs.{needs}
 use Rattle.karplus_strong.proofs.KarplusStrong.block.Statement.{statement}
 use Rattle.karplus_strong.proofs.KarplusStrong.block.Tie as tie
-use Rattle.karplus_strong.proofs.KarplusStrong.block.Reads as reads
-use Rattle.karplus_strong.proofs.KarplusStrong.block.Lts as lts
-use Rattle.answer.proofs.Tally.take_marks.Reads as take-marks-reads
-use Rattle.answer.proofs.block_refusal.Reads as block-refusal-reads
-use Rattle.karplus_strong.proofs.KarplusStrong.first_refusal.Reads as first-refusal-reads
-use Rattle.karplus_strong.proofs.KarplusStrong.run.Reads as run-reads
-use Rattle.karplus_strong.proofs.fits.Reads as fits-reads
 
 first-refusal-requires : tie.Need-first-refusal-requires
 first-refusal-requires c κs = search needs

@@ -5,10 +5,6 @@ use mathlib.Core.Path.{sym, _∙_}
 use borrow.Author.Needs.{needs}
 use Rattle.karplus_strong.proofs.KarplusStrong.first_refusal.Statement.{statement}
 use Rattle.karplus_strong.proofs.KarplusStrong.first_refusal.Tie as tie
-use Rattle.karplus_strong.proofs.KarplusStrong.first_refusal.Reads as reads
-use Rattle.karplus_strong.proofs.KarplusStrong.first_refusal.Lts as lts
-use Rattle.karplus_strong.proofs.KarplusStrong.refusal.Reads as refusal-reads
-use Rattle.karplus_strong.proofs.KarplusStrong.trigger_refusal.Reads as trigger-refusal-reads
 
 refusal-requires : tie.Need-refusal-requires
 refusal-requires c κs = search needs

@@ -13,10 +13,6 @@ use Prim.Native.Nat.{_≤_, _<_, _-_}
 use mathlib.Core.Path.{_≡_, refl, sym, ap, _∙_}
 use Rattle.karplus_strong.proofs.KarplusStrong.ring.Statement.{statement}
 use Rattle.karplus_strong.proofs.KarplusStrong.ring.Tie as tie
-use Rattle.karplus_strong.proofs.KarplusStrong.ring.Reads as reads
-use Rattle.karplus_strong.proofs.KarplusStrong.ring.Lts as lts
-use Rattle.karplus_strong.proofs.KarplusStrong.turn.Reads as turn-reads
-use Rattle.karplus_strong.proofs.put.Reads as put-reads
 
 abbrev Inv-loop : tie.InvT-loop
 Inv-loop t line₀ samples₀ marks₀ string₀ i₀ line samples marks string i =

@@ -9,17 +9,6 @@ use Rattle.karplus_strong.proofs.Parts.{zer-fin, one-fin, minus-one-fin
 use borrow.Author.Needs.{needs}
 use Rattle.karplus_strong.proofs.KarplusStrong.run.Statement.{statement}
 use Rattle.karplus_strong.proofs.KarplusStrong.run.Tie as tie
-use Rattle.karplus_strong.proofs.KarplusStrong.run.Reads as reads
-use Rattle.karplus_strong.proofs.KarplusStrong.run.Lts as lts
-use Rattle.common.proofs.EdgeDetector.rising.Reads as rising-reads
-use Rattle.common.proofs.Memo1.voct_to_hz.Reads as voct-to-hz-reads
-use Rattle.karplus_strong.proofs.KarplusStrong.heard.Reads as heard-reads
-use Rattle.karplus_strong.proofs.KarplusStrong.ring.Reads as ring-reads
-use Rattle.karplus_strong.proofs.KarplusStrong.strike_if.Reads as strike-if-reads
-use Rattle.karplus_strong.proofs.finite_or.Reads as finite-or-reads
-use Rattle.karplus_strong.proofs.period_of.Reads as period-of-reads
-use Rattle.karplus_strong.proofs.tuned.Reads as tuned-reads
-use Rattle.karplus_strong.proofs.within.Reads as within-reads
 
 within-requires : tie.Need-within-requires
 within-requires c κs = (zer-fin, one-fin)

@@ -3,10 +3,6 @@ use Rattle.karplus_strong.proofs.Parts.{turn-by}
 use borrow.Author.Needs.{needs}
 use Rattle.karplus_strong.proofs.KarplusStrong.step.Statement.{statement}
 use Rattle.karplus_strong.proofs.KarplusStrong.step.Tie as tie
-use Rattle.karplus_strong.proofs.KarplusStrong.step.Reads as reads
-use Rattle.karplus_strong.proofs.KarplusStrong.step.Lts as lts
-use Rattle.karplus_strong.proofs.KarplusStrong.turn.Reads as turn-reads
-use Rattle.karplus_strong.proofs.tuned.Reads as tuned-reads
 
 tuned-requires : tie.Need-tuned-requires
 tuned-requires c κs = search needs

@@ -3,13 +3,6 @@ use Rattle.karplus_strong.specs.Blocks.{triggerRefusalOf}
 use borrow.Author.Needs.{needs}
 use Rattle.karplus_strong.proofs.KarplusStrong.trigger_refusal.Statement.{statement}
 use Rattle.karplus_strong.proofs.KarplusStrong.trigger_refusal.Tie as tie
-use Rattle.karplus_strong.proofs.KarplusStrong.trigger_refusal.Reads as reads
-use Rattle.karplus_strong.proofs.KarplusStrong.trigger_refusal.Lts as lts
-use Rattle.common.proofs.EdgeDetector.rising.Reads as rising-reads
-use Rattle.common.proofs.Memo1.voct_to_hz.Reads as voct-to-hz-reads
-use Rattle.karplus_strong.proofs.draws_refusal.Reads as draws-refusal-reads
-use Rattle.karplus_strong.proofs.finite_or.Reads as finite-or-reads
-use Rattle.karplus_strong.proofs.period_of.Reads as period-of-reads
 
 finite-or-requires : tie.Need-finite-or-requires
 finite-or-requires c κs = search needs

@@ -4,14 +4,6 @@ use mathlib.Core.Path.{sym, ap, _∙_}
 use borrow.Author.Needs.{needs}
 use Rattle.karplus_strong.proofs.KarplusStrong.turn.Statement.{statement}
 use Rattle.karplus_strong.proofs.KarplusStrong.turn.Tie as tie
-use Rattle.karplus_strong.proofs.KarplusStrong.turn.Reads as reads
-use Rattle.karplus_strong.proofs.KarplusStrong.turn.Lts as lts
-use Rattle.karplus_strong.proofs.KarplusStrong.at_rest.Reads as at-rest-reads
-use Rattle.karplus_strong.proofs.after.Reads as after-reads
-use Rattle.karplus_strong.proofs.blank.Reads as blank-reads
-use Rattle.karplus_strong.proofs.is_settled.Reads as is-settled-reads
-use Rattle.karplus_strong.proofs.tap.Reads as tap-reads
-use Rattle.karplus_strong.proofs.volts.Reads as volts-reads
 
 tap-requires : tie.Need-tap-requires
 tap-requires c κs = search needs
