@@ -17,6 +17,7 @@ use Rattle.common.specs.Edge.{risingOf, risingAboveOf}
 use Rattle.common.specs.Memo.{recall1, voctToHzAt}
 use Rattle.common.proofs.EdgeLaws.{rises-once}
 use Rattle.common.proofs.MemoLaws.{recall1-again}
+use Rattle.common.specs.declared.Hertz.{Hertz}
 use Rattle.common.specs.declared.Memo1.{Memo1}
 use Rattle.common.specs.declared.Risen.{Risen}
 use Rattle.answer.specs.Block.{afterTicks, answerAt}
@@ -213,6 +214,9 @@ holds s c draws l h k =
     }
 
 -- ---- what the code has worked out
+pub freq-number : (m : Memo1) (v x : Float) (f : Hertz) → T (not (isNan (m .val .0))) → x ≡ finiteOr v zer → f ≡ recall1 voctToHzAt m x .val → T (not (isNan (f .0)))
+freq-number m v x f h ex ef = rw ef (memo-number m v x (recall1 voctToHzAt m x) h ex refl)
+
 module _ (s : KarplusStrong) (c : KarplusStrongControls) (d : List ℕ) (l : List Float) (voct : Float) (memo : Memo1) (period : Float) (risen : Risen)
     (ev : voct ≡ finiteOr (c .voct .0) zer) (em : memo ≡ recall1 voctToHzAt (s .«freq_memo») voct) (ep : period ≡ periodOf (s .«sample_rate») (memo .val)) (er : risen ≡ risingOf (s .«trigger_edge») (c .trigger)) where
   pub trigger-by : cond (risen .rising) (drawsRefusalOf (struckLen period) d) 0 ≡ triggerRefusalOf s c d

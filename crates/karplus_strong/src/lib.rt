@@ -17,6 +17,7 @@ ghost use Rattle.laws.specs.Float.{isFin, zer, one};
 ghost use Rattle.laws.specs.Lists.{tab};
 ghost use Rattle.numeric.specs.Basic.{clampOf, wholeOf};
 ghost use Rattle.common.specs.Consts.{half};
+ghost use Rattle.common.specs.Memo.{recall1, voctToHzAt};
 ghost use Rattle.common.specs.Tests.{rateOk};
 ghost use Rattle.answer.specs.Answer.{markNumber, voltsOf};
 ghost use Rattle.answer.specs.Block.{afterTicks, portsOf, joined, block, markAt, frameAt};
@@ -295,6 +296,17 @@ fn tuned(period: f64, damping: f64, stretch: f64) -> Tuning
         ap_coef,
         delay,
         fraction: target - (delay as f64),
+    }
+}
+
+// The frequency that a memo gives for a pitch, without a new memo.
+fn recalled(memo: Memo1, voct: f64) -> Hertz
+    ensures { λ r. ⌜ r ≡ recall1 voctToHzAt memo voct .val ⌝ }
+{
+    if memo.hits(voct) {
+        memo.val
+    } else {
+        common::voct_to_hz(VoltsPerOctave(voct))
     }
 }
 
@@ -622,8 +634,7 @@ impl KarplusStrong {
         let memo = self.freq_memo;
         let sample_rate = self.sample_rate;
         let trigger_edge = self.trigger_edge;
-        let freq_memo = memo.voct_to_hz(VoltsPerOctave(finite_or(voct.0, 0.0)));
-        let freq = freq_memo.val;
+        let freq = recalled(memo, finite_or(voct.0, 0.0));
         let risen = trigger_edge.rising(c.trigger);
         draws_refusal(risen.rising, period_of(sample_rate, freq), draws)
     }
@@ -670,8 +681,14 @@ impl KarplusStrong {
         let risen = trigger_edge.rising(c.trigger);
         let edge = risen.edge;
         let heard = self.heard(edge, freq_memo);
-        let struck = heard.strike_if(risen.rising, period, c.brightness, draws, line);
-        struck.ring(tuned(period, damping, stretch), line, samples, marks)
+        let tuning = tuned(period, damping, stretch);
+        if risen.rising {
+            let brightness = within(c.brightness, 0.5, 0.0, 1.0);
+            let struck = heard.strike(period, brightness, draws, line);
+            struck.ring(tuning, line, samples, marks)
+        } else {
+            heard.ring(tuning, line, samples, marks)
+        }
     }
 
     // As many ticks with these controls as there are marks.
