@@ -5,17 +5,21 @@ use Prim.Native.Nat.{ℕ}
 use lib.Ieee.{Float, nan}
 use lib.ListN.{length, getD}
 use borrow.Author.Tests.{ne-eqb}
-use Rattle.answer.specs.Flat.{Kept, kept, Heard, heard}
+use Rattle.answer.specs.Block.{Block}
+use Rattle.answer.specs.Flat.{Kept, kept, Heard, heard, Played, playedOf, tallyFrom}
+use Rattle.answer.specs.declared.Tally.{Tally}
 use Rattle.common.specs.declared.Hertz.{Hertz}
 use Rattle.karplus_strong.proofs.Promised.{keeps-rate}
 use Rattle.karplus_strong.specs.Step.{Ticking}
 use Rattle.karplus_strong.specs.KarplusStrong.{Making, karplusStrongNewOf, karplusStrongTickOf, karplusStrongResetOf, karplusStrongSetSampleRateOf}
+use Rattle.karplus_strong.specs.Calls.{Strung, strung}
+use Rattle.karplus_strong.specs.Blocks.{karplusStrongBlockOf}
 use Rattle.karplus_strong.specs.declared.KarplusStrong.{KarplusStrong}
 use Rattle.karplus_strong.specs.declared.KarplusStrongControls.{KarplusStrongControls}
 use Rattle.karplus_strong.specs.declared.KarplusStrongMade.{KarplusStrongMade}
 use Rattle.karplus_strong.specs.declared.KarplusStrongTicked.{KarplusStrongTicked}
-use Rattle.exports_karplus_strong.specs.State.{sizesOf, tickSizesOf, stateOf}
-use Rattle.exports_karplus_strong.specs.Calls.{left, keptOf, leftSized, karplusStrongNewAt, karplusStrongResetAt, karplusStrongSetSampleRateAt, heardOf, sounded, soundedSized, karplusStrongTickAt}
+use Rattle.exports_karplus_strong.specs.State.{sizesOf, tickSizesOf, blockSizesOf, stateOf}
+use Rattle.exports_karplus_strong.specs.Calls.{left, keptOf, leftSized, karplusStrongNewAt, karplusStrongResetAt, karplusStrongSetSampleRateAt, heardOf, sounded, soundedSized, karplusStrongTickAt, rung, strungFloats, strungWholes, karplusStrongBlockAt}
 
 -- ---- calls without samples
 module _ (f : List Float) (w : List ℕ) (l : List Float) (n : ℕ) (e : n ≡ sizesOf (length f) (length w)) where
@@ -52,3 +56,11 @@ module _ (f : List Float) (w : List ℕ) (o l : List Float) (n : ℕ) (e : n ≡
       t ≡ karplusStrongTickOf s c draws l .out → x ≡ karplusStrongTickOf s c draws l .line → h ≡ heardOf t f w o → sounded h x ≡ karplusStrongTickAt voct trigger damping brightness stretch f w o l draws
   unfolding karplusStrongTickAt soundedSized
   tick-sounded voct trigger damping brightness stretch draws s t x h z es et ex eh = rw (← e, z, eh, et, ex, es)
+
+-- ---- the block
+module _ (f : List Float) (w : List ℕ) (l : List Float) (draws k : List ℕ) (o : List Float) (m : List ℕ) (n : ℕ) (e : n ≡ blockSizesOf (length f) (length w) (length k)) where
+  pub block-rung : n ≡ 0 → (voct trigger damping brightness stretch : Float) (s : KarplusStrong) (t : Tally) (b : Block Strung) (p : Played) → s ≡ stateOf f w → t ≡ tallyFrom k
+      → b ≡ karplusStrongBlockOf (strung s l) (record { voct = record { 0 = voct }; trigger = trigger; damping = damping; brightness = brightness; stretch = stretch }) draws t o m
+      → p ≡ playedOf strungFloats strungWholes b f w k → rung p (b .state .line) ≡ karplusStrongBlockAt voct trigger damping brightness stretch f w l draws k o m
+  unfolding karplusStrongBlockAt
+  block-rung z voct trigger damping brightness stretch s t b p es et eb ep = rw (← e, z, ep, eb, es, et)

@@ -3,7 +3,7 @@ use mathlib.Core.Bool.{Bool, true, false, not, cond}
 use mathlib.Core.Path.{_≡_, refl}
 use lib.Dec.{eqb}
 use Rattle.laws.proofs.Settled as laws
-use Rattle.exports_karplus_strong.specs.Calls.{karplusStrongNewAt, karplusStrongTickAt, karplusStrongResetAt, karplusStrongSetSampleRateAt}
+use Rattle.exports_karplus_strong.specs.Calls.{karplusStrongNewAt, karplusStrongTickAt, karplusStrongBlockAt, karplusStrongResetAt, karplusStrongSetSampleRateAt}
 use Rattle.exports_karplus_strong.specs.Promises.{Read-back, Settled}
 use Rattle.exports_karplus_strong.specs.State.{stateOf, floatsOf, wholesOf}
 
@@ -20,6 +20,7 @@ settled =
     record {
       new = λ rate f w l. laws.settled (karplusStrongNewAt rate f w l);
       tick = λ voct trigger damping brightness stretch f w o l draws. laws.settled (karplusStrongTickAt voct trigger damping brightness stretch f w o l draws);
+      block = λ voct trigger damping brightness stretch f w l draws k o m. laws.settled (karplusStrongBlockAt voct trigger damping brightness stretch f w l draws k o m);
       reset = λ f w l. laws.settled (karplusStrongResetAt f w l);
       «set_sample_rate» = λ rate f w l. laws.settled (karplusStrongSetSampleRateAt rate f w l);
     }

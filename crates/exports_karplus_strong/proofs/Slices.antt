@@ -9,7 +9,7 @@ use lib.ListN.{length, getD, take, drop-of-length-le}
 use lib.Seq.{sets, sets-eq, take-suc}
 use borrow.Author.Tests.{eqb-true}
 use Rattle.laws.proofs.Tests.{eqb-yes}
-use Rattle.exports_karplus_strong.specs.State.{sizesOf, tickSizesOf}
+use Rattle.exports_karplus_strong.specs.State.{sizesOf, tickSizesOf, blockSizesOf}
 
 pub stored-rest : {A : Type 0} (d : A) (l vs : List A) (v : A) → length l ≡ suc (length vs) → getD l 0 d ≡ v → sets l 1 vs ≡ v ∷ vs
 stored-rest {A} d l vs v h e =
@@ -33,5 +33,14 @@ tick-sized f w o = go (eqb (sizesOf f w) 0) (eqb o 1) refl refl
   where
     go : (a b : Bool) → eqb (sizesOf f w) 0 ≡ a → eqb o 1 ≡ b → _≡_ {A = ℕ} (cond a (cond b 0 52) (sizesOf f w)) 0 → (f ≡ 6) × (w ≡ 4) × (o ≡ 1)
     go true true p q h = let z = sized f w (eqb-true (sizesOf f w) 0 p) in (z .0, z .1, eqb-true o 1 q)
+    go true false p q h = absurd (omega arith)
+    go false b p q h = absurd (true≢false (sym (eqb-yes (sizesOf f w) 0 h) ∙ p))
+
+pub block-sized : (f w k : ℕ) → blockSizesOf f w k ≡ 0 → (f ≡ 6) × (w ≡ 4) × (k ≡ 5)
+unfolding blockSizesOf
+block-sized f w k = go (eqb (sizesOf f w) 0) (eqb k 5) refl refl
+  where
+    go : (a b : Bool) → eqb (sizesOf f w) 0 ≡ a → eqb k 5 ≡ b → _≡_ {A = ℕ} (cond a (cond b 0 53) (sizesOf f w)) 0 → (f ≡ 6) × (w ≡ 4) × (k ≡ 5)
+    go true true p q h = let z = sized f w (eqb-true (sizesOf f w) 0 p) in (z .0, z .1, eqb-true k 5 q)
     go true false p q h = absurd (omega arith)
     go false b p q h = absurd (true≢false (sym (eqb-yes (sizesOf f w) 0 h) ∙ p))

@@ -1,15 +1,19 @@
--- What each exported call answers, and what it leaves in the lent slices. f, w, o and l are floats, wholes, samples and line as they stood.
+-- What each exported call answers, and what it leaves in the lent slices. f, w, k, o, m and l are floats, wholes, counts, samples,
+-- marks and line as they stood.
 use mathlib.Core.Bool.{cond}
 use mathlib.Core.List.{List}
 use Prim.Native.Nat.{ℕ, _+_}
 use lib.Dec.{eqb}
 use lib.Ieee.{Float}
 use lib.ListN.{length}
-use Rattle.answer.specs.Flat.{Kept, kept, Heard, heard}
+use Rattle.answer.specs.Flat.{Kept, kept, Heard, heard, Played, played, playedOf, tallyFrom}
 use Rattle.answer.specs.Answer.{markNumber, voltsOf, refusalOf, accepted}
 use Rattle.karplus_strong.specs.Step.{Ticking}
 use Rattle.karplus_strong.specs.KarplusStrong.{Making, karplusStrongNewOf, karplusStrongTickOf, karplusStrongResetOf, karplusStrongSetSampleRateOf}
-use Rattle.exports_karplus_strong.specs.State.{sizesOf, tickSizesOf, stateOf, floatsOf, wholesOf, samplesOf}
+use Rattle.karplus_strong.specs.Calls.{Strung, strung}
+use Rattle.karplus_strong.specs.Blocks.{karplusStrongBlockOf}
+use Rattle.exports_karplus_strong.specs.State.{sizesOf, tickSizesOf, blockSizesOf, stateOf, floatsOf, wholesOf, samplesOf}
+use Rattle.karplus_strong.specs.declared.KarplusStrongControls.{KarplusStrongControls}
 use Rattle.karplus_strong.specs.declared.KarplusStrongMade.{KarplusStrongMade}
 use Rattle.karplus_strong.specs.declared.KarplusStrongMade.the-variants as made
 use Rattle.karplus_strong.specs.declared.KarplusStrongTicked.{KarplusStrongTicked}
@@ -59,3 +63,24 @@ soundedSized t f w o l = let n = tickSizesOf (length f) (length w) (length o) in
 unfoldable pub karplusStrongTickAt : Float → Float → Float → Float → Float → List Float → List ℕ → List Float → List Float → List ℕ → Sounded
 karplusStrongTickAt voct trigger damping brightness stretch f w o l draws =
     soundedSized (karplusStrongTickOf (stateOf f w) (record { voct = record { 0 = voct }; trigger = trigger; damping = damping; brightness = brightness; stretch = stretch }) draws l) f w o l
+
+-- a block: 0, the state, the counts, the samples and the marks after it, or what refused it
+pub record Rung : Type 0 where
+  pub played : Played
+  pub line : List Float
+
+abbrev pub rung : Played → List Float → Rung
+rung p l = record { played = p; line = l }
+
+abbrev pub strungFloats : Strung → List Float
+strungFloats x = floatsOf (x .string)
+
+abbrev pub strungWholes : Strung → List ℕ
+strungWholes x = wholesOf (x .string)
+
+unfoldable pub karplusStrongBlockAt : Float → Float → Float → Float → Float → List Float → List ℕ → List Float → List ℕ → List ℕ → List Float → List ℕ → Rung
+karplusStrongBlockAt voct trigger damping brightness stretch f w l draws k o m =
+    let n = blockSizesOf (length f) (length w) (length k) in
+    let c : KarplusStrongControls = record { voct = record { 0 = voct }; trigger = trigger; damping = damping; brightness = brightness; stretch = stretch } in
+    let b = karplusStrongBlockOf (strung (stateOf f w) l) c draws (tallyFrom k) o m in
+    cond (eqb n 0) (rung (playedOf strungFloats strungWholes b f w k) (b .state .line)) (rung (played n f w k o m) l)

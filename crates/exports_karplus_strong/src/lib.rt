@@ -1,23 +1,31 @@
 // The KarplusStrong for hosts, over lent slices. A state is floats [sample_rate, lp_state, ap_x1, ap_y1, trigger_edge.prev,
 // freq_memo.val] and wholes [len, write_pos, freq_memo.key, freq_memo.valid], the last 0 or not; samples are [out].
 // Each call answers a number: 0 done; of an accepted tick 11 cleared, 14 clean (12 and 13 are other oscillators'); of a refused call
-// 1 to 7 as document 01 has them, or 50, 51, 52 where floats, wholes or samples have another length. A refused call writes nothing.
+// 1 to 7 as document 01 has them, or 50, 51, 52, 53 where floats, wholes, samples or counts have another length. A refused
+// call writes nothing. A block answers 0, with the ticks' samples one after another, their marks as 1 cleared, 4 clean, and the
+// tally's five counts: begun, finished, cleared, notfinite, lost.
 use answer::Answer;
+use answer::Tally;
 use answer::Volts;
 use common::EdgeDetector;
 use common::Hertz;
 use common::Memo1;
 use common::VoltsPerOctave;
 use karplus_strong::KarplusStrong;
+use karplus_strong::KarplusStrongBlock;
 use karplus_strong::KarplusStrongControls;
 use karplus_strong::KarplusStrongMade;
 use karplus_strong::KarplusStrongTicked;
 ghost use mathlib.Core.Path.{_≡_};
-ghost use lib.Ieee.{nan};
+ghost use mathlib.Core.List.{List};
+ghost use Prim.Native.Nat.{ℕ};
+ghost use lib.Ieee.{Float, nan};
 ghost use lib.ListN.{length, getD};
-ghost use Rattle.answer.specs.Flat.{kept, heard};
-ghost use Rattle.exports_karplus_strong.specs.State.{sizesOf, tickSizesOf, stateOf, floatsOf, wholesOf, samplesOf};
-ghost use Rattle.exports_karplus_strong.specs.Calls.{left, sounded, keptOf, heardOf, karplusStrongNewAt, karplusStrongTickAt, karplusStrongResetAt, karplusStrongSetSampleRateAt};
+ghost use Rattle.answer.specs.Block.{block};
+ghost use Rattle.answer.specs.Flat.{kept, heard, played, playedOf};
+ghost use Rattle.karplus_strong.specs.Calls.{strung};
+ghost use Rattle.exports_karplus_strong.specs.State.{sizesOf, tickSizesOf, blockSizesOf, stateOf, floatsOf, wholesOf, samplesOf};
+ghost use Rattle.exports_karplus_strong.specs.Calls.{left, sounded, rung, strungFloats, strungWholes, keptOf, heardOf, karplusStrongNewAt, karplusStrongTickAt, karplusStrongBlockAt, karplusStrongResetAt, karplusStrongSetSampleRateAt};
 
 // 0, or the number that refuses these lengths.
 fn sizes(floats: &[f64], wholes: &[u64]) -> u32
@@ -36,6 +44,17 @@ fn tick_sizes(floats: &[f64], wholes: &[u64], samples: &[f64]) -> u32
     let n = sizes(floats, wholes);
     if n == 0 {
         if samples.len() == 1 { 0 } else { 52 }
+    } else {
+        n
+    }
+}
+
+fn block_sizes(floats: &[f64], wholes: &[u64], counts: &[u32]) -> u32
+    ensures { λ r. ⌜ r ≡ blockSizesOf (length (now (floats .entry))) (length (now (wholes .entry))) (length (now (counts .entry))) ⌝ }
+{
+    let n = sizes(floats, wholes);
+    if n == 0 {
+        if counts.len() == 5 { 0 } else { 53 }
     } else {
         n
     }
@@ -191,6 +210,62 @@ pub extern "C" fn gruttisol_karplus_strong_tick(
             wholes,
             samples,
         )
+    } else {
+        n
+    }
+}
+
+// The state and the counts after a block; a refused one leaves them.
+fn put_block(
+    b: KarplusStrongBlock,
+    floats: &mut [f64],
+    wholes: &mut [u64],
+    counts: &mut [u32],
+) -> u32
+    requires { ⌜ (length (now floats) ≡ 6) × (length (now wholes) ≡ 4) × (length (now counts) ≡ 5) ⌝ }
+    ensures { λ r. ⌜ ((l o : List Float) → (m : List ℕ) → played r (now (floats .exit)) (now (wholes .exit)) (now (counts .exit)) o m ≡ playedOf strungFloats strungWholes (block (b .refused) (strung (b .«karplus_strong») l) (b .tally) o m) (now (floats .entry)) (now (wholes .entry)) (now (counts .entry))) ⌝ }
+{
+    let refused = b.refused;
+    if refused == 0 {
+        let s = b.karplus_strong;
+        let tally = b.tally;
+        store(s, &mut *floats, &mut *wholes);
+        tally.put_counts(counts);
+        0
+    } else {
+        refused
+    }
+}
+
+#[no_mangle]
+pub extern "C" fn gruttisol_karplus_strong_block(
+    voct: f64,
+    trigger: f64,
+    damping: f64,
+    brightness: f64,
+    stretch: f64,
+    floats: &mut [f64],
+    wholes: &mut [u64],
+    line: &mut [f64],
+    draws: &[u64],
+    counts: &mut [u32],
+    samples: &mut [f64],
+    marks: &mut [u32],
+) -> u32
+    ensures { λ r. ⌜ rung (played r (now (floats .exit)) (now (wholes .exit)) (now (counts .exit)) (now (samples .exit)) (now (marks .exit))) (now (line .exit)) ≡ karplusStrongBlockAt voct trigger damping brightness stretch (now (floats .entry)) (now (wholes .entry)) (now (line .entry)) (now (draws .entry)) (now (counts .entry)) (now (samples .entry)) (now (marks .entry)) ⌝ }
+{
+    let n = block_sizes(floats, wholes, counts);
+    if n == 0 {
+        let c = KarplusStrongControls {
+            voct: VoltsPerOctave(voct),
+            trigger,
+            damping,
+            brightness,
+            stretch,
+        };
+        let tally = Tally::from_counts(counts);
+        let b = state(floats, wholes).block(c, draws, tally, line, samples, marks);
+        put_block(b, floats, wholes, counts)
     } else {
         n
     }

@@ -10,6 +10,7 @@ pub mod Parts
 pub mod Alike
 pub mod Reached
 pub mod Ticks
+pub mod Held
 pub mod Promised
 pub mod Untouched
 pub mod Unstretched

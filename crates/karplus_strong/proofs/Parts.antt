@@ -1,7 +1,7 @@
 -- How the parts of a call make up the whole, over plain values, and what an accepted call has.
 use mathlib.Core.Bool.{Bool, true, false, cond, not, _&&_, true≢false}
 use mathlib.Core.List.{List}
-use mathlib.Core.Path.{_≡_, refl, sym}
+use mathlib.Core.Path.{_≡_, refl, sym, ap, _∙_}
 use Prim.Native.Nat.{ℕ, zero, suc, _+_, _-_, _%_, _≤_, _<_, min}
 use native.Mathlib.Nat.{le-trans}
 use native.Mathlib.Omega.{arith}
@@ -38,9 +38,12 @@ use Rattle.karplus_strong.specs.Consts.{twenty, loopLeak}
 use Rattle.karplus_strong.specs.Ranges.{Cut}
 use Rattle.karplus_strong.specs.Line.{blankOf, excitedOf, sumTo, meanOf, levelOf, struckOf, drawsOk}
 use Rattle.karplus_strong.specs.Step.{filterCoefOf, apCoefOf, filterDelayOf, apDelayOf, targetDelayOf, offsetOne, offsetTwo, tapOf, filteredOf, stretchedOf, outOf, heardOf, restOf, Ticking, stepOf}
+use Rattle.karplus_strong.specs.Held.{tuningOf, tapAt, turnOf}
 use Rattle.karplus_strong.specs.KarplusStrong.{maxLenOf, lineOk, roomOf, karplusStrongRefusalOf, rateRefusalOf, Making, madeUnless, newKarplusStrong, karplusStrongNewOf, karplusStrongResetOf, resizedString, karplusStrongSetSampleRateOf, finiteOr, periodOf, struckLen, drawsRefusalOf, strikeOf, strikeIf, heardString, refusedTick, tickUnless, karplusStrongSoundOf, karplusStrongTickOf}
 use Rattle.karplus_strong.specs.declared.KarplusStrong.{KarplusStrong}
 use Rattle.karplus_strong.specs.declared.KarplusStrongControls.{KarplusStrongControls}
+use Rattle.karplus_strong.specs.declared.KarplusStrongTicked.{KarplusStrongTicked}
+use Rattle.karplus_strong.specs.declared.Tuning.{Tuning}
 use Rattle.karplus_strong.specs.declared.KarplusStrongMade.the-variants as made
 use Rattle.karplus_strong.proofs.Orders.{lt-of-not-ge}
 use Rattle.karplus_strong.proofs.Periods.{rate-cut, high-period, clamped-cut}
@@ -365,12 +368,12 @@ sound-ready s t u edge memo p b x y damping stretch rising d l n k a h q ep et e
     (rw (eu, et) (r .0), rw (ek, eu, et) (r .1), rw (ed, es, ep) (delay-range (s .«sample_rate») (memo .val) x y (a .rate) q))
 
 -- ---- the loop
-pub tap-by : (l : List Float) (from len : ℕ) (delay : Float) (w a b : ℕ) → w ≡ wholeOf delay → a ≡ (from + (len - w)) % len → b ≡ (from + (len - (w + 1))) % len
-    → add binary64 (mul binary64 (getD l a nan) (sub binary64 one (sub binary64 delay (realOf w)))) (mul binary64 (getD l b nan) (sub binary64 delay (realOf w))) ≡ tapOf l from len delay
-unfolding tapOf offsetOne offsetTwo
-tap-by l from len delay w a b ew ea eb =
+pub tap-by : (l : List Float) (from len w : ℕ) (frac : Float) (a b : ℕ) → a ≡ (from + (len - w)) % len → b ≡ (from + (len - (w + 1))) % len
+    → add binary64 (mul binary64 (getD l a nan) (sub binary64 one frac)) (mul binary64 (getD l b nan) frac) ≡ tapAt l from len w frac
+unfolding tapAt offsetOne offsetTwo
+tap-by l from len w frac a b ea eb =
     let e : len - (w + 1) ≡ len - w - 1 = omega arith in
-    rw (ea, eb, e, ew)
+    rw (ea, eb, e)
 
 pub heard-clean : (v : Float) → isFin v ≡ true → answer.Clean (outOf v) ≡ heardOf v false
 unfolding heardOf markOf allFinite ruleOf answerOf ofBits
@@ -380,15 +383,27 @@ pub heard-cleared : answer.Cleared (outOf zer) ≡ heardOf zer true
 unfolding heardOf markOf allFinite ruleOf answerOf ofBits
 heard-cleared = refl
 
-module _ (s : KarplusStrong) (p d t : Float) (l : List Float) (delay sample : Float) (ed : delay ≡ targetDelayOf p (filterCoefOf d) (apCoefOf t)) (es : sample ≡ tapOf l (s .«write_pos») (s .len) delay) where
-  pub step-clean : isFin (mul binary64 (stretchedOf s (filteredOf s sample (filterCoefOf d)) (apCoefOf t)) loopLeak) ≡ true → (next : ℕ) (v : Volts) → next ≡ (s .«write_pos» + 1) % s .len → v ≡ outOf (mul binary64 (stretchedOf s (filteredOf s sample (filterCoefOf d)) (apCoefOf t)) loopLeak)
-      → record { out = record { answer = answer.Clean v; «karplus_strong» = record { len = s .len; «write_pos» = next; «sample_rate» = s .«sample_rate»; «lp_state» = filteredOf s sample (filterCoefOf d); «ap_x1» = filteredOf s sample (filterCoefOf d); «ap_y1» = stretchedOf s (filteredOf s sample (filterCoefOf d)) (apCoefOf t); «trigger_edge» = s .«trigger_edge»; «freq_memo» = s .«freq_memo» } }; line = set l (s .«write_pos») (mul binary64 (stretchedOf s (filteredOf s sample (filterCoefOf d)) (apCoefOf t)) loopLeak) } ≡ stepOf s p d t l
-  unfolding stepOf
-  step-clean h next v en ev = rw (← ed, ← es, h, en, ev, heard-clean (mul binary64 (stretchedOf s (filteredOf s sample (filterCoefOf d)) (apCoefOf t)) loopLeak) h)
+module _ (s : KarplusStrong) (t : Tuning) (l : List Float) (sample : Float) (es : sample ≡ tapAt l (s .«write_pos») (s .len) (t .delay) (t .fraction)) where
+  pub turn-clean : isFin (mul binary64 (stretchedOf s (filteredOf s sample (t .«filter_coef»)) (t .«ap_coef»)) loopLeak) ≡ true → (next : ℕ) (v : Volts) → next ≡ (s .«write_pos» + 1) % s .len → v ≡ outOf (mul binary64 (stretchedOf s (filteredOf s sample (t .«filter_coef»)) (t .«ap_coef»)) loopLeak)
+      → record { out = record { answer = answer.Clean v; «karplus_strong» = record { len = s .len; «write_pos» = next; «sample_rate» = s .«sample_rate»; «lp_state» = filteredOf s sample (t .«filter_coef»); «ap_x1» = filteredOf s sample (t .«filter_coef»); «ap_y1» = stretchedOf s (filteredOf s sample (t .«filter_coef»)) (t .«ap_coef»); «trigger_edge» = s .«trigger_edge»; «freq_memo» = s .«freq_memo» } }; line = set l (s .«write_pos») (mul binary64 (stretchedOf s (filteredOf s sample (t .«filter_coef»)) (t .«ap_coef»)) loopLeak) } ≡ turnOf s t l
+  unfolding turnOf
+  turn-clean h next v en ev = rw (← es, h, en, ev, heard-clean (mul binary64 (stretchedOf s (filteredOf s sample (t .«filter_coef»)) (t .«ap_coef»)) loopLeak) h)
 
-  pub step-cleared : isFin (mul binary64 (stretchedOf s (filteredOf s sample (filterCoefOf d)) (apCoefOf t)) loopLeak) ≡ false → (v : Volts) (u : KarplusStrong) → v ≡ outOf zer → u ≡ restOf s (s .len) (s .«trigger_edge») → record { out = record { answer = answer.Cleared v; «karplus_strong» = u }; line = blankOf 0 (s .len) l } ≡ stepOf s p d t l
-  unfolding stepOf
-  step-cleared h v u ev eu = rw (← ed, ← es, h, ev, eu, heard-cleared)
+  pub turn-cleared : isFin (mul binary64 (stretchedOf s (filteredOf s sample (t .«filter_coef»)) (t .«ap_coef»)) loopLeak) ≡ false → (v : Volts) (u : KarplusStrong) → v ≡ outOf zer → u ≡ restOf s (s .len) (s .«trigger_edge») → record { out = record { answer = answer.Cleared v; «karplus_strong» = u }; line = blankOf 0 (s .len) l } ≡ turnOf s t l
+  unfolding turnOf
+  turn-cleared h v u ev eu = rw (← es, h, ev, eu, heard-cleared)
+
+-- a step is the turn of its tuning
+pub turn-is : (s : KarplusStrong) (p d t : Float) (l : List Float) → turnOf s (tuningOf p d t) l ≡ stepOf s p d t l
+unfolding turnOf tuningOf tapAt stepOf tapOf
+turn-is s p d t l = refl
+
+pub tuning-by : (p d t c a x : Float) (w : ℕ) → c ≡ filterCoefOf d → a ≡ apCoefOf t → x ≡ targetDelayOf p c a → w ≡ wholeOf x → record { «filter_coef» = c; «ap_coef» = a; delay = w; fraction = sub binary64 x (realOf w) } ≡ tuningOf p d t
+unfolding tuningOf
+tuning-by p d t c a x w ec ea ex ew = rw (ew, ex, ec, ea)
+
+pub turn-by : (s : KarplusStrong) (p d t : Float) (l m : List Float) (u : Tuning) (r : KarplusStrongTicked) → u ≡ tuningOf p d t → r ≡ turnOf s u l .out → m ≡ turnOf s u l .line → (r ≡ stepOf s p d t l .out) × (m ≡ stepOf s p d t l .line)
+turn-by s p d t l m u r e a b = let k = ap (λ x. turnOf s x l) e ∙ turn-is s p d t l in (a ∙ ap (λ x. x .out) k, b ∙ ap (λ x. x .line) k)
 
 -- ---- the tick
 tick-no : (k : ℕ) (s : KarplusStrong) (l : List Float) (t : Ticking) → (k ≡ 0 → ⊥) → record { out = refusedTick s k; line = l } ≡ tickUnless k s l t

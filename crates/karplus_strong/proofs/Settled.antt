@@ -3,7 +3,9 @@ use mathlib.Core.Path.{_≡_, sym, _∙_}
 use Rattle.laws.specs.Machine.{Settles}
 use Rattle.karplus_strong.specs.Step.{Ticking}
 use Rattle.karplus_strong.specs.KarplusStrong.{Making, karplusStrongNewOf, karplusStrongTickOf, karplusStrongResetOf, karplusStrongSetSampleRateOf}
+use Rattle.karplus_strong.specs.Blocks.{karplusStrongBlockOf}
 use Rattle.karplus_strong.specs.Promises.{Settled}
+use Rattle.laws.proofs.Settled as laws
 
 ticking : (t : Ticking) → Settles (λ (r : Ticking). (r .out ≡ t .out) × (r .line ≡ t .line))
 ticking t x y p q = (λ i. record { out = (p .0 ∙ sym (q .0)) i; line = (p .1 ∙ sym (q .1)) i })
@@ -16,6 +18,7 @@ settled =
     record {
       new = λ rate l. making (karplusStrongNewOf rate l);
       tick = λ s c draws l. ticking (karplusStrongTickOf s c draws l);
+      block = λ x c draws t o m. laws.settled (karplusStrongBlockOf x c draws t o m);
       reset = λ s l. making (karplusStrongResetOf s l);
       «set_sample_rate» = λ s rate l. making (karplusStrongSetSampleRateOf s rate l);
     }

@@ -18,6 +18,9 @@ pub record Strung : Type 0 where
   pub string : KarplusStrong
   pub line : List Float
 
+abbrev pub strung : KarplusStrong → List Float → Strung
+strung s l = record { string = s; line = l }
+
 pub data Call : Type 0 where
   Tick : KarplusStrongControls → List ℕ → Call
   Reset : Call

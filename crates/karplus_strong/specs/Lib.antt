@@ -4,4 +4,6 @@ pub mod Line
 pub mod Step
 pub mod KarplusStrong
 pub mod Calls
+pub mod Held
+pub mod Blocks
 pub mod Promises

@@ -15,10 +15,13 @@ use Rattle.common.specs.Memo.{recall1, voctToHzAt}
 use Rattle.common.specs.Tests.{rateOk}
 use Rattle.common.specs.declared.Hertz.{Hertz}
 use Rattle.answer.specs.Answer.{markNumber, voltsOf, refusalOf, accepted}
+use Rattle.answer.specs.Block.{Block}
+use Rattle.answer.specs.declared.Tally.{Tally}
 use Rattle.karplus_strong.specs.Line.{blankOf, drawsOk}
 use Rattle.karplus_strong.specs.Step.{Ticking, outOf}
 use Rattle.karplus_strong.specs.KarplusStrong.{Making, maxLenOf, roomOf, karplusStrongRefusalOf, newKarplusStrong, finiteOr, periodOf, struckLen, drawsRefusalOf, karplusStrongNewOf, karplusStrongTickOf, karplusStrongResetOf, karplusStrongSetSampleRateOf}
 use Rattle.karplus_strong.specs.Calls.{Strung, Call, Tick, Reset, SetSampleRate, Reply, Done, Refused, after, reply, FitCall, First, ReachedString}
+use Rattle.karplus_strong.specs.Blocks.{karplusStrongBlockOf}
 use Rattle.karplus_strong.specs.declared.KarplusStrong.{KarplusStrong}
 use Rattle.karplus_strong.specs.declared.KarplusStrongControls.{KarplusStrongControls}
 
@@ -125,9 +128,10 @@ Refused-leaves = (s : KarplusStrong) (c : KarplusStrongControls) (draws : List �
 abbrev pub Keeps-rate : Type 0
 Keeps-rate = (s : KarplusStrong) (c : KarplusStrongControls) (draws : List ℕ) (l : List Float) → karplusStrongTickOf s c draws l .out .«karplus_strong» .«sample_rate» ≡ s .«sample_rate»
 
--- ---- each contract settles the answer and the line
+-- ---- each contract settles the answer and the line, and a block's its samples and marks
 pub record Settled : Type 0 where
   pub new : (rate : Hertz) (l : List Float) → Settles (λ (r : Making). (r .out ≡ karplusStrongNewOf rate l .out) × (r .line ≡ karplusStrongNewOf rate l .line))
   pub tick : (s : KarplusStrong) (c : KarplusStrongControls) (draws : List ℕ) (l : List Float) → Settles (λ (r : Ticking). (r .out ≡ karplusStrongTickOf s c draws l .out) × (r .line ≡ karplusStrongTickOf s c draws l .line))
+  pub block : (x : Strung) (c : KarplusStrongControls) (draws : List ℕ) (t : Tally) (o : List Float) (m : List ℕ) → Settles (λ (b : Block Strung). b ≡ karplusStrongBlockOf x c draws t o m)
   pub reset : (s : KarplusStrong) (l : List Float) → Settles (λ (r : Making). (r .out ≡ karplusStrongResetOf s l .out) × (r .line ≡ karplusStrongResetOf s l .line))
   pub «set_sample_rate» : (s : KarplusStrong) (rate : Hertz) (l : List Float) → Settles (λ (r : Making). (r .out ≡ karplusStrongSetSampleRateOf s rate l .out) × (r .line ≡ karplusStrongSetSampleRateOf s rate l .line))

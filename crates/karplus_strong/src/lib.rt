@@ -1,5 +1,6 @@
 // KarplusStrong of oscillators.rs: a plucked string. Its delay line is lent to each call, and so are the draws of its noise.
 use answer::Answer;
+use answer::Tally;
 use answer::Volts;
 use common::EdgeDetector;
 use common::Hertz;
@@ -7,18 +8,26 @@ use common::Memo1;
 use common::VoltsPerOctave;
 ghost use mathlib.Core.Path.{_≡_};
 ghost use mathlib.Core.Bool.{cond, not, true};
-ghost use Prim.Native.Nat.{_≤_, _<_, _+_, _-_, _%_, min};
-ghost use lib.Dec.{T};
+ghost use Prim.Native.Nat.{_≤_, _<_, _+_, _-_, _*_, _%_, min};
 ghost use lib.Ieee.{isNan};
-ghost use lib.ListN.{length};
+ghost use lib.Dec.{T, eqb};
+ghost use lib.ListN.{length, set};
+ghost use lib.Seq.{sets};
 ghost use Rattle.laws.specs.Float.{isFin, zer, one};
+ghost use Rattle.laws.specs.Lists.{tab};
 ghost use Rattle.numeric.specs.Basic.{clampOf, wholeOf};
 ghost use Rattle.common.specs.Consts.{half};
+ghost use Rattle.common.specs.Memo.{recall1, voctToHzAt};
 ghost use Rattle.common.specs.Tests.{rateOk};
+ghost use Rattle.answer.specs.Answer.{markNumber, voltsOf};
+ghost use Rattle.answer.specs.Block.{afterTicks, portsOf, joined, block, markAt, frameAt};
 ghost use Rattle.karplus_strong.specs.Ranges.{Cut};
 ghost use Rattle.karplus_strong.specs.Line.{blankOf, pulseOf, excitedOf, sumTo, levelOf, struckOf, drawsOk};
-ghost use Rattle.karplus_strong.specs.Step.{filterCoefOf, apCoefOf, targetDelayOf, tapOf, restOf, outOf, stepOf};
+ghost use Rattle.karplus_strong.specs.Step.{filterCoefOf, apCoefOf, targetDelayOf, restOf, outOf, stepOf};
+ghost use Rattle.karplus_strong.specs.Held.{tuningOf, tapAt, turnOf, heldAnswer, heldNext};
 ghost use Rattle.karplus_strong.specs.KarplusStrong.{maxLenOf, lineOk, roomOf, karplusStrongRefusalOf, rateRefusalOf, placeOf, resizedString, finiteOr, periodOf, struckLen, drawsRefusalOf, strikeOf, strikeIf, heardString, refusedTick, karplusStrongSoundOf, karplusStrongTickOf, karplusStrongNewOf, karplusStrongResetOf, karplusStrongSetSampleRateOf};
+ghost use Rattle.karplus_strong.specs.Calls.{strung};
+ghost use Rattle.karplus_strong.specs.Blocks.{triggerRefusalOf, firstRefusalOf, karplusStrongAnswerOf, karplusStrongNextOf, karplusStrongBlockOf};
 
 // The Rust's fields less `max_len`, which follows from the rate, the lent line, of which the length stays, and the noise.
 pub struct KarplusStrong {
@@ -47,10 +56,25 @@ pub struct KarplusStrongTicked {
     pub karplus_strong: KarplusStrong,
 }
 
+// What a block leaves beside line, samples and marks: `refused` is 0, or the number that refused it.
+pub struct KarplusStrongBlock {
+    pub refused: u32,
+    pub karplus_strong: KarplusStrong,
+    pub tally: Tally,
+}
+
 // The string that was made, or the number that refused it.
 pub enum KarplusStrongMade {
     Made(KarplusStrong),
     Refused(u32),
+}
+
+// What period, damping and stretch make of the loop: its filters, and the delay of its line in whole samples and a fraction.
+struct Tuning {
+    filter_coef: f64,
+    ap_coef: f64,
+    delay: usize,
+    fraction: f64,
 }
 
 // ---- numbers
@@ -241,12 +265,10 @@ fn behind(pos: usize, len: usize, delay: usize) -> usize
 }
 
 // The two taps at a delay, weighed by its fraction.
-fn tap(line: &[f64], pos: usize, len: usize, delay: f64) -> f64
-    requires { ⌜ (pos < len) × (len ≤ length (now line)) × (wholeOf delay ≤ 9610) ⌝ }
-    ensures { λ r. ⌜ r ≡ tapOf (now (line .entry)) pos len delay ⌝ }
+fn tap(line: &[f64], pos: usize, len: usize, delay_int: usize, delay_frac: f64) -> f64
+    requires { ⌜ (pos < len) × (len ≤ length (now line)) × («delay_int» ≤ 9610) ⌝ }
+    ensures { λ r. ⌜ r ≡ tapAt (now (line .entry)) pos len «delay_int» «delay_frac» ⌝ }
 {
-    let delay_int = numeric::to_usize(delay);
-    let delay_frac = delay - (delay_int as f64);
     let read = behind(pos, len, delay_int);
     let read2 = behind(pos, len, delay_int + 1);
     line[read] * (1.0 - delay_frac) + line[read2] * delay_frac
@@ -259,6 +281,33 @@ fn target_delay(period: f64, filter_coef: f64, ap_coef: f64) -> f64
     let ap_gd = (1.0 - ap_coef) / (1.0 + ap_coef);
     let filter_gd = (1.0 - filter_coef) / filter_coef;
     numeric::max(period - filter_gd - ap_gd, 1.0)
+}
+
+fn tuned(period: f64, damping: f64, stretch: f64) -> Tuning
+    requires { ⌜ wholeOf (targetDelayOf period (filterCoefOf damping) (apCoefOf stretch)) ≤ 9610 ⌝ }
+    ensures { λ r. ⌜ r ≡ tuningOf period damping stretch ⌝ }
+{
+    let filter_coef = 0.5 + damping * 0.49;
+    let ap_coef = -0.5 * stretch;
+    let target = target_delay(period, filter_coef, ap_coef);
+    let delay = numeric::to_usize(target);
+    Tuning {
+        filter_coef,
+        ap_coef,
+        delay,
+        fraction: target - (delay as f64),
+    }
+}
+
+// The frequency that a memo gives for a pitch, without a new memo.
+fn recalled(memo: Memo1, voct: f64) -> Hertz
+    ensures { λ r. ⌜ r ≡ recall1 voctToHzAt memo voct .val ⌝ }
+{
+    if memo.hits(voct) {
+        memo.val
+    } else {
+        common::voct_to_hz(VoltsPerOctave(voct))
+    }
 }
 
 // A period in samples, (sample_rate / freq).clamp(2.0, max_len as f64 - 1.0). From 20 Hz on it is below max_len - 1.
@@ -286,6 +335,23 @@ fn volts(v: f64) -> Volts
         p13: 0.0,
         p14: 0.0,
     }
+}
+
+// Whether a block has one sample for each of n marks.
+fn fits(samples: usize, n: usize) -> bool
+    ensures { λ r. ⌜ r ≡ eqb samples (1 * n) ⌝ }
+{
+    samples == n
+}
+
+// What tick i of a block answers.
+fn put(a: Answer, i: usize, samples: &mut [f64], marks: &mut [u32])
+    requires { ⌜ (i < length (now marks)) × (length (now samples) ≡ 1 * length (now marks)) ⌝ }
+    ensures { λ _. ⌜ (now (samples .exit) ≡ sets (now (samples .entry)) (1 * i) (portsOf 1 (voltsOf a))) × (now (marks .exit) ≡ set (now (marks .entry)) i (markNumber a)) ⌝ }
+{
+    let v = answer::samples(a);
+    samples[i] = v.p10;
+    marks[i] = answer::mark_number(a);
 }
 
 impl KarplusStrong {
@@ -423,18 +489,18 @@ impl KarplusStrong {
     }
 
     // One sample: the loop turns once.
-    fn step(self, period: f64, damping: f64, stretch: f64, line: &mut [f64]) -> KarplusStrongTicked
-        requires { ⌜ (self .«write_pos» < self .len) × (self .len ≤ length (now line)) × (wholeOf (targetDelayOf period (filterCoefOf damping) (apCoefOf stretch)) ≤ 9610) ⌝ }
-        ensures { λ r. ⌜ (r ≡ stepOf self period damping stretch (now (line .entry)) .out) × (now (line .exit) ≡ stepOf self period damping stretch (now (line .entry)) .line) ⌝ }
+    fn turn(self, t: Tuning, line: &mut [f64]) -> KarplusStrongTicked
+        requires { ⌜ (self .«write_pos» < self .len) × (self .len ≤ length (now line)) × (t .delay ≤ 9610) ⌝ }
+        ensures { λ r. ⌜ (r ≡ turnOf self t (now (line .entry)) .out) × (now (line .exit) ≡ turnOf self t (now (line .entry)) .line) ⌝ }
     {
         let pos = self.write_pos;
         let len = self.len;
         let sample_rate = self.sample_rate;
         let trigger_edge = self.trigger_edge;
         let freq_memo = self.freq_memo;
-        let filter_coef = 0.5 + damping * 0.49;
-        let ap_coef = -0.5 * stretch;
-        let sample = tap(line, pos, len, target_delay(period, filter_coef, ap_coef));
+        let filter_coef = t.filter_coef;
+        let ap_coef = t.ap_coef;
+        let sample = tap(line, pos, len, t.delay, t.fraction);
         let filtered = sample * filter_coef + self.lp_state * (1.0 - filter_coef);
         let stretched = ap_coef * filtered + self.ap_x1 - ap_coef * self.ap_y1;
         let leaked = stretched * KarplusStrong::LOOP_LEAK;
@@ -461,6 +527,14 @@ impl KarplusStrong {
                 karplus_strong: self.at_rest(len, trigger_edge),
             }
         }
+    }
+
+    // The turn of a tick.
+    fn step(self, period: f64, damping: f64, stretch: f64, line: &mut [f64]) -> KarplusStrongTicked
+        requires { ⌜ (self .«write_pos» < self .len) × (self .len ≤ length (now line)) × (wholeOf (targetDelayOf period (filterCoefOf damping) (apCoefOf stretch)) ≤ 9610) ⌝ }
+        ensures { λ r. ⌜ (r ≡ stepOf self period damping stretch (now (line .entry)) .out) × (now (line .exit) ≡ stepOf self period damping stretch (now (line .entry)) .line) ⌝ }
+    {
+        self.turn(tuned(period, damping, stretch), line)
     }
 
     // The string with what a tick heard: its trigger and its pitch.
@@ -528,6 +602,131 @@ impl KarplusStrong {
             self.sound(c, draws, line)
         } else {
             self.refused(refused)
+        }
+    }
+
+    // Turns one after another, as many as there are marks: neither trigger nor controls are looked at.
+    fn ring(self, t: Tuning, line: &mut [f64], samples: &mut [f64], marks: &mut [u32]) -> Self
+        requires { ⌜ (self .«write_pos» < self .len) × (self .len ≤ length (now line)) × (t .delay ≤ 9610) × (length (now samples) ≡ 1 * length (now marks)) ⌝ }
+        ensures { λ r. ⌜ strung r (now (line .exit)) ≡ afterTicks (heldNext t) (length (now (marks .entry))) (strung self (now (line .entry))) ⌝ }
+        ensures { λ r. ⌜ now (samples .exit) ≡ joined (frameAt 1 (heldAnswer t) (heldNext t) (strung self (now (line .entry)))) (length (now (marks .entry))) ⌝ }
+        ensures { λ r. ⌜ now (marks .exit) ≡ tab (markAt (heldAnswer t) (heldNext t) (strung self (now (line .entry)))) (length (now (marks .entry))) ⌝ }
+    {
+        let mut string = self;
+        let mut i = 0;
+        while i < marks.len() {
+            let ticked = string.turn(t, &mut *line);
+            let heard = ticked.answer;
+            let next = ticked.karplus_strong;
+            put(heard, i, &mut *samples, &mut *marks);
+            string = next;
+            i += 1;
+        }
+        string
+    }
+
+    // Refusals 5 and 6 of a tick that refusals 1 to 3 let pass, or 0.
+    fn trigger_refusal(self, c: KarplusStrongControls, draws: &[u64]) -> u32
+        requires { ⌜ (rateOk (self .«sample_rate») ≡ true) × T (not (isNan (self .«freq_memo» .val .0))) ⌝ }
+        ensures { λ r. ⌜ r ≡ triggerRefusalOf self c (now (draws .entry)) ⌝ }
+    {
+        let voct = c.voct;
+        let memo = self.freq_memo;
+        let sample_rate = self.sample_rate;
+        let trigger_edge = self.trigger_edge;
+        let freq = recalled(memo, finite_or(voct.0, 0.0));
+        let risen = trigger_edge.rising(c.trigger);
+        draws_refusal(risen.rising, period_of(sample_rate, freq), draws)
+    }
+
+    // What refuses the first of n ticks, or 0. Where there is none, its trigger isn't looked at.
+    fn first_refusal(self, c: KarplusStrongControls, draws: &[u64], cells: usize, n: usize) -> u32
+        ensures { λ r. ⌜ r ≡ firstRefusalOf self c (now (draws .entry)) cells n ⌝ }
+    {
+        let refused = self.refusal(cells);
+        if refused == 0 {
+            if n == 0 {
+                0
+            } else {
+                self.trigger_refusal(c, draws)
+            }
+        } else {
+            refused
+        }
+    }
+
+    // The ticks of a block. Only the first can take the trigger, and the memo holds from then on.
+    fn run(
+        self,
+        c: KarplusStrongControls,
+        draws: &[u64],
+        line: &mut [f64],
+        samples: &mut [f64],
+        marks: &mut [u32],
+    ) -> Self
+        requires { ⌜ (karplusStrongRefusalOf self (length (now line)) ≡ 0) × (triggerRefusalOf self c (now draws) ≡ 0) × (0 < length (now marks)) × (length (now samples) ≡ 1 * length (now marks)) ⌝ }
+        ensures { λ r. ⌜ strung r (now (line .exit)) ≡ afterTicks (karplusStrongNextOf c (now (draws .entry))) (length (now (marks .entry))) (strung self (now (line .entry))) ⌝ }
+        ensures { λ r. ⌜ now (samples .exit) ≡ joined (frameAt 1 (karplusStrongAnswerOf c (now (draws .entry))) (karplusStrongNextOf c (now (draws .entry))) (strung self (now (line .entry)))) (length (now (marks .entry))) ⌝ }
+        ensures { λ r. ⌜ now (marks .exit) ≡ tab (markAt (karplusStrongAnswerOf c (now (draws .entry))) (karplusStrongNextOf c (now (draws .entry))) (strung self (now (line .entry)))) (length (now (marks .entry))) ⌝ }
+    {
+        let voct = c.voct;
+        let memo = self.freq_memo;
+        let sample_rate = self.sample_rate;
+        let trigger_edge = self.trigger_edge;
+        let damping = within(c.damping, 0.5, 0.0, 1.0);
+        let stretch = within(c.stretch, 0.0, -1.0, 1.0);
+        let freq_memo = memo.voct_to_hz(VoltsPerOctave(finite_or(voct.0, 0.0)));
+        let freq = freq_memo.val;
+        let period = period_of(sample_rate, freq);
+        let risen = trigger_edge.rising(c.trigger);
+        let edge = risen.edge;
+        let heard = self.heard(edge, freq_memo);
+        let tuning = tuned(period, damping, stretch);
+        if risen.rising {
+            let brightness = within(c.brightness, 0.5, 0.0, 1.0);
+            let struck = heard.strike(period, brightness, draws, line);
+            struck.ring(tuning, line, samples, marks)
+        } else {
+            heard.ring(tuning, line, samples, marks)
+        }
+    }
+
+    // As many ticks with these controls as there are marks.
+    pub fn block(
+        self,
+        c: KarplusStrongControls,
+        draws: &[u64],
+        tally: Tally,
+        line: &mut [f64],
+        samples: &mut [f64],
+        marks: &mut [u32],
+    ) -> KarplusStrongBlock
+        ensures { λ r. ⌜ block (r .refused) (strung (r .«karplus_strong») (now (line .exit))) (r .tally) (now (samples .exit)) (now (marks .exit)) ≡ karplusStrongBlockOf (strung self (now (line .entry))) c (now (draws .entry)) tally (now (samples .entry)) (now (marks .entry)) ⌝ }
+    {
+        let n = marks.len();
+        let first = self.first_refusal(c, draws, line.len(), n);
+        let refused = answer::block_refusal(fits(samples.len(), n), first, tally, n);
+        if refused == 0 {
+            if n == 0 {
+                KarplusStrongBlock {
+                    refused: 0,
+                    karplus_strong: self,
+                    tally,
+                }
+            } else {
+                let karplus_strong = self.run(c, draws, line, samples, marks);
+                KarplusStrongBlock {
+                    refused: 0,
+                    karplus_strong,
+                    tally: tally.take_marks(marks),
+                }
+            }
+        } else {
+            KarplusStrongBlock {
+                refused,
+                karplus_strong: self,
+                tally,
+            }
         }
     }
 

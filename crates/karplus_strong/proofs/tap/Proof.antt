@@ -1,15 +1,9 @@
-use native.Mathlib.Omega.{arith}
+use Rattle.karplus_strong.proofs.Parts.{tap-by}
 use Rattle.karplus_strong.proofs.Ring.{in-line}
-use Rattle.karplus_strong.proofs.Parts.{held, tap-by}
+use native.Mathlib.Omega.{arith}
 use borrow.Author.Needs.{needs}
 use Rattle.karplus_strong.proofs.tap.Statement.{statement}
 use Rattle.karplus_strong.proofs.tap.Tie as tie
-
-to-usize-requires : tie.Need-to-usize-requires
-to-usize-requires c κs = search needs
-
-int-to-float-delay-frac : tie.Need-int-to-float-delay-frac
-int-to-float-delay-frac c = held _ (rw (c .before .to-usize .ensures) (c .before .before .before .pre .2))
 
 behind-requires : tie.Need-behind-requires
 behind-requires c κs = search needs
@@ -21,26 +15,24 @@ behind-requires-2 : tie.Need-behind-requires-2
 behind-requires-2 c κs = search needs
 
 mul-result : tie.Need-mul-result
-mul-result c = let q = in-line _ _ _ _ _ (c .before .behind .ensures) (c .before .before .before .before .before .pre .0) (c .before .before .before .before .before .pre .1) in omega arith
+mul-result c = let q = in-line _ _ _ _ _ (c .before .behind .ensures) (c .before .before .before .pre .0) (c .before .before .before .pre .1) in omega arith
 
 shared-slice-read-result : tie.Need-shared-slice-read-result
-shared-slice-read-result c = in-line _ _ _ _ _ (c .before .before .behind .ensures) (c .before .before .before .before .before .before .pre .0) (c .before .before .before .before .before .before .pre .1)
+shared-slice-read-result c = in-line _ _ _ _ _ (c .before .before .behind .ensures) (c .before .before .before .before .pre .0) (c .before .before .before .before .pre .1)
 
 mul-result-2 : tie.Need-mul-result-2
-mul-result-2 c = let q = in-line _ _ _ _ _ (c .before .behind2 .ensures) (c .before .before .before .before .before .before .pre .0) (c .before .before .before .before .before .before .pre .1) in omega arith
+mul-result-2 c = let q = in-line _ _ _ _ _ (c .before .behind2 .ensures) (c .before .before .before .before .pre .0) (c .before .before .before .before .pre .1) in omega arith
 
 shared-slice-read-result-2 : tie.Need-shared-slice-read-result-2
-shared-slice-read-result-2 c = in-line _ _ _ _ _ (c .before .before .behind2 .ensures) (c .before .before .before .before .before .before .before .pre .0) (c .before .before .before .before .before .before .before .pre .1)
+shared-slice-read-result-2 c = in-line _ _ _ _ _ (c .before .before .behind2 .ensures) (c .before .before .before .before .before .pre .0) (c .before .before .before .before .before .pre .1)
 
 returns : tie.Need-returns
-returns c = tap-by _ _ _ _ _ _ _ (c .before .before .before .before .before .to-usize .ensures) (c .before .before .before .behind .ensures) (c .before .before .behind2 .ensures)
+returns c = tap-by _ _ _ _ _ _ _ (c .before .before .before .behind .ensures) (c .before .before .behind2 .ensures)
 
 pub tap-spec : {M : Type 1} → statement M
 tap-spec =
     tie.close
     (tie.spec
-    to-usize-requires
-    int-to-float-delay-frac
     behind-requires
     add-behind
     behind-requires-2

@@ -1,70 +1,21 @@
-use mathlib.Core.Path.{sym, ap, _∙_}
-use Rattle.karplus_strong.specs.Step.{filterCoefOf, apCoefOf, filteredOf, stretchedOf}
-use Rattle.karplus_strong.proofs.Parts.{step-clean, step-cleared}
+use Rattle.karplus_strong.specs.Held.{tuningOf}
+use Rattle.karplus_strong.proofs.Parts.{turn-by}
 use borrow.Author.Needs.{needs}
 use Rattle.karplus_strong.proofs.KarplusStrong.step.Statement.{statement}
 use Rattle.karplus_strong.proofs.KarplusStrong.step.Tie as tie
 
-target-delay-requires : tie.Need-target-delay-requires
-target-delay-requires c κs = search needs
+tuned-requires : tie.Need-tuned-requires
+tuned-requires c κs = search needs
 
-tap-requires : tie.Need-tap-requires
-unfolding filterCoefOf apCoefOf
-tap-requires c κs = (c .before .before .before .before .before .before .pre .0, c .before .before .before .before .before .before .pre .1, rw (c .target-delay .ensures) (c .before .before .before .before .before .before .pre .2))
-
-is-settled-requires : tie.Need-is-settled-requires
-is-settled-requires c κs = search needs
-
-mul-line : tie.Need-mul-line
-mul-line c = search needs
-
-slice-write-line : tie.Need-slice-write-line
-slice-write-line c = search needs
-
-after-requires : tie.Need-after-requires
-after-requires c κs = search needs
-
-volts-requires : tie.Need-volts-requires
-volts-requires c κs = search needs
-
-blank-requires : tie.Need-blank-requires
-blank-requires c κs = search needs
-
-volts-requires-2 : tie.Need-volts-requires-2
-volts-requires-2 c κs = search needs
-
-at-rest-requires : tie.Need-at-rest-requires
-at-rest-requires c κs = search needs
+turn-requires : tie.Need-turn-requires
+unfolding tuningOf
+turn-requires c κs = (c .before .before .before .pre .0, c .before .before .before .pre .1, rw (c .before .tuned .ensures) (c .before .before .before .pre .2))
 
 same-length : tie.Need-same-length
 same-length c = search needs
 
 returns : tie.Need-returns
-unfolding filterCoefOf apCoefOf filteredOf stretchedOf
-returns c = let e = step-clean _ _ _ _ _ _ _ (c .before .before .before .before .before .before .before .before .target-delay .ensures) (c .before .before .before .before .before .before .before .tap .ensures) (sym (c .before .before .before .is-settled .ensures) ∙ c .before .before .if1 .taken) _ _ (c .before .after .ensures) (c .volts .ensures) in (ap (λ x. x .out) e, ap (λ x. x .line) e)
-
-same-length-2 : tie.Need-same-length-2
-same-length-2 c = search needs
-
-returns-2 : tie.Need-returns-2
-unfolding filterCoefOf apCoefOf filteredOf stretchedOf
-returns-2 c = let e = step-cleared _ _ _ _ _ _ _ (c .before .before .before .before .before .before .before .before .before .before .before .before .target-delay .ensures) (c .before .before .before .before .before .before .before .before .before .before .before .tap .ensures) (sym (c .before .before .before .before .before .before .before .is-settled .ensures) ∙ c .before .before .before .before .before .before .if1 .left) _ _ (c .before .volts2 .ensures) (c .at-rest .ensures) in (ap (λ x. x .out) e, c .before .before .before .before .blank .ensures ∙ ap (λ x. x .line) e)
+returns c = turn-by _ _ _ _ _ _ _ _ (c .before .before .before .before .tuned .ensures) (c .before .before .turn .ensures .0) (c .before .before .turn .ensures .1)
 
 pub step-spec : {M : Type 1} → statement M
-step-spec =
-    tie.close
-    (tie.spec
-    target-delay-requires
-    tap-requires
-    is-settled-requires
-    mul-line
-    slice-write-line
-    after-requires
-    volts-requires
-    blank-requires
-    volts-requires-2
-    at-rest-requires
-    same-length
-    returns
-    same-length-2
-    returns-2)
+step-spec = tie.close (tie.spec tuned-requires turn-requires same-length returns)

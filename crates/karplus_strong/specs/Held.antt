@@ -1,0 +1,45 @@
+-- A step whose controls stand still: what they make of the loop is worked out once, and then only the loop turns. proofs/Held.antt
+-- shows that a block is made of such turns.
+use mathlib.Core.Bool.{cond}
+use mathlib.Core.List.{List}
+use Prim.Native.Nat.{ℕ, _+_, _%_}
+use lib.ListN.{getD}
+use lib.Ieee.{Float, nan, binary64, add, sub, mul}
+use Rattle.laws.specs.Float.{one, isFin}
+use Rattle.numeric.specs.Basic.{wholeOf, realOf}
+use Rattle.answer.specs.declared.Answer.{Answer}
+use Rattle.karplus_strong.specs.Consts.{loopLeak}
+use Rattle.karplus_strong.specs.Step.{filterCoefOf, apCoefOf, targetDelayOf, offsetOne, offsetTwo, filteredOf, stretchedOf, Ticking, wroteOf, clearedOf}
+use Rattle.karplus_strong.specs.Calls.{Strung}
+use Rattle.karplus_strong.specs.declared.KarplusStrong.{KarplusStrong}
+use Rattle.karplus_strong.specs.declared.Tuning.{Tuning}
+
+-- the filters, and the delay in whole samples and a fraction
+unfoldable pub tuningOf : Float → Float → Float → Tuning
+tuningOf period damping stretch =
+    let c = filterCoefOf damping in
+    let a = apCoefOf stretch in
+    let delay = targetDelayOf period c a in
+    record { «filter_coef» = c; «ap_coef» = a; delay = wholeOf delay; fraction = sub binary64 delay (realOf (wholeOf delay)) }
+
+-- tapOf at such a delay
+unfoldable pub tapAt : List Float → ℕ → ℕ → ℕ → Float → Float
+tapAt l pos len whole frac =
+    let read = getD l ((pos + offsetOne len whole) % len) nan in
+    let read2 = getD l ((pos + offsetTwo len whole) % len) nan in
+    add binary64 (mul binary64 read (sub binary64 one frac)) (mul binary64 read2 frac)
+
+-- stepOf with such a tuning
+unfoldable pub turnOf : KarplusStrong → Tuning → List Float → Ticking
+turnOf s t l =
+    let sample = tapAt l (s .«write_pos») (s .len) (t .delay) (t .fraction) in
+    let filtered = filteredOf s sample (t .«filter_coef») in
+    let stretched = stretchedOf s filtered (t .«ap_coef») in
+    let leaked = mul binary64 stretched loopLeak in
+    cond (isFin leaked) (wroteOf s filtered stretched leaked l) (clearedOf s l)
+
+unfoldable pub heldAnswer : Tuning → Strung → Answer
+heldAnswer t x = turnOf (x .string) t (x .line) .out .answer
+
+unfoldable pub heldNext : Tuning → Strung → Strung
+heldNext t x = let u = turnOf (x .string) t (x .line) in record { string = u .out .«karplus_strong»; line = u .line }
