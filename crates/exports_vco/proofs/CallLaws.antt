@@ -12,7 +12,7 @@ use mir.Val.{boolByte}
 use Rattle.answer.specs.Flat.{Kept, Heard}
 use Rattle.answer.specs.Answer.{markNumber, voltsOf, refusalOf}
 use Rattle.exports_vco.specs.State.{floatsOf, wholesOf, samplesOf}
-use Rattle.exports_vco.specs.Calls.{sizesOf, tickSizesOf, Keeps, keptOf, keptUnless, Hears, heardOf, heardUnless}
+use Rattle.exports_vco.specs.Calls.{sizesOf, tickSizesOf, blockSizesOf, Keeps, keptOf, keptUnless, Hears, heardOf, heardUnless}
 use Rattle.answer.specs.declared.Answer.{Answer}
 use Rattle.answer.specs.declared.Answer.the-variants as answer
 use Rattle.vco.specs.declared.Vco.{Vco}
@@ -58,6 +58,18 @@ tick-sized f w o h = go (eqb (sizesOf f w) 0) (eqb o 4) refl refl h
     go true true p q h = let s = sized f w (eqb-true (sizesOf f w) 0 p) in (s .0, s .1, eqb-true o 4 q)
     go true false p q h = absurd (low 0 52 (sym h) (lit< tt))
     go false b p q h = let s = sized f w h in absurd (no (sym p ∙ ap (λ (n : ℕ). eqb n 0) h))
+      where
+        no : false ≡ true → ⊥
+        no e = subst T (sym e) tt
+
+pub block-sized : (f w k : ℕ) → blockSizesOf f w k ≡ 0 → (f ≡ 4) × (w ≡ 4) × (k ≡ 5)
+unfolding blockSizesOf
+block-sized f w k h = go (eqb (sizesOf f w) 0) (eqb k 5) refl refl h
+  where
+    go : (a b : Bool) → eqb (sizesOf f w) 0 ≡ a → eqb k 5 ≡ b → cond a (cond b 0 53) (sizesOf f w) ≡ 0 → (f ≡ 4) × (w ≡ 4) × (k ≡ 5)
+    go true true p q h = let s = sized f w (eqb-true (sizesOf f w) 0 p) in (s .0, s .1, eqb-true k 5 q)
+    go true false p q h = absurd (low 0 53 (sym h) (lit< tt))
+    go false b p q h = absurd (no (sym p ∙ ap (λ (n : ℕ). eqb n 0) h))
       where
         no : false ≡ true → ⊥
         no e = subst T (sym e) tt

@@ -1,5 +1,5 @@
 -- The number that each exported call answers, and what it leaves in the lent slices.
--- 0 done; 1 and 2 document 01's refusals; 11 to 14 an accepted tick's mark and 10; 50, 51, 52 the boundary's own, tested first.
+-- 0 done; 1 and 2 document 01's refusals; 11 to 14 an accepted tick's mark and 10; 50 to 53 the boundary's own, tested first.
 use mathlib.Core.Bool.{cond}
 use mathlib.Core.List.{List}
 use mathlib.Core.Path.{_≡_}
@@ -7,21 +7,24 @@ use Prim.Native.Nat.{ℕ, _+_}
 use lib.Dec.{eqb}
 use lib.Ieee.{Float}
 use lib.ListN.{length}
-use Rattle.answer.specs.Flat.{Kept, kept, Heard, heard}
+use Rattle.answer.specs.Flat.{Kept, kept, Heard, heard, Played, played, playedOf, tallyFrom}
 use Rattle.answer.specs.Answer.{markNumber, voltsOf, refusalOf}
-use Rattle.vco.specs.Vco.{vcoNewOf, vcoTickOf, vcoResetOf, vcoSetSampleRateOf}
+use Rattle.vco.specs.Vco.{vcoNewOf, vcoTickOf, vcoBlockOf, vcoResetOf, vcoSetSampleRateOf}
 use Rattle.exports_vco.specs.State.{stateOf, floatsOf, wholesOf, samplesOf}
 use Rattle.vco.specs.declared.VcoControls.{VcoControls}
 use Rattle.vco.specs.declared.VcoMade.{VcoMade}
 use Rattle.vco.specs.declared.VcoMade.the-variants as made
 use Rattle.vco.specs.declared.VcoTicked.{VcoTicked}
 
--- 50: not four floats; 51: not four whole numbers; 52: not four samples
+-- 50: not four floats; 51: not four whole numbers; 52: not four samples; 53: not five counts
 unfoldable pub sizesOf : ℕ → ℕ → ℕ
 sizesOf f w = cond (eqb f 4) (cond (eqb w 4) 0 51) 50
 
 unfoldable pub tickSizesOf : ℕ → ℕ → ℕ → ℕ
 tickSizesOf f w o = cond (eqb (sizesOf f w) 0) (cond (eqb o 4) 0 52) (sizesOf f w)
+
+unfoldable pub blockSizesOf : ℕ → ℕ → ℕ → ℕ
+blockSizesOf f w k = cond (eqb (sizesOf f w) 0) (cond (eqb k 5) 0 53) (sizesOf f w)
 
 -- a call answers this number and leaves these slices
 abbrev pub Keeps : Kept → ℕ → List Float → List ℕ → Type 0
@@ -61,3 +64,9 @@ controlsOf voct fm pw sync fmLin = record { voct = record { 0 = voct }; fm = rec
 
 unfoldable pub tickAt : VcoControls → ℕ → List Float → List ℕ → List Float → Heard
 tickAt c wanted f w o = heardUnless (tickSizesOf (length f) (length w) (length o)) (heardOf (vcoTickOf (stateOf f w) c wanted) f w o) f w o
+
+-- a block: 0, the state, the counts, the samples and the marks after it, or what refused it
+unfoldable pub blockAt : VcoControls → ℕ → List Float → List ℕ → List ℕ → List Float → List ℕ → Played
+blockAt c wanted f w k o m =
+    let n = blockSizesOf (length f) (length w) (length k) in
+    cond (eqb n 0) (playedOf floatsOf wholesOf (vcoBlockOf (stateOf f w) c wanted (tallyFrom k) o m) f w k) (played n f w k o m)

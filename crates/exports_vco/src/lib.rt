@@ -1,8 +1,11 @@
 // The Vco for hosts. A state is two lent slices: floats [phase, sample_rate, sync_edge.prev, freq_memo.val] and
 // wholes [key0, key1, key2, valid]; samples are [sin, tri, saw, sqr]. A call answers 0 (done), 10 and the number of the
 // mark of an accepted tick (11 cleared, 12 notfinite, 13 lost, 14 clean), or what refused it: document 01's number, or
-// 50, 51, 52 for floats, wholes, samples of another length. A refused call leaves every slice as it stood.
+// 50, 51, 52, 53 for floats, wholes, samples, counts of another length. A refused call leaves every slice as it stood.
+// A block answers 0; its samples come tick by tick, its marks are 1 cleared, 2 notfinite, 3 lost, 4 clean, and counts are
+// the tally's [begun, finished, cleared, notfinite, lost].
 use answer::Answer;
+use answer::Tally;
 use answer::Volts;
 use common::EdgeDetector;
 use common::Hertz;
@@ -10,14 +13,20 @@ use common::Memo3;
 use common::Turns;
 use common::VoltsPerOctave;
 use vco::Vco;
+use vco::VcoBlock;
 use vco::VcoControls;
 use vco::VcoMade;
 use vco::VcoTicked;
 ghost use mathlib.Core.Path.{_≡_};
+ghost use mathlib.Core.List.{List};
+ghost use Prim.Native.Nat.{ℕ};
+ghost use lib.Ieee.{Float};
 ghost use lib.ListN.{length};
 ghost use Rattle.answer.specs.Answer.{voltsOf, refusalOf};
+ghost use Rattle.answer.specs.Block.{block};
+ghost use Rattle.answer.specs.Flat.{played, playedOf};
 ghost use Rattle.exports_vco.specs.State.{stateOf, floatsOf, wholesOf, samplesOf};
-ghost use Rattle.exports_vco.specs.Calls.{sizesOf, tickSizesOf, Keeps, keptOf, newAt, resetAt, setSampleRateAt, Hears, heardOf, controlsOf, tickAt};
+ghost use Rattle.exports_vco.specs.Calls.{sizesOf, tickSizesOf, blockSizesOf, Keeps, keptOf, newAt, resetAt, setSampleRateAt, Hears, heardOf, controlsOf, tickAt, blockAt};
 
 // 0, or the boundary's own refusal.
 fn sizes(floats: &[f64], wholes: &[u64]) -> u32
@@ -36,6 +45,17 @@ fn tick_sizes(floats: &[f64], wholes: &[u64], samples: &[f64]) -> u32
     let refusal = sizes(floats, wholes);
     if refusal == 0 {
         if samples.len() == 4 { 0 } else { 52 }
+    } else {
+        refusal
+    }
+}
+
+fn block_sizes(floats: &[f64], wholes: &[u64], counts: &[u32]) -> u32
+    ensures { λ r. ⌜ r ≡ blockSizesOf (length (now (floats .entry))) (length (now (wholes .entry))) (length (now (counts .entry))) ⌝ }
+{
+    let refusal = sizes(floats, wholes);
+    if refusal == 0 {
+        if counts.len() == 5 { 0 } else { 53 }
     } else {
         refusal
     }
@@ -162,6 +182,24 @@ fn put_ticked(t: VcoTicked, floats: &mut [f64], wholes: &mut [u64], samples: &mu
     }
 }
 
+// A refused block leaves the state and the counts.
+fn put_block(b: VcoBlock, floats: &mut [f64], wholes: &mut [u64], counts: &mut [u32]) -> u32
+    requires { ⌜ (length (now floats) ≡ 4) × (length (now wholes) ≡ 4) × (length (now counts) ≡ 5) ⌝ }
+    ensures { λ r. ⌜ ((o : List Float) → (m : List ℕ) → played r (now (floats .exit)) (now (wholes .exit)) (now (counts .exit)) o m ≡ playedOf floatsOf wholesOf (block (b .refused) (b .vco) (b .tally) o m) (now (floats .entry)) (now (wholes .entry)) (now (counts .entry))) ⌝ }
+{
+    let refusal = b.refused;
+    if refusal == 0 {
+        let s = b.vco;
+        let tally = b.tally;
+        store_floats(s, &mut *floats);
+        store_wholes(s, &mut *wholes);
+        tally.put_counts(counts);
+        0
+    } else {
+        refusal
+    }
+}
+
 #[no_mangle]
 pub extern "C" fn gruttisol_vco_new(sample_rate: f64, floats: &mut [f64], wholes: &mut [u64]) -> u32
     ensures { λ r. ⌜ Keeps (newAt «sample_rate» (now (floats .entry)) (now (wholes .entry))) r (now (floats .exit)) (now (wholes .exit)) ⌝ }
@@ -203,6 +241,39 @@ pub extern "C" fn gruttisol_vco_tick(
             wholes,
             samples,
         )
+    } else {
+        refusal
+    }
+}
+
+#[no_mangle]
+pub extern "C" fn gruttisol_vco_block(
+    voct: f64,
+    fm: f64,
+    pw: f64,
+    sync: f64,
+    fm_lin: f64,
+    wanted: u32,
+    floats: &mut [f64],
+    wholes: &mut [u64],
+    counts: &mut [u32],
+    samples: &mut [f64],
+    marks: &mut [u32],
+) -> u32
+    ensures { λ r. ⌜ played r (now (floats .exit)) (now (wholes .exit)) (now (counts .exit)) (now (samples .exit)) (now (marks .exit)) ≡ blockAt (controlsOf voct fm pw sync «fm_lin») wanted (now (floats .entry)) (now (wholes .entry)) (now (counts .entry)) (now (samples .entry)) (now (marks .entry)) ⌝ }
+{
+    let refusal = block_sizes(floats, wholes, counts);
+    if refusal == 0 {
+        let c = VcoControls {
+            voct: VoltsPerOctave(voct),
+            fm: VoltsPerOctave(fm),
+            pw,
+            sync,
+            fm_lin,
+        };
+        let tally = Tally::from_counts(counts);
+        let b = state(floats, wholes).block(c, wanted, tally, samples, marks);
+        put_block(b, floats, wholes, counts)
     } else {
         refusal
     }

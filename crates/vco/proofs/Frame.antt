@@ -46,7 +46,7 @@ unfolding div ofBits
 no-step = refl
 
 -- so the tick is one without an edge, from phase 0 by 0
-frame-answer : vcoSoundOf (newVco frameRate) frameControls 15 .answer ≡ vcoAnswerOf Nowhere zer zer half zer 15
+frame-answer : vcoSoundOf (newVco frameRate) frameControls 15 .answer ≡ vcoAnswerOf Nowhere zer zer (clampOf half pwLow pwHigh) zer 15
 unfolding vcoSoundOf newVco crossedOf crossedAboveOf restartOf recall3 hits3 filled3
 frame-answer = let n : risesAbove (ofBits binary64 0x4004000000000000) zer zer ≡ false = unfold risesAbove lt ofBits in refl in simp (n, still, no-step)
 
@@ -92,5 +92,5 @@ first-frame = ap (λ (t : VcoTicked). t .answer) (tick-sound (newVco frameRate) 
     marked : markOf printed false true (isFin (add binary64 zer zer)) ≡ answer.Clean printed
     marked = unfold markOf ruleOf answerOf allFinite add ofBits in refl
 
-    clean : vcoAnswerOf Nowhere zer zer half zer 15 ≡ answer.Clean printed
+    clean : vcoAnswerOf Nowhere zer zer (clampOf half pwLow pwHigh) zer 15 ≡ answer.Clean printed
     clean = unfold vcoAnswerOf in rw volts marked

@@ -4,6 +4,7 @@ pub mod PulseLaws
 pub mod QuietLaws
 pub mod CalmLaws
 pub mod Reached
+pub mod Held
 pub mod Forget
 pub mod Settled
 pub mod Frame

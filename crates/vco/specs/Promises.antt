@@ -4,7 +4,7 @@ use mathlib.Core.Bool.{Bool, true, cond}
 use mathlib.Core.List.{List}
 use Prim.Native.Nat.{ℕ}
 use lib.Dec.{T}
-use lib.Ieee.{binary64, le, neg, ofBits}
+use lib.Ieee.{Float, binary64, le, neg, ofBits}
 use Rattle.laws.specs.Float.{zer}
 use Rattle.laws.specs.Machine.{replies, Settles}
 use Rattle.common.specs.Consts.{gateThreshold, five, half}
@@ -12,8 +12,10 @@ use Rattle.common.specs.Edge.{risesAbove}
 use Rattle.common.specs.Tests.{rateOk, phaseOk}
 use Rattle.common.specs.declared.Hertz.{Hertz}
 use Rattle.answer.specs.Answer.{accepted, voltsOf}
+use Rattle.answer.specs.Block.{Block}
 use Rattle.answer.specs.declared.Answer.the-variants as answer
-use Rattle.vco.specs.Vco.{newVco, vcoNewOf, vcoTickOf, vcoResetOf, vcoSetSampleRateOf}
+use Rattle.answer.specs.declared.Tally.{Tally}
+use Rattle.vco.specs.Vco.{newVco, vcoNewOf, vcoTickOf, vcoBlockOf, vcoResetOf, vcoSetSampleRateOf}
 use Rattle.vco.specs.Calls.{Call, Tick, Reset, SetSampleRate, Done, Refused, Fit, after, reply, ReachedVco}
 use Rattle.vco.specs.declared.Vco.{Vco}
 use Rattle.vco.specs.declared.VcoControls.{VcoControls}
@@ -61,6 +63,7 @@ Edge-comes = (s : Vco) → ReachedVco s → (c d : VcoControls) (wanted : ℕ) �
 pub record Settled : Type 0 where
   pub new : (r : Hertz) → Settles (λ (m : VcoMade). m ≡ vcoNewOf r)
   pub tick : (s : Vco) (c : VcoControls) (wanted : ℕ) → Settles (λ (t : VcoTicked). t ≡ vcoTickOf s c wanted)
+  pub block : (s : Vco) (c : VcoControls) (wanted : ℕ) (t : Tally) (o : List Float) (m : List ℕ) → Settles (λ (b : Block Vco). b ≡ vcoBlockOf s c wanted t o m)
   pub reset : (s : Vco) → Settles (λ (m : VcoMade). m ≡ vcoResetOf s)
   pub rate : (s : Vco) (r : Hertz) → Settles (λ (m : VcoMade). m ≡ vcoSetSampleRateOf s r)
 

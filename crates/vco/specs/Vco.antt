@@ -1,5 +1,6 @@
 -- The Vco's calls, written from oscillators.rs line by line, with document 01's marks and refusals.
 use mathlib.Core.Bool.{Bool, true, false, cond, not}
+use mathlib.Core.List.{List}
 use Prim.Native.Nat.{ℕ}
 use lib.Bits.{bitAnd}
 use lib.Dec.{eqb}
@@ -13,6 +14,7 @@ use Rattle.common.specs.Phase.{turns, wrapOf, polyblepOf, polyblampOf}
 use Rattle.common.specs.Memo.{newMemo3, recall3}
 use Rattle.common.specs.Edge.{newEdge, crossedOf}
 use Rattle.common.specs.Tests.{rateOk, phaseOk}
+use Rattle.answer.specs.Block.{Block, blockOf}
 use Rattle.answer.specs.Mark.{markOf}
 use Rattle.vco.specs.Consts.{pwLow, pwHigh}
 use Rattle.vco.specs.Waves.{outOf, sineOf, sawOf, levelOf, pwEdgeOf, sqrOf, cornerHalfOf, triOf, steppedOf}
@@ -23,6 +25,7 @@ use Rattle.common.specs.declared.Crossing.the-variants.{Nowhere, At}
 use Rattle.answer.specs.declared.Volts.{Volts}
 use Rattle.answer.specs.declared.Answer.{Answer}
 use Rattle.answer.specs.declared.Answer.the-variants as answer
+use Rattle.answer.specs.declared.Tally.{Tally}
 use Rattle.vco.specs.declared.Vco.{Vco}
 use Rattle.vco.specs.declared.VcoControls.{VcoControls}
 use Rattle.vco.specs.declared.VcoTicked.{VcoTicked}
@@ -67,17 +70,18 @@ vcoVoltsOf at p old pw dt wanted =
 
 -- with their mark: no tick is cleared, no output has a clamp, and a tick is lost where phase + dt isn't finite
 unfoldable pub vcoAnswerOf : Crossing → Float → Float → Float → Float → ℕ → Answer
-vcoAnswerOf at p old pw dt wanted = markOf (vcoVoltsOf at p old (clampOf pw pwLow pwHigh) (fabsOf dt) wanted) false true (isFin (add binary64 p dt))
+vcoAnswerOf at p old pw dt wanted = markOf (vcoVoltsOf at p old pw (fabsOf dt) wanted) false true (isFin (add binary64 p dt))
 
 -- Vco::tick_wanted
 unfoldable pub vcoSoundOf : Vco → VcoControls → ℕ → VcoTicked
 vcoSoundOf s c wanted =
     let memo = recall3 frequencyOf (s .«freq_memo») (c .voct .0) (c .fm .0) (c .«fm_lin») in
+    let pw = clampOf (c .pw) pwLow pwHigh in
     let dt = div binary64 (memo .val .0) (s .«sample_rate» .0) in
     let crossed = crossedOf (s .«sync_edge») (c .sync) in
     let phase = restartOf (s .phase) (crossed .at) in
     record {
-      answer = vcoAnswerOf (crossed .at) (phase .0) (s .phase .0) (c .pw) dt wanted;
+      answer = vcoAnswerOf (crossed .at) (phase .0) (s .phase .0) pw dt wanted;
       vco = record { phase = turns (wrapOf (add binary64 (phase .0) dt)); «sample_rate» = s .«sample_rate»; «sync_edge» = crossed .edge; «freq_memo» = memo };
     }
 
@@ -95,6 +99,16 @@ vcoNewOf r = cond (rateOk r) (made.Made (newVco r)) (made.Refused 1)
 -- a refused call leaves the state as it stood
 unfoldable pub vcoTickOf : Vco → VcoControls → ℕ → VcoTicked
 vcoTickOf s c wanted = cond (eqb (vcoRefusalOf s) 0) (vcoSoundOf s c wanted) (record { answer = answer.Refused (vcoRefusalOf s); vco = s })
+
+-- a block of as many ticks with these controls as there are marks: four samples a tick
+abbrev pub vcoToldOf : VcoControls → ℕ → Vco → Answer
+vcoToldOf c wanted s = vcoTickOf s c wanted .answer
+
+abbrev pub vcoNextOf : VcoControls → ℕ → Vco → Vco
+vcoNextOf c wanted s = vcoTickOf s c wanted .vco
+
+unfoldable pub vcoBlockOf : Vco → VcoControls → ℕ → Tally → List Float → List ℕ → Block Vco
+vcoBlockOf s c wanted t o m = blockOf 4 (vcoRefusalOf s) (vcoToldOf c wanted) (vcoNextOf c wanted) s t o m
 
 -- phase = 0.0; sync_edge.reset()
 unfoldable pub restarted : Vco → Vco

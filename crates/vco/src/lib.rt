@@ -1,6 +1,7 @@
 // The Vco of oscillators.rs: sine, triangle, saw and square of one phase, with hard sync and two kinds of FM.
 // In an answer's volts p10 is sin, p11 tri, p12 saw and p13 sqr.
 use answer::Answer;
+use answer::Tally;
 use answer::Volts;
 use common::Crossing;
 use common::EdgeDetector;
@@ -10,12 +11,22 @@ use common::Turns;
 use common::VoltsPerOctave;
 ghost use mathlib.Core.Path.{_≡_};
 ghost use mathlib.Core.Bool.{true};
-ghost use Rattle.numeric.specs.Basic.{fabsOf};
+ghost use Prim.Native.Nat.{_<_, _*_};
+ghost use lib.Dec.{eqb};
+ghost use lib.Ieee.{binary64, div};
+ghost use lib.ListN.{length, set};
+ghost use lib.Seq.{sets};
+ghost use Rattle.laws.specs.Lists.{tab};
+ghost use Rattle.numeric.specs.Basic.{fabsOf, clampOf};
 ghost use Rattle.common.specs.Phase.{turns};
 ghost use Rattle.common.specs.Memo.{recall3};
 ghost use Rattle.common.specs.Tests.{phaseOk};
+ghost use Rattle.answer.specs.Answer.{markNumber, voltsOf};
+ghost use Rattle.answer.specs.Block.{afterTicks, portsOf, joined, block, markAt, frameAt};
+ghost use Rattle.vco.specs.Consts.{pwLow, pwHigh};
 ghost use Rattle.vco.specs.Waves.{outOf, sineOf, sawOf, levelOf, Width, pwEdgeOf, sqrOf, cornerHalfOf, triOf, steppedOf, Quiet};
-ghost use Rattle.vco.specs.Vco.{frequencyOf, restartOf, vcoAnswerOf, vcoSoundOf, vcoRefusalOf, vcoRateRefusalOf, vcoNewOf, vcoTickOf, vcoResetOf, vcoSetSampleRateOf};
+ghost use Rattle.vco.specs.Vco.{frequencyOf, restartOf, vcoAnswerOf, vcoSoundOf, vcoRefusalOf, vcoRateRefusalOf, vcoNewOf, vcoTickOf, vcoToldOf, vcoNextOf, vcoBlockOf, vcoResetOf, vcoSetSampleRateOf};
+ghost use Rattle.vco.specs.Held.{held, heldAnswer, heldNext};
 
 pub struct Vco {
     pub phase: Turns,
@@ -36,6 +47,13 @@ pub struct VcoControls {
 pub struct VcoTicked {
     pub answer: Answer,
     pub vco: Vco,
+}
+
+// What a block leaves beside its samples and marks: `refused` is 0, or the number that refused it.
+pub struct VcoBlock {
+    pub refused: u32,
+    pub vco: Vco,
+    pub tally: Tally,
 }
 
 // A state, or the number that refused the call.
@@ -63,6 +81,20 @@ fn tuned(memo: Memo3, voct: VoltsPerOctave, fm: VoltsPerOctave, fm_lin: f64) -> 
         let freq = frequency(voct, fm, fm_lin);
         Memo3::filled(voct.0, fm.0, fm_lin, freq)
     }
+}
+
+// What the phase moves by in a tick.
+fn increment(freq: Hertz, sample_rate: Hertz) -> Turns
+    ensures { λ r. ⌜ r ≡ turns (div binary64 (freq .0) («sample_rate» .0)) ⌝ }
+{
+    Turns(freq.0 / sample_rate.0)
+}
+
+// The pulse width, away from 0 and from 1. The clamp lets a NaN pass.
+fn width(pw: f64) -> f64
+    ensures { λ r. ⌜ r ≡ clampOf pw pwLow pwHigh ⌝ }
+{
+    numeric::clamp(pw, 0.05, 0.95)
 }
 
 // The phase that the waveforms see: a sync edge puts it to 0.
@@ -172,6 +204,31 @@ fn quiet(at: Crossing, phase: Turns, edge: Turns, dt_abs: Turns) -> bool
     }
 }
 
+// Whether a block has four samples for each of n marks. A product could be too large.
+fn fits(samples: usize, n: usize) -> bool
+    ensures { λ r. ⌜ r ≡ eqb samples (4 * n) ⌝ }
+{
+    if samples % 4 == 0 {
+        samples / 4 == n
+    } else {
+        false
+    }
+}
+
+// What tick i of a block answers.
+fn put(a: Answer, i: usize, samples: &mut [f64], marks: &mut [u32])
+    requires { ⌜ (i < length (now marks)) × (length (now samples) ≡ 4 * length (now marks)) ⌝ }
+    ensures { λ _. ⌜ (now (samples .exit) ≡ sets (now (samples .entry)) (4 * i) (portsOf 4 (voltsOf a))) × (now (marks .exit) ≡ set (now (marks .entry)) i (markNumber a)) ⌝ }
+{
+    let v = answer::samples(a);
+    let at = 4 * i;
+    samples[at] = v.p10;
+    samples[at + 1] = v.p11;
+    samples[at + 2] = v.p12;
+    samples[at + 3] = v.p13;
+    marks[i] = answer::mark_number(a);
+}
+
 impl Vco {
     // The bits of `wanted`, in port order.
     const WANT_SIN: u32 = 1 << 0;
@@ -212,10 +269,9 @@ impl Vco {
 
     // The samples with their mark. A quiet tick's are finite.
     fn heard(at: Crossing, phase: Turns, p_old: Turns, pw: f64, dt: Turns, wanted: u32) -> Answer
-        requires { ⌜ phaseOk phase ≡ true ⌝ }
+        requires { ⌜ (phaseOk phase ≡ true) × Width pw ⌝ }
         ensures { λ r. ⌜ r ≡ vcoAnswerOf at (phase .0) («p_old» .0) pw (dt .0) wanted ⌝ }
     {
-        let pw = numeric::clamp(pw, 0.05, 0.95);
         let dt_abs = Turns(numeric::fabs(dt.0));
         let sin = sine(wanted & Self::WANT_SIN != 0, phase);
         let edge = pw_edge(phase, pw);
@@ -260,13 +316,13 @@ impl Vco {
         let fm = c.fm;
         let freq_memo = tuned(memo, voct, fm, c.fm_lin);
         let freq = freq_memo.val;
-        let dt = Turns(freq.0 / sample_rate.0);
+        let dt = increment(freq, sample_rate);
         let crossed = edge.rising_frac(c.sync);
         let at = crossed.at;
         let sync_edge = crossed.edge;
         let phase = restart(p_old, at);
         VcoTicked {
-            answer: Self::heard(at, phase, p_old, c.pw, dt, wanted),
+            answer: Self::heard(at, phase, p_old, width(c.pw), dt, wanted),
             vco: Vco {
                 phase: common::wrap_phase(Turns(phase.0 + dt.0)),
                 sample_rate,
@@ -286,6 +342,99 @@ impl Vco {
             VcoTicked {
                 answer: Answer::Refused(refusal),
                 vco: self,
+            }
+        }
+    }
+
+    // Ticks whose memo holds. Only the first may take the edge: after it the sync stands still.
+    fn glide(
+        start: Turns,
+        edge: Crossing,
+        dt: Turns,
+        pw: f64,
+        wanted: u32,
+        samples: &mut [f64],
+        marks: &mut [u32],
+    ) -> Turns
+        requires { ⌜ (phaseOk start ≡ true) × Width pw × (length (now samples) ≡ 4 * length (now marks)) ⌝ }
+        ensures { λ r. ⌜ r ≡ afterTicks (heldNext dt) (length (now (marks .entry))) (held start edge) .phase ⌝ }
+        ensures { λ r. ⌜ now (samples .exit) ≡ joined (frameAt 4 (heldAnswer wanted pw dt) (heldNext dt) (held start edge)) (length (now (marks .entry))) ⌝ }
+        ensures { λ r. ⌜ now (marks .exit) ≡ tab (markAt (heldAnswer wanted pw dt) (heldNext dt) (held start edge)) (length (now (marks .entry))) ⌝ }
+    {
+        let mut p_old = start;
+        let mut at = edge;
+        let mut i = 0;
+        while i < marks.len() {
+            let phase = restart(p_old, at);
+            let heard = Self::heard(at, phase, p_old, pw, dt, wanted);
+            put(heard, i, &mut *samples, &mut *marks);
+            p_old = common::wrap_phase(Turns(phase.0 + dt.0));
+            at = Crossing::Nowhere;
+            i += 1;
+        }
+        p_old
+    }
+
+    // The ticks of a block: what memo, edge and controls say is worked out once.
+    fn run(self, c: VcoControls, wanted: u32, samples: &mut [f64], marks: &mut [u32]) -> Self
+        requires { ⌜ (vcoRefusalOf self ≡ 0) × (0 < length (now marks)) × (length (now samples) ≡ 4 * length (now marks)) ⌝ }
+        ensures { λ r. ⌜ r ≡ afterTicks (vcoNextOf c wanted) (length (now (marks .entry))) self ⌝ }
+        ensures { λ r. ⌜ now (samples .exit) ≡ joined (frameAt 4 (vcoToldOf c wanted) (vcoNextOf c wanted) self) (length (now (marks .entry))) ⌝ }
+        ensures { λ r. ⌜ now (marks .exit) ≡ tab (markAt (vcoToldOf c wanted) (vcoNextOf c wanted) self) (length (now (marks .entry))) ⌝ }
+    {
+        let p_old = self.phase;
+        let sample_rate = self.sample_rate;
+        let edge = self.sync_edge;
+        let memo = self.freq_memo;
+        let voct = c.voct;
+        let fm = c.fm;
+        let freq_memo = tuned(memo, voct, fm, c.fm_lin);
+        let freq = freq_memo.val;
+        let dt = increment(freq, sample_rate);
+        let crossed = edge.rising_frac(c.sync);
+        let at = crossed.at;
+        let sync_edge = crossed.edge;
+        Vco {
+            phase: Self::glide(p_old, at, dt, width(c.pw), wanted, samples, marks),
+            sample_rate,
+            sync_edge,
+            freq_memo,
+        }
+    }
+
+    // As many ticks with these controls as there are marks. Their samples come one tick after another.
+    pub fn block(
+        self,
+        c: VcoControls,
+        wanted: u32,
+        tally: Tally,
+        samples: &mut [f64],
+        marks: &mut [u32],
+    ) -> VcoBlock
+        ensures { λ r. ⌜ block (r .refused) (r .vco) (r .tally) (now (samples .exit)) (now (marks .exit)) ≡ vcoBlockOf self c wanted tally (now (samples .entry)) (now (marks .entry)) ⌝ }
+    {
+        let n = marks.len();
+        let refused = answer::block_refusal(fits(samples.len(), n), self.refusal(), tally, n);
+        if refused == 0 {
+            if n == 0 {
+                VcoBlock {
+                    refused: 0,
+                    vco: self,
+                    tally,
+                }
+            } else {
+                let vco = self.run(c, wanted, samples, marks);
+                VcoBlock {
+                    refused: 0,
+                    vco,
+                    tally: tally.take_marks(marks),
+                }
+            }
+        } else {
+            VcoBlock {
+                refused,
+                vco: self,
+                tally,
             }
         }
     }

@@ -1,14 +1,8 @@
-use Rattle.numeric.specs.Basic.{clampOf}
-use Rattle.vco.specs.Consts.{pwLow, pwHigh}
 use Rattle.vco.specs.Vco.{vcoVoltsOf, vcoAnswerOf}
-use Rattle.vco.proofs.PulseLaws.{clamp-width}
 use Rattle.vco.proofs.CalmLaws.{fabs-twice, quiet-clean}
 use borrow.Author.Needs.{needs}
 use Rattle.vco.proofs.Vco.heard.Statement.{statement}
 use Rattle.vco.proofs.Vco.heard.Tie as tie
-
-clamp-requires : tie.Need-clamp-requires
-clamp-requires c κs = search needs
 
 fabs-requires : tie.Need-fabs-requires
 fabs-requires c κs = search needs
@@ -17,10 +11,10 @@ sine-requires : tie.Need-sine-requires
 sine-requires c κs = search needs
 
 pw-edge-requires : tie.Need-pw-edge-requires
-pw-edge-requires c κs = let s = c .before .before .before in (s .pre, simp (c .before .before .clamp .ensures) (clamp-width (s .args .pw)))
+pw-edge-requires c κs = c .before .before .pre
 
 quiet-requires : tie.Need-quiet-requires
-quiet-requires c κs = let s = c .before .before .before .before in (s .pre, simp (c .before .before .fabs .ensures) (fabs-twice (s .args .dt .0)))
+quiet-requires c κs = let s = c .before .before .before in (s .pre .0, simp (c .before .before .fabs .ensures) (fabs-twice (s .args .dt .0)))
 
 triangle-requires : tie.Need-triangle-requires
 triangle-requires c κs = search needs
@@ -91,20 +85,19 @@ mark-requires c κs = search needs
 returns : tie.Need-returns
 unfolding vcoAnswerOf
 returns c =
-    let s = c .before .before .before .before .before .before .before .before .before .before .before .before in
-    let q = simp (c .before .before .before .before .before .before .before .before .pw-edge .ensures, c .before .before .before .before .before .before .before .before .before .before .fabs .ensures, c .before .before .before .before .before .before .before .before .before .before .before .clamp .ensures) at (c .before .before .before .before .before .before .before .quiet .ensures (c .before .before .before .before .before .before .if1 .taken)) in
-    simp (c .out3 .ensures, c .before .square .ensures, c .before .before .out2 .ensures, c .before .before .before .saw .ensures, c .before .before .before .before .out .ensures, c .before .before .before .before .before .triangle .ensures, c .before .before .before .before .before .before .before .before .before .sine .ensures, c .before .before .before .before .before .before .before .before .before .before .before .clamp .ensures)
-    (quiet-clean (s .args .at) (s .args .phase .0) (s .args .p-old .0) (clampOf (s .args .pw) pwLow pwHigh) (s .args .dt .0) (s .args .wanted) (s .pre) q)
+    let s = c .before .before .before .before .before .before .before .before .before .before .before in
+    let q = simp (c .before .before .before .before .before .before .before .before .pw-edge .ensures, c .before .before .before .before .before .before .before .before .before .before .fabs .ensures) at (c .before .before .before .before .before .before .before .quiet .ensures (c .before .before .before .before .before .before .if1 .taken)) in
+    simp (c .out3 .ensures, c .before .square .ensures, c .before .before .out2 .ensures, c .before .before .before .saw .ensures, c .before .before .before .before .out .ensures, c .before .before .before .before .before .triangle .ensures, c .before .before .before .before .before .before .before .before .before .sine .ensures)
+    (quiet-clean (s .args .at) (s .args .phase .0) (s .args .p-old .0) (s .args .pw) (s .args .dt .0) (s .args .wanted) (s .pre .0) q)
 
 returns-2 : tie.Need-returns-2
 unfolding vcoAnswerOf vcoVoltsOf
-returns-2 c = simp (c .mark .ensures, c .before .is-finite .ensures, c .before .before .before .before .out6 .ensures, c .before .before .before .before .before .out5 .ensures, c .before .before .before .before .before .before .out4 .ensures, c .before .before .before .before .before .before .before .stepped2 .ensures, c .before .before .before .before .before .before .before .before .square2 .ensures, c .before .before .before .before .before .before .before .before .before .level .ensures, c .before .before .before .before .before .before .before .before .before .before .stepped .ensures, c .before .before .before .before .before .before .before .before .before .before .before .before .saw2 .ensures, c .before .before .before .before .before .before .before .before .before .before .before .before .before .triangle2 .ensures, c .before .before .before .before .before .before .before .before .before .before .before .before .before .before .polyblamp2 .ensures, c .before .before .before .before .before .before .before .before .before .before .before .before .before .before .before .corner-half .ensures, c .before .before .before .before .before .before .before .before .before .before .before .before .before .before .before .before .before .polyblamp .ensures, c .before .before .before .before .before .before .before .before .before .before .before .before .before .before .before .before .before .before .before .polyblep2 .ensures, c .before .before .before .before .before .before .before .before .before .before .before .before .before .before .before .before .before .before .before .before .polyblep .ensures, c .before .before .before .before .before .before .before .before .before .before .before .before .before .before .before .before .before .before .before .before .before .before .before .pw-edge .ensures, c .before .before .before .before .before .before .before .before .before .before .before .before .before .before .before .before .before .before .before .before .before .before .before .before .sine .ensures, c .before .before .before .before .before .before .before .before .before .before .before .before .before .before .before .before .before .before .before .before .before .before .before .before .before .fabs .ensures, c .before .before .before .before .before .before .before .before .before .before .before .before .before .before .before .before .before .before .before .before .before .before .before .before .before .before .clamp .ensures)
+returns-2 c = simp (c .mark .ensures, c .before .is-finite .ensures, c .before .before .before .before .out6 .ensures, c .before .before .before .before .before .out5 .ensures, c .before .before .before .before .before .before .out4 .ensures, c .before .before .before .before .before .before .before .stepped2 .ensures, c .before .before .before .before .before .before .before .before .square2 .ensures, c .before .before .before .before .before .before .before .before .before .level .ensures, c .before .before .before .before .before .before .before .before .before .before .stepped .ensures, c .before .before .before .before .before .before .before .before .before .before .before .before .saw2 .ensures, c .before .before .before .before .before .before .before .before .before .before .before .before .before .triangle2 .ensures, c .before .before .before .before .before .before .before .before .before .before .before .before .before .before .polyblamp2 .ensures, c .before .before .before .before .before .before .before .before .before .before .before .before .before .before .before .corner-half .ensures, c .before .before .before .before .before .before .before .before .before .before .before .before .before .before .before .before .before .polyblamp .ensures, c .before .before .before .before .before .before .before .before .before .before .before .before .before .before .before .before .before .before .before .polyblep2 .ensures, c .before .before .before .before .before .before .before .before .before .before .before .before .before .before .before .before .before .before .before .before .polyblep .ensures, c .before .before .before .before .before .before .before .before .before .before .before .before .before .before .before .before .before .before .before .before .before .before .before .pw-edge .ensures, c .before .before .before .before .before .before .before .before .before .before .before .before .before .before .before .before .before .before .before .before .before .before .before .before .sine .ensures, c .before .before .before .before .before .before .before .before .before .before .before .before .before .before .before .before .before .before .before .before .before .before .before .before .before .fabs .ensures)
 
 pub heard-spec : {M : Type 1} → statement M
 heard-spec =
     tie.close
     (tie.spec
-    clamp-requires
     fabs-requires
     sine-requires
     pw-edge-requires

@@ -1,0 +1,116 @@
+-- A block's ticks are ticks of the phase alone, after a first that may take the edge: the controls stand still.
+use mathlib.Core.Bool.{Bool, true, false, cond}
+use mathlib.Core.Path.{_≡_, refl, sym, ap, _∙_}
+use Prim.Native.Nat.{ℕ, zero, suc, _+_, _<_}
+use native.Mathlib.Numerals.{add-one}
+use native.Mathlib.Omega.{arith}
+use lib.Ieee.{Float, binary64, add, div}
+use lib.Ieee.Fits.{add-fits}
+use Rattle.answer.specs.Block.{afterTicks, answerAt}
+use Rattle.answer.proofs.Blocks.{Holds, held-after}
+use Rattle.answer.specs.declared.Answer.{Answer}
+use Rattle.common.specs.Consts.{gateThreshold}
+use Rattle.common.specs.Phase.{turns, wrapOf}
+use Rattle.common.specs.Edge.{crossedOf, crossedAboveOf, risesAbove}
+use Rattle.common.specs.Memo.{recall3}
+use Rattle.common.specs.Tests.{phaseOk}
+use Rattle.common.proofs.EdgeLaws.{rises-once}
+use Rattle.common.proofs.MemoLaws.{recall3-again}
+use Rattle.common.proofs.PhaseLaws.{wrap-in}
+use Rattle.common.specs.declared.Turns.{Turns}
+use Rattle.common.specs.declared.Memo3.{Memo3}
+use Rattle.common.specs.declared.EdgeDetector.{EdgeDetector}
+use Rattle.common.specs.declared.Crossing.{Crossing}
+use Rattle.common.specs.declared.Crossing.the-variants.{Nowhere, At}
+use Rattle.numeric.specs.Basic.{clampOf}
+use Rattle.vco.specs.Consts.{pwLow, pwHigh}
+use Rattle.vco.specs.Vco.{frequencyOf, restartOf, vcoAnswerOf, vcoSoundOf, vcoRefusalOf, vcoTickOf, vcoToldOf, vcoNextOf}
+use Rattle.vco.specs.Held.{Held, held, heldAnswer, heldNext}
+use Rattle.vco.proofs.StateLaws.{unrefused}
+use Rattle.vco.proofs.Reached.{tick-sound}
+use Rattle.vco.specs.declared.Vco.{Vco}
+use Rattle.vco.specs.declared.VcoControls.{VcoControls}
+use Rattle.vco.specs.declared.VcoTicked.{VcoTicked}
+
+-- ---- a turn of the loop
+pub heard-now : (wanted : ℕ) (pw : Float) (dt : Turns) (start : Held) (i : ℕ) (p q : Turns) (at : Crossing) (a : Answer) → a ≡ vcoAnswerOf at (q .0) (p .0) pw (dt .0) wanted
+    → q ≡ restartOf p at → held p at ≡ afterTicks (heldNext dt) i start → a ≡ answerAt (heldAnswer wanted pw dt) (heldNext dt) start i
+unfolding answerAt heldAnswer
+heard-now wanted pw dt start i p q at a e r z = simp (e, r, ← z)
+
+pub moved : (dt : Turns) (start : Held) (i : ℕ) (p q r : Turns) (at : Crossing) → r ≡ turns (wrapOf (add binary64 (q .0) (dt .0))) → q ≡ restartOf p at → held p at ≡ afterTicks (heldNext dt) i start
+    → held r Nowhere ≡ afterTicks (heldNext dt) (i + 1) start
+unfolding afterTicks heldNext
+moved dt start i p q r at e w z = rw add-one (simp (e, w, ← z))
+
+-- ---- the whole
+module _ (s : Vco) (c : VcoControls) where
+  abbrev heldMemo : Memo3
+  heldMemo = recall3 frequencyOf (s .«freq_memo») (c .voct .0) (c .fm .0) (c .«fm_lin»)
+
+  abbrev pub stepOf : Turns
+  stepOf = turns (div binary64 (heldMemo .val .0) (s .«sample_rate» .0))
+
+  abbrev pub startOf : Held
+  startOf = held (s .phase) (crossedOf (s .«sync_edge») (c .sync) .at)
+
+  -- the detector that tells this crossing: the one before the block if it is an edge, the one after a tick if it is none
+  unfoldable pub edgeOf : Crossing → EdgeDetector
+  edgeOf Nowhere = record { prev = c .sync }
+  edgeOf (At frac) = s .«sync_edge»
+
+  -- the state in a block that the small one stands for
+  abbrev pub stateOf : Held → Vco
+  stateOf h = record { phase = h .phase; «sample_rate» = s .«sample_rate»; «sync_edge» = edgeOf (h .at); «freq_memo» = heldMemo }
+
+  pub record Fair (h : Held) : Type 0 where
+    pub phase : phaseOk (h .phase) ≡ true
+    pub at : crossedOf (edgeOf (h .at)) (c .sync) .at ≡ h .at
+
+  -- no edge comes twice
+  still : crossedOf (edgeOf Nowhere) (c .sync) .at ≡ Nowhere
+  unfolding edgeOf crossedOf crossedAboveOf
+  still = simp rises-once
+
+  first-at : (at : Crossing) → crossedOf (s .«sync_edge») (c .sync) .at ≡ at → crossedOf (edgeOf at) (c .sync) .at ≡ at
+  unfolding edgeOf
+  first-at Nowhere e = still
+  first-at (At frac) e = e
+
+  -- in such a state a tick finds its frequency in the memo, and its edge is the one held
+  held-sound : (wanted : ℕ) (h : Held) → Fair h
+      → vcoSoundOf (stateOf h) c wanted ≡ record { answer = heldAnswer wanted (clampOf (c .pw) pwLow pwHigh) stepOf h; vco = stateOf (heldNext stepOf h) }
+  unfolding vcoSoundOf heldAnswer heldNext
+  held-sound wanted h f =
+      let e : crossedOf (edgeOf (h .at)) (c .sync) .edge ≡ edgeOf Nowhere = unfold edgeOf crossedOf crossedAboveOf in refl in
+      simp (recall3-again frequencyOf (s .«freq_memo») (c .voct .0) (c .fm .0) (c .«fm_lin»), f .at, e)
+
+  first-sound : (wanted : ℕ) → vcoSoundOf s c wanted ≡ record { answer = heldAnswer wanted (clampOf (c .pw) pwLow pwHigh) stepOf startOf; vco = stateOf (heldNext stepOf startOf) }
+  unfolding vcoSoundOf heldAnswer heldNext edgeOf crossedOf crossedAboveOf
+  first-sound wanted = refl
+
+  pub holds : (wanted : ℕ) → vcoRefusalOf s ≡ 0
+      → Holds (vcoToldOf c wanted) (vcoNextOf c wanted) (heldAnswer wanted (clampOf (c .pw) pwLow pwHigh) stepOf) (heldNext stepOf) stateOf Fair s startOf
+  holds wanted n =
+      let a = unrefused s n in
+      let first = tick-sound s (record { rate = a .0; phase = a .1 }) c wanted ∙ first-sound wanted in
+      record {
+        good = record { phase = a .1; at = first-at (crossedOf (s .«sync_edge») (c .sync) .at) refl };
+        first = ap (λ (t : VcoTicked). t .answer) first;
+        second = ap (λ (t : VcoTicked). t .vco) first;
+        stays = λ h f. record { phase = unfold heldNext in wrap-in _ (add-fits binary64 _ _); at = unfold heldNext in still };
+        answers = λ h f. ap (λ (t : VcoTicked). t .answer) (tick-sound (stateOf h) (record { rate = a .0; phase = f .phase }) c wanted ∙ held-sound wanted h f);
+        moves = λ h f. ap (λ (t : VcoTicked). t .vco) (tick-sound (stateOf h) (record { rate = a .0; phase = f .phase }) c wanted ∙ held-sound wanted h f);
+      }
+
+  -- what a block that isn't empty leaves: the edge is forgotten
+  left-at : (n : ℕ) → 0 < n → afterTicks (heldNext stepOf) n startOf .at ≡ Nowhere
+  unfolding afterTicks heldNext
+  left-at zero z = absurd (omega arith)
+  left-at (suc n) z = refl
+
+  pub left : (wanted n : ℕ) → vcoRefusalOf s ≡ 0 → 0 < n
+      → record { phase = afterTicks (heldNext stepOf) n startOf .phase; «sample_rate» = s .«sample_rate»; «sync_edge» = crossedOf (s .«sync_edge») (c .sync) .edge; «freq_memo» = heldMemo } ≡ afterTicks (vcoNextOf c wanted) n s
+  left wanted n h z =
+      let e : crossedOf (s .«sync_edge») (c .sync) .edge ≡ edgeOf Nowhere = unfold edgeOf crossedOf crossedAboveOf in refl in
+      simp (e, ← left-at n z) (sym (held-after _ _ _ _ _ _ _ _ (holds wanted h) n z))

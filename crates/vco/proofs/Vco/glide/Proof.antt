@@ -1,0 +1,88 @@
+use mathlib.Core.Bool.{true}
+use mathlib.Core.Path.{_≡_, refl, sym, ap, _∙_}
+use Prim.Native.Nat.{ℕ, _+_, _*_, _-_, _≤_, _<_}
+use native.Mathlib.Nat.{le-antisymm}
+use native.Mathlib.Omega.{arith}
+use lib.Ieee.{binary64}
+use lib.Ieee.Fits.{add-fits}
+use lib.ListN.{length, length-set}
+use lib.Seq.{sets, length-sets}
+use Rattle.laws.specs.Lists.{over}
+use Rattle.laws.proofs.Over.{over-none}
+use Rattle.answer.specs.Block.{afterTicks, markAt, frameAt, joined}
+use Rattle.answer.proofs.Blocks.{four-ports, joined-none, frames-more, frames-done, marks-more, marks-done}
+use Rattle.common.specs.Tests.{phaseOk}
+use Rattle.common.proofs.PhaseLaws.{wrap-in}
+use Rattle.vco.specs.Held.{Held, held, heldAnswer, heldNext}
+use Rattle.vco.proofs.StateLaws.{restart-ok}
+use Rattle.vco.proofs.Held.{heard-now, moved}
+use Rattle.vco.proofs.Vco.glide.Statement.{statement}
+use Rattle.vco.proofs.Vco.glide.Tie as tie
+
+abbrev Inv-loop : tie.InvT-loop
+Inv-loop dt pw wanted samples₀ marks₀ p-old₀ at₀ i₀ samples marks p-old at i =
+    (i ≤ length marks₀) × (length samples ≡ length samples₀) × (length marks ≡ length marks₀) × (samples ≡ sets samples₀ 0 (joined (frameAt 4 (heldAnswer wanted pw dt) (heldNext dt) (held p-old₀ at₀)) i)) × (marks ≡ over (markAt (heldAnswer wanted pw dt) (heldNext dt) (held p-old₀ at₀)) i marks₀) × (held p-old at ≡ afterTicks (heldNext dt) i (held p-old₀ at₀)) × (phaseOk p-old ≡ true)
+
+abbrev μ-loop : tie.MeasureT-loop
+μ-loop dt pw wanted samples₀ marks₀ p-old₀ at₀ i₀ samples marks p-old at i = length marks₀ - i
+
+loop-holds : tie.Need-loop-holds Inv-loop μ-loop
+unfolding afterTicks
+loop-holds c = (omega arith, refl, refl, joined-none _ _, over-none _ _, refl, c .before .before .pre .0)
+
+restart-requires : tie.Need-restart-requires Inv-loop μ-loop
+restart-requires c κs = tt
+
+heard-requires : tie.Need-heard-requires Inv-loop μ-loop
+heard-requires c κs = (rw (c .restart .ensures) (restart-ok _ _ (c .before .before .loop .inv .6)), c .before .before .before .before .before .pre .1)
+
+put-requires : tie.Need-put-requires Inv-loop μ-loop
+put-requires c κs = (omega arith, omega arith)
+
+wrap-phase-requires : tie.Need-wrap-phase-requires Inv-loop μ-loop
+wrap-phase-requires c κs = tt
+
+add-i : tie.Need-add-i Inv-loop μ-loop
+add-i c = omega arith
+
+loop-less : tie.Need-loop-less Inv-loop μ-loop
+loop-less c = omega arith
+
+loop-again : tie.Need-loop-again Inv-loop μ-loop
+loop-again c =
+    let s = c .before .before .before .before .before .before .before .before .before .before .before .before .before .loop .inv in
+    let r = c .before .before .before .before .before .before .before .before .before .before .before .restart .ensures in
+    let a = heard-now _ _ _ _ _ _ _ _ _ (c .before .before .before .before .before .before .before .before .before .before .heard .ensures) r (s .5) in
+    let p = c .before .before .before .before .before .before .before .put .ensures in
+    (omega arith, simp (p .0, length-sets) (s .1), simp (p .1, length-set) (s .2), rw (p .0) (frames-more 4 four-ports _ _ _ _ _ _ _ (s .3) a), rw (p .1) (marks-more 4 four-ports _ _ _ _ _ _ _ (omega arith) (s .4) a), moved _ _ _ _ _ _ _ (c .wrap-phase .ensures) r (s .5), rw (c .wrap-phase .ensures) (wrap-in _ (add-fits binary64 _ _)))
+
+same-length : tie.Need-same-length Inv-loop μ-loop
+same-length c = c .before .loop .inv .1
+
+same-length-2 : tie.Need-same-length-2 Inv-loop μ-loop
+same-length-2 c = c .before .loop .inv .2
+
+returns : tie.Need-returns Inv-loop μ-loop
+returns c =
+    let s = c .before .loop .inv in
+    let a = c .before .before .before .before .args in
+    let n : c .before .loop .i ≡ length (a .marks .now) = le-antisymm (s .0) (omega arith) in
+    (ap (λ (h : Held). h .phase) (s .5) ∙ ap (λ (k : ℕ). afterTicks (heldNext (a .dt)) k (held (a .start) (a .edge)) .phase) n, (frames-done 4 four-ports _ _ _ _ _ _ _ n (c .before .before .before .before .pre .2) (s .3), marks-done 4 four-ports _ _ _ _ _ _ _ n refl (s .4)))
+
+pub glide-spec : {M : Type 1} → statement M
+glide-spec =
+    tie.close
+    (tie.spec
+    Inv-loop
+    μ-loop
+    loop-holds
+    restart-requires
+    heard-requires
+    put-requires
+    wrap-phase-requires
+    add-i
+    loop-less
+    loop-again
+    same-length
+    same-length-2
+    returns)
