@@ -145,6 +145,35 @@ def settled(files):
                 yield f"{path}:{line(text, m.start())}: {m[1]} has a requires"
 
 
+def called(field, function):
+    """Whether a field is called after a function: one name may have a crate's or a type's before it."""
+    field = field.strip("«»").replace("-", "_")
+    return f"_{function}".endswith(f"_{field}") or f"_{field}".endswith(f"_{function}")
+
+
+def instances(files):
+    """Every public function has its instance of Settles in the crate's record Settled, which is proved."""
+    functions, fields, proved = {}, {}, set()
+    for path, crate, text in of_crates(files, ["src"], ".rt"):
+        for m in re.finditer(r"\bpub\s+(?:extern\s+\"C\"\s+)?fn\s+(\w+)", blanked(text, r"//.*")):
+            functions.setdefault(crate, []).append((f"{path}:{line(text, m.start())}", m[1]))
+    for path, crate, text in of_crates(files, ["specs"], ".antt"):
+        for record in re.findall(r"^pub record Settled : Type 0 where\n((?:  .*\n)+)", text, re.M):
+            fields[crate] = path, re.findall(r"^  pub (\S+) :(?:.*|.*\n    .*)\b(?:Settles|Put-settles)\b", record, re.M)
+    for path, crate, text in of_crates(files, ["proofs"], ".antt"):
+        if re.search(r"^pub \S+ : Settled$", text, re.M):
+            proved.add(crate)
+    for crate, found in functions.items():
+        for place, name in found:
+            if not any(called(field, name) for field in fields.get(crate, ("", []))[1]):
+                yield f"{place}: {name} has no instance of Settles"
+    for crate, (path, given) in fields.items():
+        if len(given) != len(functions.get(crate, [])):
+            yield f"{path}: {len(given)} instances of Settles for {len(functions.get(crate, []))} public functions"
+        if crate not in proved:
+            yield f"{path}: Settled isn't proved"
+
+
 # ---- what must not stand in the repository
 
 def no_hole(files):
@@ -244,6 +273,11 @@ CHECKS = {
     settled: [
         {"crates/x/src/lib.rt": "pub fn f(x: [u8; 2]) -> [u8; 2] // ensures { x }\n{\n    x\n}\n"},
         {"crates/x/src/lib.rt": 'pub extern "C" fn f(x: u8) -> u8\n    ensures { x }\n    requires { x }\n{ x }\n'},
+    ],
+    instances: [
+        {"crates/x/src/lib.rt": "pub fn f(x: u8) -> u8\n    ensures { x }\n{ x }\n"},
+        {"crates/line/specs/Settled.antt": "pub record Settled : Type 0 where\n  pub same : Settles P\n"},
+        {"crates/x/specs/Settled.antt": "pub record Settled : Type 0 where\n  pub f : Type 0\n"},
     ],
     no_hole: [{"crates/x/proofs/f/Proof.antt": "returns c = ?\n"}],
     own_words: [{"docs/x.md": "built in /" + "work/ here\n"}],

@@ -1,4 +1,4 @@
-/* Renders a vowel of 480 samples twice, once with a broken control value, and shows what is finished:
+/* Renders a vowel of 480 samples twice, once with a broken control value, and shows what is finished; then reads a score:
  *
  *     tools/library ../target/gruttisol
  *     cc -I c c/example.c ../target/gruttisol/libgruttisol.a -o ../target/example && ../target/example
@@ -30,13 +30,29 @@ static int render(double vowel)
                   counts[3], counts[4], counts[0] == SAMPLES && counts[1] == SAMPLES ? "yes" : "no");
 }
 
+static void read_score(const char *score, size_t length)
+{
+    double volts[GRUTTISOL_SCORE_FLOATS];
+    uint64_t said[GRUTTISOL_SCORE_WHOLES];
+    uint32_t refused = gruttisol_score_read((const uint8_t *)score, length, volts, GRUTTISOL_SCORE_FLOATS,
+                                            said, GRUTTISOL_SCORE_WHOLES);
+    if (refused)
+        printf("a score: refused=%u\n", refused);
+    else
+        printf("a score: %s, %u Hz, frames=%u, first input %g V\n", said[0] == GRUTTISOL_OSC_LFO ? "lfo" : "another",
+               (unsigned)said[1], (unsigned)said[2], volts[0]);
+}
+
 int main(void)
 {
+    static const char score[] = "osc=lfo\nhz=48000\nframes=480\nrate=500000\ndepth=5000000\nreset=0\n";
     double floats[GRUTTISOL_VCO_FLOATS] = {0};
     uint64_t wholes[GRUTTISOL_VCO_WHOLES] = {0};
 
     render(0.25);
     render(NAN);
     printf("a rate of 999.5 Hz: refused=%u\n", gruttisol_vco_new(999.5, floats, GRUTTISOL_VCO_FLOATS, wholes, GRUTTISOL_VCO_WHOLES));
+    read_score(score, sizeof score - 1);
+    read_score(score, sizeof score - 2); /* without its last line feed */
     return 0;
 }

@@ -1,4 +1,4 @@
-/* Gruttisol: six proved oscillators and their tally, for C and C++.
+/* Gruttisol: six proved oscillators, their tally and the reader of scores, for C and C++.
  *
  * Every function takes any numbers and any memory of the lengths that it is told: it ends, reads and writes inside the lent
  * memory alone and keeps none of it. A lent array is two arguments, its first cell and its length; arrays lent to one
@@ -10,7 +10,7 @@
  * A call answers a number:
  *   0         done
  *   11 to 14  an accepted tick: cleared, notfinite, lost, clean
- *   1 to 7    refused, see gruttisol_refusal below
+ *   1 to 7    refused, and so is a score by 20 to 23; see gruttisol_refusal below
  *   50 to 53  an array of another length: floats, wholes, samples, counts
  * A refused call leaves every array as it stood.
  */
@@ -32,13 +32,17 @@ enum gruttisol_mark {
 };
 
 enum gruttisol_refusal {
-    GRUTTISOL_BAD_RATE = 1,   /* a rate not from 1,000 to 192,000 */
-    GRUTTISOL_BAD_STATE = 2,  /* a state that is no oscillator's */
-    GRUTTISOL_SHORT_LINE = 3, /* a line too short for its rate */
-    GRUTTISOL_BAD_BANK = 4,   /* a bank, part or table of another size or number */
-    GRUTTISOL_FEW_DRAWS = 5,  /* a trigger, and too few draws */
-    GRUTTISOL_BAD_DRAW = 6,   /* a trigger, and a draw of 2^53 or more */
-    GRUTTISOL_BAD_TALLY = 7   /* counts that don't add up, or a full tally */
+    GRUTTISOL_BAD_RATE = 1,     /* a rate not from 1,000 to 192,000 */
+    GRUTTISOL_BAD_STATE = 2,    /* a state that is no oscillator's */
+    GRUTTISOL_SHORT_LINE = 3,   /* a line too short for its rate */
+    GRUTTISOL_BAD_BANK = 4,     /* a bank, part or table of another size or number */
+    GRUTTISOL_FEW_DRAWS = 5,    /* a trigger, and too few draws */
+    GRUTTISOL_BAD_DRAW = 6,     /* a trigger, and a draw of 2^53 or more */
+    GRUTTISOL_BAD_TALLY = 7,    /* counts that don't add up, or a full tally */
+    GRUTTISOL_LONG_SCORE = 20,  /* a score of more than 1,024 bytes */
+    GRUTTISOL_BAD_LINE = 21,    /* a wrong, missing or extra line, or an oscillator that isn't known */
+    GRUTTISOL_BAD_NUMBER = 22,  /* no number as a score writes it */
+    GRUTTISOL_OUT_OF_RANGE = 23 /* a number out of its range */
 };
 
 /* ---- the tally: counts are begun, finished, cleared, notfinite, lost; a new one is five zeros */
@@ -138,6 +142,21 @@ uint32_t gruttisol_karplus_strong_reset(double *floats, size_t floats_len, uint6
                                         double *line, size_t line_len);
 uint32_t gruttisol_karplus_strong_set_sample_rate(double sample_rate, double *floats, size_t floats_len,
                                                   uint64_t *wholes, size_t wholes_len, double *line, size_t line_len);
+
+/* ---- scores: what a text of at most 1,024 bytes says. floats are the volts of the oscillator's inputs in port order, 0.0 past its
+ *      last one; wholes are a gruttisol_osc, samples a second and frames. */
+#define GRUTTISOL_SCORE_FLOATS 5
+#define GRUTTISOL_SCORE_WHOLES 3
+
+enum gruttisol_osc {
+    GRUTTISOL_OSC_VCO = 0,
+    GRUTTISOL_OSC_LFO = 1,
+    GRUTTISOL_OSC_SUPERSAW = 2,
+    GRUTTISOL_OSC_FORMANT = 3
+};
+
+uint32_t gruttisol_score_read(const uint8_t *text, size_t text_len, double *floats, size_t floats_len,
+                              uint64_t *wholes, size_t wholes_len);
 
 /* ---- functions of numbers alone */
 double gruttisol_sin(double x);

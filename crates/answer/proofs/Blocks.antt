@@ -14,11 +14,12 @@ use borrow.Author.Tests.{eqb-true, eqb-false, leb-true, leb-false, le-leb, lt-le
 use Rattle.laws.specs.Lists.{tab, over}
 use Rattle.laws.proofs.Slices.{stored, sets-append}
 use Rattle.laws.proofs.Over.{getD-tab, length-tab, tab-ext, over-more, over-all}
-use Rattle.answer.specs.Answer.{markNumber, voltsOf}
+use Rattle.answer.specs.Answer.{markNumber, voltsOf, accepted, answerOf}
 use Rattle.answer.specs.Block.{manyTo, countedTo, cellsOf, roomFor, marksTaken, joined, afterTicks, answerAt, markAt, frameAt, portsOf, block, blockRefusalOf, ticksOf, blockOf, grownBy}
 use Rattle.answer.specs.Tally.{addsUp, oneIf, sumOf, counted, tallyOf}
 use Rattle.answer.specs.declared.Volts.{Volts}
 use Rattle.answer.specs.declared.Answer.{Answer}
+use Rattle.answer.specs.declared.Answer.the-variants as answer
 use Rattle.answer.specs.declared.Tally.{Tally}
 
 -- ---- room
@@ -227,3 +228,12 @@ module _ {S : Type 0} (ports number : ℕ) (answer : S → Answer) (next : S →
       → l ≡ tab (markAt answer next s) (length m) → u ≡ marksTaken t l → block 0 r u p l ≡ blockOf ports number answer next s t o m
   unfolding ticksOf
   block-done h u r p l a b d g = simp (accepted-block h, a, b, g, d, counted-tab t (markAt answer next s) (length m) (block-fits ports number t o m n e h .2))
+
+-- ---- a tick as a block of one
+pub answer-back : (a : Answer) → accepted a ≡ true → answerOf (markNumber a) (voltsOf a) ≡ a
+unfolding answerOf markNumber voltsOf accepted
+answer-back (answer.Clean v) h = refl
+answer-back (answer.Cleared v) h = refl
+answer-back (answer.NotFinite v) h = refl
+answer-back (answer.Lost v) h = refl
+answer-back (answer.Refused n) h = absurd (false≢true h)

@@ -3,4 +3,16 @@ use Rattle.laws.proofs.Settled.{settled}
 use Rattle.answer.specs.Settled.{Settled}
 
 pub answer-settled : Settled
-answer-settled = record { mark-number = λ a. settled _; mark = λ v cleared sums phases. settled _; tally-new = settled _; tally-take = λ t a. settled _ }
+answer-settled =
+    record {
+      mark-number = λ a. settled _;
+      mark = λ v cleared sums phases. settled _;
+      tally-new = settled _;
+      tally-take = λ t a. settled _;
+      samples = λ a. settled _;
+      tally-from-counts = λ counts. settled _;
+      tally-put-counts = λ t counts. settled _;
+      tally-has-room = λ t n. settled _;
+      tally-take-marks = λ t marks. settled _;
+      block-refusal = λ fits number t n. settled _;
+    }

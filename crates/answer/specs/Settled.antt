@@ -1,9 +1,12 @@
 -- For each public function: any two answers that its contract allows are equal. The contract is the equation under Settles.
 use mathlib.Core.Path.{_≡_}
 use mathlib.Core.Bool.{Bool}
+use mathlib.Core.List.{List}
 use Prim.Native.Nat.{ℕ}
 use Rattle.laws.specs.Machine.{Settles}
-use Rattle.answer.specs.Answer.{markNumber}
+use Rattle.answer.specs.Answer.{markNumber, voltsOf}
+use Rattle.answer.specs.Block.{roomFor, marksTaken, blockRefusalOf}
+use Rattle.answer.specs.Flat.{tallyFrom, countsPut}
 use Rattle.answer.specs.Mark.{markOf}
 use Rattle.answer.specs.Tally.{newTally, tallyOf}
 use Rattle.answer.specs.declared.Volts.{Volts}
@@ -16,3 +19,10 @@ pub record Settled : Type 0 where
   pub mark : (v : Volts) (cleared sums phases : Bool) → Settles (λ (r : Answer). r ≡ markOf v cleared sums phases)
   pub tally-new : Settles (λ (r : Tally). r ≡ newTally)
   pub tally-take : (t : Tally) (a : Answer) → Settles (λ (r : Tallied). r ≡ tallyOf t a)
+  pub samples : (a : Answer) → Settles (λ (r : Volts). r ≡ voltsOf a)
+  pub tally-from-counts : (counts : List ℕ) → Settles (λ (r : Tally). r ≡ tallyFrom counts)
+  -- the slice that it leaves
+  pub tally-put-counts : (t : Tally) (counts : List ℕ) → Settles (λ (after : List ℕ). after ≡ countsPut t counts)
+  pub tally-has-room : (t : Tally) (n : ℕ) → Settles (λ (r : Bool). r ≡ roomFor t n)
+  pub tally-take-marks : (t : Tally) (marks : List ℕ) → Settles (λ (r : Tally). r ≡ marksTaken t marks)
+  pub block-refusal : (fits : Bool) (number : ℕ) (t : Tally) (n : ℕ) → Settles (λ (r : ℕ). r ≡ blockRefusalOf fits number t n)

@@ -2,7 +2,7 @@
 ghost use mathlib.Core.Path.{_≡_};
 ghost use Prim.Native.Nat.{_<_, _≤_, _+_};
 ghost use lib.ListN.{length};
-ghost use Rattle.answer.specs.Answer.{markNumber, voltsOf};
+ghost use Rattle.answer.specs.Answer.{markNumber, voltsOf, answerOf};
 ghost use Rattle.answer.specs.Mark.{allFinite, markOf};
 ghost use Rattle.answer.specs.Tally.{newTally, sumOf, addsUp, oneIf, counted, tallyOf};
 ghost use Rattle.answer.specs.Flat.{tallyFrom, countsPut};
@@ -62,6 +62,21 @@ pub fn samples(a: Answer) -> Volts
             p13: 0.0,
             p14: 0.0,
         },
+    }
+}
+
+// The accepted answer with a mark's number; any other number than 1 to 3 is a clean one's.
+pub fn answer_of(mark: u32, v: Volts) -> Answer
+    ensures { λ r. ⌜ r ≡ answerOf mark v ⌝ }
+{
+    if mark == 1 {
+        Answer::Cleared(v)
+    } else if mark == 2 {
+        Answer::NotFinite(v)
+    } else if mark == 3 {
+        Answer::Lost(v)
+    } else {
+        Answer::Clean(v)
     }
 }
 

@@ -2,7 +2,7 @@
 use mathlib.Core.Bool.{Bool, true, false, not, cond}
 use mathlib.Core.Path.{_≡_, refl}
 use lib.Dec.{eqb}
-use Rattle.exports_lfo.specs.Calls.{lfoNewAt, lfoResetAt, lfoSetSampleRateAt, lfoTickAt}
+use Rattle.exports_lfo.specs.Calls.{lfoNewAt, lfoResetAt, lfoSetSampleRateAt, lfoTickAt, lfoBlockAt}
 use Rattle.exports_lfo.specs.Promises.{Read-back, Settled}
 use Rattle.exports_lfo.specs.State.{stateOf, floatsOf, wholesOf}
 use Rattle.laws.proofs.Settled as laws
@@ -23,4 +23,5 @@ settled =
       tick = λ rate depth reset wanted f w o. laws.settled (lfoTickAt rate depth reset wanted f w o);
       reset = λ f w. laws.settled (lfoResetAt f w);
       «set_sample_rate» = λ rate f w. laws.settled (lfoSetSampleRateAt rate f w);
+      block = λ rate depth reset wanted f w k o m. laws.settled (lfoBlockAt rate depth reset wanted f w k o m);
     }

@@ -1,15 +1,16 @@
--- What each exported call answers, and what it leaves in the lent slices. f, w and o are floats, wholes and samples as they stood, l a bank or a part of one.
+-- What each exported call answers, and what it leaves in the lent slices. f, w, k, o and m are floats, wholes, counts, samples and
+-- marks as they stood, l a bank or a part of one.
 use mathlib.Core.Bool.{cond}
 use mathlib.Core.List.{List}
 use Prim.Native.Nat.{ℕ, _+_}
 use lib.Dec.{eqb}
 use lib.Ieee.{Float}
 use lib.ListN.{length}
-use Rattle.answer.specs.Flat.{Kept, kept, Heard, heard}
+use Rattle.answer.specs.Flat.{Kept, kept, Heard, heard, Played, played, playedOf, tallyFrom}
 use Rattle.answer.specs.Answer.{markNumber, voltsOf, refusalOf, accepted}
 use Rattle.wavetable.specs.Bank.{Filled, fillBankOf, fillTableOf}
-use Rattle.wavetable.specs.Wavetable.{wavetableNewOf, wavetableTickOf, wavetableResetOf, wavetableSetSampleRateOf}
-use Rattle.exports_wavetable.specs.State.{sizesOf, tickSizesOf, stateOf, floatsOf, wholesOf, samplesOf}
+use Rattle.wavetable.specs.Wavetable.{wavetableNewOf, wavetableTickOf, wavetableBlockOf, wavetableResetOf, wavetableSetSampleRateOf}
+use Rattle.exports_wavetable.specs.State.{sizesOf, tickSizesOf, blockSizesOf, stateOf, floatsOf, wholesOf, samplesOf}
 use Rattle.answer.specs.declared.Outcome.{Outcome}
 use Rattle.answer.specs.declared.Outcome.the-variants as outcome
 use Rattle.wavetable.specs.declared.WavetableMade.{WavetableMade}
@@ -46,6 +47,14 @@ heardSized h f w o = let n = tickSizesOf (length f) (length w) (length o) in con
 unfoldable pub wavetableTickAt : Float → Float → Float → Float → List Float → List Float → List ℕ → List Float → Heard
 wavetableTickAt v table morph sync l f w o =
     heardSized (heardOf (wavetableTickOf (stateOf f w) (record { «v_oct» = record { 0 = v }; table = table; morph = morph; sync = sync }) l) f w o) f w o
+
+-- a block: 0, the state, the counts, the samples and the marks after it, or what refused it
+unfoldable pub wavetableBlockAt : Float → Float → Float → Float → List Float → List Float → List ℕ → List ℕ → List Float → List ℕ → Played
+wavetableBlockAt v table morph sync l f w k o m =
+    let n = blockSizesOf (length f) (length w) (length k) in
+    cond (eqb n 0)
+    (playedOf floatsOf wholesOf (wavetableBlockOf (stateOf f w) (record { «v_oct» = record { 0 = v }; table = table; morph = morph; sync = sync }) (tallyFrom k) l o m) f w k)
+    (played n f w k o m)
 
 -- the number of a fill, and the slice after it
 pub record FilledWith : Type 0 where

@@ -1,23 +1,31 @@
 // The Wavetable for hosts, over lent slices. A state is floats [phase, sample_rate, prev_sync, freq_memo.val] and
 // wholes [freq_memo.key, freq_memo.valid], the last 0 or not; samples are [out]. The bank is 16,384 numbers.
 // Each call answers a number: 0 done; of an accepted tick 11 cleared, 12 notfinite, 13 lost, 14 clean; of a refused call
-// 1 to 7 as document 01 has them, or 50, 51, 52 where floats, wholes or samples have another length. A refused call writes nothing.
+// 1 to 7 as document 01 has them, or 50, 51, 52, 53 where floats, wholes, samples or counts have another length. A refused
+// call writes nothing. A block answers 0, with the ticks' samples one after another, their marks as 1 cleared, 2 notfinite,
+// 3 lost, 4 clean, and the tally's five counts: begun, finished, cleared, notfinite, lost.
 use answer::Answer;
 use answer::Outcome;
+use answer::Tally;
 use answer::Volts;
 use common::Hertz;
 use common::Memo1;
 use common::Turns;
 use common::VoltsPerOctave;
 use wavetable::Wavetable;
+use wavetable::WavetableBlock;
 use wavetable::WavetableControls;
 use wavetable::WavetableMade;
 use wavetable::WavetableTicked;
 ghost use mathlib.Core.Path.{_≡_};
+ghost use mathlib.Core.List.{List};
+ghost use Prim.Native.Nat.{ℕ};
+ghost use lib.Ieee.{Float};
 ghost use lib.ListN.{length};
-ghost use Rattle.answer.specs.Flat.{kept, heard};
-ghost use Rattle.exports_wavetable.specs.State.{sizesOf, tickSizesOf, stateOf, floatsOf, wholesOf, samplesOf};
-ghost use Rattle.exports_wavetable.specs.Calls.{keptOf, heardOf, wavetableNewAt, wavetableTickAt, wavetableResetAt, wavetableSetSampleRateAt, outcomeNumber, filledWith, wavetableFillBankAt, wavetableFillTableAt};
+ghost use Rattle.answer.specs.Block.{block};
+ghost use Rattle.answer.specs.Flat.{kept, heard, played, playedOf};
+ghost use Rattle.exports_wavetable.specs.State.{sizesOf, tickSizesOf, blockSizesOf, stateOf, floatsOf, wholesOf, samplesOf};
+ghost use Rattle.exports_wavetable.specs.Calls.{keptOf, heardOf, wavetableNewAt, wavetableTickAt, wavetableBlockAt, wavetableResetAt, wavetableSetSampleRateAt, outcomeNumber, filledWith, wavetableFillBankAt, wavetableFillTableAt};
 
 // 0, or the number that refuses these lengths.
 fn sizes(floats: &[f64], wholes: &[u64]) -> u32
@@ -36,6 +44,17 @@ fn tick_sizes(floats: &[f64], wholes: &[u64], samples: &[f64]) -> u32
     let n = sizes(floats, wholes);
     if n == 0 {
         if samples.len() == 1 { 0 } else { 52 }
+    } else {
+        n
+    }
+}
+
+fn block_sizes(floats: &[f64], wholes: &[u64], counts: &[u32]) -> u32
+    ensures { λ r. ⌜ r ≡ blockSizesOf (length (now (floats .entry))) (length (now (wholes .entry))) (length (now (counts .entry))) ⌝ }
+{
+    let n = sizes(floats, wholes);
+    if n == 0 {
+        if counts.len() == 5 { 0 } else { 53 }
     } else {
         n
     }
@@ -165,6 +184,54 @@ pub extern "C" fn gruttisol_wavetable_tick(
             sync,
         };
         put_ticked(state(floats, wholes).tick(c, bank), floats, wholes, samples)
+    } else {
+        n
+    }
+}
+
+// The state and the counts after a block; a refused one leaves them.
+fn put_block(b: WavetableBlock, floats: &mut [f64], wholes: &mut [u64], counts: &mut [u32]) -> u32
+    requires { ⌜ (length (now floats) ≡ 4) × (length (now wholes) ≡ 2) × (length (now counts) ≡ 5) ⌝ }
+    ensures { λ r. ⌜ ((o : List Float) → (m : List ℕ) → played r (now (floats .exit)) (now (wholes .exit)) (now (counts .exit)) o m ≡ playedOf floatsOf wholesOf (block (b .refused) (b .wavetable) (b .tally) o m) (now (floats .entry)) (now (wholes .entry)) (now (counts .entry))) ⌝ }
+{
+    let refused = b.refused;
+    if refused == 0 {
+        let s = b.wavetable;
+        let tally = b.tally;
+        store(s, &mut *floats, &mut *wholes);
+        tally.put_counts(counts);
+        0
+    } else {
+        refused
+    }
+}
+
+#[no_mangle]
+pub extern "C" fn gruttisol_wavetable_block(
+    v_oct: f64,
+    table: f64,
+    morph: f64,
+    sync: f64,
+    floats: &mut [f64],
+    wholes: &mut [u64],
+    bank: &[f64],
+    counts: &mut [u32],
+    samples: &mut [f64],
+    marks: &mut [u32],
+) -> u32
+    ensures { λ r. ⌜ played r (now (floats .exit)) (now (wholes .exit)) (now (counts .exit)) (now (samples .exit)) (now (marks .exit)) ≡ wavetableBlockAt «v_oct» table morph sync (now (bank .entry)) (now (floats .entry)) (now (wholes .entry)) (now (counts .entry)) (now (samples .entry)) (now (marks .entry)) ⌝ }
+{
+    let n = block_sizes(floats, wholes, counts);
+    if n == 0 {
+        let c = WavetableControls {
+            v_oct: VoltsPerOctave(v_oct),
+            table,
+            morph,
+            sync,
+        };
+        let tally = Tally::from_counts(counts);
+        let b = state(floats, wholes).block(c, tally, bank, samples, marks);
+        put_block(b, floats, wholes, counts)
     } else {
         n
     }

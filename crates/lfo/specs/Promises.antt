@@ -3,8 +3,9 @@ use mathlib.Core.Bool.{Bool, true, cond}
 use mathlib.Core.List.{List, _∷_}
 use mathlib.Core.Path.{_≡_}
 use Prim.Native.Nat.{ℕ}
-use lib.Ieee.{binary64, le, div}
+use lib.Ieee.{Float, binary64, le, div}
 use Rattle.answer.specs.Answer.{voltsOf, accepted}
+use Rattle.answer.specs.Block.{Block}
 use Rattle.answer.specs.Mark.{allFinite}
 use Rattle.common.specs.Consts.{gateThreshold, five}
 use Rattle.common.specs.Edge.{risingOf}
@@ -13,8 +14,9 @@ use Rattle.laws.specs.Float.{F64}
 use Rattle.laws.specs.Machine.{replies, Settles}
 use Rattle.lfo.specs.Calls.{Call, after, reply, ReachedLfo, Tick, Reset, SetSampleRate, Done, Refused}
 use Rattle.lfo.specs.Consts.{ten}
-use Rattle.lfo.specs.Lfo.{newLfo, lfoNewOf, lfoTickOf, lfoResetOf, lfoSetSampleRateOf}
+use Rattle.lfo.specs.Lfo.{newLfo, lfoNewOf, lfoTickOf, lfoResetOf, lfoSetSampleRateOf, lfoBlockOf}
 use Rattle.lfo.specs.Small.{isSmall}
+use Rattle.answer.specs.declared.Tally.{Tally}
 use Rattle.common.specs.declared.Hertz.{Hertz}
 use Rattle.lfo.specs.declared.Lfo.{Lfo}
 use Rattle.lfo.specs.declared.LfoControls.{LfoControls}
@@ -62,3 +64,4 @@ pub record Settled : Type 0 where
   pub tick : (s : Lfo) (c : LfoControls) (wanted : ℕ) → Settles (λ (a : LfoTicked). a ≡ lfoTickOf s c wanted)
   pub reset : (s : Lfo) → Settles (λ (a : LfoMade). a ≡ lfoResetOf s)
   pub «set_sample_rate» : (s : Lfo) (r : Hertz) → Settles (λ (a : LfoMade). a ≡ lfoSetSampleRateOf s r)
+  pub block : (s : Lfo) (c : LfoControls) (wanted : ℕ) (t : Tally) (samples : List Float) (marks : List ℕ) → Settles (λ (b : Block Lfo). b ≡ lfoBlockOf s c wanted t samples marks)

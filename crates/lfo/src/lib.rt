@@ -24,7 +24,7 @@ ghost use Rattle.answer.specs.Mark.{allFinite, markOf};
 ghost use Rattle.answer.specs.Block.{afterTicks, portsOf, joined, block, markAt, frameAt};
 ghost use Rattle.lfo.specs.Waves.{rateToHz, restartOf, sharedSine, sinWave, triWave, sawWave, sqrWave, sinUniWave};
 ghost use Rattle.lfo.specs.Small.{isSmall};
-ghost use Rattle.lfo.specs.Held.{heldAnswer, heldNext};
+ghost use Rattle.lfo.specs.Held.{heldOf, heldAt, heldAnswer, heldNext};
 ghost use Rattle.lfo.specs.Lfo.{lfoRefusalOf, lfoNewOf, lfoOutputsOf, lfoSoundOf, lfoTickOf, lfoAnswerOf, lfoNextOf, lfoBlockOf, lfoResetOf, lfoSetSampleRateOf};
 
 pub struct Lfo {
@@ -51,6 +51,15 @@ pub struct LfoBlock {
     pub refused: u32,
     pub lfo: Lfo,
     pub tally: Tally,
+}
+
+// A state whose reset and rate stand still: only the phase moves from `start` on, by `step` a tick.
+struct Held {
+    start: Turns,
+    step: Turns,
+    sample_rate: Hertz,
+    reset_edge: EdgeDetector,
+    freq_memo: Memo1,
 }
 
 pub enum LfoMade {
@@ -191,6 +200,23 @@ fn put(a: Answer, i: usize, samples: &mut [f64], marks: &mut [u32])
     marks[i] = answer::mark_number(a);
 }
 
+impl Held {
+    // The state after a tick that leaves the phase there.
+    fn at(self, phase: Turns) -> Lfo
+        ensures { λ r. ⌜ r ≡ heldAt self phase ⌝ }
+    {
+        let sample_rate = self.sample_rate;
+        let reset_edge = self.reset_edge;
+        let freq_memo = self.freq_memo;
+        Lfo {
+            phase,
+            sample_rate,
+            reset_edge,
+            freq_memo,
+        }
+    }
+}
+
 impl Lfo {
     pub fn new(sample_rate: Hertz) -> LfoMade
         ensures { λ r. ⌜ r ≡ lfoNewOf «sample_rate» ⌝ }
@@ -260,49 +286,6 @@ impl Lfo {
         }
     }
 
-    // An accepted tick: the Rust's tick_wanted.
-    fn sound(self, c: LfoControls, wanted: u32) -> LfoTicked
-        requires { ⌜ lfoRefusalOf self ≡ 0 ⌝ }
-        ensures { λ r. ⌜ r ≡ lfoSoundOf self c wanted ⌝ }
-    {
-        let old = self.phase;
-        let sample_rate = self.sample_rate;
-        let edge = self.reset_edge;
-        let memo = self.freq_memo;
-        let depth = c.depth / 10.0;
-        let freq_memo = recall(memo, c.rate);
-        let freq = freq_memo.val;
-        let risen = edge.rising(c.reset);
-        let reset_edge = risen.edge;
-        let phase = restart(old, risen.rising);
-        let sine = Self::shared_sine(wanted, phase);
-        let volts = Self::outputs(wanted, phase, sine, depth);
-        let next = Turns(phase.0 + increment(freq, sample_rate).0);
-        LfoTicked {
-            answer: mark(volts, is_small(depth), numeric::is_finite(next.0)),
-            lfo: Lfo {
-                phase: common::wrap_phase(next),
-                sample_rate,
-                reset_edge,
-                freq_memo,
-            },
-        }
-    }
-
-    pub fn tick(self, c: LfoControls, wanted: u32) -> LfoTicked
-        ensures { λ r. ⌜ r ≡ lfoTickOf self c wanted ⌝ }
-    {
-        let n = self.refusal();
-        if n == 0 {
-            self.sound(c, wanted)
-        } else {
-            LfoTicked {
-                answer: Answer::Refused(n),
-                lfo: self,
-            }
-        }
-    }
-
     // Ticks in which no edge is taken and the memo holds: only the phase moves.
     fn glide(
         start: Turns,
@@ -332,12 +315,9 @@ impl Lfo {
         phase
     }
 
-    // The ticks of a block. Only the first can take the edge, and the memo holds from then on.
-    fn run(self, c: LfoControls, wanted: u32, samples: &mut [f64], marks: &mut [u32]) -> Self
-        requires { ⌜ (lfoRefusalOf self ≡ 0) × (0 < length (now marks)) × (length (now samples) ≡ 5 * length (now marks)) ⌝ }
-        ensures { λ r. ⌜ r ≡ afterTicks (lfoNextOf c wanted) (length (now (marks .entry))) self ⌝ }
-        ensures { λ r. ⌜ now (samples .exit) ≡ joined (frameAt 5 (lfoAnswerOf c wanted) (lfoNextOf c wanted) self) (length (now (marks .entry))) ⌝ }
-        ensures { λ r. ⌜ now (marks .exit) ≡ tab (markAt (lfoAnswerOf c wanted) (lfoNextOf c wanted) self) (length (now (marks .entry))) ⌝ }
+    // What these controls make of the state: an edge is taken now or not at all, and the memo holds from now on.
+    fn held(self, c: LfoControls) -> Held
+        ensures { λ r. ⌜ r ≡ heldOf self c ⌝ }
     {
         let old = self.phase;
         let sample_rate = self.sample_rate;
@@ -347,13 +327,57 @@ impl Lfo {
         let freq = freq_memo.val;
         let risen = edge.rising(c.reset);
         let reset_edge = risen.edge;
-        let start = restart(old, risen.rising);
-        let step = increment(freq, sample_rate);
-        Lfo {
-            phase: Self::glide(start, step, c.depth / 10.0, wanted, samples, marks),
+        Held {
+            start: restart(old, risen.rising),
+            step: increment(freq, sample_rate),
             sample_rate,
             reset_edge,
             freq_memo,
+        }
+    }
+
+    // An accepted tick is a block of one.
+    fn sound(self, c: LfoControls, wanted: u32) -> LfoTicked
+        requires { ⌜ lfoRefusalOf self ≡ 0 ⌝ }
+        ensures { λ r. ⌜ r ≡ lfoSoundOf self c wanted ⌝ }
+    {
+        let mut samples = [0.0; 5];
+        let mut marks = [0; 1];
+        let h = self.held(c);
+        let start = h.start;
+        let step = h.step;
+        let phase = Self::glide(
+            start,
+            step,
+            c.depth / 10.0,
+            wanted,
+            &mut samples,
+            &mut marks,
+        );
+        let volts = Volts {
+            p10: samples[0],
+            p11: samples[1],
+            p12: samples[2],
+            p13: samples[3],
+            p14: samples[4],
+        };
+        LfoTicked {
+            answer: answer::answer_of(marks[0], volts),
+            lfo: h.at(phase),
+        }
+    }
+
+    pub fn tick(self, c: LfoControls, wanted: u32) -> LfoTicked
+        ensures { λ r. ⌜ r ≡ lfoTickOf self c wanted ⌝ }
+    {
+        let n = self.refusal();
+        if n == 0 {
+            self.sound(c, wanted)
+        } else {
+            LfoTicked {
+                answer: Answer::Refused(n),
+                lfo: self,
+            }
         }
     }
 
@@ -378,10 +402,13 @@ impl Lfo {
                     tally,
                 }
             } else {
-                let lfo = self.run(c, wanted, samples, marks);
+                let h = self.held(c);
+                let start = h.start;
+                let step = h.step;
+                let phase = Self::glide(start, step, c.depth / 10.0, wanted, samples, marks);
                 LfoBlock {
                     refused: 0,
-                    lfo,
+                    lfo: h.at(phase),
                     tally: tally.take_marks(marks),
                 }
             }

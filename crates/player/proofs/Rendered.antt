@@ -1,7 +1,7 @@
 -- What holds of a score that is read; and that each contract, being equations, settles what it speaks of.
 use native.Mathlib.Omega.{arith}
 use Rattle.laws.proofs.Settled as laws
-use Rattle.frame.proofs.Settled.{both}
+use Rattle.text.proofs.Settled.{both}
 use Rattle.player.specs.Play.{heardOf}
 use Rattle.player.specs.Player.{beginOf}
 use Rattle.player.specs.Promises.{Read-renders, Settled}

@@ -3,3 +3,4 @@ pub mod WordLaws
 pub mod TickLaws
 pub mod JudgeLaws
 pub mod ReportLaws
+pub mod Settled

@@ -5,3 +5,4 @@ pub mod Ticks
 pub mod Table
 pub mod Judge
 pub mod Report
+pub mod Settled

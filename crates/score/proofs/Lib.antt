@@ -2,3 +2,4 @@ pub mod Signed
 pub mod Steps
 pub mod Examples
 pub mod Text
+pub mod Settled

@@ -4,3 +4,4 @@ pub mod Score
 pub mod Places
 pub mod Examples
 pub mod Text
+pub mod Settled

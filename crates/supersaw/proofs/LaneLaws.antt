@@ -1,5 +1,5 @@
 -- The code's lanes give what the Rust's loop gives: the loop's lines done for all at once, and a quiet tick's shortcut.
-use mathlib.Core.Bool.{Bool, true, _&&_}
+use mathlib.Core.Bool.{Bool, true, false, cond, _&&_}
 use mathlib.Core.List.{List, [], _∷_, _++_}
 use mathlib.Core.Logic.{⊎-elim}
 use mathlib.Core.Path.{_≡_, refl, sym, ap, _∙_, subst}
@@ -26,12 +26,13 @@ use Rattle.supersaw.proofs.Loops.{both-true, all-at, all-of}
 use Rattle.supersaw.proofs.Sign.{Plus, mul-plus, div-plus, above-plus, small, one-plus, clamp-small}
 use Rattle.supersaw.proofs.StepLaws.{Steady, steady-law}
 use Rattle.supersaw.specs.Consts.{detuneRatios, mixLevels}
-use Rattle.supersaw.specs.Lanes.{lanesOf, lanesOk, incsOf, sawsOf, sumsOf, wrapsOf, lanesFinite, mixTo, totalMix, blendOf, tickedOf, advancedOf, soundOf, steadyOf, lanesSteady, quietOf, rampsOf, glideOf}
+use Rattle.supersaw.specs.Lanes.{lanesOf, lanesOk, incsOf, sawsOf, sumsOf, wrapsOf, lanesFinite, mixTo, totalMix, blendOf, movedOf, steppedOf, advancedOf, tickedOf, steadyOf, lanesSteady, quietOf, rampsOf, rampedOf}
 use Rattle.supersaw.specs.Supersaw.{all, supersawRefusalOf, supersawSoundOf, supersawTickOf}
 use Rattle.supersaw.specs.Voices.{at, dtOf, sawOf, Voices, voiceOf, voicesOf}
 use Rattle.supersaw.specs.declared.Supersaw.{Supersaw}
 use Rattle.supersaw.specs.declared.SupersawControls.{SupersawControls}
 use Rattle.supersaw.specs.declared.SupersawTicked.{SupersawTicked}
+use Rattle.supersaw.specs.declared.Moved.{Moved}
 
 -- ---- the loop
 abbrev totalTo : ℕ → Float
@@ -71,9 +72,9 @@ loop-is (a ∷ b ∷ c ∷ d ∷ e ∷ f ∷ g ∷ x ∷ xs) low detune base rat
     long : (n : ℕ) → suc (suc (suc (suc (suc (suc (suc (suc n))))))) ≡ 7 → ⊥
     long n h = omega arith
 
-sound-is : (s : Supersaw) (c : SupersawControls) → length (s .phases) ≡ 7
-    → soundOf s (lanesOf (s .phases) (s .«sub_phase»)) (incsOf (clampOf (c .detune) zer one) (recall1 voctToHzAt (s .«freq_memo») (c .voct .0) .val) (s .«sample_rate»)) (clampOf (c .mix) zer one) (recall1 voctToHzAt (s .«freq_memo») (c .voct .0)) ≡ supersawSoundOf s c
-unfolding soundOf supersawSoundOf tickedOf advancedOf blendOf lanesOf lanesFinite all wrapsOf sumsOf sawsOf incsOf tab
+pub sound-is : (s : Supersaw) (c : SupersawControls) → length (s .phases) ≡ 7
+    → tickedOf s (steppedOf (lanesOf (s .phases) (s .«sub_phase»)) (incsOf (clampOf (c .detune) zer one) (recall1 voctToHzAt (s .«freq_memo») (c .voct .0) .val) (s .«sample_rate»)) (clampOf (c .mix) zer one)) (recall1 voctToHzAt (s .«freq_memo») (c .voct .0)) ≡ supersawSoundOf s c
+unfolding supersawSoundOf tickedOf movedOf steppedOf advancedOf blendOf lanesOf lanesFinite all wrapsOf sumsOf sawsOf incsOf tab
 sound-is s c h =
     rw (← loop-is (s .phases) (s .«sub_phase» .0) (clampOf (c .detune) zer one) (recall1 voctToHzAt (s .«freq_memo») (c .voct .0) .val) (s .«sample_rate») h, total-is)
 
@@ -84,6 +85,18 @@ lanes-ok s = refl
 
 pub ok-by : (s : Supersaw) (t : List Float) (b : Bool) → t ≡ lanesOf (s .phases) (s .«sub_phase») → b ≡ lanesOk t → (all (λ i. phaseOk (turns (at (s .phases) i))) 7 && phaseOk (s .«sub_phase»)) ≡ b
 ok-by s t b e h = sym (h ∙ ap lanesOk e ∙ lanes-ok s)
+
+-- no number refuses the state: its rate and its phases are good
+pub accepts : (s : Supersaw) → supersawRefusalOf s ≡ 0 → (rateOk (s .«sample_rate») ≡ true) × (lanesOk (lanesOf (s .phases) (s .«sub_phase»)) ≡ true)
+unfolding supersawRefusalOf
+accepts s h =
+    let p = go (rateOk (s .«sample_rate»)) (all (λ i. phaseOk (turns (at (s .phases) i))) 7 && phaseOk (s .«sub_phase»)) h in
+    (p .0, lanes-ok s ∙ p .1)
+  where
+    go : (a b : Bool) → _≡_ {A = ℕ} (cond a (cond b 0 2) 1) 0 → (a ≡ true) × (b ≡ true)
+    go true true z = (refl, refl)
+    go true false z = absurd (omega arith)
+    go false b z = absurd (omega arith)
 
 -- ---- increments have no minus sign
 module _ (detune : Float) (base rate : Hertz) (D : T (small detune)) (B : lt zer (base .0) ≡ true) (R : rateOk rate ≡ true) where
@@ -141,36 +154,43 @@ module _ (t dt : List Float) (lane : (i : ℕ) → i < 8 → Steady (at t i) (at
   unfolding lanesFinite
   sums-finite = sym (all-of (λ (i : ℕ). isFin (at (sumsOf t dt) i)) 8 (λ i l. ap isFin (sum-at i l) ∙ lane i l .finite))
 
-  glide-is : (s : Supersaw) (mix : Float) (memo : Memo1) → glideOf s t dt mix memo ≡ soundOf s t dt mix memo
-  unfolding glideOf soundOf
-  glide-is s mix memo = λ j. tickedOf (blendOf (ramps-are j) mix) (at (ramps-are j) 7) (sums-finite j) (advancedOf s (sums-are j) memo)
+  ramped-is : (mix : Float) → rampedOf t dt mix ≡ steppedOf t dt mix
+  unfolding rampedOf steppedOf
+  ramped-is mix = λ j. movedOf (blendOf (ramps-are j) mix) (at (ramps-are j) 7) (sums-finite j) (sums-are j)
 
   all-ok : true ≡ lanesOk t
   unfolding lanesOk
   all-ok = sym (all-of (λ (i : ℕ). phaseOk (turns (at t i))) 8 (λ i l. lane i l .ok))
 
+module _ (detune : Float) (base rate : Hertz) (t dt : List Float) (D : T (small detune)) (i : dt ≡ incsOf detune base rate) (q : quietOf rate base t dt ≡ true) where
+  parts : (rateOk rate ≡ true) × ((lt zer (base .0) ≡ true) × (lanesSteady t dt ≡ true))
+  parts =
+      let p = both-true (rateOk rate) (lt zer (base .0) && lanesSteady t dt) (unfold quietOf in q) in
+      (p .0, both-true (lt zer (base .0)) (lanesSteady t dt) (p .1))
+
+  plus : (j : ℕ) → j < 8 → Plus (at dt j)
+  plus j k = rw i (incs-plus detune base rate D (parts .1 .0) (parts .0) j k)
+
+  lane : (j : ℕ) → j < 8 → Steady (at t j) (at dt j)
+  lane j k = steady-law (at t j) (at dt j) (plus j k) (all-at (λ (k : ℕ). steadyOf (at t k) (at dt k)) 8 (unfold lanesSteady in parts .1 .1) j k)
+
+  pub quiet-ramped : (mix : Float) → rampedOf t dt mix ≡ steppedOf t dt mix
+  quiet-ramped = ramped-is t dt lane
+
+  quiet-free : (s : Supersaw) → s .«sample_rate» ≡ rate → t ≡ lanesOf (s .phases) (s .«sub_phase») → supersawRefusalOf s ≡ 0
+  quiet-free s r l = unfold supersawRefusalOf in simp (r, parts .0, ok-by s t true l (all-ok t dt lane))
+
 -- ---- a tick's two ways
 module _ (s : Supersaw) (c : SupersawControls) (detune mix : Float) (memo : Memo1) (t dt : List Float) (d : detune ≡ clampOf (c .detune) zer one) (x : mix ≡ clampOf (c .mix) zer one) (m : memo ≡ recall1 voctToHzAt (s .«freq_memo») (c .voct .0)) (l : (t ≡ lanesOf (s .phases) (s .«sub_phase»)) × (length (s .phases) ≡ 7)) (i : dt ≡ incsOf detune (memo .val) (s .«sample_rate»)) where
-  sounds : soundOf s t dt mix memo ≡ supersawSoundOf s c
+  sounds : tickedOf s (steppedOf t dt mix) memo ≡ supersawSoundOf s c
   sounds = rw (i, l .0, x, d, m) (sound-is s c (l .1))
 
-  pub tick-sounds : (n : ℕ) (r : SupersawTicked) → n ≡ supersawRefusalOf s → n ≡ 0 → r ≡ soundOf s t dt mix memo → r ≡ supersawTickOf s c
+  pub tick-steps : (n : ℕ) (u : Moved) (r : SupersawTicked) → n ≡ supersawRefusalOf s → n ≡ 0 → u ≡ steppedOf t dt mix → r ≡ tickedOf s u memo → r ≡ supersawTickOf s c
   unfolding supersawTickOf
-  tick-sounds n r h z e = e ∙ sounds ∙ rw (sym h ∙ z)
+  tick-steps n u r h z e k = k ∙ ap (λ (v : Moved). tickedOf s v memo) e ∙ sounds ∙ rw (sym h ∙ z)
 
-  pub tick-glides : (q : Bool) (r : SupersawTicked) → q ≡ quietOf (s .«sample_rate») (memo .val) t dt → q ≡ true → r ≡ glideOf s t dt mix memo → r ≡ supersawTickOf s c
-  tick-glides q r h y e = tick-sounds 0 r (sym free) refl (e ∙ glide-is t dt lane s mix memo)
+  pub tick-ramps : (q : Bool) (u : Moved) (r : SupersawTicked) → q ≡ quietOf (s .«sample_rate») (memo .val) t dt → q ≡ true → u ≡ rampedOf t dt mix → r ≡ tickedOf s u memo → r ≡ supersawTickOf s c
+  tick-ramps q u r h y e k = tick-steps 0 u r (sym (quiet-free detune (memo .val) (s .«sample_rate») t dt D i (sym h ∙ y) s refl (l .0))) refl (e ∙ quiet-ramped detune (memo .val) (s .«sample_rate») t dt D i (sym h ∙ y) mix) k
     where
-      parts : (rateOk (s .«sample_rate») ≡ true) × ((lt zer (memo .val .0) ≡ true) × (lanesSteady t dt ≡ true))
-      parts =
-          let p = both-true (rateOk (s .«sample_rate»)) (lt zer (memo .val .0) && lanesSteady t dt) (unfold quietOf in sym h ∙ y) in
-          (p .0, both-true (lt zer (memo .val .0)) (lanesSteady t dt) (p .1))
-
-      plus : (j : ℕ) → j < 8 → Plus (at dt j)
-      plus j k = rw i (incs-plus detune (memo .val) (s .«sample_rate») (subst (λ (z : Float). T (small z)) (sym d) (clamp-small (c .detune))) (parts .1 .0) (parts .0) j k)
-
-      lane : (j : ℕ) → j < 8 → Steady (at t j) (at dt j)
-      lane j k = steady-law (at t j) (at dt j) (plus j k) (all-at (λ (k : ℕ). steadyOf (at t k) (at dt k)) 8 (unfold lanesSteady in parts .1 .1) j k)
-
-      free : supersawRefusalOf s ≡ 0
-      free = unfold supersawRefusalOf in simp (parts .0, ok-by s t true (l .0) (all-ok t dt lane))
+      D : T (small detune)
+      D = subst (λ (z : Float). T (small z)) (sym d) (clamp-small (c .detune))

@@ -3,5 +3,6 @@ pub mod FloatLaws
 pub mod Sign
 pub mod StepLaws
 pub mod LaneLaws
+pub mod Held
 pub mod Reached
 pub mod Settled

@@ -17,6 +17,7 @@ use Rattle.supersaw.specs.Voices.{at, dtOf, sawOf}
 use Rattle.supersaw.specs.Supersaw.{all}
 use Rattle.supersaw.specs.declared.Supersaw.{Supersaw}
 use Rattle.supersaw.specs.declared.SupersawTicked.{SupersawTicked}
+use Rattle.supersaw.specs.declared.Moved.{Moved}
 
 -- the phases
 unfoldable pub lanesOf : List Float → Turns → List Float
@@ -53,20 +54,23 @@ totalMix = ofBits binary64 0x4014cccccccccccd
 unfoldable pub blendOf : List Float → Float → Float
 blendOf s mix = add binary64 (mul binary64 (at s 3) (sub binary64 one mix)) (mul binary64 (div binary64 (mixTo s 7) totalMix) mix)
 
--- the answer from both outputs and whether the phases were finite before their wrap, beside the state after the tick
-unfoldable pub tickedOf : Float → Float → Bool → Supersaw → SupersawTicked
-tickedOf out low finite s = record { answer = markOf (record { p10 = out; p11 = low; p12 = zer; p13 = zer; p14 = zer }) false true finite; supersaw = s }
+-- a tick's answer from both outputs and whether the phases were finite before their wrap, beside the phases after it
+unfoldable pub movedOf : Float → Float → Bool → List Float → Moved
+movedOf out low finite t = record { answer = markOf (record { p10 = out; p11 = low; p12 = zer; p13 = zer; p14 = zer }) false true finite; phases = t }
+
+-- an accepted tick
+unfoldable pub steppedOf : List Float → List Float → Float → Moved
+steppedOf t dt mix =
+    let saws = sawsOf t dt in
+    let next = sumsOf t dt in
+    movedOf (blendOf saws mix) (at saws 7) (lanesFinite next) (wrapsOf next)
 
 -- the state with these phases and this memo
 unfoldable pub advancedOf : Supersaw → List Float → Memo1 → Supersaw
 advancedOf s t memo = record { phases = tab (at t) 7; «sub_phase» = turns (at t 7); «sample_rate» = s .«sample_rate»; «freq_memo» = memo }
 
--- an accepted tick
-unfoldable pub soundOf : Supersaw → List Float → List Float → Float → Memo1 → SupersawTicked
-soundOf s t dt mix memo =
-    let saws = sawsOf t dt in
-    let next = sumsOf t dt in
-    tickedOf (blendOf saws mix) (at saws 7) (lanesFinite next) (advancedOf s (wrapsOf next) memo)
+unfoldable pub tickedOf : Supersaw → Moved → Memo1 → SupersawTicked
+tickedOf s r memo = record { answer = r .answer; supersaw = advancedOf s (r .phases) memo }
 
 -- ---- the tick in which no oscillator comes near its step
 -- more than an increment above its step, and more than one below the next; every f64 fits
@@ -83,7 +87,5 @@ unfoldable pub rampsOf : List Float → List Float
 rampsOf t = tab (λ i. sub binary64 (sub binary64 (mul binary64 two (at t i)) one) zer) 8
 
 -- it has no residual and no wrap
-unfoldable pub glideOf : Supersaw → List Float → List Float → Float → Memo1 → SupersawTicked
-glideOf s t dt mix memo =
-    let ramps = rampsOf t in
-    tickedOf (blendOf ramps mix) (at ramps 7) true (advancedOf s (sumsOf t dt) memo)
+unfoldable pub rampedOf : List Float → List Float → Float → Moved
+rampedOf t dt mix = let ramps = rampsOf t in movedOf (blendOf ramps mix) (at ramps 7) true (sumsOf t dt)

@@ -1,14 +1,18 @@
 -- Theorems about the Supersaw: the statements. proofs/ proves each under the same name in small letters.
 use mathlib.Core.Path.{_≡_}
 use mathlib.Core.Bool.{true, cond}
+use mathlib.Core.List.{List}
 use Prim.Native.Nat.{ℕ, _<_}
+use lib.Ieee.{Float}
 use Rattle.laws.specs.Machine.{Settles}
 use Rattle.common.specs.Phase.{turns}
 use Rattle.common.specs.Tests.{rateOk, phaseOk}
 use Rattle.common.specs.declared.Hertz.{Hertz}
 use Rattle.answer.specs.Answer.{accepted}
+use Rattle.answer.specs.Block.{Block}
+use Rattle.answer.specs.declared.Tally.{Tally}
 use Rattle.supersaw.specs.Voices.{at}
-use Rattle.supersaw.specs.Supersaw.{supersawNewOf, supersawTickOf, supersawResetOf, supersawSetSampleRateOf}
+use Rattle.supersaw.specs.Supersaw.{supersawNewOf, supersawTickOf, supersawBlockOf, supersawResetOf, supersawSetSampleRateOf}
 use Rattle.supersaw.specs.Calls.{Done, Refused, Reset, SetSampleRate, reply, ReachedSupersaw}
 use Rattle.supersaw.specs.declared.Supersaw.{Supersaw}
 use Rattle.supersaw.specs.declared.SupersawControls.{SupersawControls}
@@ -26,9 +30,10 @@ pub record Accepting (s : Supersaw) : Type 0 where
 abbrev pub Never-refused : Type 0
 Never-refused = (s : Supersaw) → ReachedSupersaw s → Accepting s
 
--- ---- each contract settles its answer
+-- ---- each contract settles its answer, and what a block leaves in the lent slices
 pub record Settled : Type 0 where
   pub new : (r : Hertz) → Settles (λ (m : SupersawMade). m ≡ supersawNewOf r)
   pub tick : (s : Supersaw) (c : SupersawControls) → Settles (λ (t : SupersawTicked). t ≡ supersawTickOf s c)
+  pub block : (s : Supersaw) (c : SupersawControls) (t : Tally) (o : List Float) (m : List ℕ) → Settles (λ (b : Block Supersaw). b ≡ supersawBlockOf s c t o m)
   pub reset : (s : Supersaw) → Settles (λ (m : SupersawMade). m ≡ supersawResetOf s)
   pub «set_sample_rate» : (s : Supersaw) (r : Hertz) → Settles (λ (m : SupersawMade). m ≡ supersawSetSampleRateOf s r)

@@ -11,9 +11,12 @@ use Rattle.common.specs.Memo.{newMemo1, recall1, voctToHzAt}
 use Rattle.common.specs.Phase.{turns, wrapOf}
 use Rattle.common.specs.Tests.{rateOk, phaseOk}
 use Rattle.common.specs.declared.Hertz.{Hertz}
+use Rattle.answer.specs.Block.{Block, blockOf}
 use Rattle.answer.specs.Mark.{markOf}
+use Rattle.answer.specs.declared.Answer.{Answer}
 use Rattle.answer.specs.declared.Answer.the-variants as answer
 use Rattle.answer.specs.declared.Outcome.the-variants as outcome
+use Rattle.answer.specs.declared.Tally.{Tally}
 use Rattle.supersaw.specs.Consts.{seven}
 use Rattle.supersaw.specs.Voices.{at, sawOf, voicesOf}
 use Rattle.supersaw.specs.declared.Supersaw.{Supersaw}
@@ -70,6 +73,16 @@ unfoldable pub supersawTickOf : Supersaw → SupersawControls → SupersawTicked
 supersawTickOf s c =
     let n = supersawRefusalOf s in
     cond (eqb n 0) (supersawSoundOf s c) (record { answer = answer.Refused n; supersaw = s })
+
+-- a block of as many ticks with these controls as there are marks: two samples a tick
+abbrev pub supersawAnswerOf : SupersawControls → Supersaw → Answer
+supersawAnswerOf c s = supersawTickOf s c .answer
+
+abbrev pub supersawNextOf : SupersawControls → Supersaw → Supersaw
+supersawNextOf c s = supersawTickOf s c .supersaw
+
+unfoldable pub supersawBlockOf : Supersaw → SupersawControls → Tally → List Float → List ℕ → Block Supersaw
+supersawBlockOf s c t o m = blockOf 2 (supersawRefusalOf s) (supersawAnswerOf c) (supersawNextOf c) s t o m
 
 -- reset: the rate and the memo stay
 abbrev pub restarted : Supersaw → Supersaw

@@ -4,16 +4,27 @@
 // oscillator last, and a tick in which none comes near its step skips what only a step needs: that is twice as fast.
 use answer::Answer;
 use answer::Outcome;
+use answer::Tally;
 use answer::Volts;
 use common::Hertz;
 use common::Memo1;
 use common::Turns;
 use common::VoltsPerOctave;
 ghost use mathlib.Core.Path.{_≡_};
-ghost use lib.ListN.{length};
+ghost use mathlib.Core.Bool.{true};
+ghost use mathlib.Core.List.{List};
+ghost use Prim.Native.Nat.{_<_, _*_};
+ghost use lib.Dec.{eqb};
+ghost use lib.Ieee.{Float};
+ghost use lib.ListN.{length, set};
+ghost use lib.Seq.{sets};
+ghost use Rattle.laws.specs.Lists.{tab};
+ghost use Rattle.answer.specs.Answer.{markNumber, voltsOf};
+ghost use Rattle.answer.specs.Block.{afterTicks, portsOf, joined, block, markAt, frameAt};
 ghost use Rattle.supersaw.specs.Voices.{sawOf};
-ghost use Rattle.supersaw.specs.Supersaw.{startPhases, supersawRefusalOf, supersawNewOf, supersawTickOf, supersawResetOf, supersawSetSampleRateOf};
-ghost use Rattle.supersaw.specs.Lanes.{lanesOf, lanesOk, incsOf, sawsOf, rampsOf, sumsOf, wrapsOf, lanesFinite, steadyOf, lanesSteady, mixTo, blendOf, tickedOf, advancedOf, soundOf, quietOf, glideOf};
+ghost use Rattle.supersaw.specs.Supersaw.{startPhases, supersawRefusalOf, supersawNewOf, supersawTickOf, supersawAnswerOf, supersawNextOf, supersawBlockOf, supersawResetOf, supersawSetSampleRateOf};
+ghost use Rattle.supersaw.specs.Lanes.{lanesOf, lanesOk, incsOf, sawsOf, rampsOf, sumsOf, wrapsOf, lanesFinite, steadyOf, lanesSteady, mixTo, blendOf, movedOf, steppedOf, rampedOf, quietOf, advancedOf, tickedOf};
+ghost use Rattle.supersaw.specs.Held.{heldAnswer, heldNext};
 
 pub struct Supersaw {
     pub phases: [f64; 7],
@@ -34,10 +45,23 @@ pub struct SupersawTicked {
     pub supersaw: Supersaw,
 }
 
+// What a block leaves beside its samples and marks: `refused` is 0, or the number that refused it.
+pub struct SupersawBlock {
+    pub refused: u32,
+    pub supersaw: Supersaw,
+    pub tally: Tally,
+}
+
 // A refused new hands out the state with its bad rate, which refuses every call; any other refused call the state as it stood.
 pub struct SupersawMade {
     pub outcome: Outcome,
     pub supersaw: Supersaw,
+}
+
+// A tick of the eight oscillators: what it answers, and the phases after it.
+struct Moved {
+    answer: Answer,
+    phases: [f64; 8],
 }
 
 // The eight phases.
@@ -158,9 +182,9 @@ fn all_steady(t: [f64; 8], dt: [f64; 8]) -> bool
     true
 }
 
-// An accepted tick from its outputs, whether each phase plus its increment was finite, and the state after it.
-fn ticked(out: f64, sub: f64, finite: bool, supersaw: Supersaw) -> SupersawTicked
-    ensures { λ r. ⌜ r ≡ tickedOf out sub finite supersaw ⌝ }
+// A tick from its outputs, whether each phase plus its increment was finite, and the phases after it.
+fn answered(out: f64, sub: f64, finite: bool, phases: [f64; 8]) -> Moved
+    ensures { λ r. ⌜ r ≡ movedOf out sub finite phases ⌝ }
 {
     let volts = Volts {
         p10: out,
@@ -169,10 +193,33 @@ fn ticked(out: f64, sub: f64, finite: bool, supersaw: Supersaw) -> SupersawTicke
         p13: 0.0,
         p14: 0.0,
     };
-    SupersawTicked {
+    Moved {
         answer: answer::mark(volts, false, true, finite),
-        supersaw,
+        phases,
     }
+}
+
+// Whether a block has two samples for each of n marks. A product could be too large.
+fn fits(samples: usize, n: usize) -> bool
+    ensures { λ r. ⌜ r ≡ eqb samples (2 * n) ⌝ }
+{
+    if samples % 2 == 0 {
+        samples / 2 == n
+    } else {
+        false
+    }
+}
+
+// What tick i of a block answers.
+fn put(a: Answer, i: usize, samples: &mut [f64], marks: &mut [u32])
+    requires { ⌜ (i < length (now marks)) × (length (now samples) ≡ 2 * length (now marks)) ⌝ }
+    ensures { λ _. ⌜ (now (samples .exit) ≡ sets (now (samples .entry)) (2 * i) (portsOf 2 (voltsOf a))) × (now (marks .exit) ≡ set (now (marks .entry)) i (markNumber a)) ⌝ }
+{
+    let v = answer::samples(a);
+    let at = 2 * i;
+    samples[at] = v.p10;
+    samples[at + 1] = v.p11;
+    marks[i] = answer::mark_number(a);
 }
 
 impl Supersaw {
@@ -319,25 +366,32 @@ impl Supersaw {
         }
     }
 
-    // A quiet tick: no residual, and no wrap.
-    fn glide(self, t: [f64; 8], dt: [f64; 8], mix: f64, freq_memo: Memo1) -> SupersawTicked
-        ensures { λ r. ⌜ r ≡ glideOf self t dt mix «freq_memo» ⌝ }
+    fn ticked(self, moved: Moved, freq_memo: Memo1) -> SupersawTicked
+        ensures { λ r. ⌜ r ≡ tickedOf self moved «freq_memo» ⌝ }
     {
-        let s = ramps(t);
-        let out = Self::blend(s, mix);
-        let after = self.advanced(sums(t, dt), freq_memo);
-        ticked(out, s[7], true, after)
+        let answer = moved.answer;
+        let phases = moved.phases;
+        SupersawTicked {
+            answer,
+            supersaw: self.advanced(phases, freq_memo),
+        }
     }
 
-    // An accepted tick.
-    fn sound(self, t: [f64; 8], dt: [f64; 8], mix: f64, freq_memo: Memo1) -> SupersawTicked
-        ensures { λ r. ⌜ r ≡ soundOf self t dt mix «freq_memo» ⌝ }
+    // A quiet tick: no residual, and no wrap.
+    fn ramped(t: [f64; 8], dt: [f64; 8], mix: f64) -> Moved
+        ensures { λ r. ⌜ r ≡ rampedOf t dt mix ⌝ }
+    {
+        let s = ramps(t);
+        answered(Self::blend(s, mix), s[7], true, sums(t, dt))
+    }
+
+    // Any accepted tick.
+    fn stepped(t: [f64; 8], dt: [f64; 8], mix: f64) -> Moved
+        ensures { λ r. ⌜ r ≡ steppedOf t dt mix ⌝ }
     {
         let s = saws(t, dt);
-        let out = Self::blend(s, mix);
         let next = sums(t, dt);
-        let after = self.advanced(wraps(next), freq_memo);
-        ticked(out, s[7], all_finite(next), after)
+        answered(Self::blend(s, mix), s[7], all_finite(next), wraps(next))
     }
 
     pub fn tick(self, c: SupersawControls) -> SupersawTicked
@@ -354,16 +408,112 @@ impl Supersaw {
         let t = lanes(phases, sub_phase);
         let dt = Self::increments(detune, base_freq, sample_rate);
         if Self::quiet(sample_rate, base_freq, t, dt) {
-            self.glide(t, dt, mix, freq_memo)
+            self.ticked(Self::ramped(t, dt, mix), freq_memo)
         } else {
             let n = self.refusal();
             if n == 0 {
-                self.sound(t, dt, mix, freq_memo)
+                self.ticked(Self::stepped(t, dt, mix), freq_memo)
             } else {
                 SupersawTicked {
                     answer: Answer::Refused(n),
                     supersaw: self,
                 }
+            }
+        }
+    }
+
+    // The same tick, by the shorter way where it is quiet.
+    fn turn(sample_rate: Hertz, base_freq: Hertz, t: [f64; 8], dt: [f64; 8], mix: f64) -> Moved
+        requires { ⌜ (quietOf «sample_rate» «base_freq» t dt ≡ true → rampedOf t dt mix ≡ steppedOf t dt mix) ⌝ }
+        ensures { λ r. ⌜ r ≡ steppedOf t dt mix ⌝ }
+    {
+        if Self::quiet(sample_rate, base_freq, t, dt) {
+            Self::ramped(t, dt, mix)
+        } else {
+            Self::stepped(t, dt, mix)
+        }
+    }
+
+    // Ticks in which the memo holds: only the phases move.
+    fn glide(
+        sample_rate: Hertz,
+        base_freq: Hertz,
+        first: [f64; 8],
+        dt: [f64; 8],
+        mix: f64,
+        samples: &mut [f64],
+        marks: &mut [u32],
+    ) -> [f64; 8]
+        requires { ⌜ ((t : List Float) → quietOf «sample_rate» «base_freq» t dt ≡ true → rampedOf t dt mix ≡ steppedOf t dt mix) × (length (now samples) ≡ 2 * length (now marks)) ⌝ }
+        ensures { λ r. ⌜ r ≡ afterTicks (heldNext dt mix) (length (now (marks .entry))) first ⌝ }
+        ensures { λ r. ⌜ now (samples .exit) ≡ joined (frameAt 2 (heldAnswer dt mix) (heldNext dt mix) first) (length (now (marks .entry))) ⌝ }
+        ensures { λ r. ⌜ now (marks .exit) ≡ tab (markAt (heldAnswer dt mix) (heldNext dt mix) first) (length (now (marks .entry))) ⌝ }
+    {
+        let mut t = first;
+        let mut i = 0;
+        while i < marks.len() {
+            let moved = Self::turn(sample_rate, base_freq, t, dt, mix);
+            let heard = moved.answer;
+            put(heard, i, &mut *samples, &mut *marks);
+            t = moved.phases;
+            i += 1;
+        }
+        t
+    }
+
+    // The ticks of a block: the memo holds from the first on.
+    fn run(self, c: SupersawControls, samples: &mut [f64], marks: &mut [u32]) -> Self
+        requires { ⌜ (supersawRefusalOf self ≡ 0) × (0 < length (now marks)) × (length (now samples) ≡ 2 * length (now marks)) ⌝ }
+        ensures { λ r. ⌜ r ≡ afterTicks (supersawNextOf c) (length (now (marks .entry))) self ⌝ }
+        ensures { λ r. ⌜ now (samples .exit) ≡ joined (frameAt 2 (supersawAnswerOf c) (supersawNextOf c) self) (length (now (marks .entry))) ⌝ }
+        ensures { λ r. ⌜ now (marks .exit) ≡ tab (markAt (supersawAnswerOf c) (supersawNextOf c) self) (length (now (marks .entry))) ⌝ }
+    {
+        let phases = self.phases;
+        let sub_phase = self.sub_phase;
+        let sample_rate = self.sample_rate;
+        let memo = self.freq_memo;
+        let detune = numeric::clamp(c.detune, 0.0, 1.0);
+        let mix = numeric::clamp(c.mix, 0.0, 1.0);
+        let freq_memo = memo.voct_to_hz(c.voct);
+        let base_freq = freq_memo.val;
+        let first = lanes(phases, sub_phase);
+        let dt = Self::increments(detune, base_freq, sample_rate);
+        let last = Self::glide(sample_rate, base_freq, first, dt, mix, samples, marks);
+        self.advanced(last, freq_memo)
+    }
+
+    // As many ticks with these controls as there are marks. Their samples come one tick after another.
+    pub fn block(
+        self,
+        c: SupersawControls,
+        tally: Tally,
+        samples: &mut [f64],
+        marks: &mut [u32],
+    ) -> SupersawBlock
+        ensures { λ r. ⌜ block (r .refused) (r .supersaw) (r .tally) (now (samples .exit)) (now (marks .exit)) ≡ supersawBlockOf self c tally (now (samples .entry)) (now (marks .entry)) ⌝ }
+    {
+        let n = marks.len();
+        let refused = answer::block_refusal(fits(samples.len(), n), self.refusal(), tally, n);
+        if refused == 0 {
+            if n == 0 {
+                SupersawBlock {
+                    refused: 0,
+                    supersaw: self,
+                    tally,
+                }
+            } else {
+                let supersaw = self.run(c, samples, marks);
+                SupersawBlock {
+                    refused: 0,
+                    supersaw,
+                    tally: tally.take_marks(marks),
+                }
+            }
+        } else {
+            SupersawBlock {
+                refused,
+                supersaw: self,
+                tally,
             }
         }
     }

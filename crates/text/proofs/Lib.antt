@@ -1,3 +1,4 @@
 pub mod PutLaws
 pub mod HexLaws
 pub mod DecimalLaws
+pub mod Settled

@@ -2,3 +2,4 @@ pub mod Put
 pub mod Hex
 pub mod Decimal
 pub mod Promises
+pub mod Settled

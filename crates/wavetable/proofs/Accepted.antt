@@ -4,10 +4,14 @@ use mathlib.Core.Path.{_≡_, refl}
 use Prim.Native.Nat.{ℕ, _≤_}
 use native.Mathlib.Omega.{arith}
 use lib.Dec.{eqb}
-use lib.Ieee.{Float}
+use lib.Ieee.{Float, lt, le, eq, ofBits}
 use borrow.Author.Tests.{eqb-true, eqb-false}
-use Rattle.wavetable.specs.Reads.{startOf, tableIndexOf}
+use Rattle.common.specs.Tests.{rateOk, phaseOk}
+use Rattle.common.specs.declared.Turns.{Turns}
+use Rattle.wavetable.specs.Held.{PairFits, pairOf}
+use Rattle.wavetable.specs.Reads.{startOf, tableIndexOf, restartOf}
 use Rattle.wavetable.specs.Wavetable.{wavetableRefusalOf, wavetableTickRefusalOf}
+use Rattle.wavetable.specs.declared.Pair.{Pair}
 use Rattle.wavetable.specs.declared.Wavetable.{Wavetable}
 
 -- no number refuses the tick: its bank has the size
@@ -20,6 +24,22 @@ bank-sized s size = go (wavetableRefusalOf s) (eqb (wavetableRefusalOf s) 0) (eq
     go n true false p q h = absurd (let z : _≡_ {A = ℕ} 4 0 = h in omega arith)
     go n false b p q h = absurd (eqb-false n 0 p h)
 
+-- and its rate and its phase are good
+pub accepts : (s : Wavetable) (size : ℕ) → wavetableTickRefusalOf s size ≡ 0 → (rateOk (s .«sample_rate») ≡ true) × (phaseOk (s .phase) ≡ true)
+unfolding wavetableRefusalOf wavetableTickRefusalOf
+accepts s size = go (rateOk (s .«sample_rate»)) (phaseOk (s .phase)) (eqb size 16384)
+  where
+    go : (a b d : Bool) → _≡_ {A = ℕ} (cond (eqb (cond a (cond b 0 2) 1) 0) (cond d 0 4) (cond a (cond b 0 2) 1)) 0 → (a ≡ true) × (b ≡ true)
+    go true true d h = (refl, refl)
+    go true false d h = absurd (omega arith)
+    go false b d h = absurd (omega arith)
+
+-- the phase that is read is good too
+pub restart-ok : (p : Turns) (edge : Bool) → phaseOk p ≡ true → phaseOk (restartOf p edge) ≡ true
+unfolding restartOf phaseOk lt le eq ofBits
+restart-ok p true h = refl
+restart-ok p false h = h
+
 -- there is a table above the lower one
 pub index-few : (index : ℕ) (pos : Float) → index ≡ tableIndexOf pos → index ≤ 6
 unfolding tableIndexOf
@@ -29,3 +49,7 @@ index-few index pos e = omega arith
 pub start-few : (first table level : ℕ) → first ≡ startOf table level → first ≤ 16128
 unfolding startOf
 start-few first table level e = omega arith
+
+pub pair-fits : (p : Pair) (table morph inc : Float) → p ≡ pairOf table morph inc → PairFits p
+unfolding pairOf
+pair-fits p table morph inc e = rw e (start-few _ _ _ refl, start-few _ _ _ refl)

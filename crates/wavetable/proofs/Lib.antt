@@ -4,6 +4,7 @@ pub mod Cells
 pub mod Levels
 pub mod Fractions
 pub mod Accepted
+pub mod Held
 pub mod Reached
 pub mod Forget
 pub mod Settled

@@ -2,13 +2,14 @@
 use Rattle.laws.proofs.Settled as laws
 use Rattle.wavetable.specs.Bank.{fillTableOf, fillBankOf}
 use Rattle.wavetable.specs.Promises.{Settled}
-use Rattle.wavetable.specs.Wavetable.{wavetableNewOf, wavetableTickOf, wavetableResetOf, wavetableSetSampleRateOf}
+use Rattle.wavetable.specs.Wavetable.{wavetableNewOf, wavetableTickOf, wavetableBlockOf, wavetableResetOf, wavetableSetSampleRateOf}
 
 pub settled : Settled
 settled =
     record {
       new = λ r. laws.settled (wavetableNewOf r);
       tick = λ s c bank. laws.settled (wavetableTickOf s c bank);
+      block = λ s c t bank o m. laws.settled (wavetableBlockOf s c t bank o m);
       reset = λ s. laws.settled (wavetableResetOf s);
       «set_sample_rate» = λ s r. laws.settled (wavetableSetSampleRateOf s r);
       «fill_table» = λ table l. laws.settled (fillTableOf table l);

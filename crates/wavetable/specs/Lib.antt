@@ -5,5 +5,6 @@ pub mod Columns
 pub mod Levels
 pub mod Reads
 pub mod Wavetable
+pub mod Held
 pub mod Calls
 pub mod Promises

@@ -7,6 +7,8 @@ use lib.Dec.{eqb}
 use lib.Ieee.{Float, le}
 use lib.ListN.{length}
 use Rattle.answer.specs.Answer.{accepted}
+use Rattle.answer.specs.Block.{Block}
+use Rattle.answer.specs.declared.Tally.{Tally}
 use Rattle.common.specs.Consts.{gateThreshold, five}
 use Rattle.common.specs.Edge.{risesAbove}
 use Rattle.common.specs.Tests.{rateOk, phaseOk}
@@ -14,7 +16,7 @@ use Rattle.laws.specs.Float.{F64}
 use Rattle.laws.specs.Machine.{replies, Settles}
 use Rattle.wavetable.specs.Bank.{Filled, fillTableOf, fillBankOf}
 use Rattle.wavetable.specs.Calls.{Call, after, reply, ReachedWavetable, Tick, Reset, SetSampleRate, Done, Refused}
-use Rattle.wavetable.specs.Wavetable.{newWavetable, wavetableNewOf, wavetableTickOf, wavetableResetOf, wavetableSetSampleRateOf}
+use Rattle.wavetable.specs.Wavetable.{newWavetable, wavetableNewOf, wavetableTickOf, wavetableBlockOf, wavetableResetOf, wavetableSetSampleRateOf}
 use Rattle.common.specs.declared.Hertz.{Hertz}
 use Rattle.wavetable.specs.declared.Wavetable.{Wavetable}
 use Rattle.wavetable.specs.declared.WavetableControls.{WavetableControls}
@@ -52,10 +54,11 @@ Edge-comes = (s : Wavetable) → ReachedWavetable s → (c d : WavetableControls
     → le (c .sync) gateThreshold ≡ true → d .sync ≡ five
     → (accepted (wavetableTickOf (after s (Tick c bank)) d bank .answer) ≡ true) × (takesEdge (after s (Tick c bank)) d ≡ true)
 
--- ---- each contract settles its answer, and what a fill leaves in the lent slice
+-- ---- each contract settles its answer, and what a fill or a block leaves in the lent slices
 pub record Settled : Type 0 where
   pub new : (r : Hertz) → Settles (λ (a : WavetableMade). a ≡ wavetableNewOf r)
   pub tick : (s : Wavetable) (c : WavetableControls) (bank : List Float) → Settles (λ (a : WavetableTicked). a ≡ wavetableTickOf s c bank)
+  pub block : (s : Wavetable) (c : WavetableControls) (t : Tally) (bank o : List Float) (m : List ℕ) → Settles (λ (b : Block Wavetable). b ≡ wavetableBlockOf s c t bank o m)
   pub reset : (s : Wavetable) → Settles (λ (a : WavetableMade). a ≡ wavetableResetOf s)
   pub «set_sample_rate» : (s : Wavetable) (r : Hertz) → Settles (λ (a : WavetableMade). a ≡ wavetableSetSampleRateOf s r)
   pub «fill_table» : (table : ℕ) (l : List Float) → Settles (λ (f : Filled). f ≡ fillTableOf table l)

@@ -5,6 +5,7 @@ use Prim.Native.Nat.{ℕ}
 use lib.Dec.{eqb}
 use lib.Ieee.{Float, binary64, add, div}
 use lib.ListN.{length}
+use Rattle.answer.specs.Block.{Block, blockOf}
 use Rattle.answer.specs.Mark.{markOf}
 use Rattle.common.specs.Consts.{gateThreshold}
 use Rattle.common.specs.Edge.{risesAbove}
@@ -15,7 +16,9 @@ use Rattle.laws.specs.Float.{zer, isFin}
 use Rattle.wavetable.specs.Reads.{restartOf, tablePosOf, tableIndexOf, blendOf, mixOf}
 use Rattle.common.specs.declared.Hertz.{Hertz}
 use Rattle.answer.specs.declared.Volts.{Volts}
+use Rattle.answer.specs.declared.Answer.{Answer}
 use Rattle.answer.specs.declared.Answer.the-variants as answer
+use Rattle.answer.specs.declared.Tally.{Tally}
 use Rattle.wavetable.specs.declared.Wavetable.{Wavetable}
 use Rattle.wavetable.specs.declared.WavetableControls.{WavetableControls}
 use Rattle.wavetable.specs.declared.WavetableTicked.{WavetableTicked}
@@ -62,6 +65,16 @@ unfoldable pub wavetableTickOf : Wavetable → WavetableControls → List Float 
 wavetableTickOf s c bank =
     let n = wavetableTickRefusalOf s (length bank) in
     cond (eqb n 0) (wavetableSoundOf s c bank) (record { answer = answer.Refused n; wavetable = s })
+
+-- a block of as many ticks with these controls and this bank as there are marks: one sample a tick
+abbrev pub wavetableAnswerOf : WavetableControls → List Float → Wavetable → Answer
+wavetableAnswerOf c bank s = wavetableTickOf s c bank .answer
+
+abbrev pub wavetableNextOf : WavetableControls → List Float → Wavetable → Wavetable
+wavetableNextOf c bank s = wavetableTickOf s c bank .wavetable
+
+unfoldable pub wavetableBlockOf : Wavetable → WavetableControls → Tally → List Float → List Float → List ℕ → Block Wavetable
+wavetableBlockOf s c t bank o m = blockOf 1 (wavetableTickRefusalOf s (length bank)) (wavetableAnswerOf c bank) (wavetableNextOf c bank) s t o m
 
 -- s, unless n refuses
 unfoldable pub madeUnless : ℕ → Wavetable → WavetableMade

@@ -3,15 +3,22 @@
 pub mod bank;
 
 use answer::Answer;
+use answer::Tally;
 use answer::Volts;
 use common::Hertz;
 use common::Memo1;
 use common::Turns;
 use common::VoltsPerOctave;
 ghost use mathlib.Core.Path.{_≡_};
-ghost use Prim.Native.Nat.{_≤_, _<_, min};
+ghost use mathlib.Core.Bool.{true, false};
+ghost use Prim.Native.Nat.{_≤_, _<_, _*_, min};
 ghost use lib.Ieee.{binary64, sub, div};
-ghost use lib.ListN.{length};
+ghost use lib.ListN.{length, set};
+ghost use lib.Seq.{sets};
+ghost use Rattle.laws.specs.Lists.{tab};
+ghost use Rattle.answer.specs.Answer.{markNumber, voltsOf};
+ghost use Rattle.answer.specs.Mark.{markOf};
+ghost use Rattle.answer.specs.Block.{afterTicks, portsOf, joined, block, markAt, frameAt};
 ghost use Rattle.common.specs.Consts.{gateThreshold};
 ghost use Rattle.common.specs.Edge.{risesAbove};
 ghost use Rattle.common.specs.Phase.{turns};
@@ -19,8 +26,9 @@ ghost use Rattle.numeric.specs.Basic.{wholeOf, realOf};
 ghost use Rattle.numeric.specs.Floor.{floorOf};
 ghost use Rattle.wavetable.specs.Harmonics.{maxHarmonic};
 ghost use Rattle.wavetable.specs.Levels.{levelWithin};
-ghost use Rattle.wavetable.specs.Reads.{allowedOf, startOf, between, restartOf, tablePosOf, tableIndexOf, blendOf, mixOf};
-ghost use Rattle.wavetable.specs.Wavetable.{wavetableRefusalOf, wavetableTickRefusalOf, wavetableNewOf, wavetableSoundOf, wavetableTickOf, wavetableResetOf, wavetableSetSampleRateOf};
+ghost use Rattle.wavetable.specs.Reads.{allowedOf, startOf, between, restartOf, tablePosOf, tableIndexOf, blendOf};
+ghost use Rattle.wavetable.specs.Held.{PairFits, pairOf, mixAt, heldAnswer, heldNext};
+ghost use Rattle.wavetable.specs.Wavetable.{wavetableRefusalOf, wavetableTickRefusalOf, wavetableNewOf, outVolts, wavetableSoundOf, wavetableTickOf, wavetableAnswerOf, wavetableNextOf, wavetableBlockOf, wavetableResetOf, wavetableSetSampleRateOf};
 
 pub struct Wavetable {
     pub phase: Turns,
@@ -42,9 +50,23 @@ pub struct WavetableTicked {
     pub wavetable: Wavetable,
 }
 
+// What a block leaves beside its samples and marks: `refused` is 0, or the number that refused it.
+pub struct WavetableBlock {
+    pub refused: u32,
+    pub wavetable: Wavetable,
+    pub tally: Tally,
+}
+
 pub enum WavetableMade {
     Made(Wavetable),
     Refused(u32),
+}
+
+// What is read of the bank: where the levels of two neighbouring tables begin, and how much of the upper one is heard.
+struct Pair {
+    first0: usize,
+    first1: usize,
+    blend: f64,
 }
 
 // Numbers in a bank: 8 tables, each of 8 levels, each of 256 numbers.
@@ -172,21 +194,58 @@ fn blended(pos: f64, index: usize, morph: f64) -> f64
     numeric::min(frac + numeric::clamp(morph, 0.0, 1.0), 1.0)
 }
 
-// The sample in volts: both tables at their levels, blended. What the two reads share is worked out once.
-fn mix(bank: &[f64], index: usize, blend: f64, phase_inc: Turns, phase: Turns) -> f64
-    requires { ⌜ (length (now bank) ≡ 16384) × (index ≤ 6) ⌝ }
-    ensures { λ r. ⌜ r ≡ mixOf (now (bank .entry)) index blend («phase_inc» .0) (phase .0) ⌝ }
+// The tables that the controls ask for, at the levels that the pitch allows.
+fn choose(table: f64, morph: f64, phase_inc: Turns) -> Pair
+    ensures { λ r. ⌜ r ≡ pairOf table morph («phase_inc» .0) ⌝ }
 {
+    let pos = table_pos(table);
+    let index = table_index(pos);
     let most = allowed(phase_inc);
     let first0 = start(index, select_level(index, most));
     let first1 = start(index + 1, select_level(index + 1, most));
+    Pair {
+        first0,
+        first1,
+        blend: blended(pos, index, morph),
+    }
+}
+
+// The sample in volts: both tables at their levels, blended. What the two reads share is worked out once.
+fn mix(bank: &[f64], pair: Pair, phase: Turns) -> f64
+    requires { ⌜ (length (now bank) ≡ 16384) × PairFits pair ⌝ }
+    ensures { λ r. ⌜ r ≡ mixAt (now (bank .entry)) pair (phase .0) ⌝ }
+{
+    let blend = pair.blend;
     let pos = phase.0 * 256.0;
     let whole = numeric::to_usize(pos);
     let idx0 = whole % 256;
     let frac = fraction(pos, whole);
-    let sample0 = read_table(bank, first0, idx0, frac);
-    let sample1 = read_table(bank, first1, idx0, frac);
+    let sample0 = read_table(bank, pair.first0, idx0, frac);
+    let sample1 = read_table(bank, pair.first1, idx0, frac);
     (sample0 * (1.0 - blend) + sample1 * blend) * 5.0
+}
+
+// The mark of a sample; `phases`: the phase plus its increment is finite.
+fn mark(out: f64, phases: bool) -> Answer
+    ensures { λ r. ⌜ r ≡ markOf (outVolts out) false true phases ⌝ }
+{
+    let volts = Volts {
+        p10: out,
+        p11: 0.0,
+        p12: 0.0,
+        p13: 0.0,
+        p14: 0.0,
+    };
+    answer::mark(volts, false, true, phases)
+}
+
+// What tick i of a block answers.
+fn put(a: Answer, i: usize, samples: &mut [f64], marks: &mut [u32])
+    requires { ⌜ (i < length (now marks)) × (length (now samples) ≡ 1 * length (now marks)) ⌝ }
+    ensures { λ _. ⌜ (now (samples .exit) ≡ sets (now (samples .entry)) (1 * i) (portsOf 1 (voltsOf a))) × (now (marks .exit) ≡ set (now (marks .entry)) i (markNumber a)) ⌝ }
+{
+    samples[i] = answer::samples(a).p10;
+    marks[i] = answer::mark_number(a);
 }
 
 impl Wavetable {
@@ -243,20 +302,10 @@ impl Wavetable {
         let freq_memo = memo.voct_to_hz(v_oct);
         let freq = freq_memo.val;
         let phase_inc = increment(freq, sample_rate);
-        let pos = table_pos(c.table);
-        let index = table_index(pos);
-        let blend = blended(pos, index, c.morph);
-        let out = mix(bank, index, blend, phase_inc, phase);
-        let volts = Volts {
-            p10: out,
-            p11: 0.0,
-            p12: 0.0,
-            p13: 0.0,
-            p14: 0.0,
-        };
+        let out = mix(bank, choose(c.table, c.morph, phase_inc), phase);
         let next = Turns(phase.0 + phase_inc.0);
         WavetableTicked {
-            answer: answer::mark(volts, false, true, numeric::is_finite(next.0)),
+            answer: mark(out, numeric::is_finite(next.0)),
             wavetable: Wavetable {
                 phase: common::wrap_phase(next),
                 prev_sync: c.sync,
@@ -276,6 +325,94 @@ impl Wavetable {
             WavetableTicked {
                 answer: Answer::Refused(n),
                 wavetable: self,
+            }
+        }
+    }
+
+    // Ticks in which no edge is taken and the memo holds: only the phase moves.
+    fn glide(
+        pair: Pair,
+        first: Turns,
+        step: Turns,
+        bank: &[f64],
+        samples: &mut [f64],
+        marks: &mut [u32],
+    ) -> Turns
+        requires { ⌜ (length (now bank) ≡ 16384) × PairFits pair × (length (now samples) ≡ 1 * length (now marks)) ⌝ }
+        ensures { λ r. ⌜ r ≡ afterTicks (heldNext step) (length (now (marks .entry))) first ⌝ }
+        ensures { λ r. ⌜ now (samples .exit) ≡ joined (frameAt 1 (heldAnswer (now (bank .entry)) pair step) (heldNext step) first) (length (now (marks .entry))) ⌝ }
+        ensures { λ r. ⌜ now (marks .exit) ≡ tab (markAt (heldAnswer (now (bank .entry)) pair step) (heldNext step) first) (length (now (marks .entry))) ⌝ }
+    {
+        let mut phase = first;
+        let mut i = 0;
+        while i < marks.len() {
+            let next = Turns(phase.0 + step.0);
+            let heard = mark(mix(bank, pair, phase), numeric::is_finite(next.0));
+            put(heard, i, &mut *samples, &mut *marks);
+            phase = common::wrap_phase(next);
+            i += 1;
+        }
+        phase
+    }
+
+    // The ticks of a block. Only the first can take the edge, and the memo holds from then on.
+    fn run(self, c: WavetableControls, bank: &[f64], samples: &mut [f64], marks: &mut [u32]) -> Self
+        requires { ⌜ (wavetableTickRefusalOf self (length (now bank)) ≡ 0) × (0 < length (now marks)) × (length (now samples) ≡ 1 * length (now marks)) ⌝ }
+        ensures { λ r. ⌜ r ≡ afterTicks (wavetableNextOf c (now (bank .entry))) (length (now (marks .entry))) self ⌝ }
+        ensures { λ r. ⌜ now (samples .exit) ≡ joined (frameAt 1 (wavetableAnswerOf c (now (bank .entry))) (wavetableNextOf c (now (bank .entry))) self) (length (now (marks .entry))) ⌝ }
+        ensures { λ r. ⌜ now (marks .exit) ≡ tab (markAt (wavetableAnswerOf c (now (bank .entry))) (wavetableNextOf c (now (bank .entry))) self) (length (now (marks .entry))) ⌝ }
+    {
+        let old = self.phase;
+        let sample_rate = self.sample_rate;
+        let memo = self.freq_memo;
+        let v_oct = c.v_oct;
+        let first = restart(old, synced(self.prev_sync, c.sync));
+        let freq_memo = memo.voct_to_hz(v_oct);
+        let freq = freq_memo.val;
+        let step = increment(freq, sample_rate);
+        let pair = choose(c.table, c.morph, step);
+        Wavetable {
+            phase: Self::glide(pair, first, step, bank, samples, marks),
+            prev_sync: c.sync,
+            sample_rate,
+            freq_memo,
+        }
+    }
+
+    // As many ticks with these controls as there are marks. Their samples come one tick after another.
+    pub fn block(
+        self,
+        c: WavetableControls,
+        tally: Tally,
+        bank: &[f64],
+        samples: &mut [f64],
+        marks: &mut [u32],
+    ) -> WavetableBlock
+        ensures { λ r. ⌜ block (r .refused) (r .wavetable) (r .tally) (now (samples .exit)) (now (marks .exit)) ≡ wavetableBlockOf self c tally (now (bank .entry)) (now (samples .entry)) (now (marks .entry)) ⌝ }
+    {
+        let n = marks.len();
+        let number = self.tick_refusal(bank.len());
+        let refused = answer::block_refusal(samples.len() == n, number, tally, n);
+        if refused == 0 {
+            if n == 0 {
+                WavetableBlock {
+                    refused: 0,
+                    wavetable: self,
+                    tally,
+                }
+            } else {
+                let wavetable = self.run(c, bank, samples, marks);
+                WavetableBlock {
+                    refused: 0,
+                    wavetable,
+                    tally: tally.take_marks(marks),
+                }
+            }
+        } else {
+            WavetableBlock {
+                refused,
+                wavetable: self,
+                tally,
             }
         }
     }

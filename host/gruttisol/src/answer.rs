@@ -15,6 +15,10 @@ impl fmt::Display for Refused {
             5 => "too few draws for a trigger",
             6 => "a draw isn't below 2^53",
             7 => "the tally's counts don't add up, or it is full",
+            20 => "the score has more than 1,024 bytes",
+            21 => "a line of the score is wrong, missing or one too many, or its oscillator isn't known",
+            22 => "a number of the score isn't written as one",
+            23 => "a number of the score is out of its range",
             _ => "a slice of another length than the boundary takes",
         };
         write!(f, "refused by {}: {why}", self.0)

@@ -57,6 +57,8 @@ lent! {
     fn karplus_strong_set_sample_rate(sample_rate: f64; floats: mut f64, wholes: mut u64, line: mut f64);
 
     fn tally_take(code: u32; counts: mut u32);
+
+    fn score_read(; text: const u8, floats: mut f64, wholes: mut u64);
 }
 
 /// An oscillator whose state alone is lent to making, reset and rate change.
@@ -109,9 +111,12 @@ mod tests {
     const NO_RATE: f64 = 0.0;
 
     /// Makes a call with slices of many lengths: by its first wrong length it is refused, by 50, 51 or 52, and where all
-    /// are right by 1, since neither the state's rate nor one that is given is a rate. Not a bit may change. A call
-    /// without samples says that it takes none.
-    fn refuses([floats, wholes, samples]: [usize; 3], call: impl Fn(&mut [f64], &mut [u64], &mut [f64]) -> u32) {
+    /// are right by `last`. Not a bit may change. A call without samples says that it takes none.
+    fn refuses_by(
+        last: u32,
+        [floats, wholes, samples]: [usize; 3],
+        call: impl Fn(&mut [f64], &mut [u64], &mut [f64]) -> u32,
+    ) {
         let lengths = |right: usize| if right == 0 { vec![0] } else { vec![0, right - 1, right, right + 1, 64] };
         for f in lengths(floats) {
             for w in lengths(wholes) {
@@ -121,7 +126,7 @@ mod tests {
                         (false, _, _) => 50,
                         (_, false, _) => 51,
                         (_, _, false) => 52,
-                        _ => 1,
+                        _ => last,
                     };
                     assert_eq!(call(&mut lent.0, &mut lent.1, &mut lent.2), number, "of {f}, {w} and {s}");
                     assert!(lent.0.iter().all(|x| x.to_bits() == UNTOUCHED));
@@ -130,6 +135,11 @@ mod tests {
                 }
             }
         }
+    }
+
+    /// A call that is refused by 1, since neither the state's rate nor one that is given is a rate.
+    fn refuses(lengths: [usize; 3], call: impl Fn(&mut [f64], &mut [u64], &mut [f64]) -> u32) {
+        refuses_by(1, lengths, call);
     }
 
     #[test]
@@ -187,5 +197,30 @@ mod tests {
             assert_eq!(tally_take(14, &mut counts), 53);
             assert!(counts.iter().all(|&count| count == 0));
         }
+    }
+
+    #[test]
+    fn score() {
+        let texts = [
+            (20, "x".repeat(1025)),
+            (21, "osc=\n".into()),
+            (22, "osc=lfo\nhz=x\n".into()),
+            (23, "osc=lfo\nhz=1\n".into()),
+        ];
+        for (number, text) in texts {
+            refuses_by(number, [5, 3, 0], |f, w, _| score_read(text.as_bytes(), f, w));
+        }
+    }
+
+    /// Cells past the last input are written too.
+    #[test]
+    fn score_that_is_read() {
+        let (mut floats, mut wholes) = ([f64::NAN; 5], [UNTOUCHED; 3]);
+        let text = b"osc=lfo\nhz=48000\nframes=7\nrate=500000\ndepth=-1\nreset=nan\n";
+        assert_eq!(score_read(text, &mut floats, &mut wholes), 0);
+        assert!(floats[2].is_nan());
+        floats[2] = 1.0;
+        assert_eq!(floats.map(f64::to_bits), [0.5, -1e-6, 1.0, 0.0, 0.0].map(f64::to_bits));
+        assert_eq!(wholes, [1, 48000, 7]);
     }
 }

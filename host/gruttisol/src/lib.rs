@@ -14,6 +14,7 @@ pub mod formant_osc;
 pub mod karplus_strong;
 pub mod lfo;
 pub mod numeric;
+pub mod score;
 pub mod supersaw;
 pub mod tally;
 pub mod vco;

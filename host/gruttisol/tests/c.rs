@@ -26,6 +26,8 @@ fn the_example_shows_what_is_finished() {
         String::from_utf8(ran.stdout).unwrap(),
         "begun=480 finished=480 cleared=0 notfinite=0 lost=0 claimed=yes\n\
          begun=480 finished=0 cleared=0 notfinite=480 lost=0 claimed=no\n\
-         a rate of 999.5 Hz: refused=1\n"
+         a rate of 999.5 Hz: refused=1\n\
+         a score: lfo, 48000 Hz, frames=480, first input 0.5 V\n\
+         a score: refused=21\n"
     );
 }

@@ -6,6 +6,8 @@
 pub mod score;
 
 #[cfg(quiver)]
+pub mod fuzz;
+#[cfg(quiver)]
 mod play;
 #[cfg(quiver)]
 pub mod scores;

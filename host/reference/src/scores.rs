@@ -1,4 +1,4 @@
-//! Scores drawn from a seed: good ones, and damaged ones.
+//! Scores drawn from a seed: good ones, damaged ones, and texts that are hardly scores.
 use crate::score::{ALL, LARGEST, LIMIT};
 use compare::draw::Draw;
 use std::fmt::Write;
@@ -104,4 +104,102 @@ fn lines(text: &mut Vec<u8>, draw: &mut Draw) {
         }
     }
     *text = lines.concat();
+}
+
+/// Any text: a good score, a damaged one, one with odd numbers, one that is changed as a whole, or bytes that are no score.
+pub fn any(draw: &mut Draw) -> Vec<u8> {
+    match draw.below(16) {
+        0 | 1 => of_any_frames(draw),
+        2..=5 => damaged(draw),
+        6..=11 => renumbered(draw),
+        12..=14 => reshaped(draw),
+        _ => noise(draw),
+    }
+}
+
+fn of_any_frames(draw: &mut Draw) -> Vec<u8> {
+    let frames = whole(draw, 1, 480_000);
+    of_frames(frames, draw)
+}
+
+/// A score with one or two other values.
+fn renumbered(draw: &mut Draw) -> Vec<u8> {
+    let mut text = of_any_frames(draw);
+    for _ in 0..=draw.below(2) {
+        let equals: Vec<usize> = (0..text.len()).filter(|&i| text[i] == b'=').collect();
+        let start = draw.of(&equals) + 1;
+        let end = start + text[start..].iter().position(|&byte| byte == b'\n').unwrap_or(0);
+        text.splice(start..end, odd_number(draw));
+    }
+    text
+}
+
+/// A number at an end of a range, of 12 digits or of a machine's word, or one beside it, or any; mostly as a score writes it, else
+/// with signs, zeros or bytes that don't belong to it.
+fn odd_number(draw: &mut Draw) -> Vec<u8> {
+    const ENDS: [u64; 10] =
+        [0, 1, 1000, 192_000, 480_000, LARGEST as u64, 1_000_000_000_000, 1 << 31, 1 << 32, 1 << 63];
+    let size = match draw.below(5) {
+        0 => draw.bits() >> draw.below(64),
+        _ => draw.of(&ENDS).wrapping_add(draw.below(3)).wrapping_sub(1),
+    };
+    let before: &[u8] = match draw.below(8) {
+        0 | 1 => b"-",
+        2 => draw.of(&[b"+".as_slice(), b"--", b"-+", b"0", b"00", b"-0", b" ", b"\0", b"\xef\xbb\xbf"]),
+        _ => b"",
+    };
+    let after: &[u8] = match draw.below(16) {
+        0 => draw.of(&[b"\r".as_slice(), b" ", b"\0", b"\x80", b".0", b"e3", b"=", b"-", b"nan"]),
+        _ => b"",
+    };
+    [before, size.to_string().as_bytes(), after].concat()
+}
+
+/// A score whose lines, line ends, names or length are changed as a whole.
+fn reshaped(draw: &mut Draw) -> Vec<u8> {
+    let mut text = of_any_frames(draw);
+    let replaced = |text: &[u8], old: u8, new: &[u8]| -> Vec<u8> {
+        text.iter().flat_map(|&byte| if byte == old { new.to_vec() } else { vec![byte] }).collect()
+    };
+    match draw.below(9) {
+        0 => text = replaced(&text, b'\n', draw.of(&[b"\r\n".as_slice(), b"\n\n", b"\r", b" \n", b"\n\0", b"\0\n"])),
+        1 => text = replaced(&text, b'=', draw.of(&[b"==".as_slice(), b" =", b"= ", b":", b""])),
+        2 => drop(text.pop()),
+        3 => text.make_ascii_uppercase(),
+        4 => text.extend(of_any_frames(draw)),
+        5 => {
+            // another oscillator's name over these inputs
+            let end = text.iter().position(|&byte| byte == b'\n').unwrap();
+            let name = ALL[draw.below(4) as usize].name;
+            text.splice(4..end, name.bytes());
+        }
+        6 => {
+            // bytes put in somewhere, from a few short of the limit to a few beyond it
+            let length = LIMIT - 4 + draw.below(9) as usize;
+            let at = draw.below(text.len() as u64 + 1) as usize;
+            let byte = draw.of(b"0 \n=x\0\xff");
+            text.splice(at..at, vec![byte; length - text.len()]);
+        }
+        7 => {
+            let mut lines: Vec<&[u8]> = text.split_inclusive(|&byte| byte == b'\n').collect();
+            let first = draw.below(lines.len() as u64) as usize;
+            lines.rotate_left(first);
+            text = lines.concat();
+        }
+        _ => text.clear(),
+    }
+    text
+}
+
+/// Any bytes, or letters of scores, up to the limit or a few beyond it.
+fn noise(draw: &mut Draw) -> Vec<u8> {
+    let length = match draw.below(4) {
+        0 => LIMIT as u64 - 4 + draw.below(9),
+        1 => draw.below(1100),
+        _ => draw.below(64),
+    };
+    let letters = draw.one_in(2);
+    let byte =
+        |draw: &mut Draw| if letters { draw.of(b"osc=vco\nhz=48000\nframes=1\nnan-0") } else { draw.bits() as u8 };
+    (0..length).map(|_| byte(draw)).collect()
 }

@@ -14,7 +14,7 @@ use Rattle.answer.proofs.Blocks.{five-ports, joined-none, frames-more, frames-d
 use Rattle.common.specs.Tests.{phaseOk}
 use Rattle.common.proofs.PhaseLaws.{wrap-in}
 use Rattle.lfo.specs.Held.{heldAnswer, heldNext}
-use Rattle.lfo.proofs.Held.{heard, moved}
+use Rattle.lfo.proofs.Blocks.{heard, moved}
 use Rattle.lfo.proofs.Small.{outputs-finite}
 use Rattle.lfo.proofs.Lfo.glide.Statement.{statement}
 use Rattle.lfo.proofs.Lfo.glide.Tie as tie

@@ -1,55 +1,70 @@
+use native.Mathlib.Omega.{arith}
+use Rattle.laws.specs.Lists.{tab}
+use Rattle.answer.specs.Block.{afterTicks, answerAt, joined, portsOf}
+use Rattle.lfo.proofs.Blocks.{start-ok, state-after, frames-after, marks-after, one-tick}
 use borrow.Author.Needs.{needs}
-use Rattle.lfo.proofs.Accepted.{sound-finite}
-use Rattle.lfo.specs.Lfo.{lfoSoundOf}
 use Rattle.lfo.proofs.Lfo.sound.Statement.{statement}
 use Rattle.lfo.proofs.Lfo.sound.Tie as tie
 
-recall-requires : tie.Need-recall-requires
-recall-requires c κs = search needs
+held-requires : tie.Need-held-requires
+held-requires c κs = search needs
 
-rising-requires : tie.Need-rising-requires
-rising-requires c κs = search needs
+slice-aggregate-glide : tie.Need-slice-aggregate-glide
+slice-aggregate-glide c = search needs
 
-restart-requires : tie.Need-restart-requires
-restart-requires c κs = search needs
+slice-aggregate-glide-2 : tie.Need-slice-aggregate-glide-2
+slice-aggregate-glide-2 c = search needs
 
-shared-sine-requires : tie.Need-shared-sine-requires
-shared-sine-requires c κs = search needs
+glide-requires : tie.Need-glide-requires
+glide-requires c κs = (rw (c .before .before .before .before .before .held .ensures) (start-ok _ _ (c .before .before .before .before .before .before .pre)), omega arith)
 
-outputs-requires : tie.Need-outputs-requires
-outputs-requires c κs = c .shared-sine .ensures
+array-read-t11 : tie.Need-array-read-t11
+array-read-t11 c = search needs
 
-increment-requires : tie.Need-increment-requires
-increment-requires c κs = search needs
+array-read-t20 : tie.Need-array-read-t20
+array-read-t20 c = search needs
 
-is-small-requires : tie.Need-is-small-requires
-is-small-requires c κs = search needs
+array-read-t23 : tie.Need-array-read-t23
+array-read-t23 c = search needs
 
-is-finite-requires : tie.Need-is-finite-requires
-is-finite-requires c κs = search needs
+array-read-t26 : tie.Need-array-read-t26
+array-read-t26 c = search needs
 
-mark-requires : tie.Need-mark-requires
-mark-requires c κs = sound-finite _ _ _ _ _ _ _ (c .before .before .before .before .before .before .before .before .before .before .before .before .before .before .before .before .before .pre) (c .before .before .before .before .before .before .before .restart .ensures) (c .before .before .before .before .before .outputs .ensures) (c .before .is-small .ensures)
+array-read-t29 : tie.Need-array-read-t29
+array-read-t29 c = search needs
 
-wrap-phase-requires : tie.Need-wrap-phase-requires
-wrap-phase-requires c κs = search needs
+array-read-answer-of : tie.Need-array-read-answer-of
+array-read-answer-of c = search needs
+
+answer-of-requires : tie.Need-answer-of-requires
+answer-of-requires c κs = search needs
+
+at-requires : tie.Need-at-requires
+at-requires c κs = search needs
 
 returns : tie.Need-returns
-unfolding lfoSoundOf
-returns c = simp (c .wrap-phase .ensures, c .before .mark .ensures, c .before .before .is-finite .ensures, c .before .before .before .before .before .before .increment .ensures, c .before .before .before .before .before .before .before .outputs .ensures, c .before .before .before .before .before .before .before .before .before .restart .ensures, c .before .before .before .before .before .before .before .before .before .before .before .rising .ensures, c .before .before .before .before .before .before .before .before .before .before .before .before .before .recall .ensures)
+unfolding afterTicks answerAt joined portsOf tab
+returns c =
+    let a = c .before .before .before .before .before .before .before .before .before .before .before .args in
+    let p = c .before .before .before .before .before .before .before .before .before .before .before .pre in
+    let e = c .before .before .before .before .before .before .before .before .before .before .held .ensures in
+    let g = c .before .before .before .before .glide .ensures in
+    simp (c .at .ensures, c .before .answer-of .ensures, state-after (a .self) (a .c) (a .wanted) p _ e 1 (omega arith) _ (g .0), frames-after (a .self) (a .c) (a .wanted) p _ e 1 _ (g .1 .0), marks-after (a .self) (a .c) (a .wanted) p _ e 1 _ (g .1 .1)) (one-tick (a .self) (a .c) (a .wanted) p)
 
 pub sound-spec : {M : Type 1} → statement M
 sound-spec =
     tie.close
     (tie.spec
-    recall-requires
-    rising-requires
-    restart-requires
-    shared-sine-requires
-    outputs-requires
-    increment-requires
-    is-small-requires
-    is-finite-requires
-    mark-requires
-    wrap-phase-requires
+    held-requires
+    slice-aggregate-glide
+    slice-aggregate-glide-2
+    glide-requires
+    array-read-t11
+    array-read-t20
+    array-read-t23
+    array-read-t26
+    array-read-t29
+    array-read-answer-of
+    answer-of-requires
+    at-requires
     returns)

@@ -1,7 +1,7 @@
-use borrow.Author.Tests.{ne-eqb}
-use Rattle.supersaw.proofs.LaneLaws.{tick-glides, tick-sounds}
-use Rattle.supersaw.specs.Supersaw.{supersawTickOf}
 use borrow.Author.Needs.{needs}
+use borrow.Author.Tests.{ne-eqb}
+use Rattle.supersaw.proofs.LaneLaws.{tick-ramps, tick-steps}
+use Rattle.supersaw.specs.Supersaw.{supersawTickOf}
 use Rattle.supersaw.proofs.Supersaw.tick.Statement.{statement}
 use Rattle.supersaw.proofs.Supersaw.tick.Tie as tie
 
@@ -23,20 +23,26 @@ increments-requires c κs = search needs
 quiet-requires : tie.Need-quiet-requires
 quiet-requires c κs = search needs
 
-glide-requires : tie.Need-glide-requires
-glide-requires c κs = search needs
+ramped-requires : tie.Need-ramped-requires
+ramped-requires c κs = search needs
+
+ticked-requires : tie.Need-ticked-requires
+ticked-requires c κs = search needs
 
 refusal-requires : tie.Need-refusal-requires
 refusal-requires c κs = search needs
 
-sound-requires : tie.Need-sound-requires
-sound-requires c κs = search needs
+stepped-requires : tie.Need-stepped-requires
+stepped-requires c κs = search needs
+
+ticked-requires-2 : tie.Need-ticked-requires-2
+ticked-requires-2 c κs = search needs
 
 returns : tie.Need-returns
-returns c = tick-glides (c .before .before .before .before .before .before .before .before .before .before .before .before .before .args .self) (c .before .before .before .before .before .before .before .before .before .before .before .before .before .args .c) _ _ _ _ _ (c .before .before .before .before .before .before .before .before .clamp .ensures) (c .before .before .before .before .before .before .before .clamp2 .ensures) (c .before .before .before .before .before .before .voct-to-hz .ensures) (c .before .before .before .before .lanes .ensures) (c .before .before .before .increments .ensures) _ _ (c .before .before .quiet .ensures) (c .before .if1 .taken) (c .glide .ensures)
+returns c = tick-ramps (c .before .before .before .before .before .before .before .before .before .before .before .before .before .before .args .self) (c .before .before .before .before .before .before .before .before .before .before .before .before .before .before .args .c) _ _ _ _ _ (c .before .before .before .before .before .before .before .before .before .clamp .ensures) (c .before .before .before .before .before .before .before .before .clamp2 .ensures) (c .before .before .before .before .before .before .before .voct-to-hz .ensures) (c .before .before .before .before .before .lanes .ensures) (c .before .before .before .before .increments .ensures) _ _ _ (c .before .before .before .quiet .ensures) (c .before .before .if1 .taken) (c .before .ramped .ensures) (c .ticked .ensures)
 
 returns-2 : tie.Need-returns-2
-returns-2 c = tick-sounds (c .before .before .before .before .before .before .before .before .before .before .before .before .before .before .before .args .self) (c .before .before .before .before .before .before .before .before .before .before .before .before .before .before .before .args .c) _ _ _ _ _ (c .before .before .before .before .before .before .before .before .before .before .clamp .ensures) (c .before .before .before .before .before .before .before .before .before .clamp2 .ensures) (c .before .before .before .before .before .before .before .before .voct-to-hz .ensures) (c .before .before .before .before .before .before .lanes .ensures) (c .before .before .before .before .before .increments .ensures) _ _ (c .before .before .refusal .ensures) (c .before .if2 .taken) (c .sound .ensures)
+returns-2 c = tick-steps (c .before .before .before .before .before .before .before .before .before .before .before .before .before .before .before .before .args .self) (c .before .before .before .before .before .before .before .before .before .before .before .before .before .before .before .before .args .c) _ _ _ _ _ (c .before .before .before .before .before .before .before .before .before .before .before .clamp .ensures) (c .before .before .before .before .before .before .before .before .before .before .clamp2 .ensures) (c .before .before .before .before .before .before .before .before .before .voct-to-hz .ensures) (c .before .before .before .before .before .before .before .lanes .ensures) (c .before .before .before .before .before .before .increments .ensures) _ _ _ (c .before .before .before .refusal .ensures) (c .before .before .if2 .taken) (c .before .stepped .ensures) (c .ticked2 .ensures)
 
 returns-3 : tie.Need-returns-3
 unfolding supersawTickOf
@@ -52,9 +58,11 @@ tick-spec =
     lanes-requires
     increments-requires
     quiet-requires
-    glide-requires
+    ramped-requires
+    ticked-requires
     refusal-requires
-    sound-requires
+    stepped-requires
+    ticked-requires-2
     returns
     returns-2
     returns-3)

@@ -1,5 +1,6 @@
 use borrow.Author.Needs.{needs}
-use Rattle.wavetable.proofs.Accepted.{index-few}
+use Rattle.wavetable.proofs.Accepted.{pair-fits}
+use Rattle.wavetable.proofs.Held.{mix-pair}
 use Rattle.wavetable.specs.Wavetable.{wavetableSoundOf}
 use Rattle.wavetable.proofs.Wavetable.sound.Statement.{statement}
 use Rattle.wavetable.proofs.Wavetable.sound.Tie as tie
@@ -16,17 +17,11 @@ voct-to-hz-requires c κs = search needs
 increment-requires : tie.Need-increment-requires
 increment-requires c κs = search needs
 
-table-pos-requires : tie.Need-table-pos-requires
-table-pos-requires c κs = search needs
-
-table-index-requires : tie.Need-table-index-requires
-table-index-requires c κs = search needs
-
-blended-requires : tie.Need-blended-requires
-blended-requires c κs = search needs
+choose-requires : tie.Need-choose-requires
+choose-requires c κs = search needs
 
 mix-requires : tie.Need-mix-requires
-mix-requires c κs = (c .before .before .before .before .before .before .before .before .before .before .before .before .before .pre, index-few _ _ (c .before .table-index .ensures))
+mix-requires c κs = (c .before .before .before .before .before .before .before .before .before .before .before .pre, pair-fits _ _ _ _ (c .choose .ensures))
 
 is-finite-requires : tie.Need-is-finite-requires
 is-finite-requires c κs = search needs
@@ -39,7 +34,19 @@ wrap-phase-requires c κs = search needs
 
 returns : tie.Need-returns
 unfolding wavetableSoundOf
-returns c = simp (c .wrap-phase .ensures, c .before .mark .ensures, c .before .before .is-finite .ensures, c .before .before .before .before .before .mix .ensures, c .before .before .before .before .before .before .blended .ensures, c .before .before .before .before .before .before .before .table-index .ensures, c .before .before .before .before .before .before .before .before .table-pos .ensures, c .before .before .before .before .before .before .before .before .before .increment .ensures, c .before .before .before .before .before .before .before .before .before .before .before .voct-to-hz .ensures, c .before .before .before .before .before .before .before .before .before .before .before .before .restart .ensures, c .before .before .before .before .before .before .before .before .before .before .before .before .before .synced .ensures)
+returns c = simp (c .wrap-phase .ensures, c .before .mark .ensures, c .before .before .is-finite .ensures, c .before .before .before .before .before .mix .ensures, c .before .before .before .before .before .before .choose .ensures, c .before .before .before .before .before .before .before .increment .ensures, c .before .before .before .before .before .before .before .before .before .voct-to-hz .ensures, c .before .before .before .before .before .before .before .before .before .before .restart .ensures, c .before .before .before .before .before .before .before .before .before .before .before .synced .ensures, mix-pair)
 
 pub sound-spec : {M : Type 1} → statement M
-sound-spec = tie.close (tie.spec synced-requires restart-requires voct-to-hz-requires increment-requires table-pos-requires table-index-requires blended-requires mix-requires is-finite-requires mark-requires wrap-phase-requires returns)
+sound-spec =
+    tie.close
+    (tie.spec
+    synced-requires
+    restart-requires
+    voct-to-hz-requires
+    increment-requires
+    choose-requires
+    mix-requires
+    is-finite-requires
+    mark-requires
+    wrap-phase-requires
+    returns)

@@ -1,0 +1,65 @@
+use native.Mathlib.Numerals.{add-one}
+use native.Mathlib.Omega.{arith}
+use lib.ListN.{length-set}
+use borrow.Author.Needs.{needs}
+use Rattle.answer.specs.Block.{portsOf}
+use Rattle.supersaw.proofs.put.Statement.{statement}
+use Rattle.supersaw.proofs.put.Tie as tie
+
+samples-requires : tie.Need-samples-requires
+samples-requires c κs = search needs
+
+mul-at : tie.Need-mul-at
+mul-at c = search needs
+
+mul-samples : tie.Need-mul-samples
+mul-samples c = search needs
+
+slice-write-samples : tie.Need-slice-write-samples
+slice-write-samples c = search needs
+
+add-samples : tie.Need-add-samples
+add-samples c = search needs
+
+mul-samples-2 : tie.Need-mul-samples-2
+mul-samples-2 c = search needs
+
+slice-write-samples-2 : tie.Need-slice-write-samples-2
+slice-write-samples-2 c = simp length-set (omega arith)
+
+mark-number-requires : tie.Need-mark-number-requires
+mark-number-requires c κs = search needs
+
+mul-marks : tie.Need-mul-marks
+mul-marks c = search needs
+
+slice-write-marks : tie.Need-slice-write-marks
+slice-write-marks c = search needs
+
+same-length : tie.Need-same-length
+same-length c = search needs
+
+same-length-2 : tie.Need-same-length-2
+same-length-2 c = search needs
+
+returns : tie.Need-returns
+unfolding portsOf
+returns c = (simp (c .before .samples .ensures, add-one), simp (c .mark-number .ensures))
+
+pub put-spec : {M : Type 1} → statement M
+put-spec =
+    tie.close
+    (tie.spec
+    samples-requires
+    mul-at
+    mul-samples
+    slice-write-samples
+    add-samples
+    mul-samples-2
+    slice-write-samples-2
+    mark-number-requires
+    mul-marks
+    slice-write-marks
+    same-length
+    same-length-2
+    returns)
