@@ -8,7 +8,7 @@ use borrow.Author.Tests.{eqb-true}
 use Rattle.answer.specs.Answer.{markNumber}
 use Rattle.answer.specs.declared.Answer.{Answer}
 use Rattle.answer.specs.declared.Answer.the-variants as answer
-use Rattle.exports_formant_osc.specs.State.{sizesOf, tickSizesOf}
+use Rattle.exports_formant_osc.specs.State.{sizesOf, tickSizesOf, blockSizesOf}
 use Rattle.laws.proofs.Tests.{eqb-yes}
 
 pub sized : (f w : ℕ) → sizesOf f w ≡ 0 → (f ≡ 29) × (w ≡ 6)
@@ -26,6 +26,15 @@ tick-sized f w o = go (eqb (sizesOf f w) 0) (eqb o 1) refl refl
   where
     go : (a b : Bool) → eqb (sizesOf f w) 0 ≡ a → eqb o 1 ≡ b → _≡_ {A = ℕ} (cond a (cond b 0 52) (sizesOf f w)) 0 → (f ≡ 29) × (w ≡ 6) × (o ≡ 1)
     go true true p q h = let z = sized f w (eqb-true (sizesOf f w) 0 p) in (z .0, z .1, eqb-true o 1 q)
+    go true false p q h = absurd (omega arith)
+    go false b p q h = absurd (true≢false (sym (eqb-yes (sizesOf f w) 0 h) ∙ p))
+
+pub block-sized : (f w k : ℕ) → blockSizesOf f w k ≡ 0 → (f ≡ 29) × (w ≡ 6) × (k ≡ 5)
+unfolding blockSizesOf
+block-sized f w k = go (eqb (sizesOf f w) 0) (eqb k 5) refl refl
+  where
+    go : (a b : Bool) → eqb (sizesOf f w) 0 ≡ a → eqb k 5 ≡ b → _≡_ {A = ℕ} (cond a (cond b 0 53) (sizesOf f w)) 0 → (f ≡ 29) × (w ≡ 6) × (k ≡ 5)
+    go true true p q h = let z = sized f w (eqb-true (sizesOf f w) 0 p) in (z .0, z .1, eqb-true k 5 q)
     go true false p q h = absurd (omega arith)
     go false b p q h = absurd (true≢false (sym (eqb-yes (sizesOf f w) 0 h) ∙ p))
 

@@ -6,7 +6,7 @@ use Prim.Native.Nat.{ℕ}
 use lib.Dec.{eqb}
 use lib.Ieee.{Float, nan}
 use lib.ListN.{length, getD}
-use Rattle.exports_formant_osc.specs.Calls.{formantNewAt, formantResetAt, formantSetSampleRateAt, formantTickAt}
+use Rattle.exports_formant_osc.specs.Calls.{formantNewAt, formantResetAt, formantSetSampleRateAt, formantTickAt, formantBlockAt}
 use Rattle.exports_formant_osc.specs.Promises.{Read-back, Settled}
 use Rattle.exports_formant_osc.specs.State.{stateOf, floatsOf, wholesOf}
 use Rattle.laws.proofs.Over.{by-cells}
@@ -33,6 +33,7 @@ settled =
     record {
       new = λ rate f w. laws.settled (formantNewAt rate f w);
       tick = λ vOct vowel shift vibrato f w o. laws.settled (formantTickAt vOct vowel shift vibrato f w o);
+      block = λ vOct vowel shift vibrato f w k o m. laws.settled (formantBlockAt vOct vowel shift vibrato f w k o m);
       reset = λ f w. laws.settled (formantResetAt f w);
       «set_sample_rate» = λ rate f w. laws.settled (formantSetSampleRateAt rate f w);
     }

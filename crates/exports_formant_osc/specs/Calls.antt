@@ -1,16 +1,17 @@
--- What each exported call answers, and what it leaves in the lent slices. f, w and o are floats, wholes and samples as they stood.
+-- What each exported call answers, and what it leaves in the lent slices. f, w, k, o and m are floats, wholes, counts, samples and
+-- marks as they stood.
 use mathlib.Core.Bool.{cond}
 use mathlib.Core.List.{List, [], _∷_}
 use Prim.Native.Nat.{ℕ, _+_}
 use lib.Dec.{eqb}
 use lib.Ieee.{Float}
 use lib.ListN.{length}
-use Rattle.answer.specs.Flat.{Kept, kept, Heard, heard}
+use Rattle.answer.specs.Flat.{Kept, kept, Heard, heard, Played, played, playedOf, tallyFrom}
 use Rattle.answer.specs.Answer.{markNumber, voltsOf, refusalOf}
 use Rattle.answer.specs.declared.Outcome.{Outcome}
 use Rattle.answer.specs.declared.Outcome.the-variants as outcome
-use Rattle.exports_formant_osc.specs.State.{sizesOf, tickSizesOf, stateOf, floatsOf, wholesOf}
-use Rattle.formant_osc.specs.FormantOsc.{formantNewOf, formantTickOf, formantResetOf, formantSetSampleRateOf}
+use Rattle.exports_formant_osc.specs.State.{sizesOf, tickSizesOf, blockSizesOf, stateOf, floatsOf, wholesOf}
+use Rattle.formant_osc.specs.FormantOsc.{formantNewOf, formantTickOf, formantBlockOf, formantResetOf, formantSetSampleRateOf}
 use Rattle.formant_osc.specs.declared.FormantControls.{FormantControls}
 use Rattle.formant_osc.specs.declared.FormantMade.{FormantMade}
 use Rattle.formant_osc.specs.declared.FormantOsc.{FormantOsc}
@@ -52,3 +53,11 @@ controlsOf vOct vowel shift vibrato = record { «v_oct» = record { 0 = vOct }; 
 
 unfoldable pub formantTickAt : Float → Float → Float → Float → List Float → List ℕ → List Float → Heard
 formantTickAt vOct vowel shift vibrato f w o = heardSized (heardOf (formantTickOf (stateOf f w) (controlsOf vOct vowel shift vibrato)) f w o) f w o
+
+-- a block: 0, the state, the counts, the samples and the marks after it, or what refused it
+unfoldable pub formantBlockAt : Float → Float → Float → Float → List Float → List ℕ → List ℕ → List Float → List ℕ → Played
+formantBlockAt vOct vowel shift vibrato f w k o m =
+    let n = blockSizesOf (length f) (length w) (length k) in
+    cond (eqb n 0)
+    (playedOf floatsOf wholesOf (formantBlockOf (stateOf f w) (controlsOf vOct vowel shift vibrato) (tallyFrom k) o m) f w k)
+    (played n f w k o m)

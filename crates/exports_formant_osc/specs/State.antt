@@ -18,6 +18,10 @@ sizesOf f w = cond (eqb f 29) (cond (eqb w 6) 0 51) 50
 unfoldable pub tickSizesOf : ℕ → ℕ → ℕ → ℕ
 tickSizesOf f w o = cond (eqb (sizesOf f w) 0) (cond (eqb o 1) 0 52) (sizesOf f w)
 
+-- or those of counts after them
+unfoldable pub blockSizesOf : ℕ → ℕ → ℕ → ℕ
+blockSizesOf f w k = cond (eqb (sizesOf f w) 0) (cond (eqb k 5) 0 53) (sizesOf f w)
+
 -- n floats of a list, from its cell k on
 abbrev pub part : List Float → ℕ → ℕ → List Float
 part l k n = tab (λ (i : ℕ). getD l (k + i) nan) n

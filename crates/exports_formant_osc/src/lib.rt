@@ -2,25 +2,33 @@
 // sample_rate, freq_memo.val, the fifteen of coef_memo.val] and wholes [freq_memo.key, freq_memo.valid, coef_memo.key0, key1,
 // key2, valid], a valid being 0 or not; samples are [out].
 // Each call answers a number: 0 done; of an accepted tick 11 cleared, 12 notfinite, 13 lost, 14 clean; of a refused call
-// 1 to 7 as document 01 has them, or 50, 51, 52 where floats, wholes or samples have another length. A refused call writes nothing.
+// 1 to 7 as document 01 has them, or 50, 51, 52, 53 where floats, wholes, samples or counts have another length. A refused
+// call writes nothing. A block answers 0, with the ticks' samples one after another, their marks as 1 cleared, 2 notfinite,
+// 3 lost, 4 clean, and the tally's five counts: begun, finished, cleared, notfinite, lost.
 use answer::Answer;
 use answer::Outcome;
+use answer::Tally;
 use common::Hertz;
 use common::Memo1;
 use common::Turns;
 use common::VoltsPerOctave;
 use formant_osc::CoefMemo;
+use formant_osc::FormantBlock;
 use formant_osc::FormantControls;
 use formant_osc::FormantMade;
 use formant_osc::FormantOsc;
 use formant_osc::FormantTicked;
 ghost use mathlib.Core.Path.{_≡_};
+ghost use mathlib.Core.List.{List};
+ghost use Prim.Native.Nat.{ℕ};
+ghost use lib.Ieee.{Float};
 ghost use lib.ListN.{length};
 ghost use lib.Seq.{sets};
-ghost use Rattle.answer.specs.Flat.{kept, heard};
+ghost use Rattle.answer.specs.Block.{block};
+ghost use Rattle.answer.specs.Flat.{kept, heard, played, playedOf};
 ghost use Rattle.answer.specs.Answer.{voltsOf, refusalOf};
-ghost use Rattle.exports_formant_osc.specs.State.{sizesOf, tickSizesOf, stateOf, frontOf, backOf, floatsOf, wholesOf};
-ghost use Rattle.exports_formant_osc.specs.Calls.{keptOf, heardOf, formantNewAt, formantTickAt, formantResetAt, formantSetSampleRateAt};
+ghost use Rattle.exports_formant_osc.specs.State.{sizesOf, tickSizesOf, blockSizesOf, stateOf, frontOf, backOf, floatsOf, wholesOf};
+ghost use Rattle.exports_formant_osc.specs.Calls.{keptOf, heardOf, formantNewAt, formantTickAt, formantBlockAt, formantResetAt, formantSetSampleRateAt};
 
 // 0, or the number that refuses these lengths.
 fn sizes(floats: &[f64], wholes: &[u64]) -> u32
@@ -39,6 +47,17 @@ fn tick_sizes(floats: &[f64], wholes: &[u64], samples: &[f64]) -> u32
     let n = sizes(floats, wholes);
     if n == 0 {
         if samples.len() == 1 { 0 } else { 52 }
+    } else {
+        n
+    }
+}
+
+fn block_sizes(floats: &[f64], wholes: &[u64], counts: &[u32]) -> u32
+    ensures { λ r. ⌜ r ≡ blockSizesOf (length (now (floats .entry))) (length (now (wholes .entry))) (length (now (counts .entry))) ⌝ }
+{
+    let n = sizes(floats, wholes);
+    if n == 0 {
+        if counts.len() == 5 { 0 } else { 53 }
     } else {
         n
     }
@@ -271,6 +290,54 @@ pub extern "C" fn gruttisol_formant_osc_tick(
             vibrato,
         };
         put_ticked(state(floats, wholes).tick(c), floats, wholes, samples)
+    } else {
+        n
+    }
+}
+
+// The state and the counts after a block; a refused one leaves them.
+fn put_block(b: FormantBlock, floats: &mut [f64], wholes: &mut [u64], counts: &mut [u32]) -> u32
+    requires { ⌜ (length (now floats) ≡ 29) × (length (now wholes) ≡ 6) × (length (now counts) ≡ 5) ⌝ }
+    ensures { λ r. ⌜ ((o : List Float) → (m : List ℕ) → played r (now (floats .exit)) (now (wholes .exit)) (now (counts .exit)) o m ≡ playedOf floatsOf wholesOf (block (b .refused) (b .formant) (b .tally) o m) (now (floats .entry)) (now (wholes .entry)) (now (counts .entry))) ⌝ }
+{
+    let refused = b.refused;
+    if refused == 0 {
+        let s = b.formant;
+        let tally = b.tally;
+        store_floats(s, &mut *floats);
+        store_wholes(s, &mut *wholes);
+        tally.put_counts(counts);
+        0
+    } else {
+        refused
+    }
+}
+
+#[no_mangle]
+pub extern "C" fn gruttisol_formant_osc_block(
+    v_oct: f64,
+    vowel: f64,
+    formant_shift: f64,
+    vibrato: f64,
+    floats: &mut [f64],
+    wholes: &mut [u64],
+    counts: &mut [u32],
+    samples: &mut [f64],
+    marks: &mut [u32],
+) -> u32
+    ensures { λ r. ⌜ played r (now (floats .exit)) (now (wholes .exit)) (now (counts .exit)) (now (samples .exit)) (now (marks .exit)) ≡ formantBlockAt «v_oct» vowel «formant_shift» vibrato (now (floats .entry)) (now (wholes .entry)) (now (counts .entry)) (now (samples .entry)) (now (marks .entry)) ⌝ }
+{
+    let n = block_sizes(floats, wholes, counts);
+    if n == 0 {
+        let c = FormantControls {
+            v_oct: VoltsPerOctave(v_oct),
+            vowel,
+            formant_shift,
+            vibrato,
+        };
+        let tally = Tally::from_counts(counts);
+        let b = state(floats, wholes).block(c, tally, samples, marks);
+        put_block(b, floats, wholes, counts)
     } else {
         n
     }

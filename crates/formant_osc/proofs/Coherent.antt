@@ -5,7 +5,7 @@ use mathlib.Core.Path.{_≡_, refl, sym, ap, _∙_}
 use lib.Dec.{eqb}
 use lib.Ieee.{Float, binary64, lt, toBits}
 use lib.Ieee.Bits.{ofBits-fits}
-use borrow.Author.Tests.{eqb-true}
+use borrow.Author.Tests.{eqb-true, eq-eqb}
 use Rattle.common.proofs.MemoLaws.{bits-same}
 use Rattle.formant_osc.specs.Calls.{FitCall, Tick}
 use Rattle.formant_osc.specs.Coefs.{resonatorCoefs}
@@ -81,3 +81,12 @@ pub tick-coefs : (s : FormantOsc) (c : FormantControls) → Coherent (s .«coef_
     → coefMemoOf s c .val ≡ resonatorCoefs (clampOf (c .vowel) zer one) (c .«formant_shift») (s .«sample_rate» .0)
 unfolding coefFilled
 tick-coefs s c h f r = ap (λ (m : CoefMemo). m .val) (tick-made s c h f r)
+
+-- what a recall leaves is a hit for the same vowel, shift and rate
+pub coefs-again : (m : CoefMemo) (x y z : Float) → coefRecall (coefRecall m x y z) x y z ≡ coefRecall m x y z
+unfolding coefRecall coefHits coefFilled
+coefs-again m x y z = go (coefHits m x y z) refl
+  where
+    go : (b : Bool) → coefHits m x y z ≡ b → coefRecall (cond b m (made x y z)) x y z ≡ cond b m (made x y z)
+    go true e = simp e
+    go false e = simp (eq-eqb (toBits binary64 x) (toBits binary64 x) refl, eq-eqb (toBits binary64 y) (toBits binary64 y) refl, eq-eqb (toBits binary64 z) (toBits binary64 z) refl)

@@ -1,9 +1,9 @@
 -- The FormantOsc's calls, written from oscillators.rs, with document 01's refusals and marks.
 use mathlib.Core.Bool.{false, cond, _&&_}
-use mathlib.Core.List.{[], _∷_}
+use mathlib.Core.List.{List, [], _∷_}
 use Prim.Native.Nat.{ℕ}
 use lib.Dec.{eqb}
-use lib.Ieee.{binary64, add, mul, div, neg}
+use lib.Ieee.{Float, binary64, add, mul, div, neg}
 use Rattle.laws.specs.Float.{zer, one, isFin}
 use Rattle.numeric.specs.Basic.{clampOf}
 use Rattle.common.specs.Consts.{five}
@@ -12,7 +12,10 @@ use Rattle.common.specs.Phase.{turns, wrapOf}
 use Rattle.common.specs.Tests.{rateOk, phaseOk}
 use Rattle.common.specs.declared.Hertz.{Hertz}
 use Rattle.common.specs.declared.Memo1.{Memo1}
+use Rattle.answer.specs.Block.{Block, blockOf}
 use Rattle.answer.specs.Mark.{markOf}
+use Rattle.answer.specs.declared.Answer.{Answer}
+use Rattle.answer.specs.declared.Tally.{Tally}
 use Rattle.answer.specs.declared.Answer.the-variants as answer
 use Rattle.answer.specs.declared.Outcome.the-variants as outcome
 use Rattle.formant_osc.specs.Consts.{vibratoRate}
@@ -89,6 +92,16 @@ unfoldable pub formantTickOf : FormantOsc → FormantControls → FormantTicked
 formantTickOf s c =
     let n = formantRefusalOf s in
     cond (eqb n 0) (formantSoundOf s c) (record { answer = answer.Refused n; formant = s })
+
+-- a block of as many ticks with these controls as there are marks, a sample each
+abbrev pub formantAnswerOf : FormantControls → FormantOsc → Answer
+formantAnswerOf c s = formantTickOf s c .answer
+
+abbrev pub formantNextOf : FormantControls → FormantOsc → FormantOsc
+formantNextOf c s = formantTickOf s c .formant
+
+unfoldable pub formantBlockOf : FormantOsc → FormantControls → Tally → List Float → List ℕ → Block FormantOsc
+formantBlockOf s c t o m = blockOf 1 (formantRefusalOf s) (formantAnswerOf c) (formantNextOf c) s t o m
 
 -- reset: the rate and the memos stay
 unfoldable pub formantResetOf : FormantOsc → FormantMade

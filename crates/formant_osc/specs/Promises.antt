@@ -1,17 +1,20 @@
 -- Theorems about the FormantOsc: the statements. proofs/ proves each under the same name in small letters.
 use mathlib.Core.Bool.{true, false, cond}
+use mathlib.Core.List.{List}
 use mathlib.Core.Logic.{_⊎_}
 use mathlib.Core.Path.{_≡_}
 use Prim.Native.Nat.{ℕ, _<_, _*_}
 use lib.Ieee.{Float, nan, binary64, div}
 use lib.ListN.{getD}
 use Rattle.answer.specs.Answer.{markNumber, accepted}
+use Rattle.answer.specs.Block.{Block}
 use Rattle.answer.specs.declared.Outcome.the-variants as outcome
+use Rattle.answer.specs.declared.Tally.{Tally}
 use Rattle.common.specs.Consts.{five}
 use Rattle.common.specs.Tests.{rateOk, phaseOk}
 use Rattle.common.specs.declared.Hertz.{Hertz}
 use Rattle.formant_osc.specs.Calls.{FitCall, ReachedFormant, Later, Tick}
-use Rattle.formant_osc.specs.FormantOsc.{formantNewOf, formantRung, formantTickOf, formantResetOf, formantSetSampleRateOf}
+use Rattle.formant_osc.specs.FormantOsc.{formantNewOf, formantRung, formantTickOf, formantBlockOf, formantResetOf, formantSetSampleRateOf}
 use Rattle.formant_osc.specs.declared.FormantControls.{FormantControls}
 use Rattle.formant_osc.specs.declared.FormantMade.{FormantMade}
 use Rattle.formant_osc.specs.declared.FormantOsc.{FormantOsc}
@@ -60,5 +63,6 @@ Dead-shift = (s : FormantOsc) → ReachedFormant s → (c : FormantControls) →
 pub record Settled : Type 0 where
   pub new : (r : Hertz) → Settles (λ (a : FormantMade). a ≡ formantNewOf r)
   pub tick : (s : FormantOsc) (c : FormantControls) → Settles (λ (a : FormantTicked). a ≡ formantTickOf s c)
+  pub block : (s : FormantOsc) (c : FormantControls) (t : Tally) (o : List Float) (m : List ℕ) → Settles (λ (b : Block FormantOsc). b ≡ formantBlockOf s c t o m)
   pub reset : (s : FormantOsc) → Settles (λ (a : FormantMade). a ≡ formantResetOf s)
   pub «set_sample_rate» : (s : FormantOsc) (r : Hertz) → Settles (λ (a : FormantMade). a ≡ formantSetSampleRateOf s r)

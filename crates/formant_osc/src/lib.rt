@@ -2,18 +2,29 @@
 // Its output: p10 out.
 use answer::Answer;
 use answer::Outcome;
+use answer::Tally;
 use answer::Volts;
 use common::Hertz;
 use common::Memo1;
 use common::Turns;
 use common::VoltsPerOctave;
 ghost use mathlib.Core.Path.{_≡_};
-ghost use mathlib.Core.Bool.{_&&_};
-ghost use Prim.Native.Nat.{_≤_, _<_, min};
+ghost use mathlib.Core.Bool.{true, cond, _&&_};
+ghost use Prim.Native.Nat.{_≤_, _<_, _*_, min};
+ghost use lib.Dec.{eqb};
+ghost use lib.Ieee.{Float, binary64, nan, div};
+ghost use lib.ListN.{length, getD};
+ghost use Rattle.laws.specs.Lists.{tab};
+ghost use Rattle.common.specs.Memo.{recall1, voctToHzAt};
+ghost use Rattle.common.specs.Phase.{turns};
+ghost use Rattle.common.specs.Tests.{phaseOk};
+ghost use Rattle.answer.specs.Answer.{markNumber, voltsOf};
+ghost use Rattle.answer.specs.Block.{afterTicks, joined, block, markAt, frameAt};
 ghost use Rattle.formant_osc.specs.Coefs.{spotOf, formantOf, getFormants, coefOf, resonatorCoefs};
 ghost use Rattle.formant_osc.specs.Memo.{newCoefMemo, coefHits, coefFilled, coefRecall};
 ghost use Rattle.formant_osc.specs.Sound.{glottalPulse, pitchOf, resonateOf, rungOf, onlyOf};
-ghost use Rattle.formant_osc.specs.FormantOsc.{formantAtRest, formantRefusalOf, formantNewOf, formantSoundOf, formantTickOf, formantResetOf, formantSetSampleRateOf};
+ghost use Rattle.formant_osc.specs.FormantOsc.{formantAtRest, formantRefusalOf, formantNewOf, formantSoundOf, formantTickOf, formantAnswerOf, formantNextOf, formantBlockOf, formantResetOf, formantSetSampleRateOf};
+ghost use Rattle.formant_osc.specs.Held.{driveNext, pulseAt, keptMark, keptAt, voicedOf, voicedAt, cellsAt};
 
 // The Rust's Memo<3, [[f64; 3]; 5]>: b0/norm, a1/norm and a2/norm of each of the five resonators, one after another.
 pub struct CoefMemo {
@@ -47,6 +58,13 @@ pub struct FormantTicked {
     pub formant: FormantOsc,
 }
 
+// What a block leaves beside its samples and marks: `refused` is 0, or the number that refused it.
+pub struct FormantBlock {
+    pub refused: u32,
+    pub formant: FormantOsc,
+    pub tally: Tally,
+}
+
 // What new, reset and set_sample_rate say, beside the state after it.
 pub struct FormantMade {
     pub outcome: Outcome,
@@ -71,6 +89,13 @@ struct Resonated {
     out: f64,
     s0: f64,
     s1: f64,
+}
+
+// What drives the resonators: all of the state that moves in a block but their cells.
+struct Driver {
+    phase: Turns,
+    vibrato_phase: Turns,
+    freq_memo: Memo1,
 }
 
 // What the five give together, and their cells after it.
@@ -338,6 +363,116 @@ fn both(a: bool, b: bool) -> bool
     if a { b } else { false }
 }
 
+// What the phase grows by in a tick.
+fn increment(freq: Hertz, sample_rate: Hertz) -> Turns
+    ensures { λ r. ⌜ r ≡ turns (div binary64 (freq .0) («sample_rate» .0)) ⌝ }
+{
+    Turns(freq.0 / sample_rate.0)
+}
+
+// The same, known already where the pitch stands still.
+fn stride(still: bool, step: Turns, freq: Hertz, sample_rate: Hertz) -> Turns
+    requires { ⌜ (still ≡ true → step ≡ turns (div binary64 (freq .0) («sample_rate» .0))) ⌝ }
+    ensures { λ r. ⌜ r ≡ turns (div binary64 (freq .0) («sample_rate» .0)) ⌝ }
+{
+    if still {
+        step
+    } else {
+        increment(freq, sample_rate)
+    }
+}
+
+// The memo after a tick. Where the pitch stands still it holds it already.
+fn tuned(still: bool, memo: Memo1, v_oct: VoltsPerOctave, depth: f64, vibrato_phase: Turns) -> Memo1
+    requires { ⌜ (still ≡ true → recall1 voctToHzAt memo (pitchOf «v_oct» depth («vibrato_phase» .0) .0) ≡ memo) ⌝ }
+    ensures { λ r. ⌜ r ≡ recall1 voctToHzAt memo (pitchOf «v_oct» depth («vibrato_phase» .0) .0) ⌝ }
+{
+    if still {
+        memo
+    } else {
+        memo.voct_to_hz(vibrated(v_oct, depth, vibrato_phase))
+    }
+}
+
+// The number of a tick's mark as far as its phases go: 4 clean, 3 lost.
+fn kept_mark(phases: bool) -> u32
+    ensures { λ r. ⌜ r ≡ keptMark phases ⌝ }
+{
+    if phases { 4 } else { 3 }
+}
+
+// What a tick answers to the resonators' sum.
+fn voiced(sum: f64, phases: bool) -> Answer
+    ensures { λ r. ⌜ r ≡ voicedOf sum phases ⌝ }
+{
+    let volts = only(numeric::clamp(sum, -1.0, 1.0) * 5.0);
+    answer::mark(volts, false, numeric::is_finite(sum), phases)
+}
+
+// The first half of a block, tick by tick: the pulse that goes into the resonators in the place of the sample that
+// comes out, and in the mark's place what the phases make of it. The pulses wait for nothing but the phase, so a processor
+// works at several ticks at once; with the resonators in the same loop it couldn't.
+fn drive(
+    start: Driver,
+    v_oct: VoltsPerOctave,
+    depth: f64,
+    sample_rate: Hertz,
+    samples: &mut [f64],
+    marks: &mut [u32],
+) -> Driver
+    requires { ⌜ (phaseOk (start .«vibrato_phase») ≡ true) × (recall1 voctToHzAt (start .«freq_memo») (pitchOf «v_oct» depth (start .«vibrato_phase» .0) .0) ≡ start .«freq_memo») × (length (now samples) ≡ length (now marks)) ⌝ }
+    ensures { λ r. ⌜ r ≡ afterTicks (driveNext «v_oct» depth «sample_rate») (length (now (marks .entry))) start ⌝ }
+    ensures { λ r. ⌜ now (samples .exit) ≡ tab (pulseAt «v_oct» depth «sample_rate» start) (length (now (marks .entry))) ⌝ }
+    ensures { λ r. ⌜ now (marks .exit) ≡ tab (keptAt «v_oct» depth «sample_rate» start) (length (now (marks .entry))) ⌝ }
+{
+    let memo = start.freq_memo;
+    let still = both(depth == 0.0, v_oct.0 != 0.0);
+    let step = increment(memo.val, sample_rate);
+    let vibrato_step = increment(Hertz(5.5), sample_rate);
+    let mut phase = start.phase;
+    let mut vibrato_phase = start.vibrato_phase;
+    let mut freq_memo = memo;
+    let mut i = 0;
+    while i < marks.len() {
+        let vibrato_next = Turns(vibrato_phase.0 + vibrato_step.0);
+        freq_memo = tuned(still, freq_memo, v_oct, depth, vibrato_phase);
+        let next = Turns(phase.0 + stride(still, step, freq_memo.val, sample_rate).0);
+        samples[i] = glottal_pulse(phase);
+        marks[i] = kept_mark(both(
+            numeric::is_finite(next.0),
+            numeric::is_finite(vibrato_next.0),
+        ));
+        vibrato_phase = common::wrap_phase(vibrato_next);
+        phase = common::wrap_phase(next);
+        i += 1;
+    }
+    Driver {
+        phase,
+        vibrato_phase,
+        freq_memo,
+    }
+}
+
+// The second half: each pulse becomes the sample that the resonators make of it.
+fn voice(c: [f64; 15], start: [f64; 10], samples: &mut [f64], marks: &mut [u32]) -> [f64; 10]
+    requires { ⌜ length (now samples) ≡ length (now marks) ⌝ }
+    ensures { λ r. ⌜ r ≡ cellsAt c (now (samples .entry)) start (length (now (marks .entry))) ⌝ }
+    ensures { λ r. ⌜ now (samples .exit) ≡ tab (λ i. voltsOf (voicedAt c start (now (samples .entry)) (now (marks .entry)) i) .p10) (length (now (marks .entry))) ⌝ }
+    ensures { λ r. ⌜ now (marks .exit) ≡ tab (λ i. markNumber (voicedAt c start (now (samples .entry)) (now (marks .entry)) i)) (length (now (marks .entry))) ⌝ }
+{
+    let mut cells = start;
+    let mut i = 0;
+    while i < marks.len() {
+        let rung = ring(c, cells, samples[i]);
+        let heard = voiced(rung.sum, marks[i] == 4);
+        samples[i] = answer::samples(heard).p10;
+        marks[i] = answer::mark_number(heard);
+        cells = rung.state;
+        i += 1;
+    }
+    cells
+}
+
 impl FormantOsc {
     fn at_rest(sample_rate: Hertz, freq_memo: Memo1, coef_memo: CoefMemo) -> Self
         ensures { λ r. ⌜ r ≡ formantAtRest «sample_rate» «freq_memo» «coef_memo» ⌝ }
@@ -411,13 +546,12 @@ impl FormantOsc {
         let sum = rung.sum;
         let resonator_state = rung.state;
         let next = Turns(phase.0 + phase_inc);
-        let volts = only(numeric::clamp(sum, -1.0, 1.0) * 5.0);
         let phases = both(
             numeric::is_finite(next.0),
             numeric::is_finite(vibrato_next.0),
         );
         FormantTicked {
-            answer: answer::mark(volts, false, numeric::is_finite(sum), phases),
+            answer: voiced(sum, phases),
             formant: FormantOsc {
                 phase: common::wrap_phase(next),
                 vibrato_phase: vibrato_wrapped,
@@ -439,6 +573,79 @@ impl FormantOsc {
             FormantTicked {
                 answer: Answer::Refused(n),
                 formant: self,
+            }
+        }
+    }
+
+    // The ticks of a block. Its coefficients are those of the first.
+    fn run(self, c: FormantControls, samples: &mut [f64], marks: &mut [u32]) -> Self
+        requires { ⌜ (formantRefusalOf self ≡ 0) × (0 < length (now marks)) × (length (now samples) ≡ length (now marks)) ⌝ }
+        ensures { λ r. ⌜ r ≡ afterTicks (formantNextOf c) (length (now (marks .entry))) self ⌝ }
+        ensures { λ r. ⌜ now (samples .exit) ≡ joined (frameAt 1 (formantAnswerOf c) (formantNextOf c) self) (length (now (marks .entry))) ⌝ }
+        ensures { λ r. ⌜ now (marks .exit) ≡ tab (markAt (formantAnswerOf c) (formantNextOf c) self) (length (now (marks .entry))) ⌝ }
+    {
+        let phase = self.phase;
+        let vibrato_phase = self.vibrato_phase;
+        let cells = self.resonator_state;
+        let sample_rate = self.sample_rate;
+        let freqs = self.freq_memo;
+        let coefs = self.coef_memo;
+        let v_oct = c.v_oct;
+        let vowel = numeric::clamp(c.vowel, 0.0, 1.0);
+        let depth = numeric::clamp(c.vibrato, 0.0, 1.0);
+        let start = Driver {
+            phase,
+            vibrato_phase,
+            freq_memo: freqs.voct_to_hz(pitch(v_oct, depth, vibrato_phase)),
+        };
+        let coef_memo = coefs.recall(vowel, c.formant_shift, sample_rate);
+        let val = coef_memo.val;
+        let end = drive(start, v_oct, depth, sample_rate, &mut *samples, &mut *marks);
+        let phase = end.phase;
+        let vibrato_phase = end.vibrato_phase;
+        let freq_memo = end.freq_memo;
+        FormantOsc {
+            phase,
+            vibrato_phase,
+            resonator_state: voice(val, cells, samples, marks),
+            sample_rate,
+            freq_memo,
+            coef_memo,
+        }
+    }
+
+    // As many ticks with these controls as there are marks, a sample each.
+    pub fn block(
+        self,
+        c: FormantControls,
+        tally: Tally,
+        samples: &mut [f64],
+        marks: &mut [u32],
+    ) -> FormantBlock
+        ensures { λ r. ⌜ block (r .refused) (r .formant) (r .tally) (now (samples .exit)) (now (marks .exit)) ≡ formantBlockOf self c tally (now (samples .entry)) (now (marks .entry)) ⌝ }
+    {
+        let n = marks.len();
+        let refused = answer::block_refusal(samples.len() == n, self.refusal(), tally, n);
+        if refused == 0 {
+            if n == 0 {
+                FormantBlock {
+                    refused: 0,
+                    formant: self,
+                    tally,
+                }
+            } else {
+                let formant = self.run(c, samples, marks);
+                FormantBlock {
+                    refused: 0,
+                    formant,
+                    tally: tally.take_marks(marks),
+                }
+            }
+        } else {
+            FormantBlock {
+                refused,
+                formant: self,
+                tally,
             }
         }
     }

@@ -1,4 +1,5 @@
 use Rattle.formant_osc.specs.FormantOsc.{freqMemoOf, coefMemoOf, formantRung, formantSoundOf}
+use Rattle.formant_osc.specs.Held.{voicedOf}
 use borrow.Author.Needs.{needs}
 use Rattle.formant_osc.proofs.FormantOsc.sound.Statement.{statement}
 use Rattle.formant_osc.proofs.FormantOsc.sound.Tie as tie
@@ -27,12 +28,6 @@ recall-requires c κs = search needs
 ring-requires : tie.Need-ring-requires
 ring-requires c κs = search needs
 
-clamp-requires-3 : tie.Need-clamp-requires-3
-clamp-requires-3 c κs = search needs
-
-only-requires : tie.Need-only-requires
-only-requires c κs = search needs
-
 is-finite-requires : tie.Need-is-finite-requires
 is-finite-requires c κs = search needs
 
@@ -42,18 +37,15 @@ is-finite-requires-2 c κs = search needs
 both-requires : tie.Need-both-requires
 both-requires c κs = search needs
 
-is-finite-requires-3 : tie.Need-is-finite-requires-3
-is-finite-requires-3 c κs = search needs
-
-mark-requires : tie.Need-mark-requires
-mark-requires c κs = search needs
+voiced-requires : tie.Need-voiced-requires
+voiced-requires c κs = search needs
 
 wrap-phase-requires-2 : tie.Need-wrap-phase-requires-2
 wrap-phase-requires-2 c κs = search needs
 
 returns : tie.Need-returns
-unfolding formantSoundOf freqMemoOf coefMemoOf formantRung
-returns c = simp (c .wrap-phase2 .ensures, c .before .mark .ensures, c .before .before .is-finite3 .ensures, c .before .before .before .both .ensures, c .before .before .before .before .is-finite2 .ensures, c .before .before .before .before .before .is-finite .ensures, c .before .before .before .before .before .before .only .ensures, c .before .before .before .before .before .before .before .clamp3 .ensures, c .before .before .before .before .before .before .before .before .before .before .ring .ensures, c .before .before .before .before .before .before .before .before .before .before .before .before .recall .ensures, c .before .before .before .before .before .before .before .before .before .before .before .before .before .glottal-pulse .ensures, c .before .before .before .before .before .before .before .before .before .before .before .before .before .before .before .before .voct-to-hz .ensures, c .before .before .before .before .before .before .before .before .before .before .before .before .before .before .before .before .before .pitch .ensures, c .before .before .before .before .before .before .before .before .before .before .before .before .before .before .before .before .before .before .clamp2 .ensures, c .before .before .before .before .before .before .before .before .before .before .before .before .before .before .before .before .before .before .before .clamp .ensures, c .before .before .before .before .before .before .before .before .before .before .before .before .before .before .before .before .before .before .before .before .before .wrap-phase .ensures)
+unfolding formantSoundOf freqMemoOf coefMemoOf formantRung voicedOf
+returns c = simp (c .wrap-phase2 .ensures, c .before .voiced .ensures, c .before .before .both .ensures, c .before .before .before .is-finite2 .ensures, c .before .before .before .before .is-finite .ensures, c .before .before .before .before .before .before .before .ring .ensures, c .before .before .before .before .before .before .before .before .before .recall .ensures, c .before .before .before .before .before .before .before .before .before .before .glottal-pulse .ensures, c .before .before .before .before .before .before .before .before .before .before .before .before .before .voct-to-hz .ensures, c .before .before .before .before .before .before .before .before .before .before .before .before .before .before .pitch .ensures, c .before .before .before .before .before .before .before .before .before .before .before .before .before .before .before .clamp2 .ensures, c .before .before .before .before .before .before .before .before .before .before .before .before .before .before .before .before .clamp .ensures, c .before .before .before .before .before .before .before .before .before .before .before .before .before .before .before .before .before .before .wrap-phase .ensures)
 
 pub sound-spec : {M : Type 1} → statement M
 sound-spec =
@@ -67,12 +59,9 @@ sound-spec =
     glottal-pulse-requires
     recall-requires
     ring-requires
-    clamp-requires-3
-    only-requires
     is-finite-requires
     is-finite-requires-2
     both-requires
-    is-finite-requires-3
-    mark-requires
+    voiced-requires
     wrap-phase-requires-2
     returns)

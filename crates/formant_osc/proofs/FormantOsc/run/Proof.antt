@@ -1,0 +1,57 @@
+use mathlib.Core.Path.{sym, ap, _∙_}
+use lib.ListN.{length}
+use Rattle.laws.proofs.Over.{length-tab}
+use Rattle.formant_osc.proofs.Held.{accepts, recalled-again, ran}
+use borrow.Author.Needs.{needs}
+use Rattle.formant_osc.proofs.FormantOsc.run.Statement.{statement}
+use Rattle.formant_osc.proofs.FormantOsc.run.Tie as tie
+
+clamp-requires : tie.Need-clamp-requires
+clamp-requires c κs = search needs
+
+clamp-requires-2 : tie.Need-clamp-requires-2
+clamp-requires-2 c κs = search needs
+
+pitch-requires : tie.Need-pitch-requires
+pitch-requires c κs = search needs
+
+voct-to-hz-requires : tie.Need-voct-to-hz-requires
+voct-to-hz-requires c κs = search needs
+
+recall-requires : tie.Need-recall-requires
+recall-requires c κs = search needs
+
+drive-requires : tie.Need-drive-requires
+drive-requires c κs = (accepts _ (c .before .before .before .before .before .before .before .before .before .before .before .before .before .before .before .before .before .pre .0) .2, recalled-again _ _ _ _ (c .before .before .before .before .voct-to-hz .ensures) (c .before .before .before .before .before .pitch .ensures), c .before .before .before .before .before .before .before .before .before .before .before .before .before .before .before .before .before .pre .2)
+
+voice-requires : tie.Need-voice-requires
+voice-requires c κs = let g = c .before .before .before .before .before .before .before .before .before .drive .ensures in ap length (g .1 .0) ∙ length-tab _ _ ∙ sym (ap length (g .1 .1) ∙ length-tab _ _)
+
+same-length : tie.Need-same-length
+same-length c = search needs
+
+same-length-2 : tie.Need-same-length-2
+same-length-2 c = search needs
+
+returns : tie.Need-returns
+returns c =
+    let a = c .before .before .before .before .before .before .before .before .before .before .before .before .before .before .before .before .before .before .before .before .before .before .before .before .before .before .before .before .before .before .before .before .args in
+    let p = c .before .before .before .before .before .before .before .before .before .before .before .before .before .before .before .before .before .before .before .before .before .before .before .before .before .before .before .before .before .before .before .before .pre in
+    let g = c .before .before .before .before .before .before .before .before .before .before .before .before .before .before .drive .ensures in
+    let v = c .before .before .before .before .voice .ensures in
+    ran (a .self) (a .c) (length (a .marks .now)) _ _ _ _ _ _ _ _ _ _ _ (p .0) (p .1) (c .before .before .before .before .before .before .before .before .before .before .before .before .before .before .before .before .before .before .before .before .before .before .clamp .ensures) (c .before .before .before .before .before .before .before .before .before .before .before .before .before .before .before .before .before .before .before .before .before .clamp2 .ensures) (c .before .before .before .before .before .before .before .before .before .before .before .before .before .before .before .before .before .before .before .before .pitch .ensures) (c .before .before .before .before .before .before .before .before .before .before .before .before .before .before .before .before .before .before .before .voct-to-hz .ensures) (c .before .before .before .before .before .before .before .before .before .before .before .before .before .before .before .before .before .before .recall .ensures) (g .0) (g .1 .0) (g .1 .1) (v .0) (v .1 .0) (v .1 .1)
+
+pub run-spec : {M : Type 1} → statement M
+run-spec =
+    tie.close
+    (tie.spec
+    clamp-requires
+    clamp-requires-2
+    pitch-requires
+    voct-to-hz-requires
+    recall-requires
+    drive-requires
+    voice-requires
+    same-length
+    same-length-2
+    returns)

@@ -1,0 +1,328 @@
+-- A block's ticks are ticks of the phases, the pitch and the resonators: its coefficients are those of the first, and its pitch stands still
+-- where the vibrato has no depth.
+use mathlib.Core.Bool.{Bool, true, false, not, cond, _&&_}
+use mathlib.Core.List.{List, [], _∷_, _++_}
+use mathlib.Core.Path.{_≡_, refl, sym, ap, subst, _∙_}
+use Prim.Native.Nat.{ℕ, zero, suc, _+_, _*_, _<_, _≤_}
+use native.Mathlib.Nat.{one-mul}
+use native.Mathlib.Numerals.{add-one}
+use native.Mathlib.Omega.{arith}
+use lib.Dec.{eqb}
+use lib.Ieee.{Float, nan, binary64, add, div, eq, toBits}
+use lib.Ieee.Fits.{add-fits}
+use lib.ListN.{length, getD}
+use borrow.Author.Tests.{eq-eqb}
+use Rattle.answer.specs.Answer.{markNumber, voltsOf}
+use Rattle.answer.specs.Block.{afterTicks, answerAt, markAt, frameAt, portsOf, joined, blockRefusalOf}
+use Rattle.answer.specs.declared.Answer.{Answer}
+use Rattle.answer.specs.declared.Tally.{Tally}
+use Rattle.answer.specs.declared.Volts.{Volts}
+use Rattle.answer.proofs.Blocks.{Holds, held-after, held-marks, held-frames}
+use Rattle.common.specs.Memo.{recall1, voctToHzAt}
+use Rattle.common.specs.Phase.{turns, wrapOf}
+use Rattle.common.specs.Tests.{rateOk, phaseOk}
+use Rattle.common.proofs.MemoLaws.{recall1-again}
+use Rattle.common.proofs.PhaseLaws.{wrap-in}
+use Rattle.common.specs.declared.Hertz.{Hertz}
+use Rattle.common.specs.declared.Memo1.{Memo1}
+use Rattle.common.specs.declared.Turns.{Turns}
+use Rattle.common.specs.declared.VoltsPerOctave.{VoltsPerOctave}
+use Rattle.formant_osc.proofs.Coherent.{coefs-again}
+use Rattle.formant_osc.proofs.Still.{still-pitch}
+use Rattle.formant_osc.specs.Consts.{vibratoRate}
+use Rattle.formant_osc.specs.FormantOsc.{formantRefusalOf, freqMemoOf, coefMemoOf, formantRung, formantSoundOf, formantTickOf, formantAnswerOf, formantNextOf}
+use Rattle.formant_osc.specs.Held.{driveMemo, phaseSum, vibratoSum, driveNext, pulseAt, keptOf, keptMark, keptAt, voicedOf, cellsAt, voicedAt}
+use Rattle.formant_osc.specs.Memo.{coefRecall}
+use Rattle.formant_osc.specs.Sound.{glottalPulse, pitchOf, rungOf}
+use Rattle.formant_osc.specs.declared.CoefMemo.{CoefMemo}
+use Rattle.formant_osc.specs.declared.Driver.{Driver}
+use Rattle.formant_osc.specs.declared.FormantControls.{FormantControls}
+use Rattle.formant_osc.specs.declared.FormantOsc.{FormantOsc}
+use Rattle.formant_osc.specs.declared.FormantTicked.{FormantTicked}
+use Rattle.formant_osc.specs.declared.Rung.{Rung}
+use Rattle.laws.specs.Float.{F64, zer, one, isFin}
+use Rattle.laws.specs.Lists.{tab, over}
+use Rattle.laws.proofs.Over.{getD-tab, length-tab, tab-ext, over-at, over-all}
+use Rattle.numeric.specs.Basic.{clampOf}
+
+abbrev pub driver : Turns → Turns → Memo1 → Driver
+driver p q m = record { phase = p; «vibrato_phase» = q; «freq_memo» = m }
+
+-- ---- the two loops
+-- the list after the last turn
+pub over-done : {A : Type 0} (f : ℕ → A) (i n : ℕ) (l m : List A) → i ≡ n → length l ≡ n → m ≡ over f i l → m ≡ tab f n
+over-done f i n l m h k e = e ∙ ap (λ (j : ℕ). over f j l) h ∙ over-all f n l k
+
+-- ---- a turn of the first loop
+-- a memo that holds a pitch that stands still is left as it is
+pub still-tuned : (v : VoltsPerOctave) (depth : Float) (p q : Turns) (m n : Memo1) (still : Bool) → F64 (v .0)
+    → still ≡ (eq depth zer && not (eq (v .0) zer)) → phaseOk p ≡ true → phaseOk q ≡ true
+    → recall1 voctToHzAt m (pitchOf v depth (p .0) .0) ≡ m → (still ≡ true → n ≡ m) → still ≡ true
+    → recall1 voctToHzAt n (pitchOf v depth (q .0) .0) ≡ n
+still-tuned v depth p q m n still f e g h r w t =
+    let a : pitchOf v depth (p .0) ≡ v = still-pitch v depth (p .0) true still still f (sym g) e refl t in
+    let b : pitchOf v depth (q .0) ≡ v = still-pitch v depth (q .0) true still still f (sym h) e refl t in
+    let z : n ≡ m = w t in
+    simp (z, b) (rw a at r)
+
+-- so are the memo and its step
+pub still-memo : (v : VoltsPerOctave) (depth : Float) (q : Turns) (m n k : Memo1) (still : Bool)
+    → (still ≡ true → recall1 voctToHzAt n (pitchOf v depth (q .0) .0) ≡ n) → k ≡ recall1 voctToHzAt n (pitchOf v depth (q .0) .0)
+    → (still ≡ true → n ≡ m) → still ≡ true → k ≡ m
+still-memo v depth q m n k still r e w t = e ∙ r t ∙ w t
+
+pub still-step : (v : VoltsPerOctave) (depth : Float) (rate : Hertz) (q step : Turns) (m n k : Memo1) (still : Bool)
+    → (still ≡ true → recall1 voctToHzAt n (pitchOf v depth (q .0) .0) ≡ n) → k ≡ recall1 voctToHzAt n (pitchOf v depth (q .0) .0)
+    → (still ≡ true → n ≡ m) → step ≡ turns (div binary64 (m .val .0) (rate .0)) → still ≡ true → step ≡ turns (div binary64 (k .val .0) (rate .0))
+still-step v depth rate q step m n k still r e w z t =
+    z ∙ ap (λ (l : Memo1). turns (div binary64 (l .val .0) (rate .0))) (sym (still-memo v depth q m n k still r e w t))
+
+pub drove : (v : VoltsPerOctave) (depth : Float) (rate : Hertz) (d : Driver) (i : ℕ) (p q p' q' step vibrato : Turns) (m m' : Memo1)
+    → m' ≡ recall1 voctToHzAt m (pitchOf v depth (q .0) .0) → step ≡ turns (div binary64 (m' .val .0) (rate .0))
+    → p' ≡ turns (wrapOf (add binary64 (p .0) (step .0))) → vibrato ≡ turns (div binary64 vibratoRate (rate .0))
+    → q' ≡ turns (wrapOf (add binary64 (q .0) (vibrato .0))) → driver p q m ≡ afterTicks (driveNext v depth rate) i d
+    → driver p' q' m' ≡ afterTicks (driveNext v depth rate) (i + 1) d
+unfolding afterTicks driveNext phaseSum vibratoSum driveMemo
+drove v depth rate d i p q p' q' step vibrato m m' a b x y z w = rw (add-one, ← w) (simp (x, z, y, b, a))
+
+pub pulsed : (v : VoltsPerOctave) (depth : Float) (rate : Hertz) (d : Driver) (i : ℕ) (p q : Turns) (m : Memo1) (x : Float)
+    → x ≡ glottalPulse (p .0) → driver p q m ≡ afterTicks (driveNext v depth rate) i d → x ≡ pulseAt v depth rate d i
+unfolding pulseAt
+pulsed v depth rate d i p q m x e w = e ∙ ap (λ (z : Driver). glottalPulse (z .phase .0)) w
+
+pub kept : (v : VoltsPerOctave) (depth : Float) (rate : Hertz) (d : Driver) (i : ℕ) (p q step vibrato : Turns) (m m' : Memo1) (a b both : Bool) (n : ℕ)
+    → m' ≡ recall1 voctToHzAt m (pitchOf v depth (q .0) .0) → step ≡ turns (div binary64 (m' .val .0) (rate .0))
+    → vibrato ≡ turns (div binary64 vibratoRate (rate .0)) → a ≡ isFin (add binary64 (p .0) (step .0)) → b ≡ isFin (add binary64 (q .0) (vibrato .0))
+    → both ≡ (a && b) → n ≡ keptMark both → driver p q m ≡ afterTicks (driveNext v depth rate) i d → n ≡ keptAt v depth rate d i
+unfolding keptAt keptOf phaseSum vibratoSum driveMemo
+kept v depth rate d i p q step vibrato m m' a b both n em es ev ea eb e k w = rw (← w) (simp (k, e, ea, eb, ev, es, em))
+
+-- ---- a turn of the second
+pub voiced-turn : (c s xs ys : List Float) (ms ns : List ℕ) (f : ℕ → Float) (g : ℕ → ℕ) (i : ℕ) (cells : List Float) (rung : Rung) (a : Answer)
+    → i < length xs → i < length ms → ys ≡ over f i xs → ns ≡ over g i ms → cells ≡ cellsAt c xs s i
+    → rung ≡ rungOf c cells (getD ys i nan) → a ≡ voicedOf (rung .sum) (eqb (getD ns i 0) 4)
+    → (a ≡ voicedAt c s xs ms i) × (rung .state ≡ cellsAt c xs s (i + 1))
+unfolding voicedAt cellsAt
+voiced-turn c s xs ys ms ns f g i cells rung a h k e q z r w =
+    let x : getD ys i nan ≡ getD xs i nan = ap (λ (l : List Float). getD l i nan) e ∙ over-at nan f i xs h in
+    let m : getD ns i 0 ≡ getD ms i 0 = ap (λ (l : List ℕ). getD l i 0) q ∙ over-at 0 g i ms k in
+    (simp (w, r, z, x, m), rw add-one (simp (r, z, x)))
+
+-- ---- both halves
+-- what moves in a block
+pub record Moving : Type 0 where
+  pub driver : Driver
+  pub cells : List Float
+
+abbrev pub moving : Driver → List Float → Moving
+moving d l = record { driver = d; cells = l }
+
+abbrev rungAt : List Float → Moving → Rung
+rungAt c h = rungOf c (h .cells) (glottalPulse (h .driver .phase .0))
+
+abbrev heldNext : VoltsPerOctave → Float → Hertz → List Float → Moving → Moving
+heldNext v depth rate c h = moving (driveNext v depth rate (h .driver)) (rungAt c h .state)
+
+abbrev heldAnswer : VoltsPerOctave → Float → Hertz → List Float → Moving → Answer
+heldAnswer v depth rate c h = voicedOf (rungAt c h .sum) (keptOf v depth rate (h .driver))
+
+kept-told : (b : Bool) → eqb (keptMark b) 4 ≡ b
+unfolding keptMark
+kept-told true = refl
+kept-told false = refl
+
+module _ (v : VoltsPerOctave) (depth : Float) (rate : Hertz) (c : List Float) (d : Driver) (s : List Float) (n : ℕ) (xs : List Float) (ms : List ℕ) (ex : xs ≡ tab (pulseAt v depth rate d) n) (em : ms ≡ tab (keptAt v depth rate d) n) where
+  driverAt : ℕ → Driver
+  driverAt i = afterTicks (driveNext v depth rate) i d
+
+  pulse-at : (i : ℕ) → i < n → glottalPulse (driverAt i .phase .0) ≡ getD xs i nan
+  unfolding pulseAt driverAt
+  pulse-at i h = sym (ap (λ (l : List Float). getD l i nan) ex ∙ getD-tab nan (pulseAt v depth rate d) n i h)
+
+  kept-at : (i : ℕ) → i < n → keptOf v depth rate (driverAt i) ≡ eqb (getD ms i 0) 4
+  unfolding keptAt driverAt
+  kept-at i h =
+      sym (ap (λ (l : List ℕ). eqb (getD l i 0) 4) em ∙ ap (λ (k : ℕ). eqb k 4) (getD-tab 0 (keptAt v depth rate d) n i h) ∙ kept-told (keptOf v depth rate (driverAt i)))
+
+  halves : (i : ℕ) → i ≤ n → afterTicks (heldNext v depth rate c) i (moving d s) ≡ moving (driverAt i) (cellsAt c xs s i)
+  unfolding afterTicks cellsAt driverAt
+  halves zero h = refl
+  halves (suc i) h =
+      ap (heldNext v depth rate c) (halves i (omega arith))
+      ∙ ap (λ (x : Float). moving (driveNext v depth rate (driverAt i)) (rungOf c (cellsAt c xs s i) x .state)) (pulse-at i (omega arith))
+
+  answers-at : (i : ℕ) → i < n → answerAt (heldAnswer v depth rate c) (heldNext v depth rate c) (moving d s) i ≡ voicedAt c s xs ms i
+  unfolding answerAt voicedAt
+  answers-at i h =
+      ap (heldAnswer v depth rate c) (halves i (omega arith))
+      ∙ (λ k. voicedOf (rungOf c (cellsAt c xs s i) (pulse-at i h k) .sum) (kept-at i h k))
+
+-- one sample a tick
+joined-one : (f : ℕ → Volts) (n : ℕ) → joined (λ i. portsOf 1 (f i)) n ≡ tab (λ i. f i .p10) n
+unfolding joined tab portsOf
+joined-one f zero = refl
+joined-one f (suc n) = ap (λ (l : List Float). l ++ (f n .p10 ∷ [])) (joined-one f n)
+
+-- ---- the whole
+abbrev pub depthOf : FormantControls → Float
+depthOf c = clampOf (c .vibrato) zer one
+
+-- before the first tick its pitch is in the memo already
+abbrev pub startOf : FormantOsc → FormantControls → Driver
+startOf s c = driver (s .phase) (s .«vibrato_phase») (freqMemoOf s c)
+
+abbrev pub stateOf : FormantOsc → FormantControls → Moving → FormantOsc
+stateOf s c h =
+    record {
+      phase = h .driver .phase;
+      «vibrato_phase» = h .driver .«vibrato_phase»;
+      «resonator_state» = h .cells;
+      «sample_rate» = s .«sample_rate»;
+      «freq_memo» = h .driver .«freq_memo»;
+      «coef_memo» = coefMemoOf s c;
+    }
+
+-- no number refuses it: its rate and its phases are good
+pub accepts : (s : FormantOsc) → formantRefusalOf s ≡ 0 → (rateOk (s .«sample_rate») ≡ true) × (phaseOk (s .phase) ≡ true) × (phaseOk (s .«vibrato_phase») ≡ true)
+unfolding formantRefusalOf
+accepts s = go (rateOk (s .«sample_rate»)) (phaseOk (s .phase)) (phaseOk (s .«vibrato_phase»))
+  where
+    go : (a b d : Bool) → _≡_ {A = ℕ} (cond a (cond (b && d) 0 2) 1) 0 → (a ≡ true) × (b ≡ true) × (d ≡ true)
+    go true true true h = (refl, refl, refl)
+    go true true false h = absurd (omega arith)
+    go true false d h = absurd (omega arith)
+    go false b d h = absurd (omega arith)
+
+abbrev Good : Moving → Type 0
+Good h = (phaseOk (h .driver .phase) ≡ true) × (phaseOk (h .driver .«vibrato_phase») ≡ true)
+
+state-accepted : (s : FormantOsc) (c : FormantControls) (h : Moving) → formantRefusalOf s ≡ 0 → Good h → formantRefusalOf (stateOf s c h) ≡ 0
+unfolding formantRefusalOf
+state-accepted s c h e g = simp (accepts s e .0, g .0, g .1)
+
+tick-sounds : (s : FormantOsc) (c : FormantControls) → formantRefusalOf s ≡ 0 → formantTickOf s c ≡ formantSoundOf s c
+unfolding formantTickOf
+tick-sounds s c h = simp h
+
+-- from the second tick on the coefficients are in their memo
+held-sound : (s : FormantOsc) (c : FormantControls) (h : Moving) → formantSoundOf (stateOf s c h) c
+    ≡ record {
+      answer = heldAnswer (c .«v_oct») (depthOf c) (s .«sample_rate») (coefMemoOf s c .val) h;
+      formant = stateOf s c (heldNext (c .«v_oct») (depthOf c) (s .«sample_rate») (coefMemoOf s c .val) h);
+    }
+unfolding formantSoundOf freqMemoOf coefMemoOf formantRung driveNext phaseSum vibratoSum driveMemo keptOf voicedOf
+held-sound s c h = simp (coefs-again (s .«coef_memo») (clampOf (c .vowel) zer one) (c .«formant_shift») (s .«sample_rate» .0))
+
+-- in the first the pitch is looked up once more
+first-sound : (s : FormantOsc) (c : FormantControls) → formantSoundOf s c
+    ≡ record {
+      answer = heldAnswer (c .«v_oct») (depthOf c) (s .«sample_rate») (coefMemoOf s c .val) (moving (startOf s c) (s .«resonator_state»));
+      formant = stateOf s c (heldNext (c .«v_oct») (depthOf c) (s .«sample_rate») (coefMemoOf s c .val) (moving (startOf s c) (s .«resonator_state»)));
+    }
+unfolding formantSoundOf freqMemoOf coefMemoOf formantRung driveNext phaseSum vibratoSum driveMemo keptOf voicedOf
+first-sound s c = simp (recall1-again voctToHzAt (s .«freq_memo») (pitchOf (c .«v_oct») (depthOf c) (s .«vibrato_phase» .0) .0))
+
+module _ (s : FormantOsc) (c : FormantControls) (e : formantRefusalOf s ≡ 0) where
+  answerOf : Moving → Answer
+  answerOf = heldAnswer (c .«v_oct») (depthOf c) (s .«sample_rate») (coefMemoOf s c .val)
+
+  nextOf : Moving → Moving
+  nextOf = heldNext (c .«v_oct») (depthOf c) (s .«sample_rate») (coefMemoOf s c .val)
+
+  held-tick : (h : Moving) → Good h → formantTickOf (stateOf s c h) c ≡ record { answer = answerOf h; formant = stateOf s c (nextOf h) }
+  unfolding answerOf nextOf
+  held-tick h g = tick-sounds (stateOf s c h) c (state-accepted s c h e g) ∙ held-sound s c h
+
+  holds : Holds (formantAnswerOf c) (formantNextOf c) answerOf nextOf (stateOf s c) Good s (moving (startOf s c) (s .«resonator_state»))
+  holds =
+      record {
+        good = (accepts s e .1, accepts s e .2);
+        first = unfold answerOf in ap (λ (t : FormantTicked). t .answer) (tick-sounds s c e ∙ first-sound s c);
+        second = unfold nextOf in ap (λ (t : FormantTicked). t .formant) (tick-sounds s c e ∙ first-sound s c);
+        stays = λ h g. unfold nextOf driveNext phaseSum vibratoSum in (wrap-in _ (add-fits binary64 _ _), wrap-in _ (add-fits binary64 _ _));
+        answers = λ h g. ap (λ (t : FormantTicked). t .answer) (held-tick h g);
+        moves = λ h g. ap (λ (t : FormantTicked). t .formant) (held-tick h g);
+      }
+
+  -- what the two halves leave is what the ticks leave
+  module _ (n : ℕ) (z : 0 < n) (xs : List Float) (ms : List ℕ) (ex : xs ≡ tab (pulseAt (c .«v_oct») (depthOf c) (s .«sample_rate») (startOf s c)) n) (em : ms ≡ tab (keptAt (c .«v_oct») (depthOf c) (s .«sample_rate») (startOf s c)) n) where
+    voicedIn : ℕ → Answer
+    voicedIn = voicedAt (coefMemoOf s c .val) (s .«resonator_state») xs ms
+
+    same-answer : (i : ℕ) → i < n → answerAt answerOf nextOf (moving (startOf s c) (s .«resonator_state»)) i ≡ voicedIn i
+    unfolding answerOf nextOf voicedIn
+    same-answer i h = answers-at (c .«v_oct») (depthOf c) (s .«sample_rate») (coefMemoOf s c .val) (startOf s c) (s .«resonator_state») n xs ms ex em i h
+
+    pub state-after : afterTicks (formantNextOf c) n s
+        ≡ stateOf s c (moving (afterTicks (driveNext (c .«v_oct») (depthOf c) (s .«sample_rate»)) n (startOf s c)) (cellsAt (coefMemoOf s c .val) xs (s .«resonator_state») n))
+    unfolding nextOf driverAt
+    state-after =
+        held-after _ _ _ _ _ _ _ _ holds n z
+        ∙ ap (stateOf s c) (halves (c .«v_oct») (depthOf c) (s .«sample_rate») (coefMemoOf s c .val) (startOf s c) (s .«resonator_state») n xs ms ex em n (omega arith))
+
+    pub samples-after : joined (frameAt 1 (formantAnswerOf c) (formantNextOf c) s) n ≡ tab (λ i. voltsOf (voicedAt (coefMemoOf s c .val) (s .«resonator_state») xs ms i) .p10) n
+    unfolding voicedIn
+    samples-after =
+        held-frames _ _ _ _ _ _ _ _ holds 1 n
+        ∙ joined-one (λ i. voltsOf (answerAt answerOf nextOf (moving (startOf s c) (s .«resonator_state»)) i)) n
+        ∙ tab-ext _ _ n (λ i h. ap (λ (a : Answer). voltsOf a .p10) (same-answer i h))
+
+    pub marks-after : tab (markAt (formantAnswerOf c) (formantNextOf c) s) n ≡ tab (λ i. markNumber (voicedAt (coefMemoOf s c .val) (s .«resonator_state») xs ms i)) n
+    unfolding voicedIn
+    marks-after = held-marks _ _ _ _ _ _ _ _ holds n ∙ tab-ext _ _ n (λ i h. ap markNumber (same-answer i h))
+
+-- ---- a block's code
+-- the pitch of the first tick is in the memo that was asked for it
+pub recalled-again : (m r : Memo1) (p q : VoltsPerOctave) → r ≡ recall1 voctToHzAt m (p .0) → p ≡ q → recall1 voctToHzAt r (q .0) ≡ r
+recalled-again m r p q e h =
+    ap (λ (v : VoltsPerOctave). recall1 voctToHzAt r (v .0)) (sym h) ∙ ap (λ (n : Memo1). recall1 voctToHzAt n (p .0)) e ∙ recall1-again voctToHzAt m (p .0) ∙ sym e
+
+-- each call's own law, one after another
+pub ran : (s : FormantOsc) (c : FormantControls) (n : ℕ) (vowel depth : Float) (pitch : VoltsPerOctave) (memo : Memo1) (coefs : CoefMemo) (end : Driver) (xs : List Float) (ms : List ℕ) (cells ys : List Float) (ns : List ℕ)
+    → formantRefusalOf s ≡ 0 → 0 < n
+    → vowel ≡ clampOf (c .vowel) zer one → depth ≡ depthOf c → pitch ≡ pitchOf (c .«v_oct») depth (s .«vibrato_phase» .0)
+    → memo ≡ recall1 voctToHzAt (s .«freq_memo») (pitch .0) → coefs ≡ coefRecall (s .«coef_memo») vowel (c .«formant_shift») (s .«sample_rate» .0)
+    → end ≡ afterTicks (driveNext (c .«v_oct») depth (s .«sample_rate»)) n (driver (s .phase) (s .«vibrato_phase») memo)
+    → xs ≡ tab (pulseAt (c .«v_oct») depth (s .«sample_rate») (driver (s .phase) (s .«vibrato_phase») memo)) n
+    → ms ≡ tab (keptAt (c .«v_oct») depth (s .«sample_rate») (driver (s .phase) (s .«vibrato_phase») memo)) n
+    → cells ≡ cellsAt (coefs .val) xs (s .«resonator_state») (length ms)
+    → ys ≡ tab (λ i. voltsOf (voicedAt (coefs .val) (s .«resonator_state») xs ms i) .p10) (length ms)
+    → ns ≡ tab (λ i. markNumber (voicedAt (coefs .val) (s .«resonator_state») xs ms i)) (length ms)
+    → (record {
+      phase = end .phase;
+      «vibrato_phase» = end .«vibrato_phase»;
+      «resonator_state» = cells;
+      «sample_rate» = s .«sample_rate»;
+      «freq_memo» = end .«freq_memo»;
+      «coef_memo» = coefs;
+    }
+    ≡ afterTicks (formantNextOf c) n s)
+    × ((ys ≡ joined (frameAt 1 (formantAnswerOf c) (formantNextOf c) s) n) × (ns ≡ tab (markAt (formantAnswerOf c) (formantNextOf c) s) n))
+ran s c n vowel depth pitch memo coefs end xs ms cells ys ns e z ev ed ep em ec ee ex ek el ey en =
+    let a : memo ≡ freqMemoOf s c = unfold freqMemoOf in em ∙ ap (λ (p : VoltsPerOctave). recall1 voctToHzAt (s .«freq_memo») (p .0)) ep ∙ ap (λ (d : Float). recall1 voctToHzAt (s .«freq_memo») (pitchOf (c .«v_oct») d (s .«vibrato_phase» .0) .0)) ed in
+    let b : coefs ≡ coefMemoOf s c = unfold coefMemoOf in ec ∙ ap (λ (x : Float). coefRecall (s .«coef_memo») x (c .«formant_shift») (s .«sample_rate» .0)) ev in
+    let w : length ms ≡ n = ap length ek ∙ length-tab (keptAt (c .«v_oct») depth (s .«sample_rate») (driver (s .phase) (s .«vibrato_phase») memo)) n in
+    let x : xs ≡ tab (pulseAt (c .«v_oct») (depthOf c) (s .«sample_rate») (startOf s c)) n = ex ∙ (λ k. tab (pulseAt (c .«v_oct») (ed k) (s .«sample_rate») (driver (s .phase) (s .«vibrato_phase») (a k))) n) in
+    let m : ms ≡ tab (keptAt (c .«v_oct») (depthOf c) (s .«sample_rate») (startOf s c)) n = ek ∙ (λ k. tab (keptAt (c .«v_oct») (ed k) (s .«sample_rate») (driver (s .phase) (s .«vibrato_phase») (a k))) n) in
+    let d : end ≡ afterTicks (driveNext (c .«v_oct») (depthOf c) (s .«sample_rate»)) n (startOf s c) = ee ∙ (λ k. afterTicks (driveNext (c .«v_oct») (ed k) (s .«sample_rate»)) n (driver (s .phase) (s .«vibrato_phase») (a k))) in
+    let l : cells ≡ cellsAt (coefMemoOf s c .val) xs (s .«resonator_state») n = el ∙ (λ k. cellsAt (b k .val) xs (s .«resonator_state») (w k)) in (
+      (λ k.
+          record {
+            phase = d k .phase;
+            «vibrato_phase» = d k .«vibrato_phase»;
+            «resonator_state» = l k;
+            «sample_rate» = s .«sample_rate»;
+            «freq_memo» = d k .«freq_memo»;
+            «coef_memo» = b k;
+          })
+          ∙ sym (state-after s c e n z xs ms x m),
+      (
+        ey ∙ (λ k. tab (λ i. voltsOf (voicedAt (b k .val) (s .«resonator_state») xs ms i) .p10) (w k)) ∙ sym (samples-after s c e n z xs ms x m),
+        en ∙ (λ k. tab (λ i. markNumber (voicedAt (b k .val) (s .«resonator_state») xs ms i)) (w k)) ∙ sym (marks-after s c e n z xs ms x m),
+      ),
+    )
+
+-- a sample for each mark
+pub one-each : (o : List Float) (m : List ℕ) (r number : ℕ) (t : Tally) (n : ℕ) → n ≡ blockRefusalOf (eqb (length o) (length m)) r t (length m) → r ≡ number
+    → n ≡ blockRefusalOf (eqb (length o) (1 * length m)) number t (length m)
+one-each o m r number t n e h = e ∙ (λ k. blockRefusalOf (eqb (length o) (sym (one-mul (length m)) k)) (h k) t (length m))

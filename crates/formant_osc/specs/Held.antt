@@ -1,0 +1,63 @@
+-- The two halves of a block: what drives the resonators, tick by tick, and what they make of it. proofs/Held.antt shows that the ticks of
+-- a block are made of these.
+use mathlib.Core.Bool.{Bool, false, cond, _&&_}
+use mathlib.Core.List.{List}
+use Prim.Native.Nat.{ℕ, zero, suc}
+use lib.Dec.{eqb}
+use lib.Ieee.{Float, nan, binary64, add, mul, div, neg}
+use lib.ListN.{getD}
+use Rattle.answer.specs.Block.{afterTicks}
+use Rattle.answer.specs.Mark.{markOf}
+use Rattle.answer.specs.declared.Answer.{Answer}
+use Rattle.common.specs.Consts.{five}
+use Rattle.common.specs.Memo.{recall1, voctToHzAt}
+use Rattle.common.specs.Phase.{turns, wrapOf}
+use Rattle.common.specs.declared.Hertz.{Hertz}
+use Rattle.common.specs.declared.Memo1.{Memo1}
+use Rattle.common.specs.declared.VoltsPerOctave.{VoltsPerOctave}
+use Rattle.formant_osc.specs.Consts.{vibratoRate}
+use Rattle.formant_osc.specs.Sound.{glottalPulse, pitchOf, rungOf, onlyOf}
+use Rattle.formant_osc.specs.declared.Driver.{Driver}
+use Rattle.laws.specs.Float.{one, isFin}
+use Rattle.numeric.specs.Basic.{clampOf}
+
+-- ---- the phases and the pitch: the memo after a tick, and both phases with their increments
+unfoldable pub driveMemo : VoltsPerOctave → Float → Driver → Memo1
+driveMemo v depth d = recall1 voctToHzAt (d .«freq_memo») (pitchOf v depth (d .«vibrato_phase» .0) .0)
+
+unfoldable pub phaseSum : VoltsPerOctave → Float → Hertz → Driver → Float
+phaseSum v depth rate d = add binary64 (d .phase .0) (div binary64 (driveMemo v depth d .val .0) (rate .0))
+
+unfoldable pub vibratoSum : Hertz → Driver → Float
+vibratoSum rate d = add binary64 (d .«vibrato_phase» .0) (div binary64 vibratoRate (rate .0))
+
+unfoldable pub driveNext : VoltsPerOctave → Float → Hertz → Driver → Driver
+driveNext v depth rate d =
+    record { phase = turns (wrapOf (phaseSum v depth rate d)); «vibrato_phase» = turns (wrapOf (vibratoSum rate d)); «freq_memo» = driveMemo v depth d }
+
+-- the pulse in tick i, and the number of its mark as far as the phases go: 4 clean, 3 lost
+unfoldable pub pulseAt : VoltsPerOctave → Float → Hertz → Driver → ℕ → Float
+pulseAt v depth rate d i = glottalPulse (afterTicks (driveNext v depth rate) i d .phase .0)
+
+unfoldable pub keptOf : VoltsPerOctave → Float → Hertz → Driver → Bool
+keptOf v depth rate d = isFin (phaseSum v depth rate d) && isFin (vibratoSum rate d)
+
+unfoldable pub keptMark : Bool → ℕ
+keptMark phases = cond phases 4 3
+
+unfoldable pub keptAt : VoltsPerOctave → Float → Hertz → Driver → ℕ → ℕ
+keptAt v depth rate d i = keptMark (keptOf v depth rate (afterTicks (driveNext v depth rate) i d))
+
+-- ---- the resonators, over the pulses xs and those marks ms
+-- what a tick answers to their sum
+unfoldable pub voicedOf : Float → Bool → Answer
+voicedOf sum phases = markOf (onlyOf (mul binary64 (clampOf sum (neg one) one) five)) false (isFin sum) phases
+
+-- their cells before tick i
+unfoldable pub cellsAt : List Float → List Float → List Float → ℕ → List Float
+cellsAt c xs s zero = s
+cellsAt c xs s (suc i) = rungOf c (cellsAt c xs s i) (getD xs i nan) .state
+
+-- what tick i answers
+unfoldable pub voicedAt : List Float → List Float → List Float → List ℕ → ℕ → Answer
+voicedAt c s xs ms i = voicedOf (rungOf c (cellsAt c xs s i) (getD xs i nan) .sum) (eqb (getD ms i 0) 4)
