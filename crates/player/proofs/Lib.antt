@@ -1,6 +1,7 @@
 pub mod New
 pub mod Pieces
 pub mod Steps
+pub mod Blocks
 pub mod Whole
 pub mod Counts
 pub mod Accepted

@@ -17,7 +17,7 @@ use Rattle.player.specs.Player.{kindOf, soundOf, keptBy, answerOf, frame
 use Rattle.player.specs.declared.Player.{Player}
 use Rattle.player.specs.declared.Played.{Played}
 use Rattle.player.specs.declared.Sounded.{Sounded}
-use Rattle.player.proofs.Pieces.{text-last, after-last, frame-after}
+use Rattle.player.proofs.Pieces.{pieces, text-last, after-last, frame-after}
 
 -- a player and the place after its text
 abbrev pub Done : List ℕ → ℕ → List ℕ → Player → Played → List ℕ → Type 0
@@ -47,22 +47,33 @@ module _ (out q : List ℕ) (at to : ℕ) (p : Player) (s : Sounded) (o : Osc) (
 
 -- ---- a run
 -- after k frames
-abbrev pub Ran : List ℕ → Player → List ℕ → Player → ℕ → ℕ → Type 0
-Ran out p q now to k = (now ≡ afterOf k p) × Put out 0 (textOf k p) to q
+abbrev pub Ran : List ℕ → ℕ → Player → List ℕ → Player → ℕ → ℕ → Type 0
+Ran out at p q now to k = (now ≡ afterOf k p) × Put out at (textOf k p) to q
 
-module _ (out q : List ℕ) (p now : Player) (to k : ℕ) (ran : Ran out p q now to k) where
-  pub one-more : (r : Played) (q′ : List ℕ) → Done q to (frameOf now) (nextOf now) r q′ → Ran out p q′ (r .player) (r .to) (k + 1)
+module _ (out q : List ℕ) (at : ℕ) (p now : Player) (to k : ℕ) (ran : Ran out at p q now to k) where
+  pub one-more : (r : Played) (q′ : List ℕ) → Done q to (frameOf now) (nextOf now) r q′ → Ran out at p q′ (r .player) (r .to) (k + 1)
   unfolding playedOf
   one-more r q′ (e, eq) =
       let now-is = ran .0 in (
         ap (λ (d : Played). d .player) e ∙ ap nextOf now-is ∙ sym (after-last p k),
-        rw (text-last p k, ← now-is) (after out 0 (textOf k p) (frameOf now) (ran .1) (ap (λ (d : Played). d .to) e, eq)),
+        rw (text-last p k, ← now-is) (after out at (textOf k p) (frameOf now) (ran .1) (ap (λ (d : Played). d .to) e, eq)),
       )
 
-  pub all-run : (n : ℕ) → k ≡ n → Done out 0 (textOf n p) (afterOf n p) (record { player = now; to = to }) q
+  pub some-more : (j : ℕ) (r : Played) (q′ : List ℕ) → Done q to (textOf j now) (afterOf j now) r q′ → Ran out at p q′ (r .player) (r .to) (k + j)
+  unfolding playedOf
+  some-more j r q′ (e, eq) =
+      let now-is = ran .0 in (
+        ap (λ (d : Played). d .player) e ∙ ap (afterOf j) now-is ∙ sym (pieces p k j .1),
+        rw (pieces p k j .0, ← now-is) (after out at (textOf k p) (textOf j now) (ran .1) (ap (λ (d : Played). d .to) e, eq)),
+      )
+
+  pub all-run : (n : ℕ) → k ≡ n → Done out at (textOf n p) (afterOf n p) (record { player = now; to = to }) q
   unfolding playedOf
   all-run n e = rw (← e) (λ i. record { player = ran .0 i; to = ran .1 .0 i }, ran .1 .1)
 
--- a frame that is left has a number below frames
-pub has-room : (p now : Player) (k : ℕ) → now ≡ afterOf k p → k < p .frames - p .frame → p .frames ≤ 4294967295 → now .frame < 4294967295
-has-room p now k e h top = let f : now .frame ≡ p .frame + k = ap (λ (d : Player). d .frame) e ∙ frame-after p k in omega arith
+  -- the number of the next frame
+  pub frame-now : now .frame ≡ p .frame + k
+  frame-now = ap (λ (d : Player). d .frame) (ran .0) ∙ frame-after p k
+
+pub same-frames : (out q : List ℕ) (at k n : ℕ) (p : Player) (r : Played) → k ≡ n → Done out at (textOf k p) (afterOf k p) r q → Done out at (textOf n p) (afterOf n p) r q
+same-frames out q at k n p r e d = rw (← e) d

@@ -1,4 +1,5 @@
 pub mod Begin
+pub mod Block
 pub mod Play
 pub mod Player
 pub mod Promises

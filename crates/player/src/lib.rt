@@ -1,7 +1,8 @@
-// A score is played frame by frame, so many at a time.
+// A score is played in blocks of frames, so many at a time.
 use answer::Answer;
 use answer::Tallied;
 use answer::Tally;
+use answer::Volts;
 use common::EdgeDetector;
 use common::Hertz;
 use common::Memo1;
@@ -24,8 +25,11 @@ use supersaw::SupersawControls;
 use vco::Vco;
 use vco::VcoControls;
 ghost use mathlib.Core.Path.{_≡_};
-ghost use Prim.Native.Nat.{_<_};
+ghost use mathlib.Core.Bool.{true};
+ghost use Prim.Native.Nat.{_<_, _≤_, _+_, _*_, min};
+ghost use lib.ListN.{length};
 ghost use lib.Seq.{sets};
+ghost use Rattle.answer.specs.Block.{roomFor, block};
 ghost use Rattle.text.specs.Put.{placeOf};
 ghost use Rattle.vco.specs.Vco.{newVco};
 ghost use Rattle.lfo.specs.Lfo.{newLfo};
@@ -33,6 +37,7 @@ ghost use Rattle.supersaw.specs.Supersaw.{newSupersaw};
 ghost use Rattle.formant_osc.specs.FormantOsc.{newFormantOsc};
 ghost use Rattle.player.specs.Begin.{rateOf, vcoControls, lfoControls, supersawControls, formantControls};
 ghost use Rattle.player.specs.Player.{controlsOf, voicesAt, beginOf, kindOf, soundOf, keptBy, frameOf, nextOf, textOf, afterOf, turnsOf, playedOf, finishOf};
+ghost use Rattle.player.specs.Block.{portsIn, framesOf, outputAt, voltsAt, markedOf, blockText};
 
 // The inputs in volts, which say what is played.
 pub enum Controls {
@@ -69,6 +74,16 @@ struct Sounded {
     answer: Answer,
     voices: Voices,
 }
+
+// What a block of frames leaves beside samples and marks: `refused` is 0, or the number that refused it.
+struct Heard {
+    refused: u32,
+    voices: Voices,
+    tally: Tally,
+}
+
+// So many frames are played by one block.
+const CHUNK: u32 = 64;
 
 // ---- a score's player
 
@@ -283,7 +298,218 @@ fn step(out: &mut [u8], at: usize, player: Player) -> Played
     }
 }
 
+// The next n frames, one by one.
+fn by_steps(out: &mut [u8], at: usize, player: Player, n: u32) -> Played
+    requires { ⌜ (at ≤ length (now out)) × (player .frame + n ≤ 4294967295) ⌝ }
+    ensures { λ r. ⌜ r ≡ playedOf (now (out .entry)) at (textOf n player) (afterOf n player) ⌝ }
+    ensures { λ r. ⌜ now (out .exit) ≡ sets (now (out .entry)) at (textOf n player) ⌝ }
+{
+    let mut now = player;
+    let mut to = at;
+    let mut k = 0;
+    while k < n {
+        let played = step(&mut *out, to, now);
+        let next = played.player;
+        now = next;
+        to = played.to;
+        k += 1;
+    }
+    Played { player: now, to }
+}
+
+// ---- a block of frames
+
+// How many outputs it has: so many samples are a frame's.
+fn ports_of(osc: Osc) -> usize
+    ensures { λ r. ⌜ r ≡ portsIn osc ⌝ }
+{
+    match osc {
+        Osc::Vco => 4,
+        Osc::Lfo => 5,
+        Osc::Supersaw => 2,
+        Osc::Formant => 1,
+    }
+}
+
+// As many ticks as there are marks, all outputs wanted.
+fn hear(
+    controls: Controls,
+    mut voices: Voices,
+    tally: Tally,
+    samples: &mut [f64],
+    marks: &mut [u32],
+) -> Heard
+    ensures { λ r. ⌜ (r .refused ≡ 0 → (roomFor tally (length (now (marks .entry))) ≡ true) × (block 0 (r .voices) (r .tally) (now (samples .exit)) (now (marks .exit)) ≡ framesOf controls voices tally (length (now (marks .entry))))) ⌝ }
+{
+    match controls {
+        Controls::Vco(c) => {
+            let vco = voices.vco;
+            let b = vco.block(c, 15, tally, samples, marks);
+            let after = b.vco;
+            let counts = b.tally;
+            voices.vco = after;
+            Heard {
+                refused: b.refused,
+                voices,
+                tally: counts,
+            }
+        }
+        Controls::Lfo(c) => {
+            let lfo = voices.lfo;
+            let b = lfo.block(c, 31, tally, samples, marks);
+            let after = b.lfo;
+            let counts = b.tally;
+            voices.lfo = after;
+            Heard {
+                refused: b.refused,
+                voices,
+                tally: counts,
+            }
+        }
+        Controls::Supersaw(c) => {
+            let supersaw = voices.supersaw;
+            let b = supersaw.block(c, tally, samples, marks);
+            let after = b.supersaw;
+            let counts = b.tally;
+            voices.supersaw = after;
+            Heard {
+                refused: b.refused,
+                voices,
+                tally: counts,
+            }
+        }
+        Controls::Formant(c) => {
+            let formant = voices.formant;
+            let b = formant.block(c, tally, samples, marks);
+            let after = b.formant;
+            let counts = b.tally;
+            voices.formant = after;
+            Heard {
+                refused: b.refused,
+                voices,
+                tally: counts,
+            }
+        }
+    }
+}
+
+// Output j of frame i; 0.0 where there is no such output.
+fn output_at(ports: usize, samples: &[f64], i: usize, j: usize) -> f64
+    requires { ⌜ ports * (i + 1) ≤ length (now samples) ⌝ }
+    ensures { λ r. ⌜ r ≡ outputAt ports (now (samples .entry)) i j ⌝ }
+{
+    if j < ports {
+        samples[ports * i + j]
+    } else {
+        0.0
+    }
+}
+
+fn volts_at(ports: usize, samples: &[f64], i: usize) -> Volts
+    requires { ⌜ ports * (i + 1) ≤ length (now samples) ⌝ }
+    ensures { λ r. ⌜ r ≡ voltsAt ports (now (samples .entry)) i ⌝ }
+{
+    Volts {
+        p10: output_at(ports, samples, i, 0),
+        p11: output_at(ports, samples, i, 1),
+        p12: output_at(ports, samples, i, 2),
+        p13: output_at(ports, samples, i, 3),
+        p14: output_at(ports, samples, i, 4),
+    }
+}
+
+// The answer that a mark's number stands for; a refused tick's is 0.
+fn marked(mark: u32, v: Volts) -> Answer
+    ensures { λ r. ⌜ r ≡ markedOf mark v ⌝ }
+{
+    if mark == 0 {
+        Answer::Refused(0)
+    } else {
+        answer::answer_of(mark, v)
+    }
+}
+
+// The texts of a block's frames, numbered from `first` on.
+fn put_frames(
+    out: &mut [u8],
+    at: usize,
+    osc: Osc,
+    first: u32,
+    samples: &[f64],
+    marks: &[u32],
+) -> usize
+    requires { ⌜ (at ≤ length (now out)) × (first + length (now marks) ≤ 4294967295) × (length (now samples) ≡ portsIn osc * length (now marks)) ⌝ }
+    ensures { λ r. ⌜ r ≡ placeOf (now (out .entry)) at (blockText osc first (now (samples .entry)) (now (marks .entry)) (length (now (marks .entry)))) ⌝ }
+    ensures { λ r. ⌜ now (out .exit) ≡ sets (now (out .entry)) at (blockText osc first (now (samples .entry)) (now (marks .entry)) (length (now (marks .entry)))) ⌝ }
+{
+    let ports = ports_of(osc);
+    let mut to = at;
+    let mut i = 0;
+    while i < marks.len() {
+        let heard = marked(marks[i], volts_at(ports, samples, i));
+        to = frame::put_frame(&mut *out, to, osc, first + (i as u32), heard);
+        i += 1;
+    }
+    to
+}
+
+// As many frames as there are marks. A state that no block can be played from is played one by one.
+fn by_block(
+    out: &mut [u8],
+    at: usize,
+    player: Player,
+    samples: &mut [f64],
+    marks: &mut [u32],
+) -> Played
+    requires { ⌜ (at ≤ length (now out)) × (player .frame + length (now marks) ≤ 4294967295) ⌝ }
+    ensures { λ r. ⌜ r ≡ playedOf (now (out .entry)) at (textOf (length (now (marks .entry))) player) (afterOf (length (now (marks .entry))) player) ⌝ }
+    ensures { λ r. ⌜ now (out .exit) ≡ sets (now (out .entry)) at (textOf (length (now (marks .entry))) player) ⌝ }
+{
+    let n = marks.len() as u32;
+    let controls = player.controls;
+    let before = player.voices;
+    let tally = player.tally;
+    let heard = hear(controls, before, tally, &mut *samples, &mut *marks);
+    if heard.refused == 0 {
+        let voices = heard.voices;
+        let counts = heard.tally;
+        let to = put_frames(out, at, kind_of(controls), player.frame, samples, marks);
+        Played {
+            player: Player {
+                controls,
+                voices,
+                tally: counts,
+                frame: player.frame + n,
+                frames: player.frames,
+            },
+            to,
+        }
+    } else {
+        by_steps(out, at, player, n)
+    }
+}
+
+// The next n frames by one block.
+fn chunk(out: &mut [u8], at: usize, player: Player, n: u32) -> Played
+    requires { ⌜ (at ≤ length (now out)) × (player .frame + n ≤ 4294967295) × (n ≤ 64) ⌝ }
+    ensures { λ r. ⌜ r ≡ playedOf (now (out .entry)) at (textOf n player) (afterOf n player) ⌝ }
+    ensures { λ r. ⌜ now (out .exit) ≡ sets (now (out .entry)) at (textOf n player) ⌝ }
+{
+    let mut samples = [0.0; 320];
+    let mut marks = [0u32; 64];
+    let controls = player.controls;
+    let size = n as usize;
+    let room = ports_of(kind_of(controls)) * size;
+    by_block(out, at, player, &mut samples[..room], &mut marks[..size])
+}
+
 // ---- a run
+
+fn lesser(a: u32, b: u32) -> u32
+    ensures { λ r. ⌜ r ≡ min a b ⌝ }
+{
+    if a < b { a } else { b }
+}
 
 fn turns(player: Player, budget: u32) -> u32
     ensures { λ r. ⌜ r ≡ turnsOf player budget ⌝ }
@@ -320,11 +546,12 @@ impl Player {
         let mut to = 0;
         let mut k = 0;
         while k < n {
-            let played = step(&mut *out, to, player);
+            let some = lesser(n - k, CHUNK);
+            let played = chunk(&mut *out, to, player, some);
             let next = played.player;
             player = next;
             to = played.to;
-            k += 1;
+            k += some;
         }
         Played { player, to }
     }

@@ -1,0 +1,329 @@
+-- A block of frames is those frames: the voice's ticks, their tally, and the texts that samples and marks stand for.
+use mathlib.Core.Bool.{Bool, true, false, cond}
+use mathlib.Core.List.{List, [], _∷_, _++_}
+use mathlib.Core.Logic.{⊎-elim}
+use mathlib.Core.Path.{_≡_, refl, sym, ap, _∙_}
+use Prim.Native.Nat.{ℕ, zero, suc, _+_, _*_, _≤_, _<_}
+use native.Mathlib.Nat.{zero-add, add-zero, mul-suc, mul-le-mul-left, mul-le-mul, eq-or-lt-of-le, le-of-suc-le-suc, not-suc-le-zero}
+use native.Mathlib.Numerals.{add-one}
+use native.Mathlib.Omega.{arith}
+use lib.Dec.{eqb, lit≤}
+use lib.Ieee.{Float, nan}
+use lib.Seq.{sets}
+use lib.ListN.{length, getD, take, length-take, List·getD-append}
+use borrow.Author.Tests.{eq-eqb, ne-eqb, eqb-true, eqb-false}
+use Rattle.laws.specs.Lists.{tab}
+use Rattle.laws.proofs.Over.{getD-tab, length-tab}
+use Rattle.line.specs.Bytes.{ascii}
+use Rattle.text.specs.Promises.{Put}
+use Rattle.text.specs.Put.{placeOf}
+use Rattle.text.proofs.PutLaws.{after}
+use Rattle.answer.specs.Answer.{markNumber, voltsOf}
+use Rattle.answer.specs.Answer as marks
+use Rattle.answer.specs.Block.{Block, block, manyTo, countedTo, grownBy, roomFor, afterTicks, portsOf, joined, blockRefusalOf, answerAt, markAt, frameAt, ticksOf, blockOf}
+use Rattle.answer.specs.Tally.{sumOf, addsUp, oneIf, counted, tallyOf}
+use Rattle.answer.specs.declared.Volts.{Volts}
+use Rattle.answer.specs.declared.Answer.{Answer}
+use Rattle.answer.specs.declared.Answer.the-variants as answer
+use Rattle.answer.specs.declared.Tally.{Tally}
+use Rattle.answer.proofs.Blocks.{block-fits, room-says, many-most, joined-length, one-port, two-ports, four-ports, five-ports}
+use Rattle.score.specs.declared.Osc.{Osc}
+use Rattle.score.specs.declared.Osc.the-variants as osc
+use Rattle.vco.specs.Vco.{vcoBlockOf}
+use Rattle.vco.specs.declared.Vco.{Vco}
+use Rattle.vco.specs.declared.VcoControls.{VcoControls}
+use Rattle.lfo.specs.Lfo.{lfoBlockOf}
+use Rattle.lfo.specs.declared.Lfo.{Lfo}
+use Rattle.lfo.specs.declared.LfoControls.{LfoControls}
+use Rattle.supersaw.specs.Supersaw.{supersawBlockOf}
+use Rattle.supersaw.specs.declared.Supersaw.{Supersaw}
+use Rattle.supersaw.specs.declared.SupersawControls.{SupersawControls}
+use Rattle.formant_osc.specs.FormantOsc.{formantBlockOf}
+use Rattle.formant_osc.specs.declared.FormantOsc.{FormantOsc}
+use Rattle.formant_osc.specs.declared.FormantControls.{FormantControls}
+use Rattle.frame.specs.Frame.{countLine, wordLine, sampleLine, wavesText, outputsText, markedText, frameText}
+use Rattle.player.specs.Block.{portsIn, voiceAnswer, voiceNext, framesOf, outputAt, voltsAt, markedOf, frameAtOf, blockText}
+use Rattle.player.specs.Player.{kindOf, soundOf, keptBy, answerOf, frameOf, nextOf, textOf, afterOf, playedOf}
+use Rattle.player.specs.declared.Controls.{Controls}
+use Rattle.player.specs.declared.Controls.the-variants as controls
+use Rattle.player.specs.declared.Voices.{Voices}
+use Rattle.player.specs.declared.Player.{Player}
+use Rattle.player.proofs.Pieces.{text-last, after-last}
+use Rattle.player.proofs.Steps.{Done}
+
+-- ---- a voice's block, among the voices
+module _ {S : Type 0} (ports number : ℕ) (answer : S → Answer) (next : S → S) (s : S) (t : Tally) (o : List Float) (m : List ℕ) (r : ℕ) (s′ : S) (t′ : Tally) (o′ : List Float) (m′ : List ℕ) where
+  number-of : ℕ
+  number-of = blockRefusalOf (eqb (length o) (ports * length m)) number t (length m)
+
+  accepted-says : block r s′ t′ o′ m′ ≡ blockOf ports number answer next s t o m → r ≡ 0 → (roomFor t (length m) ≡ true) × (block 0 s′ t′ o′ m′ ≡ ticksOf ports answer next (length m) s t)
+  unfolding blockOf number-of
+  accepted-says e z = go (eqb number-of 0) refl e
+    where
+      go : (b : Bool) → eqb number-of 0 ≡ b → block r s′ t′ o′ m′ ≡ cond b (ticksOf ports answer next (length m) s t) (block number-of s t o m) → (roomFor t (length m) ≡ true) × (block 0 s′ t′ o′ m′ ≡ ticksOf ports answer next (length m) s t)
+      go true q e = (block-fits ports number t o m number-of refl (eqb-true number-of 0 q) .2, ap (λ (k : ℕ). block k s′ t′ o′ m′) (sym z) ∙ e)
+      go false q e = absurd (eqb-false number-of 0 q (sym (ap (λ (b : Block S). b .refused) e) ∙ z))
+
+module _ {S U : Type 0} (answer : S → Answer) (next : S → S) (told : U → Answer) (step : U → U) (embed : S → U) (ea : (s : S) → told (embed s) ≡ answer s) (en : (s : S) → step (embed s) ≡ embed (next s)) where
+  after-carried : (n : ℕ) (s : S) → afterTicks step n (embed s) ≡ embed (afterTicks next n s)
+  unfolding afterTicks
+  after-carried zero s = refl
+  after-carried (suc n) s = ap step (after-carried n s) ∙ en (afterTicks next n s)
+
+  answer-carried : (s : S) (i : ℕ) → answerAt answer next s i ≡ answerAt told step (embed s) i
+  unfolding answerAt
+  answer-carried s i = sym (ap told (after-carried i s) ∙ ea (afterTicks next i s))
+
+  ticks-carried : (ports n : ℕ) (s : S) (t : Tally) → block 0 (embed (ticksOf ports answer next n s t .state)) (ticksOf ports answer next n s t .tally) (ticksOf ports answer next n s t .samples) (ticksOf ports answer next n s t .marks) ≡ ticksOf ports told step n (embed s) t
+  unfolding ticksOf
+  ticks-carried ports n s t =
+      λ i. block 0 (sym (after-carried n s) i) (countedTo t (λ (k : ℕ). markNumber (answer-carried s k i)) n) (joined (λ (k : ℕ). portsOf ports (voltsOf (answer-carried s k i))) n) (tab (λ (k : ℕ). markNumber (answer-carried s k i)) n)
+
+  pub heard : (ports number : ℕ) (s : S) (t : Tally) (o : List Float) (m : List ℕ) (r : ℕ) (s′ : S) (t′ : Tally) (o′ : List Float) (m′ : List ℕ)
+      → block r s′ t′ o′ m′ ≡ blockOf ports number answer next s t o m → r ≡ 0
+      → (roomFor t (length m) ≡ true) × (block 0 (embed s′) t′ o′ m′ ≡ ticksOf ports told step (length m) (embed s) t)
+  heard ports number s t o m r s′ t′ o′ m′ e z =
+      let k = accepted-says ports number answer next s t o m r s′ t′ o′ m′ e z in
+      (k .0, ap (λ (b : Block S). block 0 (embed (b .state)) (b .tally) (b .samples) (b .marks)) (k .1) ∙ ticks-carried ports (length m) s t)
+
+-- ---- the tally
+-- one answer more
+module _ (t : Tally) (a : Answer) (clean cleared notfinite lost : ℕ) (s : t .begun ≡ sumOf t) (h : t .begun + (clean + cleared + notfinite + lost) < 4294967295) where
+  abbrev grown : Tally
+  grown = grownBy t clean cleared notfinite lost
+
+  adds : addsUp grown ≡ true
+  unfolding addsUp grownBy
+  adds = eq-eqb (grown .begun) (sumOf grown) (omega arith)
+
+  room : eqb (grown .begun) 4294967295 ≡ false
+  unfolding grownBy
+  room = ne-eqb (grown .begun) 4294967295 (λ e. omega arith)
+
+  abbrev more : ℕ → Tally
+  more n = grownBy t (clean + oneIf n 4) (cleared + oneIf n 1) (notfinite + oneIf n 2) (lost + oneIf n 3)
+
+  counted-more : (n : ℕ) → oneIf n 4 + oneIf n 1 + oneIf n 2 + oneIf n 3 ≡ 1 → counted grown n ≡ more n
+  unfolding counted grownBy
+  counted-more n one = let (b, f, d, k, l) = sums (oneIf n 4) (oneIf n 1) (oneIf n 2) (oneIf n 3) one in λ i. record { begun = b i; finished = f i; cleared = d i; notfinite = k i; lost = l i }
+    where
+      sums : (x y z w : ℕ) → x + y + z + w ≡ 1
+          → (t .begun + (clean + cleared + notfinite + lost) + 1 ≡ t .begun + (clean + x + (cleared + y) + (notfinite + z) + (lost + w)))
+          × (t .finished + clean + x ≡ t .finished + (clean + x)) × (t .cleared + cleared + y ≡ t .cleared + (cleared + y)) × (t .notfinite + notfinite + z ≡ t .notfinite + (notfinite + z)) × (t .lost + lost + w ≡ t .lost + (lost + w))
+      sums x y z w one = (omega arith, omega arith, omega arith, omega arith, omega arith)
+
+  none-more : grown ≡ more 0
+  unfolding grownBy oneIf
+  none-more = rw (add-zero clean, add-zero cleared, add-zero notfinite, add-zero lost) refl
+
+  kept-more : (a : Answer) → keptBy grown (tallyOf grown a) ≡ more (markNumber a)
+  unfolding tallyOf keptBy markNumber oneIf
+  kept-more (answer.Clean v) = simp (adds, room) (counted-more 4 refl)
+  kept-more (answer.Cleared v) = simp (adds, room) (counted-more 1 refl)
+  kept-more (answer.NotFinite v) = simp (adds, room) (counted-more 2 refl)
+  kept-more (answer.Lost v) = simp (adds, room) (counted-more 3 refl)
+  kept-more (answer.Refused n) = simp adds none-more
+
+-- ---- the player after k frames, as a block has it
+blockAfter : Player → ℕ → Player
+blockAfter p k =
+    record {
+      controls = p .controls;
+      voices = afterTicks (voiceNext (p .controls)) k (p .voices);
+      tally = countedTo (p .tally) (markAt (voiceAnswer (p .controls)) (voiceNext (p .controls)) (p .voices)) k;
+      frame = p .frame + k;
+      frames = p .frames;
+    }
+
+module _ (p : Player) (sum : p .tally .begun ≡ sumOf (p .tally)) where
+  block-next : (k : ℕ) → p .tally .begun + k < 4294967295 → nextOf (blockAfter p k) ≡ blockAfter p (suc k)
+  unfolding nextOf blockAfter afterTicks countedTo manyTo answerOf answerAt
+  block-next k h =
+      let f = markAt (voiceAnswer (p .controls)) (voiceNext (p .controls)) (p .voices) in
+      let most = many-most f k in
+      let counts = kept-more (p .tally) (answer.Refused 0) (manyTo 4 f k) (manyTo 1 f k) (manyTo 2 f k) (manyTo 3 f k) sum (omega arith) (voiceAnswer (p .controls) (afterTicks (voiceNext (p .controls)) k (p .voices))) in
+      let number = one-suc (p .frame) k in
+      λ i. record { controls = p .controls; voices = afterTicks (voiceNext (p .controls)) (suc k) (p .voices); tally = counts i; frame = number i; frames = p .frames }
+    where
+      one-suc : (a b : ℕ) → a + b + 1 ≡ a + suc b
+      one-suc a b = omega arith
+
+  block-none : p ≡ blockAfter p 0
+  unfolding blockAfter afterTicks countedTo grownBy manyTo
+  block-none = simp add-zero
+
+  after-block : (k : ℕ) → p .tally .begun + k ≤ 4294967295 → afterOf k p ≡ blockAfter p k
+  unfolding afterOf
+  after-block zero h = block-none
+  after-block (suc k) h = ap (λ (n : ℕ). afterOf n p) (sym (add-one k)) ∙ after-last p k ∙ ap nextOf (after-block k (omega arith)) ∙ block-next k (omega arith)
+
+-- ---- the texts
+suc-plus : (j k : ℕ) → suc j + k ≡ suc (j + k)
+suc-plus j k = omega arith
+
+past : {A : Type 0} (a b : List A) (d : A) (j : ℕ) → getD (a ++ b) (length a + j) d ≡ getD b j d
+past [] b d j = ap (λ (n : ℕ). getD b n d) (zero-add j)
+past (x ∷ a) b d j = ap (λ (n : ℕ). getD (x ∷ (a ++ b)) n d) (suc-plus (length a) j) ∙ past a b d j
+
+-- number j of frame i
+joined-cell : {A : Type 0} (d : A) (f : ℕ → List A) (k : ℕ) → ((x : ℕ) → length (f x) ≡ k) → (n i j : ℕ) → i < n → j < k → getD (joined f n) (k * i + j) d ≡ getD (f i) j d
+unfolding joined
+joined-cell d f k whole zero i j h l = absurd (not-suc-le-zero h)
+joined-cell d f k whole (suc n) i j h l = ⊎-elim last (λ (q : i < n). first q (joined-cell d f k whole n i j q l)) (eq-or-lt-of-le (le-of-suc-le-suc h))
+  where
+    size : length (joined f n) ≡ k * n
+    size = joined-length f k n whole
+
+    last : i ≡ n → getD (joined f n ++ f n) (k * i + j) d ≡ getD (f i) j d
+    last e = rw e (ap (λ (m : ℕ). getD (joined f n ++ f n) (m + j) d) (sym size) ∙ past (joined f n) (f n) d j)
+
+    first : i < n → getD (joined f n) (k * i + j) d ≡ getD (f i) j d → getD (joined f n ++ f n) (k * i + j) d ≡ getD (f i) j d
+    first q e =
+        List·getD-append (joined f n) (f n) d (k * i + j) (let a : k * suc i ≤ k * n = mul-le-mul-left k q in let b = mul-suc k i in omega (arith, size))
+        ∙ e
+
+ports-whole : (o : Osc) (v : Volts) → length (portsOf (portsIn o) v) ≡ portsIn o
+unfolding portsIn
+ports-whole osc.Vco v = four-ports v
+ports-whole osc.Lfo v = five-ports v
+ports-whole osc.Supersaw v = two-ports v
+ports-whole osc.Formant v = one-port v
+
+-- a frame's outputs are read where they were put
+outputs-at : (o : Osc) (l : List Float) (i : ℕ) (w : Volts) → ((j : ℕ) → j < portsIn o → getD l (portsIn o * i + j) nan ≡ getD (portsOf (portsIn o) w) j nan) → outputsText o (voltsAt (portsIn o) l i) ≡ outputsText o w
+unfolding outputsText wavesText portsIn portsOf voltsAt outputAt
+outputs-at osc.Vco l i w h =
+    λ k. sampleLine (ascii "sin=") (h 0 (lit≤ tt) k) ++ sampleLine (ascii "tri=") (h 1 (lit≤ tt) k) ++ sampleLine (ascii "saw=") (h 2 (lit≤ tt) k) ++ sampleLine (ascii "sqr=") (h 3 (lit≤ tt) k)
+outputs-at osc.Lfo l i w h =
+    λ k. (sampleLine (ascii "sin=") (h 0 (lit≤ tt) k) ++ sampleLine (ascii "tri=") (h 1 (lit≤ tt) k) ++ sampleLine (ascii "saw=") (h 2 (lit≤ tt) k) ++ sampleLine (ascii "sqr=") (h 3 (lit≤ tt) k)) ++ sampleLine (ascii "sin_uni=") (h 4 (lit≤ tt) k)
+outputs-at osc.Supersaw l i w h = λ k. sampleLine (ascii "out=") (h 0 (lit≤ tt) k) ++ sampleLine (ascii "sub=") (h 1 (lit≤ tt) k)
+outputs-at osc.Formant l i w h = λ k. sampleLine (ascii "out=") (h 0 (lit≤ tt) k)
+
+frame-same : (o : Osc) (k : ℕ) (a : Answer) (w : Volts) → outputsText o w ≡ outputsText o (voltsOf a) → frameText o k (markedOf (markNumber a) w) ≡ frameText o k a
+unfolding frameText markedText markedOf marks.answerOf markNumber voltsOf
+frame-same o k (answer.Clean v) w h = ap (λ (t : List ℕ). countLine (ascii "n=") k ++ wordLine (ascii "mark=") (ascii "clean") ++ t) h
+frame-same o k (answer.Cleared v) w h = ap (λ (t : List ℕ). countLine (ascii "n=") k ++ wordLine (ascii "mark=") (ascii "cleared") ++ t) h
+frame-same o k (answer.NotFinite v) w h = ap (λ (t : List ℕ). countLine (ascii "n=") k ++ wordLine (ascii "mark=") (ascii "notfinite") ++ t) h
+frame-same o k (answer.Lost v) w h = ap (λ (t : List ℕ). countLine (ascii "n=") k ++ wordLine (ascii "mark=") (ascii "lost") ++ t) h
+frame-same o k (answer.Refused n) w h = refl
+
+module _ (p : Player) (n : ℕ) (l : List Float) (m : List ℕ) (room : roomFor (p .tally) n ≡ true)
+    (el : l ≡ joined (frameAt (portsIn (kindOf (p .controls))) (voiceAnswer (p .controls)) (voiceNext (p .controls)) (p .voices)) n)
+    (em : m ≡ tab (markAt (voiceAnswer (p .controls)) (voiceNext (p .controls)) (p .voices)) n) where
+  told : ℕ → Answer
+  told k = answerAt (voiceAnswer (p .controls)) (voiceNext (p .controls)) (p .voices) k
+
+  player-at : (k : ℕ) → k ≤ n → afterOf k p ≡ blockAfter p k
+  player-at k h = let r = room-says (p .tally) n room in after-block p (r .0) k (omega (arith, r .1))
+
+  frame-at : (k : ℕ) → k ≤ n → frameOf (afterOf k p) ≡ frameText (kindOf (p .controls)) (p .frame + k) (told k)
+  unfolding frameOf answerOf blockAfter answerAt told
+  frame-at k h = ap frameOf (player-at k h)
+
+  mark-at : (k : ℕ) → k < n → getD m k 0 ≡ markNumber (told k)
+  unfolding told
+  mark-at k h = ap (λ (x : List ℕ). getD x k 0) em ∙ getD-tab 0 (markAt (voiceAnswer (p .controls)) (voiceNext (p .controls)) (p .voices)) n k h
+
+  outputs-told : (k : ℕ) → k < n → outputsText (kindOf (p .controls)) (voltsAt (portsIn (kindOf (p .controls))) l k) ≡ outputsText (kindOf (p .controls)) (voltsOf (told k))
+  unfolding told
+  outputs-told k h =
+      let o = kindOf (p .controls) in
+      outputs-at o l k (voltsOf (told k)) (λ j q.
+      ap (λ (x : List Float). getD x (portsIn o * k + j) nan) el
+      ∙ joined-cell nan (frameAt (portsIn o) (voiceAnswer (p .controls)) (voiceNext (p .controls)) (p .voices)) (portsIn o) (λ x. ports-whole o (voltsOf (answerAt (voiceAnswer (p .controls)) (voiceNext (p .controls)) (p .voices) x))) n k j h q)
+
+  frame-is : (k : ℕ) → k < n → frameAtOf (kindOf (p .controls)) (p .frame) l m k ≡ frameOf (afterOf k p)
+  frame-is k h =
+      let o = kindOf (p .controls) in
+      ap (λ (x : ℕ). frameText o (p .frame + k) (markedOf x (voltsAt (portsIn o) l k))) (mark-at k h)
+      ∙ frame-same o (p .frame + k) (told k) (voltsAt (portsIn o) l k) (outputs-told k h)
+      ∙ sym (frame-at k (omega arith))
+
+  text-is : (k : ℕ) → k ≤ n → blockText (kindOf (p .controls)) (p .frame) l m k ≡ textOf k p
+  unfolding textOf blockText joined
+  text-is zero h = refl
+  text-is (suc k) h = (λ i. text-is k (omega arith) i ++ frame-is k (omega arith) i) ∙ sym (text-last p k) ∙ ap (λ (x : ℕ). textOf x p) (add-one k)
+
+-- ---- a block of frames, from what it calls
+module _ (p : Player) (n : ℕ) (v : Voices) (t : Tally) (l : List Float) (m : List ℕ) (o : Osc) (eo : o ≡ kindOf (p .controls)) (e : block 0 v t l m ≡ framesOf (p .controls) (p .voices) (p .tally) n) where
+  same-samples : l ≡ joined (frameAt (portsIn (kindOf (p .controls))) (voiceAnswer (p .controls)) (voiceNext (p .controls)) (p .voices)) n
+  unfolding framesOf ticksOf
+  same-samples = ap (λ (b : Block Voices). b .samples) e
+
+  same-marks : m ≡ tab (markAt (voiceAnswer (p .controls)) (voiceNext (p .controls)) (p .voices)) n
+  unfolding framesOf ticksOf
+  same-marks = ap (λ (b : Block Voices). b .marks) e
+
+  marks-size : length m ≡ n
+  marks-size = ap length same-marks ∙ length-tab (markAt (voiceAnswer (p .controls)) (voiceNext (p .controls)) (p .voices)) n
+
+  samples-size : length l ≡ portsIn (kindOf (p .controls)) * n
+  samples-size = ap length same-samples ∙ joined-length (frameAt (portsIn (kindOf (p .controls))) (voiceAnswer (p .controls)) (voiceNext (p .controls)) (p .voices)) (portsIn (kindOf (p .controls))) n (λ x. ports-whole (kindOf (p .controls)) (voltsOf (answerAt (voiceAnswer (p .controls)) (voiceNext (p .controls)) (p .voices) x)))
+
+  pub block-sizes : p .frame + n ≤ 4294967295 → (p .frame + length m ≤ 4294967295) × (length l ≡ portsIn o * length m)
+  block-sizes h = (omega (arith, marks-size), rw (marks-size, eo) samples-size)
+
+  same-player : roomFor (p .tally) n ≡ true → _≡_ {A = Player} (record { controls = p .controls; voices = v; tally = t; frame = p .frame + n; frames = p .frames }) (afterOf n p)
+  unfolding framesOf ticksOf blockAfter
+  same-player room = (λ i. record { controls = p .controls; voices = e i .state; tally = e i .tally; frame = p .frame + n; frames = p .frames }) ∙ sym (player-at p n l m room same-samples same-marks n (omega arith))
+
+  pub block-played : (out q : List ℕ) (at to : ℕ) → roomFor (p .tally) n ≡ true → Put out at (blockText o (p .frame) l m (length m)) to q
+      → Done out at (textOf n p) (afterOf n p) (record { player = record { controls = p .controls; voices = v; tally = t; frame = p .frame + n; frames = p .frames }; to = to }) q
+  unfolding playedOf
+  block-played out q at to room put =
+      let same : blockText o (p .frame) l m (length m) ≡ textOf n p = rw (eo, marks-size) (text-is p n l m room same-samples same-marks n (omega arith)) in
+      let place = put .0 ∙ ap (placeOf out at) same in
+      let who = same-player room in
+      (λ i. record { player = who i; to = place i }, put .1 ∙ ap (sets out at) same)
+
+-- ---- one frame's text after those before it
+pub frame-put : (o : Osc) (first : ℕ) (l : List Float) (m : List ℕ) (i ports : ℕ) (v : Volts) (a : Answer) (out q r : List ℕ) (at to end : ℕ) → ports ≡ portsIn o → v ≡ voltsAt ports l i → a ≡ markedOf (getD m i 0) v
+    → Put out at (blockText o first l m i) to q → Put q to (frameText o (first + i) a) end r → Put out at (blockText o first l m (i + 1)) end r
+unfolding blockText
+frame-put o first l m i ports v a out q r at to end ep ev ea before put =
+    let e : a ≡ markedOf (getD m i 0) (voltsAt (portsIn o) l i) = ea ∙ ap (markedOf (getD m i 0)) (ev ∙ ap (λ (n : ℕ). voltsAt n l i) ep) in
+    rw (more i) (after out at (joined (frameAtOf o first l m) i) (frameAtOf o first l m i) before (rw e at put))
+  where
+    more : (i : ℕ) → joined (frameAtOf o first l m) (i + 1) ≡ joined (frameAtOf o first l m) i ++ frameAtOf o first l m i
+    more i = unfold joined in ap (λ (n : ℕ). joined (frameAtOf o first l m) n) (add-one i)
+
+pub frame-inside : (o : Osc) (ports size n i : ℕ) → ports ≡ portsIn o → size ≡ portsIn o * n → i < n → ports * (i + 1) ≤ size
+frame-inside o ports size n i ep es h = rw (ep, es, add-one i) (mul-le-mul-left (portsIn o) h)
+
+pub ports-most : (o : Osc) → portsIn o ≤ 5
+unfolding portsIn
+ports-most osc.Vco = lit≤ tt
+ports-most osc.Lfo = lit≤ tt
+ports-most osc.Supersaw = lit≤ tt
+ports-most osc.Formant = lit≤ tt
+
+pub room-most : (o : Osc) (ports n : ℕ) → ports ≡ portsIn o → n ≤ 64 → ports * n ≤ 320
+room-most o ports n e h = rw e (mul-le-mul (ports-most o) h)
+
+pub take-size : {A : Type 0} (n : ℕ) (l : List A) → n ≤ length l → n ≡ length (take n l)
+take-size n l h = omega (arith, length-take n l)
+
+pub taken-room : {A : Type 0} (a n most : ℕ) (l : List A) → n ≤ length l → a + n ≤ most → a + length (take n l) ≤ most
+taken-room a n most l h k = omega (arith, length-take n l)
+
+-- ---- each voice
+module _ (v : Voices) (t u : Tally) (samples after : List Float) (marks marked : List ℕ) (r : ℕ) where
+  pub vco-heard : (c : VcoControls) (s : Vco) → block r s u after marked ≡ vcoBlockOf (v .vco) c 15 t samples marks → r ≡ 0
+      → (roomFor t (length marks) ≡ true) × (block 0 (record { vco = s; lfo = v .lfo; supersaw = v .supersaw; formant = v .formant }) u after marked ≡ framesOf (controls.Vco c) v t (length marks))
+  unfolding vcoBlockOf framesOf kindOf portsIn soundOf
+  vco-heard c s = heard _ _ (voiceAnswer (controls.Vco c)) (voiceNext (controls.Vco c)) (λ (s : Vco). record { vco = s; lfo = v .lfo; supersaw = v .supersaw; formant = v .formant }) (λ s. refl) (λ s. refl) 4 _ (v .vco) t samples marks r s u after marked
+
+  pub lfo-heard : (c : LfoControls) (s : Lfo) → block r s u after marked ≡ lfoBlockOf (v .lfo) c 31 t samples marks → r ≡ 0
+      → (roomFor t (length marks) ≡ true) × (block 0 (record { vco = v .vco; lfo = s; supersaw = v .supersaw; formant = v .formant }) u after marked ≡ framesOf (controls.Lfo c) v t (length marks))
+  unfolding lfoBlockOf framesOf kindOf portsIn soundOf
+  lfo-heard c s = heard _ _ (voiceAnswer (controls.Lfo c)) (voiceNext (controls.Lfo c)) (λ (s : Lfo). record { vco = v .vco; lfo = s; supersaw = v .supersaw; formant = v .formant }) (λ s. refl) (λ s. refl) 5 _ (v .lfo) t samples marks r s u after marked
+
+  pub supersaw-heard : (c : SupersawControls) (s : Supersaw) → block r s u after marked ≡ supersawBlockOf (v .supersaw) c t samples marks → r ≡ 0
+      → (roomFor t (length marks) ≡ true) × (block 0 (record { vco = v .vco; lfo = v .lfo; supersaw = s; formant = v .formant }) u after marked ≡ framesOf (controls.Supersaw c) v t (length marks))
+  unfolding supersawBlockOf framesOf kindOf portsIn soundOf
+  supersaw-heard c s = heard _ _ (voiceAnswer (controls.Supersaw c)) (voiceNext (controls.Supersaw c)) (λ (s : Supersaw). record { vco = v .vco; lfo = v .lfo; supersaw = s; formant = v .formant }) (λ s. refl) (λ s. refl) 2 _ (v .supersaw) t samples marks r s u after marked
+
+  pub formant-heard : (c : FormantControls) (s : FormantOsc) → block r s u after marked ≡ formantBlockOf (v .formant) c t samples marks → r ≡ 0
+      → (roomFor t (length marks) ≡ true) × (block 0 (record { vco = v .vco; lfo = v .lfo; supersaw = v .supersaw; formant = s }) u after marked ≡ framesOf (controls.Formant c) v t (length marks))
+  unfolding formantBlockOf framesOf kindOf portsIn soundOf
+  formant-heard c s = heard _ _ (voiceAnswer (controls.Formant c)) (voiceNext (controls.Formant c)) (λ (s : FormantOsc). record { vco = v .vco; lfo = v .lfo; supersaw = v .supersaw; formant = s }) (λ s. refl) (λ s. refl) 1 _ (v .formant) t samples marks r s u after marked

@@ -1,0 +1,38 @@
+-- `player::ports_of`: by cases.
+use Rattle.player.specs.Block.{portsIn}
+use borrow.Author.Needs.{needs}
+use Rattle.player.proofs.ports_of.Statement.{statement}
+use Rattle.player.proofs.ports_of.Tie as tie
+
+enum-told : tie.Need-enum-told
+enum-told c = search needs
+
+enum-told-2 : tie.Need-enum-told-2
+enum-told-2 c = search needs
+
+enum-told-3 : tie.Need-enum-told-3
+enum-told-3 c = search needs
+
+enum-told-4 : tie.Need-enum-told-4
+enum-told-4 c = search needs
+
+returns : tie.Need-returns
+unfolding portsIn
+returns c = simp (c .enum-told .given .1)
+
+returns-2 : tie.Need-returns-2
+unfolding portsIn
+returns-2 c = simp (c .enum-told2 .given .1)
+
+returns-3 : tie.Need-returns-3
+unfolding portsIn
+returns-3 c = simp (c .enum-told3 .given .1)
+
+returns-4 : tie.Need-returns-4
+unfolding portsIn
+returns-4 c = simp (c .enum-told4 .given .1)
+
+pub ports-of-spec : {M : Type 1} → statement M
+ports-of-spec =
+    tie.close
+    (tie.spec enum-told enum-told-2 enum-told-3 enum-told-4 returns returns-2 returns-3 returns-4)

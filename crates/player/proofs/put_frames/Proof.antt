@@ -1,0 +1,91 @@
+-- `player::put_frames`: after i turns the texts of i frames are put.
+use Prim.Native.Nat.{_+_, _*_, _-_, _≤_}
+use mathlib.Core.Path.{_≡_, refl}
+use native.Mathlib.Nat.{le-antisymm}
+use native.Mathlib.Omega.{arith}
+use lib.ListN.{length}
+use Rattle.answer.specs.Block.{joined}
+use Rattle.text.proofs.PutLaws.{within}
+use Rattle.text.specs.Promises.{Put}
+use Rattle.text.specs.Put.{placeOf}
+use Rattle.player.specs.Block.{portsIn, blockText}
+use Rattle.player.proofs.Blocks.{frame-put, frame-inside}
+use Rattle.player.proofs.put_frames.Statement.{statement}
+use Rattle.player.proofs.put_frames.Tie as tie
+
+abbrev Inv-loop : tie.InvT-loop
+Inv-loop out₀ at osc first samples marks ports to₀ i₀ out to i =
+    (i ≤ length marks) × (first + length marks ≤ 4294967295) × (length samples ≡ portsIn osc * length marks) × (ports ≡ portsIn osc) × Put out₀ at (blockText osc first samples marks i) to out
+
+abbrev μ-loop : tie.MeasureT-loop
+μ-loop out₀ at osc first samples marks ports to₀ i₀ out to i = length marks - i
+
+ports-of-requires : tie.Need-ports-of-requires Inv-loop μ-loop
+ports-of-requires c κs = tt
+
+loop-holds : tie.Need-loop-holds Inv-loop μ-loop
+unfolding blockText joined placeOf
+loop-holds c = let p = c .before .before .before .before .pre in (omega arith, p .1, p .2, c .ports-of .ensures, (omega (arith, p .0), refl))
+
+mul-marked : tie.Need-mul-marked Inv-loop μ-loop
+mul-marked c = omega arith
+
+shared-slice-read-marked : tie.Need-shared-slice-read-marked Inv-loop μ-loop
+shared-slice-read-marked c = omega arith
+
+volts-at-requires : tie.Need-volts-at-requires Inv-loop μ-loop
+volts-at-requires c κs = let s = c .before .before .loop .inv in frame-inside _ _ _ _ _ (s .3) (s .2) (c .before .loop-test .taken)
+
+marked-requires : tie.Need-marked-requires Inv-loop μ-loop
+marked-requires c κs = tt
+
+cast-put-frame : tie.Need-cast-put-frame Inv-loop μ-loop
+cast-put-frame c = let s = c .before .before .before .before .before .loop .inv in let t = c .before .before .before .before .loop-test .taken in omega arith
+
+add-put-frame : tie.Need-add-put-frame Inv-loop μ-loop
+add-put-frame c = let s = c .before .before .before .before .before .loop .inv in let t = c .before .before .before .before .loop-test .taken in omega arith
+
+put-frame-requires : tie.Need-put-frame-requires Inv-loop μ-loop
+put-frame-requires c κs = tt
+
+add-i : tie.Need-add-i Inv-loop μ-loop
+add-i c = omega arith
+
+loop-less : tie.Need-loop-less Inv-loop μ-loop
+loop-less c = let t = c .before .before .before .before .before .before .before .loop-test .taken in omega arith
+
+loop-again : tie.Need-loop-again Inv-loop μ-loop
+loop-again c =
+    let s = c .before .before .before .before .before .before .before .before .loop .inv in
+    let t = c .before .before .before .before .before .before .before .loop-test .taken in
+    (omega arith, s .1, s .2, s .3, frame-put _ _ _ _ _ _ _ _ _ _ _ _ _ _ (s .3) (c .before .before .before .before .before .volts-at .ensures) (c .before .before .before .before .marked .ensures) (s .4) (c .before .before .put-frame .ensures))
+
+same-length : tie.Need-same-length Inv-loop μ-loop
+same-length c = within _ _ _ (c .before .loop .inv .4) .1
+
+returns : tie.Need-returns Inv-loop μ-loop
+returns c =
+    let s = c .before .loop .inv in
+    let n : c .before .loop .i ≡ length (c .before .before .before .before .before .before .args .marks .now) = le-antisymm (s .0) (omega arith) in
+    rw (← n) (s .4)
+
+pub put-frames-spec : {M : Type 1} → statement M
+put-frames-spec =
+    tie.close
+    (tie.spec
+    Inv-loop
+    μ-loop
+    ports-of-requires
+    loop-holds
+    mul-marked
+    shared-slice-read-marked
+    volts-at-requires
+    marked-requires
+    cast-put-frame
+    add-put-frame
+    put-frame-requires
+    add-i
+    loop-less
+    loop-again
+    same-length
+    returns)

@@ -1,0 +1,63 @@
+-- Frames played by a block: what n ticks of a voice leave, and the texts that samples and marks stand for.
+use mathlib.Core.Bool.{cond}
+use mathlib.Core.List.{List}
+use Prim.Native.Nat.{ℕ, _+_, _*_}
+use lib.Dec.{eqb, ltb}
+use lib.Ieee.{Float, nan}
+use lib.ListN.{getD}
+use Rattle.laws.specs.Float.{zer}
+use Rattle.answer.specs.Answer.{answerOf}
+use Rattle.answer.specs.Block.{Block, joined, ticksOf}
+use Rattle.answer.specs.declared.Volts.{Volts}
+use Rattle.answer.specs.declared.Answer.{Answer}
+use Rattle.answer.specs.declared.Answer.the-variants as answer
+use Rattle.answer.specs.declared.Tally.{Tally}
+use Rattle.score.specs.declared.Osc.{Osc}
+use Rattle.score.specs.declared.Osc.the-variants.{Vco, Lfo, Supersaw, Formant}
+use Rattle.frame.specs.Frame.{frameText}
+use Rattle.player.specs.Player.{kindOf, soundOf}
+use Rattle.player.specs.declared.Controls.{Controls}
+use Rattle.player.specs.declared.Voices.{Voices}
+
+-- how many outputs each has
+unfoldable pub portsIn : Osc → ℕ
+portsIn Vco = 4
+portsIn Lfo = 5
+portsIn Supersaw = 2
+portsIn Formant = 1
+
+-- ---- n ticks of the voice that the controls are for
+abbrev pub voiceAnswer : Controls → Voices → Answer
+voiceAnswer c v = soundOf c v .answer
+
+abbrev pub voiceNext : Controls → Voices → Voices
+voiceNext c v = soundOf c v .voices
+
+unfoldable pub framesOf : Controls → Voices → Tally → ℕ → Block Voices
+framesOf c v t n = ticksOf (portsIn (kindOf c)) (voiceAnswer c) (voiceNext c) n v t
+
+-- ---- what samples and marks stand for
+-- output j of frame i; 0.0 where there is no such output
+unfoldable pub outputAt : ℕ → List Float → ℕ → ℕ → Float
+outputAt ports samples i j = cond (ltb j ports) (getD samples (ports * i + j) nan) zer
+
+unfoldable pub voltsAt : ℕ → List Float → ℕ → Volts
+voltsAt ports samples i =
+    record {
+      p10 = outputAt ports samples i 0;
+      p11 = outputAt ports samples i 1;
+      p12 = outputAt ports samples i 2;
+      p13 = outputAt ports samples i 3;
+      p14 = outputAt ports samples i 4;
+    }
+
+-- the answer that a mark's number stands for; a refused tick's is 0
+unfoldable pub markedOf : ℕ → Volts → Answer
+markedOf n v = cond (eqb n 0) (answer.Refused 0) (answerOf n v)
+
+abbrev pub frameAtOf : Osc → ℕ → List Float → List ℕ → ℕ → List ℕ
+frameAtOf o first samples marks i = frameText o (first + i) (markedOf (getD marks i 0) (voltsAt (portsIn o) samples i))
+
+-- the texts of the first k frames, numbered from `first` on
+unfoldable pub blockText : Osc → ℕ → List Float → List ℕ → ℕ → List ℕ
+blockText o first samples marks k = joined (frameAtOf o first samples marks) k
