@@ -1,5 +1,5 @@
 -- A block's ticks are ticks of the phases alone: its voct stands still.
-use mathlib.Core.Bool.{true}
+use mathlib.Core.Bool.{true, false}
 use mathlib.Core.List.{List}
 use mathlib.Core.Path.{_≡_, refl, sym, ap, subst, _∙_}
 use Prim.Native.Nat.{ℕ, _+_, _<_}
@@ -8,8 +8,11 @@ use lib.Dec.{T}
 use lib.Ieee.Fits.{add-fits}
 use lib.Ieee.{Float, nan, binary64, add}
 use lib.ListN.{length}
-use Rattle.answer.proofs.Blocks.{Holds}
+use Rattle.answer.proofs.Blocks.{Holds, answer-back}
+use Rattle.answer.proofs.Laws.{mark-says}
+use Rattle.answer.specs.Answer.{markNumber, voltsOf, answerOf}
 use Rattle.answer.specs.Block.{afterTicks, answerAt}
+use Rattle.answer.specs.declared.Answer.{Answer}
 use Rattle.common.proofs.MemoLaws.{recall1-again}
 use Rattle.common.proofs.PhaseLaws.{wrap-in}
 use Rattle.common.specs.Memo.{recall1, voctToHzAt}
@@ -25,7 +28,7 @@ use Rattle.supersaw.proofs.LaneLaws.{sound-is, ok-by, accepts, quiet-ra
 use Rattle.supersaw.proofs.Loops.{all-of}
 use Rattle.supersaw.proofs.Sign.{small, clamp-small}
 use Rattle.supersaw.specs.Held.{heldAnswer, heldNext}
-use Rattle.supersaw.specs.Lanes.{lanesOf, lanesOk, incsOf, wrapsOf, sumsOf, movedOf, steppedOf, quietOf, rampedOf, advancedOf, tickedOf}
+use Rattle.supersaw.specs.Lanes.{lanesOf, lanesOk, incsOf, sawsOf, wrapsOf, sumsOf, lanesFinite, blendOf, movedOf, steppedOf, quietOf, rampedOf, advancedOf, tickedOf}
 use Rattle.supersaw.specs.Supersaw.{supersawRefusalOf, supersawSoundOf, supersawTickOf, supersawAnswerOf, supersawNextOf}
 use Rattle.supersaw.specs.Voices.{at}
 use Rattle.supersaw.specs.declared.Moved.{Moved}
@@ -42,6 +45,18 @@ module _ (dt : List Float) (mix : Float) (first : List Float) (i : ℕ) (t : Lis
   pub moved : u .phases ≡ afterTicks (heldNext dt mix) (i + 1) first
   unfolding afterTicks
   moved = rw add-one (simp (e, z))
+
+-- its answer from its mark and its samples
+one-answer : (t dt : List Float) (mix : Float)
+    → answerOf (markNumber (steppedOf t dt mix .answer)) (record { p10 = voltsOf (steppedOf t dt mix .answer) .p10; p11 = voltsOf (steppedOf t dt mix .answer) .p11; p12 = zer; p13 = zer; p14 = zer }) ≡ steppedOf t dt mix .answer
+unfolding steppedOf movedOf
+one-answer t dt mix =
+    let m = mark-says (record { p10 = blendOf (sawsOf t dt) mix; p11 = at (sawsOf t dt) 7; p12 = zer; p13 = zer; p14 = zer }) false true (lanesFinite (sumsOf t dt)) in
+    rw (m .volts) (rw (m .volts) at (answer-back _ (m .is-accepted)))
+
+pub one-tick : (t dt : List Float) (mix : Float)
+    → _≡_ {A = Moved} (record { answer = answerOf (markNumber (steppedOf t dt mix .answer)) (record { p10 = voltsOf (steppedOf t dt mix .answer) .p10; p11 = voltsOf (steppedOf t dt mix .answer) .p11; p12 = zer; p13 = zer; p14 = zer }); phases = steppedOf t dt mix .phases }) (steppedOf t dt mix)
+one-tick t dt mix = ap (λ (a : Answer). record { answer = a; phases = steppedOf t dt mix .phases }) (one-answer t dt mix)
 
 -- ---- the whole
 abbrev heldMemo : Supersaw → SupersawControls → Memo1

@@ -394,34 +394,6 @@ impl Supersaw {
         answered(Self::blend(s, mix), s[7], all_finite(next), wraps(next))
     }
 
-    pub fn tick(self, c: SupersawControls) -> SupersawTicked
-        ensures { λ r. ⌜ r ≡ supersawTickOf self c ⌝ }
-    {
-        let phases = self.phases;
-        let sub_phase = self.sub_phase;
-        let sample_rate = self.sample_rate;
-        let memo = self.freq_memo;
-        let detune = numeric::clamp(c.detune, 0.0, 1.0);
-        let mix = numeric::clamp(c.mix, 0.0, 1.0);
-        let freq_memo = memo.voct_to_hz(c.voct);
-        let base_freq = freq_memo.val;
-        let t = lanes(phases, sub_phase);
-        let dt = Self::increments(detune, base_freq, sample_rate);
-        if Self::quiet(sample_rate, base_freq, t, dt) {
-            self.ticked(Self::ramped(t, dt, mix), freq_memo)
-        } else {
-            let n = self.refusal();
-            if n == 0 {
-                self.ticked(Self::stepped(t, dt, mix), freq_memo)
-            } else {
-                SupersawTicked {
-                    answer: Answer::Refused(n),
-                    supersaw: self,
-                }
-            }
-        }
-    }
-
     // The same tick, by the shorter way where it is quiet.
     fn turn(sample_rate: Hertz, base_freq: Hertz, t: [f64; 8], dt: [f64; 8], mix: f64) -> Moved
         requires { ⌜ (quietOf «sample_rate» «base_freq» t dt ≡ true → rampedOf t dt mix ≡ steppedOf t dt mix) ⌝ }
@@ -459,6 +431,55 @@ impl Supersaw {
             i += 1;
         }
         t
+    }
+
+    // The same tick as a block of one, so that the longer way stands in one loop and its phases stay in registers there.
+    fn single(sample_rate: Hertz, base_freq: Hertz, t: [f64; 8], dt: [f64; 8], mix: f64) -> Moved
+        requires { ⌜ ((x : List Float) → quietOf «sample_rate» «base_freq» x dt ≡ true → rampedOf x dt mix ≡ steppedOf x dt mix) ⌝ }
+        ensures { λ r. ⌜ r ≡ steppedOf t dt mix ⌝ }
+    {
+        let mut samples = [0.0; 2];
+        let mut marks = [0; 1];
+        let phases = Self::glide(sample_rate, base_freq, t, dt, mix, &mut samples, &mut marks);
+        let volts = Volts {
+            p10: samples[0],
+            p11: samples[1],
+            p12: 0.0,
+            p13: 0.0,
+            p14: 0.0,
+        };
+        Moved {
+            answer: answer::answer_of(marks[0], volts),
+            phases,
+        }
+    }
+
+    pub fn tick(self, c: SupersawControls) -> SupersawTicked
+        ensures { λ r. ⌜ r ≡ supersawTickOf self c ⌝ }
+    {
+        let phases = self.phases;
+        let sub_phase = self.sub_phase;
+        let sample_rate = self.sample_rate;
+        let memo = self.freq_memo;
+        let detune = numeric::clamp(c.detune, 0.0, 1.0);
+        let mix = numeric::clamp(c.mix, 0.0, 1.0);
+        let freq_memo = memo.voct_to_hz(c.voct);
+        let base_freq = freq_memo.val;
+        let t = lanes(phases, sub_phase);
+        let dt = Self::increments(detune, base_freq, sample_rate);
+        if Self::quiet(sample_rate, base_freq, t, dt) {
+            self.ticked(Self::ramped(t, dt, mix), freq_memo)
+        } else {
+            let n = self.refusal();
+            if n == 0 {
+                self.ticked(Self::single(sample_rate, base_freq, t, dt, mix), freq_memo)
+            } else {
+                SupersawTicked {
+                    answer: Answer::Refused(n),
+                    supersaw: self,
+                }
+            }
+        }
     }
 
     // The ticks of a block: the memo holds from the first on.

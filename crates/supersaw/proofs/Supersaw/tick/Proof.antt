@@ -1,5 +1,6 @@
 use borrow.Author.Needs.{needs}
 use borrow.Author.Tests.{ne-eqb}
+use Rattle.supersaw.proofs.Held.{quiet-held}
 use Rattle.supersaw.proofs.LaneLaws.{tick-ramps, tick-steps}
 use Rattle.supersaw.specs.Supersaw.{supersawTickOf}
 use Rattle.supersaw.proofs.Supersaw.tick.Statement.{statement}
@@ -32,8 +33,8 @@ ticked-requires c κs = search needs
 refusal-requires : tie.Need-refusal-requires
 refusal-requires c κs = search needs
 
-stepped-requires : tie.Need-stepped-requires
-stepped-requires c κs = search needs
+single-requires : tie.Need-single-requires
+single-requires c κs = quiet-held (c .before .before .before .before .before .before .before .before .before .before .before .before .before .before .args .self) (c .before .before .before .before .before .before .before .before .before .before .before .before .before .before .args .c) _ _ _ _ (c .before .before .before .before .before .before .before .before .before .clamp .ensures) (c .before .before .before .before .increments .ensures)
 
 ticked-requires-2 : tie.Need-ticked-requires-2
 ticked-requires-2 c κs = search needs
@@ -42,7 +43,7 @@ returns : tie.Need-returns
 returns c = tick-ramps (c .before .before .before .before .before .before .before .before .before .before .before .before .before .before .args .self) (c .before .before .before .before .before .before .before .before .before .before .before .before .before .before .args .c) _ _ _ _ _ (c .before .before .before .before .before .before .before .before .before .clamp .ensures) (c .before .before .before .before .before .before .before .before .clamp2 .ensures) (c .before .before .before .before .before .before .before .voct-to-hz .ensures) (c .before .before .before .before .before .lanes .ensures) (c .before .before .before .before .increments .ensures) _ _ _ (c .before .before .before .quiet .ensures) (c .before .before .if1 .taken) (c .before .ramped .ensures) (c .ticked .ensures)
 
 returns-2 : tie.Need-returns-2
-returns-2 c = tick-steps (c .before .before .before .before .before .before .before .before .before .before .before .before .before .before .before .before .args .self) (c .before .before .before .before .before .before .before .before .before .before .before .before .before .before .before .before .args .c) _ _ _ _ _ (c .before .before .before .before .before .before .before .before .before .before .before .clamp .ensures) (c .before .before .before .before .before .before .before .before .before .before .clamp2 .ensures) (c .before .before .before .before .before .before .before .before .before .voct-to-hz .ensures) (c .before .before .before .before .before .before .before .lanes .ensures) (c .before .before .before .before .before .before .increments .ensures) _ _ _ (c .before .before .before .refusal .ensures) (c .before .before .if2 .taken) (c .before .stepped .ensures) (c .ticked2 .ensures)
+returns-2 c = tick-steps (c .before .before .before .before .before .before .before .before .before .before .before .before .before .before .before .before .args .self) (c .before .before .before .before .before .before .before .before .before .before .before .before .before .before .before .before .args .c) _ _ _ _ _ (c .before .before .before .before .before .before .before .before .before .before .before .clamp .ensures) (c .before .before .before .before .before .before .before .before .before .before .clamp2 .ensures) (c .before .before .before .before .before .before .before .before .before .voct-to-hz .ensures) (c .before .before .before .before .before .before .before .lanes .ensures) (c .before .before .before .before .before .before .increments .ensures) _ _ _ (c .before .before .before .refusal .ensures) (c .before .before .if2 .taken) (c .before .single .ensures) (c .ticked2 .ensures)
 
 returns-3 : tie.Need-returns-3
 unfolding supersawTickOf
@@ -61,7 +62,7 @@ tick-spec =
     ramped-requires
     ticked-requires
     refusal-requires
-    stepped-requires
+    single-requires
     ticked-requires-2
     returns
     returns-2
