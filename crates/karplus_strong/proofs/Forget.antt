@@ -18,6 +18,7 @@ use Rattle.common.specs.Memo.{recall1, voctToHzAt}
 use Rattle.answer.specs.Answer.{accepted}
 use Rattle.karplus_strong.specs.Line.{blankOf, struckOf}
 use Rattle.karplus_strong.specs.Step.{Ticking, restOf, stepOf}
+use Rattle.karplus_strong.specs.Blocks.{triggerRefusalOf}
 use Rattle.karplus_strong.specs.KarplusStrong.{maxLenOf, karplusStrongRefusalOf, rateRefusalOf, madeUnless, karplusStrongResetOf, resizedString, karplusStrongSetSampleRateOf, finiteOr, struckLen, strikeOf, strikeIf, heardString, tickUnless, karplusStrongTickOf}
 use Rattle.karplus_strong.specs.Calls.{Strung, Call, Tick, Reset, SetSampleRate, Reply, Ticked, stringAfter, madeReply, after, reply}
 use Rattle.karplus_strong.specs.Promises.{periodAt, risesAt, Forgets, Alike, SameTick}
@@ -29,7 +30,7 @@ use Rattle.karplus_strong.proofs.Parts.{rate-accepted, struck-room, mem
 use Rattle.karplus_strong.proofs.Parts as parts
 use Rattle.karplus_strong.proofs.Alike.{alike-blank, alike-struck, alike-step, length-struck, only-its-cells}
 use Rattle.karplus_strong.proofs.Reached.{Good, fits-or, first-is, first-good, reached-good}
-use Rattle.karplus_strong.proofs.Ticks.{struckStep, soundRefusal, good-tick}
+use Rattle.karplus_strong.proofs.Ticks.{struckStep, good-tick}
 
 -- ---- one string over two lines that are alike
 record SameCall (x y : Strung) (c : Call) : Type 0 where
@@ -105,11 +106,11 @@ unfolding risingOf risingAboveOf
 rises-y s n c e h = rw e (rises-new gateThreshold (s .«trigger_edge» .prev) (c .trigger) gate-above h)
 
 sounds-y : (s n : KarplusStrong) (c : KarplusStrongControls) (draws : List ℕ) → s .«sample_rate» ≡ n .«sample_rate» → recall1 voctToHzAt (s .«freq_memo») (finiteOr (c .voct .0) zer) ≡ recall1 voctToHzAt (n .«freq_memo») (finiteOr (c .voct .0) zer)
-    → risesAt s c ≡ true → risesAt n c ≡ true → soundRefusal s c draws ≡ soundRefusal n c draws
-unfolding soundRefusal
+    → risesAt s c ≡ true → risesAt n c ≡ true → triggerRefusalOf s c draws ≡ triggerRefusalOf n c draws
+unfolding triggerRefusalOf
 sounds-y s n c draws er em es en = rw (es, en, er, em)
 
-struck-tick : (s : KarplusStrong) (c : KarplusStrongControls) (draws : List ℕ) (l : List Float) → Good s (length l) → soundRefusal s c draws ≡ 0 → karplusStrongTickOf s c draws l ≡ struckStep s c draws l
+struck-tick : (s : KarplusStrong) (c : KarplusStrongControls) (draws : List ℕ) (l : List Float) → Good s (length l) → triggerRefusalOf s c draws ≡ 0 → karplusStrongTickOf s c draws l ≡ struckStep s c draws l
 unfolding tickUnless
 struck-tick s c draws l g e = good-tick s c draws l g ∙ ap (λ (k : ℕ). tickUnless k s l (struckStep s c draws l)) e
 
@@ -134,10 +135,10 @@ forgets x h c draws f z y fy er el cs = unfold replies in replied x y (Tick c dr
     en : risesAt (y .string) c ≡ true
     en = rises-y s (y .string) c (ap (λ (k : KarplusStrong). k .«trigger_edge») (first-is y fy .2)) (z .edge)
 
-    ks : soundRefusal s c draws ≡ 0
-    ks = taken (soundRefusal s c draws) s (x .line) (struckStep s c draws (x .line)) (rw (good-tick s c draws (x .line) g) at (z .is-accepted))
+    ks : triggerRefusalOf s c draws ≡ 0
+    ks = taken (triggerRefusalOf s c draws) s (x .line) (struckStep s c draws (x .line)) (rw (good-tick s c draws (x .line) g) at (z .is-accepted))
 
-    ky : soundRefusal (y .string) c draws ≡ 0
+    ky : triggerRefusalOf (y .string) c draws ≡ 0
     ky = sym (sounds-y s (y .string) c draws (sym er) em (z .edge) en) ∙ ks
 
     r : struckLen (periodAt s c) ≤ length (x .line)

@@ -23,8 +23,7 @@ use Rattle.common.specs.declared.Risen.{Risen}
 use Rattle.answer.specs.Block.{afterTicks, answerAt}
 use Rattle.answer.proofs.Blocks.{Holds}
 use Rattle.karplus_strong.specs.Consts.{loopLeak}
-use Rattle.karplus_strong.specs.Step.{filteredOf, stretchedOf, wroteOf, clearedOf, restOf, stepOf, Ticking}
-use Rattle.karplus_strong.specs.Line.{struckOf}
+use Rattle.karplus_strong.specs.Step.{filteredOf, stretchedOf, wroteOf, clearedOf, Ticking}
 use Rattle.karplus_strong.specs.KarplusStrong.{maxLenOf, roomOf, karplusStrongRefusalOf, finiteOr, periodOf, struckLen, drawsRefusalOf, Striking, strikeOf, strikeIf, heardString, tickUnless, karplusStrongTickOf}
 use Rattle.karplus_strong.specs.Calls.{Strung, strung}
 use Rattle.karplus_strong.specs.Held.{tuningOf, tapAt, turnOf, heldAnswer, heldNext}
@@ -36,7 +35,7 @@ use Rattle.karplus_strong.specs.declared.KarplusStrongTicked.{KarplusStr
 use Rattle.karplus_strong.specs.declared.Tuning.{Tuning}
 use Rattle.karplus_strong.proofs.Parts.{Sound, sound-line, accepted, memo-number, period-range, turn-is}
 use Rattle.karplus_strong.proofs.Alike.{length-blank, length-struck}
-use Rattle.karplus_strong.proofs.Ticks.{struckStep, soundRefusal, tick-is}
+use Rattle.karplus_strong.proofs.Ticks.{struckStep, tick-is}
 
 -- ---- a turn of the loop
 pub heard : (t : Tuning) (x : Strung) (i : ℕ) (s : KarplusStrong) (l : List Float) (r : KarplusStrongTicked) → r ≡ turnOf s t l .out → strung s l ≡ afterTicks (heldNext t) i x → r .answer ≡ answerAt (heldAnswer t) (heldNext t) x i
@@ -123,7 +122,7 @@ none-refused : (s : KarplusStrong) (n : ℕ) → Sound s → maxLenOf (s .«samp
 unfolding karplusStrongRefusalOf roomOf
 none-refused s n a h = simp (a .rate, sound-line s a, le-leb (maxLenOf (s .«sample_rate») + 2) n h)
 
-tick-steps : (s : KarplusStrong) (c : KarplusStrongControls) (draws : List ℕ) (l : List Float) → karplusStrongRefusalOf s (length l) ≡ 0 → soundRefusal s c draws ≡ 0 → karplusStrongTickOf s c draws l ≡ struckStep s c draws l
+tick-steps : (s : KarplusStrong) (c : KarplusStrongControls) (draws : List ℕ) (l : List Float) → karplusStrongRefusalOf s (length l) ≡ 0 → triggerRefusalOf s c draws ≡ 0 → karplusStrongTickOf s c draws l ≡ struckStep s c draws l
 unfolding tickUnless
 tick-steps s c draws l h k = tick-is s c draws l ∙ simp (h, k)
 
@@ -147,8 +146,8 @@ module _ (s : KarplusStrong) (c : KarplusStrongControls) (x : Strung) (h : Held 
   unfolding strikeIf
   not-struck draws = simp (no-edge, same-edge, same-memo)
 
-  untriggered : (draws : List ℕ) → soundRefusal (x .string) c draws ≡ 0
-  unfolding soundRefusal
+  untriggered : (draws : List ℕ) → triggerRefusalOf (x .string) c draws ≡ 0
+  unfolding triggerRefusalOf
   untriggered draws = simp no-edge
 
 struck-turn : (s : KarplusStrong) (c : KarplusStrongControls) (draws : List ℕ) (l : List Float) → struckStep s c draws l ≡ turnOf (struckBy s c draws l .out) (tuneOf s c) (struckBy s c draws l .line)
@@ -198,7 +197,6 @@ unfolding heldNext
 gone t x u e = ap (λ (w : Ticking). strung (w .out .«karplus_strong») (w .line)) e
 
 first-tick : (s : KarplusStrong) (c : KarplusStrongControls) (draws : List ℕ) (l : List Float) → karplusStrongRefusalOf s (length l) ≡ 0 → triggerRefusalOf s c draws ≡ 0 → karplusStrongTickOf s c draws l ≡ turnOf (struckBy s c draws l .out) (tuneOf s c) (struckBy s c draws l .line)
-unfolding soundRefusal triggerRefusalOf
 first-tick s c draws l h k = tick-steps s c draws l h k ∙ struck-turn s c draws l
 
 pub holds : (s : KarplusStrong) (c : KarplusStrongControls) (draws : List ℕ) (l : List Float) → karplusStrongRefusalOf s (length l) ≡ 0 → triggerRefusalOf s c draws ≡ 0

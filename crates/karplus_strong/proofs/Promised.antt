@@ -21,9 +21,10 @@ use Rattle.laws.specs.Float.{zer, one, isFin}
 use Rattle.numeric.specs.Basic.{clampOf}
 use Rattle.karplus_strong.proofs.Parts.{max-len-range, period-range, memo-number, Sound, sound-line}
 use Rattle.karplus_strong.proofs.Reached.{Good, after-good, reached-good}
-use Rattle.karplus_strong.proofs.Ticks.{heard-number, heard-accepted, struckStep, soundRefusal, struck-heard, unless-number, twice-heard, twice-left, tick-is, good-refusal, good-room, good-none, good-tick}
+use Rattle.karplus_strong.proofs.Ticks.{heard-number, heard-accepted, struckStep, struck-heard, unless-number, twice-heard, twice-left, tick-is, good-refusal, good-room, good-none, good-tick}
 use Rattle.karplus_strong.specs.Calls.{Strung, madeReply, after, reply, Tick, Reset, SetSampleRate, Done}
 use Rattle.karplus_strong.specs.Consts.{loopLeak}
+use Rattle.karplus_strong.specs.Blocks.{triggerRefusalOf}
 use Rattle.karplus_strong.specs.KarplusStrong.{roomOf, karplusStrongRefusalOf, rateRefusalOf, madeUnless, karplusStrongNewOf, karplusStrongResetOf, karplusStrongSetSampleRateOf, finiteOr, struckLen, drawsRefusalOf, strikeOf, strikeIf, heardString, tickUnless, karplusStrongTickOf}
 use Rattle.karplus_strong.specs.Line.{drawsOk}
 use Rattle.karplus_strong.specs.Promises.{periodAt, risesAt, doneOr, Never-refused, New-there, Edge-comes, Clean-or-cleared, Refused-leaves, Keeps-rate}
@@ -35,15 +36,15 @@ use Rattle.karplus_strong.specs.declared.KarplusStrongControls.{KarplusS
 use Rattle.karplus_strong.specs.declared.KarplusStrongMade.the-variants as made
 
 pub clean-or-cleared : Clean-or-cleared
-clean-or-cleared s c draws l e = rw (tick-is s c draws l) (twice-heard (karplusStrongRefusalOf s (length l)) (soundRefusal s c draws) s l (struckStep s c draws l) (struck-heard s c draws l) (rw (tick-is s c draws l) at e))
+clean-or-cleared s c draws l e = rw (tick-is s c draws l) (twice-heard (karplusStrongRefusalOf s (length l)) (triggerRefusalOf s c draws) s l (struckStep s c draws l) (struck-heard s c draws l) (rw (tick-is s c draws l) at e))
 
 pub refused-leaves : Refused-leaves
-refused-leaves s c draws l e = rw (tick-is s c draws l) (twice-left (karplusStrongRefusalOf s (length l)) (soundRefusal s c draws) s l (struckStep s c draws l) (struck-heard s c draws l) (rw (tick-is s c draws l) at e))
+refused-leaves s c draws l e = rw (tick-is s c draws l) (twice-left (karplusStrongRefusalOf s (length l)) (triggerRefusalOf s c draws) s l (struckStep s c draws l) (struck-heard s c draws l) (rw (tick-is s c draws l) at e))
 
 -- ---- a reached string is ready
 good-number : (s : KarplusStrong) (c : KarplusStrongControls) (draws : List ℕ) (l : List Float) → Good s (length l) → refusalOf (karplusStrongTickOf s c draws l .out .answer) ≡ cond (risesAt s c) (drawsRefusalOf (struckLen (periodAt s c)) draws) 0
-unfolding soundRefusal
-good-number s c draws l g = ap (λ (t : Ticking). refusalOf (t .out .answer)) (good-tick s c draws l g) ∙ unless-number (soundRefusal s c draws) s l (struckStep s c draws l) (heard-number (struckStep s c draws l .out .answer) (struck-heard s c draws l))
+unfolding triggerRefusalOf
+good-number s c draws l g = ap (λ (t : Ticking). refusalOf (t .out .answer)) (good-tick s c draws l g) ∙ unless-number (triggerRefusalOf s c draws) s l (struckStep s c draws l) (heard-number (struckStep s c draws l .out .answer) (struck-heard s c draws l))
 
 made-says : (k : ℕ) (t : KarplusStrong) (m l : List Float) → madeReply (madeUnless k (record { out = made.Made t; line = m }) l .out) ≡ doneOr k
 unfolding madeUnless madeReply doneOr
@@ -97,7 +98,7 @@ draws-fine : (n : ℕ) (d : List ℕ) → n ≤ 9611 → 9611 ≤ length d → d
 unfolding drawsRefusalOf
 draws-fine n d h k e = simp (le-leb n (length d) (le-trans h k), draws-less d 9611 n h e)
 
-good-accepted : (s : KarplusStrong) (c : KarplusStrongControls) (draws : List ℕ) (l : List Float) → Good s (length l) → soundRefusal s c draws ≡ 0 → accepted (karplusStrongTickOf s c draws l .out .answer) ≡ true
+good-accepted : (s : KarplusStrong) (c : KarplusStrongControls) (draws : List ℕ) (l : List Float) → Good s (length l) → triggerRefusalOf s c draws ≡ 0 → accepted (karplusStrongTickOf s c draws l .out .answer) ≡ true
 unfolding tickUnless
 good-accepted s c draws l g e = ap (λ (t : Ticking). accepted (t .out .answer)) (good-tick s c draws l g ∙ ap (λ (k : ℕ). tickUnless k s l (struckStep s c draws l)) e) ∙ heard-accepted (struckStep s c draws l .out .answer) (struck-heard s c draws l)
 
@@ -142,9 +143,9 @@ twice-rate zero (suc j) s l t h = refl
 twice-rate (suc k) j s l t h = refl
 
 pub keeps-rate : Keeps-rate
-keeps-rate s c draws l = rw (tick-is s c draws l) (twice-rate (karplusStrongRefusalOf s (length l)) (soundRefusal s c draws) s l (struckStep s c draws l) (struck-step-keeps s c draws l .0))
+keeps-rate s c draws l = rw (tick-is s c draws l) (twice-rate (karplusStrongRefusalOf s (length l)) (triggerRefusalOf s c draws) s l (struckStep s c draws l) (struck-step-keeps s c draws l .0))
 
-good-edge : (s : KarplusStrong) (c : KarplusStrongControls) (draws : List ℕ) (l : List Float) → Good s (length l) → soundRefusal s c draws ≡ 0 → karplusStrongTickOf s c draws l .out .«karplus_strong» .«trigger_edge» ≡ risingOf (s .«trigger_edge») (c .trigger) .edge
+good-edge : (s : KarplusStrong) (c : KarplusStrongControls) (draws : List ℕ) (l : List Float) → Good s (length l) → triggerRefusalOf s c draws ≡ 0 → karplusStrongTickOf s c draws l .out .«karplus_strong» .«trigger_edge» ≡ risingOf (s .«trigger_edge») (c .trigger) .edge
 unfolding tickUnless
 good-edge s c draws l g e =
     ap (λ (t : Ticking). t .out .«karplus_strong» .«trigger_edge») (good-tick s c draws l g ∙ ap (λ (k : ℕ). tickUnless k s l (struckStep s c draws l)) e)
@@ -159,8 +160,8 @@ high-rises : (s : KarplusStrong) (c : KarplusStrongControls) (low : Float) → l
 unfolding risingOf risingAboveOf risesAbove
 high-rises s c low el ep eh = rw (eh, ep, el) (unfold lt ofBits in refl)
 
-low-sounds : (s : KarplusStrong) (c : KarplusStrongControls) (draws : List ℕ) → le (c .trigger) gateThreshold ≡ true → soundRefusal s c draws ≡ 0
-unfolding soundRefusal
+low-sounds : (s : KarplusStrong) (c : KarplusStrongControls) (draws : List ℕ) → le (c .trigger) gateThreshold ≡ true → triggerRefusalOf s c draws ≡ 0
+unfolding triggerRefusalOf
 low-sounds s c draws e = simp (low-rises s c e)
 
 pub struck-short : (s : KarplusStrong) (c : KarplusStrongControls) → Sound s → struckLen (periodAt s c) ≤ 9611
@@ -171,8 +172,8 @@ struck-short s c a =
     let k = max-len-range (s .«sample_rate») (a .rate) in
     omega (arith, w .1, k .1)
 
-high-sounds : (s : KarplusStrong) (c : KarplusStrongControls) (draws : List ℕ) → Sound s → risesAt s c ≡ true → 9611 ≤ length draws → drawsOk draws 9611 ≡ true → soundRefusal s c draws ≡ 0
-unfolding soundRefusal
+high-sounds : (s : KarplusStrong) (c : KarplusStrongControls) (draws : List ℕ) → Sound s → risesAt s c ≡ true → 9611 ≤ length draws → drawsOk draws 9611 ≡ true → triggerRefusalOf s c draws ≡ 0
+unfolding triggerRefusalOf
 high-sounds s c draws a e h k = simp (e, draws-fine (struckLen (periodAt s c)) draws (struck-short s c a) h k)
 
 pub edge-comes : Edge-comes
@@ -181,7 +182,7 @@ edge-comes x h low high none draws f el eh n ok = (good-accepted (x .string) low
     g : Good (x .string) (length (x .line))
     g = reached-good x h
 
-    r : soundRefusal (x .string) low none ≡ 0
+    r : triggerRefusalOf (x .string) low none ≡ 0
     r = low-sounds (x .string) low none el
 
     y : Strung

@@ -19,7 +19,8 @@ use Rattle.karplus_strong.proofs.Parts.{sound-line, heard-clean, heard-
 use Rattle.karplus_strong.proofs.Reached.{Good}
 use Rattle.karplus_strong.specs.Calls.{Refused}
 use Rattle.karplus_strong.specs.Consts.{loopLeak}
-use Rattle.karplus_strong.specs.KarplusStrong.{maxLenOf, roomOf, karplusStrongRefusalOf, finiteOr, struckLen, drawsRefusalOf, strikeIf, heardString, tickUnless, karplusStrongSoundOf, karplusStrongTickOf}
+use Rattle.karplus_strong.specs.Blocks.{triggerRefusalOf}
+use Rattle.karplus_strong.specs.KarplusStrong.{maxLenOf, roomOf, karplusStrongRefusalOf, finiteOr, strikeIf, heardString, tickUnless, karplusStrongSoundOf, karplusStrongTickOf}
 use Rattle.karplus_strong.specs.Promises.{periodAt, risesAt}
 use Rattle.karplus_strong.specs.Step.{filterCoefOf, apCoefOf, targetDelayOf, tapOf, filteredOf, stretchedOf, Ticking, outOf, wroteOf, clearedOf, stepOf}
 use Rattle.answer.specs.declared.Answer.{Answer}
@@ -76,12 +77,8 @@ struckStep s c draws l =
     let struck = strikeIf (risesAt s c) (heardString s (risingOf (s .«trigger_edge») (c .trigger) .edge) (recall1 voctToHzAt (s .«freq_memo») (finiteOr (c .voct .0) zer))) (periodAt s c) (clampOf (finiteOr (c .brightness) half) zer one) draws l in
     stepOf (struck .out) (periodAt s c) (clampOf (finiteOr (c .damping) half) zer one) (clampOf (finiteOr (c .stretch) zer) (neg one) one) (struck .line)
 
--- the numbers of both tests
-unfoldable pub soundRefusal : KarplusStrong → KarplusStrongControls → List ℕ → ℕ
-soundRefusal s c draws = cond (risesAt s c) (drawsRefusalOf (struckLen (periodAt s c)) draws) 0
-
-pub sound-is : (s : KarplusStrong) (c : KarplusStrongControls) (draws : List ℕ) (l : List Float) → karplusStrongSoundOf s c draws l ≡ tickUnless (soundRefusal s c draws) s l (struckStep s c draws l)
-unfolding karplusStrongSoundOf soundRefusal struckStep
+pub sound-is : (s : KarplusStrong) (c : KarplusStrongControls) (draws : List ℕ) (l : List Float) → karplusStrongSoundOf s c draws l ≡ tickUnless (triggerRefusalOf s c draws) s l (struckStep s c draws l)
+unfolding karplusStrongSoundOf triggerRefusalOf struckStep
 sound-is s c draws l = refl
 
 pub struck-heard : (s : KarplusStrong) (c : KarplusStrongControls) (draws : List ℕ) (l : List Float) → Heard (struckStep s c draws l .out .answer)
@@ -109,7 +106,7 @@ twice-left zero zero s l t h e = absurd (true≢false (sym (heard-accepted (t .o
 twice-left zero (suc j) s l t h e = (refl, refl)
 twice-left (suc k) j s l t h e = (refl, refl)
 
-pub tick-is : (s : KarplusStrong) (c : KarplusStrongControls) (draws : List ℕ) (l : List Float) → karplusStrongTickOf s c draws l ≡ tickUnless (karplusStrongRefusalOf s (length l)) s l (tickUnless (soundRefusal s c draws) s l (struckStep s c draws l))
+pub tick-is : (s : KarplusStrong) (c : KarplusStrongControls) (draws : List ℕ) (l : List Float) → karplusStrongTickOf s c draws l ≡ tickUnless (karplusStrongRefusalOf s (length l)) s l (tickUnless (triggerRefusalOf s c draws) s l (struckStep s c draws l))
 unfolding karplusStrongTickOf
 tick-is s c draws l = ap (tickUnless (karplusStrongRefusalOf s (length l)) s l) (sound-is s c draws l)
 
@@ -125,6 +122,6 @@ good-room s n g = simp (le-leb (maxLenOf (s .«sample_rate») + 2) n (g .room))
 pub good-none : (s : KarplusStrong) (n : ℕ) → Good s n → karplusStrongRefusalOf s n ≡ 0
 good-none s n g = good-refusal s n n g ∙ good-room s n g
 
-pub good-tick : (s : KarplusStrong) (c : KarplusStrongControls) (draws : List ℕ) (l : List Float) → Good s (length l) → karplusStrongTickOf s c draws l ≡ tickUnless (soundRefusal s c draws) s l (struckStep s c draws l)
+pub good-tick : (s : KarplusStrong) (c : KarplusStrongControls) (draws : List ℕ) (l : List Float) → Good s (length l) → karplusStrongTickOf s c draws l ≡ tickUnless (triggerRefusalOf s c draws) s l (struckStep s c draws l)
 unfolding tickUnless
-good-tick s c draws l g = tick-is s c draws l ∙ ap (λ (k : ℕ). tickUnless k s l (tickUnless (soundRefusal s c draws) s l (struckStep s c draws l))) (good-none s (length l) g)
+good-tick s c draws l g = tick-is s c draws l ∙ ap (λ (k : ℕ). tickUnless k s l (tickUnless (triggerRefusalOf s c draws) s l (struckStep s c draws l))) (good-none s (length l) g)

@@ -37,6 +37,7 @@ use Rattle.answer.specs.declared.Answer.{Answer}
 use Rattle.karplus_strong.specs.Consts.{loopLeak}
 use Rattle.karplus_strong.specs.Line.{blankAt, blankOf, impulseOf, pulseOf, excitedAt, excitedOf, sumTo, meanOf, levelAt, levelOf, struckOf, drawsOk}
 use Rattle.karplus_strong.specs.Step.{filterCoefOf, apCoefOf, filterDelayOf, apDelayOf, targetDelayOf, offsetOne, offsetTwo, tapOf, filteredOf, stretchedOf, Ticking, restOf, stepOf}
+use Rattle.karplus_strong.specs.Blocks.{triggerRefusalOf}
 use Rattle.karplus_strong.specs.KarplusStrong.{maxLenOf, karplusStrongRefusalOf, rateRefusalOf, madeUnless, karplusStrongResetOf, resizedString, karplusStrongSetSampleRateOf, finiteOr, periodOf, struckLen, drawsRefusalOf, strikeOf, strikeIf, heardString, tickUnless, karplusStrongTickOf}
 use Rattle.karplus_strong.specs.Calls.{Strung, Call, Tick, Reset, SetSampleRate, stringAfter, strungAfter, after, FitCall, First}
 use Rattle.karplus_strong.specs.Promises.{periodAt, risesAt, Unstretched, Never-cleared}
@@ -47,7 +48,7 @@ use Rattle.karplus_strong.proofs.Alike.{getD-over, length-struck}
 use Rattle.karplus_strong.proofs.Parts.{Sound, damped, delay-range, heard-clean, memo-number, struck-room}
 use Rattle.karplus_strong.proofs.Promised.{struck-short}
 use Rattle.karplus_strong.proofs.Reached.{Good, first-is, first-good, after-good}
-use Rattle.karplus_strong.proofs.Ticks.{struckStep, soundRefusal, good-tick}
+use Rattle.karplus_strong.proofs.Ticks.{struckStep, good-tick}
 use Rattle.karplus_strong.proofs.Weights.{Under, Held, round-under, weighed, zero-times, zero-plus, minus-zero, tap-weights, filter-weights, held-upto}
 
 -- ---- sizes
@@ -320,8 +321,8 @@ struck-calm true t p b d draws l e r n h k bl bh dl dh g c =
     step-calm (restOf t (struckLen p) (t .«trigger_edge»)) p d (struckOf (struckLen p) b draws l) z (omega arith) dl dh g
     (record { cells = struck-within (struckLen p) b draws l z n (draws-fine (struckLen p) draws e) bl bh; lp = zero-within; x1 = zero-within; y1 = zero-within }))
 
-sound-calm : (s : KarplusStrong) (c : KarplusStrongControls) (draws : List ℕ) (l : List Float) → Good s (length l) → clampOf (finiteOr (c .stretch) zer) (neg one) one ≡ zer → soundRefusal s c draws ≡ 0 → Calm s l → CalmTick (struckStep s c draws l)
-unfolding struckStep soundRefusal
+sound-calm : (s : KarplusStrong) (c : KarplusStrongControls) (draws : List ℕ) (l : List Float) → Good s (length l) → clampOf (finiteOr (c .stretch) zer) (neg one) one ≡ zer → triggerRefusalOf s c draws ≡ 0 → Calm s l → CalmTick (struckStep s c draws l)
+unfolding struckStep triggerRefusalOf
 sound-calm s c draws l g z e k =
     rw z
     (struck-calm (risesAt s c) (heardString s (risingOf (s .«trigger_edge») (c .trigger) .edge) memo) (periodAt s c) (clampOf (finiteOr (c .brightness) half) zer one) (clampOf (finiteOr (c .damping) half) zer one) draws l e
@@ -339,9 +340,9 @@ sound-calm s c draws l g z e k =
     number = memo-number (s .«freq_memo») (c .voct .0) (finiteOr (c .voct .0) zer) memo (a .value) refl refl
 
 tick-calm : (s : KarplusStrong) (c : KarplusStrongControls) (draws : List ℕ) (l : List Float) → Good s (length l) → clampOf (finiteOr (c .stretch) zer) (neg one) one ≡ zer → Calm s l → CalmTick (karplusStrongTickOf s c draws l)
-tick-calm s c draws l g z k = rw (good-tick s c draws l g) (pick (soundRefusal s c draws) refl)
+tick-calm s c draws l g z k = rw (good-tick s c draws l g) (pick (triggerRefusalOf s c draws) refl)
   where
-    pick : (n : ℕ) → soundRefusal s c draws ≡ n → CalmTick (tickUnless n s l (struckStep s c draws l))
+    pick : (n : ℕ) → triggerRefusalOf s c draws ≡ n → CalmTick (tickUnless n s l (struckStep s c draws l))
     pick zero e = unfold tickUnless in sound-calm s c draws l g z e k
     pick (suc n) e = unfold tickUnless accepted in record { calm = k; mark = λ h. absurd (true≢false (sym h)) }
 

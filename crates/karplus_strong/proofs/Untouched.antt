@@ -19,6 +19,7 @@ use Rattle.common.specs.Tests.{rateOk}
 use Rattle.karplus_strong.specs.Consts.{loopLeak}
 use Rattle.karplus_strong.specs.Line.{blankAt, blankOf, excitedAt, excitedOf, meanOf, levelAt, levelOf, struckOf, drawsOk}
 use Rattle.karplus_strong.specs.Step.{filterCoefOf, apCoefOf, targetDelayOf, tapOf, filteredOf, stretchedOf, Ticking, restOf, wroteOf, clearedOf, stepOf}
+use Rattle.karplus_strong.specs.Blocks.{triggerRefusalOf}
 use Rattle.karplus_strong.specs.KarplusStrong.{maxLenOf, roomOf, karplusStrongRefusalOf, rateRefusalOf, madeUnless, newKarplusStrong, karplusStrongNewOf, karplusStrongResetOf, resizedString, karplusStrongSetSampleRateOf, finiteOr, struckLen, drawsRefusalOf, strikeOf, strikeIf, heardString, tickUnless, karplusStrongSoundOf, karplusStrongTickOf}
 use Rattle.karplus_strong.specs.Promises.{periodAt, SamePast, Past-untouched, Only-its-draws}
 use Rattle.karplus_strong.specs.declared.KarplusStrong.{KarplusStrong}
@@ -26,7 +27,7 @@ use Rattle.karplus_strong.specs.declared.KarplusStrongControls.{KarplusS
 use Rattle.karplus_strong.specs.declared.KarplusStrongMade.the-variants as made
 use Rattle.karplus_strong.proofs.Parts.{Sound, accepted, rate-accepted, memo-number, struck-room}
 use Rattle.karplus_strong.proofs.Reached.{new-taken}
-use Rattle.karplus_strong.proofs.Ticks.{struckStep, soundRefusal, tick-is}
+use Rattle.karplus_strong.proofs.Ticks.{struckStep, tick-is}
 
 -- ---- cells
 getD-past : (f : ℕ → Float) (n : ℕ) (l : List Float) (i : ℕ) → n ≤ i → getD (over f n l) i nan ≡ getD l i nan
@@ -155,12 +156,12 @@ unfolding drawsRefusalOf
 refusal-draws n d e h g k = simp (le-leb n (length d) h, le-leb n (length e) g, draws-same d e n k)
 
 -- a tick's draws go to its refusal and its strike
-tick-draws : (s : KarplusStrong) (c : KarplusStrongControls) (d e : List ℕ) (l : List Float) → soundRefusal s c d ≡ soundRefusal s c e → struckStep s c d l ≡ struckStep s c e l → karplusStrongTickOf s c d l ≡ karplusStrongTickOf s c e l
+tick-draws : (s : KarplusStrong) (c : KarplusStrongControls) (d e : List ℕ) (l : List Float) → triggerRefusalOf s c d ≡ triggerRefusalOf s c e → struckStep s c d l ≡ struckStep s c e l → karplusStrongTickOf s c d l ≡ karplusStrongTickOf s c e l
 tick-draws s c d e l h k = rw (tick-is s c d l, tick-is s c e l, h, k)
 
 pub only-its-draws : Only-its-draws
 only-its-draws =
     record {
-      struck = λ s c d e l h g k. tick-draws s c d e l (unfold soundRefusal in rw (refusal-draws (struckLen (periodAt s c)) d e h g k)) (unfold struckStep strikeIf strikeOf in rw (struck-draws (struckLen (periodAt s c)) (clampOf (finiteOr (c .brightness) half) zer one) d e l k));
-      unstruck = λ s c d e l h. tick-draws s c d e l (unfold soundRefusal in rw h) (unfold struckStep strikeIf in rw h);
+      struck = λ s c d e l h g k. tick-draws s c d e l (unfold triggerRefusalOf in rw (refusal-draws (struckLen (periodAt s c)) d e h g k)) (unfold struckStep strikeIf strikeOf in rw (struck-draws (struckLen (periodAt s c)) (clampOf (finiteOr (c .brightness) half) zer one) d e l k));
+      unstruck = λ s c d e l h. tick-draws s c d e l (unfold triggerRefusalOf in rw h) (unfold struckStep strikeIf in rw h);
     }

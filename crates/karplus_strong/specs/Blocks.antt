@@ -1,7 +1,7 @@
 -- A block of ticks of one set of controls, by document 01's refusals. Each is lent the same draws; only the first can need them.
 use mathlib.Core.Bool.{cond}
 use mathlib.Core.List.{List}
-use Prim.Native.Nat.{ℕ, zero, suc}
+use Prim.Native.Nat.{ℕ}
 use lib.Dec.{eqb}
 use lib.Ieee.{Float}
 use lib.ListN.{length}

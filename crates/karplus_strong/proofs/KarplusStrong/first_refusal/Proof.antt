@@ -1,6 +1,6 @@
 use Rattle.karplus_strong.proofs.Parts.{accepted}
 use Rattle.karplus_strong.specs.Blocks.{firstRefusalOf}
-use borrow.Author.Tests.{eq-eqb, ne-eqb}
+use borrow.Author.Tests.{ne-eqb}
 use mathlib.Core.Path.{sym, _∙_}
 use borrow.Author.Needs.{needs}
 use Rattle.karplus_strong.proofs.KarplusStrong.first_refusal.Statement.{statement}

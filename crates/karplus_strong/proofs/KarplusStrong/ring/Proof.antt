@@ -10,7 +10,7 @@ use lib.ListN.{length, length-set}
 use native.Mathlib.Omega.{arith}
 use native.Mathlib.Nat.{le-antisymm}
 use Prim.Native.Nat.{_≤_, _<_, _-_}
-use mathlib.Core.Path.{_≡_, refl, sym, ap, _∙_}
+use mathlib.Core.Path.{_≡_, refl, ap, _∙_}
 use Rattle.karplus_strong.proofs.KarplusStrong.ring.Statement.{statement}
 use Rattle.karplus_strong.proofs.KarplusStrong.ring.Tie as tie
 
