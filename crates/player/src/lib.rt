@@ -306,13 +306,13 @@ fn by_steps(out: &mut [u8], at: usize, player: Player, n: u32) -> Played
 {
     let mut now = player;
     let mut to = at;
-    let mut k = 0;
-    while k < n {
+    let mut i = 0;
+    while i < n {
         let played = step(&mut *out, to, now);
         let next = played.player;
         now = next;
         to = played.to;
-        k += 1;
+        i += 1;
     }
     Played { player: now, to }
 }
@@ -345,9 +345,9 @@ fn hear(
         Controls::Vco(c) => {
             let vco = voices.vco;
             let b = vco.block(c, 15, tally, samples, marks);
-            let after = b.vco;
+            let played = b.vco;
             let counts = b.tally;
-            voices.vco = after;
+            voices.vco = played;
             Heard {
                 refused: b.refused,
                 voices,
@@ -357,9 +357,9 @@ fn hear(
         Controls::Lfo(c) => {
             let lfo = voices.lfo;
             let b = lfo.block(c, 31, tally, samples, marks);
-            let after = b.lfo;
+            let played = b.lfo;
             let counts = b.tally;
-            voices.lfo = after;
+            voices.lfo = played;
             Heard {
                 refused: b.refused,
                 voices,
@@ -369,9 +369,9 @@ fn hear(
         Controls::Supersaw(c) => {
             let supersaw = voices.supersaw;
             let b = supersaw.block(c, tally, samples, marks);
-            let after = b.supersaw;
+            let played = b.supersaw;
             let counts = b.tally;
-            voices.supersaw = after;
+            voices.supersaw = played;
             Heard {
                 refused: b.refused,
                 voices,
@@ -381,9 +381,9 @@ fn hear(
         Controls::Formant(c) => {
             let formant = voices.formant;
             let b = formant.block(c, tally, samples, marks);
-            let after = b.formant;
+            let played = b.formant;
             let counts = b.tally;
-            voices.formant = after;
+            voices.formant = played;
             Heard {
                 refused: b.refused,
                 voices,
@@ -495,6 +495,7 @@ fn chunk(out: &mut [u8], at: usize, player: Player, n: u32) -> Played
     ensures { λ r. ⌜ r ≡ playedOf (now (out .entry)) at (textOf n player) (afterOf n player) ⌝ }
     ensures { λ r. ⌜ now (out .exit) ≡ sets (now (out .entry)) at (textOf n player) ⌝ }
 {
+    // five samples a frame at most
     let mut samples = [0.0; 320];
     let mut marks = [0u32; 64];
     let controls = player.controls;
@@ -516,7 +517,7 @@ fn turns(player: Player, budget: u32) -> u32
 {
     if player.frame < player.frames {
         let left = player.frames - player.frame;
-        if budget < left { budget } else { left }
+        lesser(budget, left)
     } else {
         0
     }

@@ -1,4 +1,4 @@
--- `player::by_steps`: after k turns the texts of k frames are put.
+-- `player::by_steps`: after i turns the texts of i frames are put.
 use Prim.Native.Nat.{_+_, _-_, _≤_}
 use mathlib.Core.Path.{refl}
 use native.Mathlib.Omega.{arith}
@@ -11,10 +11,10 @@ use Rattle.player.proofs.by_steps.Statement.{statement}
 use Rattle.player.proofs.by_steps.Tie as tie
 
 abbrev Inv-loop : tie.InvT-loop
-Inv-loop out₀ at n now₀ to₀ k₀ out now to k = ((k ≤ n) × (now₀ .frame + n ≤ 4294967295)) × Ran out₀ at now₀ out now to k
+Inv-loop out₀ at n now₀ to₀ i₀ out now to i = ((i ≤ n) × (now₀ .frame + n ≤ 4294967295)) × Ran out₀ at now₀ out now to i
 
 abbrev μ-loop : tie.MeasureT-loop
-μ-loop out₀ at n now₀ to₀ k₀ out now to k = n - k
+μ-loop out₀ at n now₀ to₀ i₀ out now to i = n - i
 
 loop-holds : tie.Need-loop-holds Inv-loop μ-loop
 unfolding textOf afterOf placeOf
@@ -23,8 +23,8 @@ loop-holds c = let p = c .before .pre in ((omega arith, p .1), (refl, (omega (ar
 step-requires : tie.Need-step-requires Inv-loop μ-loop
 step-requires c κs = let s = c .before .before .loop .inv in let f = frame-now _ _ _ _ _ _ _ (s .1) in omega (arith, f, s .0 .1)
 
-add-k : tie.Need-add-k Inv-loop μ-loop
-add-k c = search needs
+add-i : tie.Need-add-i Inv-loop μ-loop
+add-i c = search needs
 
 loop-less : tie.Need-loop-less Inv-loop μ-loop
 loop-less c = search needs
@@ -46,7 +46,7 @@ by-steps-spec =
     μ-loop
     loop-holds
     step-requires
-    add-k
+    add-i
     loop-less
     loop-again
     same-length

@@ -8,17 +8,16 @@ use Rattle.player.proofs.turns.Tie as tie
 sub-left : tie.Need-sub-left
 sub-left c = search needs
 
+lesser-requires : tie.Need-lesser-requires
+lesser-requires c κs = search needs
+
 returns : tie.Need-returns
 unfolding turnsOf
-returns c = omega arith
+returns c = c .lesser .ensures
 
 returns-2 : tie.Need-returns-2
 unfolding turnsOf
 returns-2 c = omega arith
 
-returns-3 : tie.Need-returns-3
-unfolding turnsOf
-returns-3 c = omega arith
-
 pub turns-spec : {M : Type 1} → statement M
-turns-spec = tie.close (tie.spec sub-left returns returns-2 returns-3)
+turns-spec = tie.close (tie.spec sub-left lesser-requires returns returns-2)
