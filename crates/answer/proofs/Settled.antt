@@ -9,6 +9,7 @@ answer-settled =
       mark = λ v cleared sums phases. settled _;
       tally-new = settled _;
       tally-take = λ t a. settled _;
+      answer-of = λ mark v. settled _;
       samples = λ a. settled _;
       tally-from-counts = λ counts. settled _;
       tally-put-counts = λ t counts. settled _;

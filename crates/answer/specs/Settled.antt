@@ -4,7 +4,7 @@ use mathlib.Core.Bool.{Bool}
 use mathlib.Core.List.{List}
 use Prim.Native.Nat.{ℕ}
 use Rattle.laws.specs.Machine.{Settles}
-use Rattle.answer.specs.Answer.{markNumber, voltsOf}
+use Rattle.answer.specs.Answer.{markNumber, voltsOf, answerOf}
 use Rattle.answer.specs.Block.{roomFor, marksTaken, blockRefusalOf}
 use Rattle.answer.specs.Flat.{tallyFrom, countsPut}
 use Rattle.answer.specs.Mark.{markOf}
@@ -19,6 +19,7 @@ pub record Settled : Type 0 where
   pub mark : (v : Volts) (cleared sums phases : Bool) → Settles (λ (r : Answer). r ≡ markOf v cleared sums phases)
   pub tally-new : Settles (λ (r : Tally). r ≡ newTally)
   pub tally-take : (t : Tally) (a : Answer) → Settles (λ (r : Tallied). r ≡ tallyOf t a)
+  pub answer-of : (mark : ℕ) (v : Volts) → Settles (λ (r : Answer). r ≡ answerOf mark v)
   pub samples : (a : Answer) → Settles (λ (r : Volts). r ≡ voltsOf a)
   pub tally-from-counts : (counts : List ℕ) → Settles (λ (r : Tally). r ≡ tallyFrom counts)
   -- the slice that it leaves

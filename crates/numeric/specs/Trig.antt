@@ -60,7 +60,7 @@ restOf x k = sub binary64 (sub binary64 x (mul binary64 k (ofBits binary64 0x3ff
 unfoldable pub quadrant : ℕ → Float → Float
 quadrant q r = cond (eqb q 0) (kernelSin r) (cond (eqb q 1) (kernelCos r) (cond (eqb q 2) (neg (kernelSin r)) (neg (kernelCos r))))
 
--- of a rest beyond 1, which no x has, 0
+-- of a rest beyond 1, which is not expected, 0
 unfoldable pub boundOf : ℕ → Float → Float
 boundOf q r = cond (le r one) (cond (le (neg one) r) (quadrant q r) zer) zer
 

@@ -328,7 +328,7 @@ fn quadrant_of(q: u64, r: f64) -> f64
     }
 }
 
-// No x has a rest beyond 1; testing it here spares a clamp of the result.
+// A rest beyond 1 isn't expected, nor proved never to come; testing it here spares a clamp of the result.
 fn bound(q: u64, r: f64) -> f64
     ensures { λ v. ⌜ v ≡ boundOf q r ⌝ }
 {
