@@ -9,8 +9,8 @@ use native.Mathlib.Numerals.{add-one}
 use native.Mathlib.Omega.{arith}
 use lib.Dec.{eqb, lit≤}
 use lib.Ieee.{Float, nan}
-use lib.Seq.{sets}
 use lib.ListN.{length, getD, take, length-take, List·getD-append}
+use lib.Seq.{sets}
 use borrow.Author.Tests.{eq-eqb, ne-eqb, eqb-true, eqb-false}
 use Rattle.laws.specs.Lists.{tab}
 use Rattle.laws.proofs.Over.{getD-tab, length-tab}
@@ -44,7 +44,6 @@ use Rattle.formant_osc.specs.declared.FormantControls.{FormantControls}
 use Rattle.frame.specs.Frame.{countLine, wordLine, sampleLine, wavesText, outputsText, markedText, frameText}
 use Rattle.player.specs.Block.{portsIn, voiceAnswer, voiceNext, framesOf, outputAt, voltsAt, markedOf, frameAtOf, blockText}
 use Rattle.player.specs.Player.{kindOf, soundOf, keptBy, answerOf, frameOf, nextOf, textOf, afterOf, playedOf}
-use Rattle.player.specs.declared.Controls.{Controls}
 use Rattle.player.specs.declared.Controls.the-variants as controls
 use Rattle.player.specs.declared.Voices.{Voices}
 use Rattle.player.specs.declared.Player.{Player}
@@ -88,7 +87,7 @@ module _ {S U : Type 0} (answer : S → Answer) (next : S → S) (told : U → A
 
 -- ---- the tally
 -- one answer more
-module _ (t : Tally) (a : Answer) (clean cleared notfinite lost : ℕ) (s : t .begun ≡ sumOf t) (h : t .begun + (clean + cleared + notfinite + lost) < 4294967295) where
+module _ (t : Tally) (clean cleared notfinite lost : ℕ) (s : t .begun ≡ sumOf t) (h : t .begun + (clean + cleared + notfinite + lost) < 4294967295) where
   abbrev grown : Tally
   grown = grownBy t clean cleared notfinite lost
 
@@ -141,7 +140,7 @@ module _ (p : Player) (sum : p .tally .begun ≡ sumOf (p .tally)) where
   block-next k h =
       let f = markAt (voiceAnswer (p .controls)) (voiceNext (p .controls)) (p .voices) in
       let most = many-most f k in
-      let counts = kept-more (p .tally) (answer.Refused 0) (manyTo 4 f k) (manyTo 1 f k) (manyTo 2 f k) (manyTo 3 f k) sum (omega arith) (voiceAnswer (p .controls) (afterTicks (voiceNext (p .controls)) k (p .voices))) in
+      let counts = kept-more (p .tally) (manyTo 4 f k) (manyTo 1 f k) (manyTo 2 f k) (manyTo 3 f k) sum (omega arith) (voiceAnswer (p .controls) (afterTicks (voiceNext (p .controls)) k (p .voices))) in
       let number = one-suc (p .frame) k in
       λ i. record { controls = p .controls; voices = afterTicks (voiceNext (p .controls)) (suc k) (p .voices); tally = counts i; frame = number i; frames = p .frames }
     where

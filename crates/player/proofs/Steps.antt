@@ -1,8 +1,7 @@
 -- A frame and a run of frames, as the code makes them.
-use Prim.Native.Nat.{ℕ, _+_, _-_, _≤_, _<_}
+use Prim.Native.Nat.{ℕ, _+_}
 use mathlib.Core.List.{List}
 use mathlib.Core.Path.{_≡_, sym, ap, _∙_}
-use native.Mathlib.Omega.{arith}
 use lib.Seq.{sets}
 use Rattle.answer.specs.Tally.{tallyOf}
 use Rattle.answer.specs.declared.Answer.{Answer}
