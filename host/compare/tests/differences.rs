@@ -1,4 +1,5 @@
-//! Where ours and the Rust over its own library part: a power of 2 below the normal numbers is 0 in ours, and small there.
+//! Where ours and the Rust part: over its own library a power of 2 below the normal numbers is 0 in ours and small there; and as a
+//! memo's key any NaN is one in ours and its own bits there.
 
 #[test]
 #[cfg_attr(not(quiver), ignore = "skipped: QUIVER_SRC not found")]
@@ -45,5 +46,30 @@ fn formants_shifted_to_nothing() {
             assert!(marks.iter().all(|&mark| mark == Mark::NotFinite), "{marks:?}");
             println!("formant_shift {formant_shift}: 1000 ticks are notfinite, and the Rust's are finite");
         }
+    }
+}
+
+#[test]
+#[cfg_attr(not(quiver), ignore = "skipped: QUIVER_SRC not found")]
+fn a_nan_for_a_memos_key() {
+    #[cfg(quiver)]
+    {
+        use gruttisol::answer::Mark;
+        use gruttisol::lfo::{Controls, Lfo};
+        use quiver_system::modules::oscillators::{self as rust, probe::Probe};
+
+        // a state of a caller's own: the memo holds 1 Hz for a NaN that no operation makes
+        let key = 0x7ff8_0000_0000_0001;
+        let (floats, wholes) = ([0.0, 48000.0, 0.0, 1.0], [key, 1]);
+        let rate = f64::from_bits(key);
+        let (mut theirs, mut samples) = (rust::Lfo::new(48000.0), [0.0; 5]);
+        theirs.put_flat(&floats, &wholes);
+        theirs.body(&[rate, 10.0, 0.0], u32::MAX, &mut samples);
+        assert_eq!(theirs.flat().0, [1.0 / 48000.0, 48000.0, 0.0, 1.0]);
+        let mut ours = Lfo::of_parts(floats, wholes);
+        let ticked = ours.tick(&Controls { rate, depth: 10.0, reset: 0.0 }, Lfo::WANT_ALL).unwrap();
+        assert_eq!(ticked.mark, Mark::Lost);
+        assert!(ours.parts().0[3].is_nan());
+        println!("the Rust hits and goes on at 1 Hz, ours misses and is lost");
     }
 }
