@@ -1,5 +1,5 @@
--- `main`: what is written of a refusal is its text.
-use mathlib.Core.Path.{sym}
+-- `main`: the score that is played, and the refusal whose text is written, are what the input reads as.
+use mathlib.Core.Path.{sym, _∙_}
 use native.Mathlib.Omega.{arith}
 use lib.Seq.{length-take-le}
 use borrow.Author.Needs.{needs}
@@ -20,8 +20,8 @@ large-buffer-requires c κs = search needs
 array-share-prefix-input : tie.Need-array-share-prefix-input
 array-share-prefix-input c = search needs
 
-slice-aggregate-read : tie.Need-slice-aggregate-read
-slice-aggregate-read c = search needs
+slice-aggregate-text : tie.Need-slice-aggregate-text
+slice-aggregate-text c = search needs
 
 read-requires : tie.Need-read-requires
 read-requires c κs = search needs
@@ -33,7 +33,7 @@ slice-aggregate-play : tie.Need-slice-aggregate-play
 slice-aggregate-play c = search needs
 
 play-requires : tie.Need-play-requires
-play-requires c κs = sym (c .before .before .before .before .before .before .large-buffer .ensures)
+play-requires c κs = (sym (c .before .before .before .before .before .before .large-buffer .ensures), sym (c .before .before .before .before .read .ensures) ∙ c .before .before .s .given .1)
 
 enum-known-k : tie.Need-enum-known-k
 enum-known-k c = search needs
@@ -51,7 +51,7 @@ slice-aggregate-write-refused : tie.Need-slice-aggregate-write-refused
 slice-aggregate-write-refused c = sym (length-take-le _ _ (within _ _ _ (c .before .before .put-refused .ensures) .0))
 
 write-refused-requires : tie.Need-write-refused-requires
-write-refused-requires c κs = refused-written _ _ _ (c .before .before .before .before .before .k .given .0 .0) (omega arith) (sym (c .before .before .before .before .before .before .before .before .before .large-buffer .ensures)) (c .before .before .put-refused .ensures)
+write-refused-requires c κs = (sym (c .before .before .before .before .before .before .before .read .ensures) ∙ c .before .before .before .before .before .k .given .1, refused-written _ _ _ (c .before .before .before .before .before .k .given .0 .0) (omega arith) (sym (c .before .before .before .before .before .before .before .before .before .large-buffer .ensures)) (c .before .before .put-refused .ensures))
 
 returns : tie.Need-returns
 returns c = search needs
@@ -67,7 +67,7 @@ main-spec =
     read-text-requires
     large-buffer-requires
     array-share-prefix-input
-    slice-aggregate-read
+    slice-aggregate-text
     read-requires
     enum-known-s
     slice-aggregate-play

@@ -11,31 +11,31 @@ use Rattle.render.proofs.play.Statement.{statement}
 use Rattle.render.proofs.play.Tie as tie
 
 abbrev Inv-loop : tie.InvT-loop
-Inv-loop out₀ score player₀ out player = (length out ≡ 65536) × Stands score player
+Inv-loop out₀ input score player₀ out player = (length out ≡ 65536) × Stands score player
 
 abbrev μ-loop : tie.MeasureT-loop
-μ-loop out₀ score player₀ out player = score .frames - player .frame
+μ-loop out₀ input score player₀ out player = score .frames - player .frame
 
 new-requires : tie.Need-new-requires Inv-loop μ-loop
 new-requires c κs = search needs
 
 loop-holds : tie.Need-loop-holds Inv-loop μ-loop
-loop-holds c = (c .before .before .pre, stands-first _ _ (c .new .ensures))
+loop-holds c = (c .before .before .before .pre .0, stands-first _ _ (c .new .ensures))
 
 run-requires : tie.Need-run-requires Inv-loop μ-loop
 run-requires c κs = search needs
 
 slice-reshare-prefix-write-piece : tie.Need-slice-reshare-prefix-write-piece Inv-loop μ-loop
-slice-reshare-prefix-write-piece c = within _ _ _ (put-piece (c .before .before .before .before .before .before .before .before .before .args .score) _ (c .before .before .before .before .before .before .loop .inv .1) _ _ _ _ (c .before .before .run .ensures)) .0
+slice-reshare-prefix-write-piece c = within _ _ _ (put-piece (c .before .before .before .before .before .before .before .before .before .before .args .score) _ (c .before .before .before .before .before .before .loop .inv .1) _ _ _ _ (c .before .before .run .ensures)) .0
 
 slice-aggregate-write-piece : tie.Need-slice-aggregate-write-piece Inv-loop μ-loop
-slice-aggregate-write-piece c = sym (length-take-le _ _ (within _ _ _ (put-piece (c .before .before .before .before .before .before .before .before .before .before .args .score) _ (c .before .before .before .before .before .before .before .loop .inv .1) _ _ _ _ (c .before .before .before .run .ensures)) .0))
+slice-aggregate-write-piece c = sym (length-take-le _ _ (within _ _ _ (put-piece (c .before .before .before .before .before .before .before .before .before .before .before .args .score) _ (c .before .before .before .before .before .before .before .loop .inv .1) _ _ _ _ (c .before .before .before .run .ensures)) .0))
 
 write-piece-requires : tie.Need-write-piece-requires Inv-loop μ-loop
-write-piece-requires c κs = let g = c .before .before .before .before .before .before .before .before .before .before .good .1 .0 in piece-written _ _ (c .before .before .before .before .before .before .before .loop .inv .1) _ _ _ (omega arith) (c .before .before .before .before .before .before .before .loop .inv .0) (c .before .before .before .run .ensures)
+write-piece-requires c κs = let g = c .before .before .before .before .before .before .before .before .before .before .before .good .1 .1 .0 in (c .before .before .before .before .before .before .before .before .before .before .before .pre .1, piece-written _ _ (c .before .before .before .before .before .before .before .loop .inv .1) _ _ _ (omega arith) (c .before .before .before .before .before .before .before .loop .inv .0) (c .before .before .before .run .ensures))
 
 same-length : tie.Need-same-length Inv-loop μ-loop
-same-length c = within _ _ _ (put-piece (c .before .before .before .before .before .before .before .before .before .before .before .before .args .score) _ (c .before .before .before .before .before .before .before .before .before .loop .inv .1) _ _ _ _ (c .before .before .before .before .before .run .ensures)) .1 ∙ c .before .before .before .before .before .before .before .before .before .loop .inv .0 ∙ sym (c .before .before .before .before .before .before .before .before .before .before .before .before .pre)
+same-length c = within _ _ _ (put-piece (c .before .before .before .before .before .before .before .before .before .before .before .before .before .args .score) _ (c .before .before .before .before .before .before .before .before .before .loop .inv .1) _ _ _ _ (c .before .before .before .before .before .run .ensures)) .1 ∙ c .before .before .before .before .before .before .before .before .before .loop .inv .0 ∙ sym (c .before .before .before .before .before .before .before .before .before .before .before .before .before .pre .0)
 
 returns : tie.Need-returns Inv-loop μ-loop
 returns c = search needs
@@ -44,7 +44,7 @@ loop-less : tie.Need-loop-less Inv-loop μ-loop
 loop-less c = less-left _ _ (c .before .before .before .before .before .before .before .before .before .before .loop .inv .1) _ _ _ (c .before .before .before .before .before .before .run .ensures) (c .before .before .before .before .before .before .before .before .if1 .taken)
 
 loop-again : tie.Need-loop-again Inv-loop μ-loop
-loop-again c = (within _ _ _ (put-piece (c .before .before .before .before .before .before .before .before .before .before .before .before .before .args .score) _ (c .before .before .before .before .before .before .before .before .before .before .loop .inv .1) _ _ _ _ (c .before .before .before .before .before .before .run .ensures)) .1 ∙ c .before .before .before .before .before .before .before .before .before .before .loop .inv .0, stands-next _ _ (c .before .before .before .before .before .before .before .before .before .before .loop .inv .1) _ _ _ _ (c .before .before .before .before .before .before .run .ensures))
+loop-again c = (within _ _ _ (put-piece (c .before .before .before .before .before .before .before .before .before .before .before .before .before .before .args .score) _ (c .before .before .before .before .before .before .before .before .before .before .loop .inv .1) _ _ _ _ (c .before .before .before .before .before .before .run .ensures)) .1 ∙ c .before .before .before .before .before .before .before .before .before .before .loop .inv .0, stands-next _ _ (c .before .before .before .before .before .before .before .before .before .before .loop .inv .1) _ _ _ _ (c .before .before .before .before .before .before .run .ensures))
 
 finish-requires : tie.Need-finish-requires Inv-loop μ-loop
 finish-requires c κs = search needs
@@ -56,10 +56,10 @@ slice-aggregate-write-end : tie.Need-slice-aggregate-write-end Inv-loop μ-loop
 slice-aggregate-write-end c = sym (length-take-le _ _ (within _ _ _ (c .before .before .before .finish .ensures) .0))
 
 write-end-requires : tie.Need-write-end-requires Inv-loop μ-loop
-write-end-requires c κs = let k = c .before .before .before .before .before .before .struct-known .given in end-written _ _ (c .before .before .before .before .before .before .before .loop .inv .1) _ _ _ (c .before .before .before .before .before .if1 .left) (record { begun = omega arith; finished = omega arith; cleared = omega arith; notfinite = omega arith; lost = omega arith }) (c .before .before .before .before .before .before .before .loop .inv .0) (c .before .before .before .finish .ensures)
+write-end-requires c κs = let k = c .before .before .before .before .before .before .struct-known .given in (c .before .before .before .before .before .before .before .before .before .before .before .pre .1, end-written _ _ (c .before .before .before .before .before .before .before .loop .inv .1) _ _ _ (c .before .before .before .before .before .if1 .left) (record { begun = omega arith; finished = omega arith; cleared = omega arith; notfinite = omega arith; lost = omega arith }) (c .before .before .before .before .before .before .before .loop .inv .0) (c .before .before .before .finish .ensures))
 
 same-length-2 : tie.Need-same-length-2 Inv-loop μ-loop
-same-length-2 c = within _ _ _ (c .before .before .before .before .finish .ensures) .1 ∙ c .before .before .before .before .before .before .before .before .loop .inv .0 ∙ sym (c .before .before .before .before .before .before .before .before .before .before .before .pre)
+same-length-2 c = within _ _ _ (c .before .before .before .before .finish .ensures) .1 ∙ c .before .before .before .before .before .before .before .before .loop .inv .0 ∙ sym (c .before .before .before .before .before .before .before .before .before .before .before .before .pre .0)
 
 returns-2 : tie.Need-returns-2 Inv-loop μ-loop
 returns-2 c = search needs
