@@ -11,12 +11,18 @@ use Rattle.answer.specs.declared.Answer.{Answer}
 use Rattle.answer.specs.declared.Tally.{Tally}
 use Rattle.answer.specs.declared.Tallied.{Tallied}
 use Rattle.answer.specs.declared.Tallied.the-variants as tallied
-use Rattle.exports.specs.Counts.{Kept, answerAt, tallyFrom, countsOf, keptBy, tallyAt}
+use Rattle.answer.specs.Flat.{tallyFrom, countsOf, countsPut}
+use Rattle.exports.specs.Counts.{Kept, answerAt, keptBy, tallyAt}
 
 -- the slice has five counts
 five : (code : ℕ) (l : List ℕ) (t : Tally) (a : Answer) (k : Tallied) → length l ≡ 5 → t ≡ tallyFrom l → a ≡ answerAt code → k ≡ tallyOf t a → tallyAt code l ≡ keptBy l k
 unfolding tallyAt
 five code l t a k h p q r = ap (λ (b : Bool). cond b (keptBy l (tallyOf (tallyFrom l) (answerAt code))) (record { code = 53; counts = l })) (eq-eqb (length l) 5 h) ∙ sym (ap (keptBy l) (r ∙ (λ i. tallyOf (p i) (q i))))
+
+-- so all five are put
+pub put-five : (t : Tally) (l : List ℕ) → length l ≡ 5 → countsPut t l ≡ countsOf t
+unfolding countsPut
+put-five t l h = ap (λ (b : Bool). cond b (countsOf t) l) (eq-eqb (length l) 5 h)
 
 pub taken : (code : ℕ) (l m : List ℕ) (t : Tally) (a : Answer) (k : Tallied) (n : Tally) → length l ≡ 5 → t ≡ tallyFrom l → a ≡ answerAt code → k ≡ tallyOf t a → k ≡ tallied.Taken n → m ≡ countsOf n
     → (0 ≡ tallyAt code l .code) × (m ≡ tallyAt code l .counts)

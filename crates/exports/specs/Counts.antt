@@ -1,10 +1,11 @@
 -- The tally over a lent slice of counts: begun, finished, cleared, notfinite, lost.
 use mathlib.Core.Bool.{Bool, true, false, cond}
-use mathlib.Core.List.{List, [], _∷_}
+use mathlib.Core.List.{List}
 use Prim.Native.Nat.{ℕ}
 use lib.Dec.{eqb}
-use lib.ListN.{length, getD}
+use lib.ListN.{length}
 use Rattle.laws.specs.Float.{zer}
+use Rattle.answer.specs.Flat.{tallyFrom, countsOf}
 use Rattle.answer.specs.Tally.{tallyOf}
 use Rattle.answer.specs.declared.Volts.{Volts}
 use Rattle.answer.specs.declared.Answer.{Answer}
@@ -29,12 +30,6 @@ answerAt code =
     (cond (eqb code 13) (answer.Lost silence)
     (cond (eqb code 14) (answer.Clean silence)
     (answer.Refused code))))
-
-unfoldable pub tallyFrom : List ℕ → Tally
-tallyFrom l = record { begun = getD l 0 0; finished = getD l 1 0; cleared = getD l 2 0; notfinite = getD l 3 0; lost = getD l 4 0 }
-
-unfoldable pub countsOf : Tally → List ℕ
-countsOf t = t .begun ∷ t .finished ∷ t .cleared ∷ t .notfinite ∷ t .lost ∷ []
 
 -- a refusal leaves the counts
 unfoldable pub keptBy : List ℕ → Tallied → Kept

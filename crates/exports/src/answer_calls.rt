@@ -4,8 +4,7 @@ use answer::Tallied;
 use answer::Tally;
 use answer::Volts;
 ghost use mathlib.Core.Path.{_≡_};
-ghost use lib.ListN.{length};
-ghost use Rattle.exports.specs.Counts.{answerAt, tallyFrom, countsOf, tallyAt};
+ghost use Rattle.exports.specs.Counts.{answerAt, tallyAt};
 
 // The answer that a tick's code stands for, its volts aside: 11 to 14 an accepted one, any other a refused one.
 fn answer_at(code: u32) -> Answer
@@ -31,30 +30,6 @@ fn answer_at(code: u32) -> Answer
     }
 }
 
-fn tally_from(counts: &[u32]) -> Tally
-    requires { ⌜ length (now counts) ≡ 5 ⌝ }
-    ensures { λ r. ⌜ r ≡ tallyFrom (now (counts .entry)) ⌝ }
-{
-    Tally {
-        begun: counts[0],
-        finished: counts[1],
-        cleared: counts[2],
-        notfinite: counts[3],
-        lost: counts[4],
-    }
-}
-
-fn store(counts: &mut [u32], t: Tally)
-    requires { ⌜ length (now counts) ≡ 5 ⌝ }
-    ensures { λ _. ⌜ now (counts .exit) ≡ countsOf t ⌝ }
-{
-    counts[0] = t.begun;
-    counts[1] = t.finished;
-    counts[2] = t.cleared;
-    counts[3] = t.notfinite;
-    counts[4] = t.lost;
-}
-
 // 0 where the tally took the answer, 7 where it refused it, 53 where `counts` isn't five numbers: begun, finished,
 // cleared, notfinite, lost. A new tally is five zeros.
 #[no_mangle]
@@ -62,12 +37,12 @@ pub extern "C" fn gruttisol_tally_take(code: u32, counts: &mut [u32]) -> u32
     ensures { λ r. ⌜ (r ≡ tallyAt code (now (counts .entry)) .code) × (now (counts .exit) ≡ tallyAt code (now (counts .entry)) .counts) ⌝ }
 {
     if counts.len() == 5 {
-        let t = tally_from(counts);
+        let t = Tally::from_counts(counts);
         let a = answer_at(code);
         let taken = t.take(a);
         match taken {
             Tallied::Taken(next) => {
-                store(counts, next);
+                next.put_counts(counts);
                 0
             }
             Tallied::Refused(n) => n,
