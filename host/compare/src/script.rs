@@ -152,7 +152,7 @@ fn case<P: Pair>(pair: &mut P, controls: &[f64], draw: &mut Draw, counts: &mut C
     let refusal = P::refusal(&invented.0, &invented.1);
     let wanted = mask::<P>(draw);
     let given = |pair: &P, state| {
-        let mut words: Vec<u64> = raw::<P>(state).into_iter().map(unsigned_nan).collect();
+        let mut words = raw::<P>(state);
         words.extend(controls.iter().map(|x| x.to_bits()));
         words.extend(P::MASKED.then_some(wanted as u64));
         words.extend(pair.stored_lent());
@@ -184,15 +184,6 @@ fn case<P: Pair>(pair: &mut P, controls: &[f64], draw: &mut Draw, counts: &mut C
 /// A state's floats, by their bits, and whole numbers.
 fn raw<P: Pair>((floats, wholes): (P::Floats, P::Wholes)) -> Vec<u64> {
     floats.as_ref().iter().map(|x| x.to_bits()).chain(wholes.as_ref().iter().copied()).collect()
-}
-
-/// Processors differ in the sign of the NaN that an operation makes; the list has the positive one.
-fn unsigned_nan(bits: u64) -> u64 {
-    if bits == 0xfff8_0000_0000_0000 {
-        0x7ff8_0000_0000_0000
-    } else {
-        bits
-    }
 }
 
 /// The bits of a float, of any NaN the same. Memo keys are such bits too, and other whole numbers are too small to be a NaN's.

@@ -9,7 +9,10 @@ fn the_list_is_the_rusts() {
         let stored: Vec<&str> = list.lines().filter(|line| line.contains("_tick ")).collect();
         let fresh = compare::stored().unwrap_or_else(|difference| panic!("{difference}"));
         assert!(stored.len() >= 980, "{} ticks", stored.len());
-        assert!(stored.iter().copied().eq(fresh.lines()), "the stored ticks are others than the Rust's");
+        // processors differ in the sign of the NaN that an operation makes
+        let unsigned = |line: &str| line.replace("FFF8000000000000", "7FF8000000000000");
+        let same = stored.iter().map(|line| unsigned(line)).eq(fresh.lines().map(unsigned));
+        assert!(same, "the stored ticks are others than the Rust's");
         println!("{} stored ticks are the Rust's", stored.len());
     }
 }
