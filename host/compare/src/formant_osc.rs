@@ -1,11 +1,10 @@
 //! The formant oscillator on both sides.
 use crate::draw::{under, Control, Draw, PITCH, UNIT};
 use crate::marked::Marked;
-use crate::pair::{both, refusal};
+use crate::pair::{block, both, refusal};
 use crate::script::{Counts, Pair};
 use gruttisol::answer::{Mark, Refused};
 use gruttisol::formant_osc as ours;
-use gruttisol::tally::Tally;
 use quiver::modules::oscillators as rust;
 use quiver::modules::oscillators::probe::Probe;
 use quiver::port::GraphModule;
@@ -61,18 +60,7 @@ impl Pair for FormantOsc {
         Ok(ticked.mark)
     }
 
-    fn ours_block(
-        &mut self,
-        controls: &[f64],
-        _wanted: u32,
-        tally: &mut Tally,
-        samples: &mut [f64],
-        marks: &mut [u32],
-    ) -> Result<(), Refused> {
-        let [v_oct, vowel, formant_shift, vibrato] = *controls else { unreachable!() };
-        let controls = ours::Controls { v_oct, vowel, formant_shift, vibrato };
-        self.ours.block(&controls, tally, samples, marks)
-    }
+    block!(self, _wanted, [v_oct, vowel, formant_shift, vibrato]);
 
     fn theirs_tick(&mut self, controls: &[f64], wanted: u32, samples: &mut [f64]) -> Mark {
         self.theirs.marked_tick(controls, wanted, samples)

@@ -1,6 +1,6 @@
 //! The string on both sides, with the line that is lent to ours.
 use crate::draw::{Control, Draw, BOTH_WAYS, GATE, PITCH, UNIT};
-use crate::pair::rises;
+use crate::pair::{block, rises};
 use crate::script::{alike, bad_rate, hex, mark, one_nan, unchanged, Counts, Pair};
 use gruttisol::answer::{Mark, Refused};
 use gruttisol::karplus_strong as ours;
@@ -254,18 +254,7 @@ impl Pair for KarplusStrong {
         Ok(ticked.mark)
     }
 
-    fn ours_block(
-        &mut self,
-        controls: &[f64],
-        _wanted: u32,
-        tally: &mut Tally,
-        samples: &mut [f64],
-        marks: &mut [u32],
-    ) -> Result<(), Refused> {
-        let [voct, trigger, damping, brightness, stretch] = *controls else { unreachable!() };
-        let controls = ours::Controls { voct, trigger, damping, brightness, stretch };
-        self.ours.block(&controls, &mut self.line[..self.lent], &self.draws, tally, samples, marks)
-    }
+    block!(self, _wanted, [voct, trigger, damping, brightness, stretch], &mut self.line[..self.lent], &self.draws);
 
     /// Whether the line was zeroed is seen by the write position, which is 0 then. Where it would be 0 all the same, a
     /// twin tells, which is turned by a cell and reads the same values.

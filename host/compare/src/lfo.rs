@@ -1,11 +1,10 @@
 //! The low-frequency oscillator on both sides.
 use crate::draw::{under, Control, Draw, GATE, UNIT};
 use crate::marked::Marked;
-use crate::pair::{both, refusal};
+use crate::pair::{block, both, refusal};
 use crate::script::{Counts, Pair};
 use gruttisol::answer::{Mark, Refused};
 use gruttisol::lfo as ours;
-use gruttisol::tally::Tally;
 use quiver::modules::oscillators as rust;
 use quiver::modules::oscillators::probe::Probe;
 use quiver::port::GraphModule;
@@ -47,18 +46,7 @@ impl Pair for Lfo {
         Ok(ticked.mark)
     }
 
-    fn ours_block(
-        &mut self,
-        controls: &[f64],
-        wanted: u32,
-        tally: &mut Tally,
-        samples: &mut [f64],
-        marks: &mut [u32],
-    ) -> Result<(), Refused> {
-        let [rate, depth, reset] = *controls else { unreachable!() };
-        let controls = ours::Controls { rate, depth, reset };
-        self.ours.block(&controls, wanted, tally, samples, marks)
-    }
+    block!(self, wanted, [rate, depth, reset], wanted);
 
     fn theirs_tick(&mut self, controls: &[f64], wanted: u32, samples: &mut [f64]) -> Mark {
         self.theirs.marked_tick(controls, wanted, samples)

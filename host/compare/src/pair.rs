@@ -44,6 +44,25 @@ macro_rules! both {
 
 pub(crate) use both;
 
+/// Ours by blocks: the controls' names in port order, and what a block of this oscillator takes between its controls and the tally.
+macro_rules! block {
+    ($pair:ident, $wanted:ident, [$($control:ident),*] $(, $lent:expr)*) => {
+        fn ours_block(
+            &mut $pair,
+            controls: &[f64],
+            $wanted: u32,
+            tally: &mut gruttisol::tally::Tally,
+            samples: &mut [f64],
+            marks: &mut [u32],
+        ) -> Result<(), Refused> {
+            let [$($control),*] = *controls else { unreachable!() };
+            $pair.ours.block(&ours::Controls { $($control),* } $(, $lent)*, tally, samples, marks)
+        }
+    };
+}
+
+pub(crate) use block;
+
 /// The number that a state is refused by, of its rate and phases.
 pub fn refusal(rate: f64, phases: &[f64]) -> u32 {
     if bad_rate(rate) {

@@ -1,11 +1,10 @@
 //! The supersaw on both sides.
 use crate::draw::{under, Control, Draw, PITCH, UNIT};
 use crate::marked::Marked;
-use crate::pair::{both, refusal};
+use crate::pair::{block, both, refusal};
 use crate::script::{Counts, Pair};
 use gruttisol::answer::{Mark, Refused};
 use gruttisol::supersaw as ours;
-use gruttisol::tally::Tally;
 use quiver::modules::oscillators as rust;
 use quiver::modules::oscillators::probe::Probe;
 use quiver::port::GraphModule;
@@ -48,18 +47,7 @@ impl Pair for Supersaw {
         Ok(ticked.mark)
     }
 
-    fn ours_block(
-        &mut self,
-        controls: &[f64],
-        _wanted: u32,
-        tally: &mut Tally,
-        samples: &mut [f64],
-        marks: &mut [u32],
-    ) -> Result<(), Refused> {
-        let [voct, detune, mix] = *controls else { unreachable!() };
-        let controls = ours::Controls { voct, detune, mix };
-        self.ours.block(&controls, tally, samples, marks)
-    }
+    block!(self, _wanted, [voct, detune, mix]);
 
     fn theirs_tick(&mut self, controls: &[f64], wanted: u32, samples: &mut [f64]) -> Mark {
         self.theirs.marked_tick(controls, wanted, samples)

@@ -1,10 +1,9 @@
 //! The voltage-controlled oscillator on both sides.
 use crate::draw::{under, Control, Draw, GATE, OCTAVES, PITCH, UNIT, VOLTS};
 use crate::marked::Marked;
-use crate::pair::{both, refusal};
+use crate::pair::{block, both, refusal};
 use crate::script::{Counts, Pair};
 use gruttisol::answer::{Mark, Refused};
-use gruttisol::tally::Tally;
 use gruttisol::vco as ours;
 use quiver::modules::oscillators as rust;
 use quiver::modules::oscillators::probe::Probe;
@@ -46,18 +45,7 @@ impl Pair for Vco {
         Ok(ticked.mark)
     }
 
-    fn ours_block(
-        &mut self,
-        controls: &[f64],
-        wanted: u32,
-        tally: &mut Tally,
-        samples: &mut [f64],
-        marks: &mut [u32],
-    ) -> Result<(), Refused> {
-        let [voct, fm, pw, sync, fm_lin] = *controls else { unreachable!() };
-        let controls = ours::Controls { voct, fm, pw, sync, fm_lin };
-        self.ours.block(&controls, wanted, tally, samples, marks)
-    }
+    block!(self, wanted, [voct, fm, pw, sync, fm_lin], wanted);
 
     fn theirs_tick(&mut self, controls: &[f64], wanted: u32, samples: &mut [f64]) -> Mark {
         self.theirs.marked_tick(controls, wanted, samples)

@@ -1,9 +1,8 @@
 //! The wavetable oscillator on both sides, over one bank.
 use crate::draw::{under, Control, Draw, GATE, PITCH, UNIT};
-use crate::pair::{both, refusal, used};
+use crate::pair::{block, both, refusal, used};
 use crate::script::{mark, unchanged, Counts, Pair};
 use gruttisol::answer::{Mark, Refused};
-use gruttisol::tally::Tally;
 use gruttisol::wavetable as ours;
 use quiver::modules::oscillators as rust;
 use quiver::modules::oscillators::probe::{Bank, Probe};
@@ -83,18 +82,7 @@ impl Pair for Wavetable {
         Ok(mark)
     }
 
-    fn ours_block(
-        &mut self,
-        controls: &[f64],
-        _wanted: u32,
-        tally: &mut Tally,
-        samples: &mut [f64],
-        marks: &mut [u32],
-    ) -> Result<(), Refused> {
-        let [v_oct, table, morph, sync] = *controls else { unreachable!() };
-        let controls = ours::Controls { v_oct, table, morph, sync };
-        self.ours.block(&controls, self.bank, tally, samples, marks)
-    }
+    block!(self, _wanted, [v_oct, table, morph, sync], self.bank);
 
     fn theirs_tick(&mut self, controls: &[f64], wanted: u32, samples: &mut [f64]) -> Mark {
         let ([phase, _, previous, _], _) = self.theirs.flat();
