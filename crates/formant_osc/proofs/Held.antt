@@ -30,7 +30,7 @@ use Rattle.formant_osc.proofs.Coherent.{coefs-again}
 use Rattle.formant_osc.proofs.Still.{still-pitch}
 use Rattle.formant_osc.specs.Consts.{vibratoRate}
 use Rattle.formant_osc.specs.FormantOsc.{formantRefusalOf, freqMemoOf, coefMemoOf, formantRung, formantSoundOf, formantTickOf, formantAnswerOf, formantNextOf}
-use Rattle.formant_osc.specs.Held.{driveMemo, phaseSum, vibratoSum, driveNext, pulseAt, keptOf, keptMark, keptAt, voicedOf, cellsAt, voicedAt}
+use Rattle.formant_osc.specs.Held.{driveMemo, phaseSum, vibratoSum, driveNext, pulseAt, keptOf, keptMark, keptAt, strideAt, swayAt, swayed, phaseAt, pulseMarkAt, voicedOf, cellsAt, voicedAt}
 use Rattle.formant_osc.specs.Sound.{glottalPulse, pitchOf, rungOf}
 use Rattle.formant_osc.specs.declared.CoefMemo.{CoefMemo}
 use Rattle.formant_osc.specs.declared.Driver.{Driver}
@@ -46,12 +46,15 @@ use Rattle.numeric.specs.Basic.{clampOf}
 abbrev pub driver : Turns → Turns → Memo1 → Driver
 driver p q m = record { phase = p; «vibrato_phase» = q; «freq_memo» = m }
 
--- ---- the two loops
+-- ---- the three loops
 -- the list after the last turn
 pub over-done : {A : Type 0} (f : ℕ → A) (i n : ℕ) (l m : List A) → i ≡ n → length l ≡ n → m ≡ over f i l → m ≡ tab f n
 over-done f i n l m h k e = e ∙ ap (λ (j : ℕ). over f j l) h ∙ over-all f n l k
 
--- ---- a turn of the first loop
+pub tabs-alike : {A B : Type 0} (f : ℕ → A) (g : ℕ → B) (n : ℕ) (xs : List A) (ms : List B) → xs ≡ tab f n → ms ≡ tab g n → length xs ≡ length ms
+tabs-alike f g n xs ms e q = ap length e ∙ length-tab f n ∙ sym (ap length q ∙ length-tab g n)
+
+-- ---- a turn of the first
 -- a memo that holds a pitch that stands still is left as it is
 pub still-tuned : (v : VoltsPerOctave) (depth : Float) (p q : Turns) (m n : Memo1) (still : Bool) → F64 (v .0)
     → still ≡ (eq depth zer && not (eq (v .0) zer)) → phaseOk p ≡ true → phaseOk q ≡ true
@@ -75,27 +78,39 @@ pub still-step : (v : VoltsPerOctave) (depth : Float) (rate : Hertz) (q step : T
 still-step v depth rate q step m n k still r e w z t =
     z ∙ ap (λ (l : Memo1). turns (div binary64 (l .val .0) (rate .0))) (sym (still-memo v depth q m n k still r e w t))
 
-pub drove : (v : VoltsPerOctave) (depth : Float) (rate : Hertz) (d : Driver) (i : ℕ) (p q p' q' step vibrato : Turns) (m m' : Memo1)
-    → m' ≡ recall1 voctToHzAt m (pitchOf v depth (q .0) .0) → step ≡ turns (div binary64 (m' .val .0) (rate .0))
-    → p' ≡ turns (wrapOf (add binary64 (p .0) (step .0))) → vibrato ≡ turns (div binary64 vibratoRate (rate .0))
-    → q' ≡ turns (wrapOf (add binary64 (q .0) (vibrato .0))) → driver p q m ≡ afterTicks (driveNext v depth rate) i d
-    → driver p' q' m' ≡ afterTicks (driveNext v depth rate) (i + 1) d
-unfolding afterTicks driveNext phaseSum vibratoSum driveMemo
-drove v depth rate d i p q p' q' step vibrato m m' a b x y z w = rw (add-one, ← w) (simp (x, z, y, b, a))
+pub swung : (v : VoltsPerOctave) (depth : Float) (rate : Hertz) (d : Driver) (i : ℕ) (q q' vibrato : Turns) (m m' : Memo1)
+    → m' ≡ recall1 voctToHzAt m (pitchOf v depth (q .0) .0) → vibrato ≡ turns (div binary64 vibratoRate (rate .0)) → q' ≡ turns (wrapOf (add binary64 (q .0) (vibrato .0)))
+    → q ≡ afterTicks (driveNext v depth rate) i d .«vibrato_phase» → m ≡ afterTicks (driveNext v depth rate) i d .«freq_memo»
+    → (q' ≡ afterTicks (driveNext v depth rate) (i + 1) d .«vibrato_phase») × (m' ≡ afterTicks (driveNext v depth rate) (i + 1) d .«freq_memo»)
+unfolding afterTicks driveNext vibratoSum driveMemo
+swung v depth rate d i q q' vibrato m m' a y z w k = (rw add-one (simp (z, y, w)), rw add-one (simp (a, k, w)))
 
-pub pulsed : (v : VoltsPerOctave) (depth : Float) (rate : Hertz) (d : Driver) (i : ℕ) (p q : Turns) (m : Memo1) (x : Float)
-    → x ≡ glottalPulse (p .0) → driver p q m ≡ afterTicks (driveNext v depth rate) i d → x ≡ pulseAt v depth rate d i
-unfolding pulseAt
-pulsed v depth rate d i p q m x e w = e ∙ ap (λ (z : Driver). glottalPulse (z .phase .0)) w
-
-pub kept : (v : VoltsPerOctave) (depth : Float) (rate : Hertz) (d : Driver) (i : ℕ) (p q step vibrato : Turns) (m m' : Memo1) (a b both : Bool) (n : ℕ)
+pub stridden : (v : VoltsPerOctave) (depth : Float) (rate : Hertz) (d : Driver) (i : ℕ) (q step : Turns) (m m' : Memo1)
     → m' ≡ recall1 voctToHzAt m (pitchOf v depth (q .0) .0) → step ≡ turns (div binary64 (m' .val .0) (rate .0))
-    → vibrato ≡ turns (div binary64 vibratoRate (rate .0)) → a ≡ isFin (add binary64 (p .0) (step .0)) → b ≡ isFin (add binary64 (q .0) (vibrato .0))
-    → both ≡ (a && b) → n ≡ keptMark both → driver p q m ≡ afterTicks (driveNext v depth rate) i d → n ≡ keptAt v depth rate d i
-unfolding keptAt keptOf phaseSum vibratoSum driveMemo
-kept v depth rate d i p q step vibrato m m' a b both n em es ev ea eb e k w = rw (← w) (simp (k, e, ea, eb, ev, es, em))
+    → q ≡ afterTicks (driveNext v depth rate) i d .«vibrato_phase» → m ≡ afterTicks (driveNext v depth rate) i d .«freq_memo»
+    → step .0 ≡ strideAt v depth rate d i
+unfolding strideAt driveMemo
+stridden v depth rate d i q step m m' a b w k = simp (b, a, w, k)
+
+pub swayed-mark : (v : VoltsPerOctave) (depth : Float) (rate : Hertz) (d : Driver) (i : ℕ) (q vibrato : Turns) (b : Bool) (n : ℕ)
+    → vibrato ≡ turns (div binary64 vibratoRate (rate .0)) → b ≡ isFin (add binary64 (q .0) (vibrato .0)) → n ≡ keptMark b
+    → q ≡ afterTicks (driveNext v depth rate) i d .«vibrato_phase» → n ≡ swayAt v depth rate d i
+unfolding swayAt vibratoSum
+swayed-mark v depth rate d i q vibrato b n ev eb k w = simp (k, eb, ev, w)
 
 -- ---- a turn of the second
+pub pulse-turn : (xs ys : List Float) (ms ns : List ℕ) (f : ℕ → Float) (g : ℕ → ℕ) (i : ℕ) (start p p' : Turns) (a both : Bool) (n : ℕ)
+    → i < length xs → i < length ms → ys ≡ over f i xs → ns ≡ over g i ms → p ≡ phaseAt xs start i
+    → p' ≡ turns (wrapOf (add binary64 (p .0) (getD ys i nan))) → a ≡ isFin (add binary64 (p .0) (getD ys i nan))
+    → both ≡ (a && eqb (getD ns i 0) 4) → n ≡ keptMark both
+    → (p' ≡ phaseAt xs start (i + 1)) × (n ≡ pulseMarkAt xs ms start i)
+unfolding phaseAt pulseMarkAt
+pulse-turn xs ys ms ns f g i start p p' a both n h k e q z r w b t =
+    let x : getD ys i nan ≡ getD xs i nan = ap (λ (l : List Float). getD l i nan) e ∙ over-at nan f i xs h in
+    let m : getD ns i 0 ≡ getD ms i 0 = ap (λ (l : List ℕ). getD l i 0) q ∙ over-at 0 g i ms k in
+    (rw add-one (simp (r, z, x)), simp (t, b, w, z, x, m))
+
+-- ---- a turn of the third
 pub voiced-turn : (c s xs ys : List Float) (ms ns : List ℕ) (f : ℕ → Float) (g : ℕ → ℕ) (i : ℕ) (cells : List Float) (rung : Rung) (a : Answer)
     → i < length xs → i < length ms → ys ≡ over f i xs → ns ≡ over g i ms → cells ≡ cellsAt c xs s i
     → rung ≡ rungOf c cells (getD ys i nan) → a ≡ voicedOf (rung .sum) (eqb (getD ns i 0) 4)
@@ -106,7 +121,40 @@ voiced-turn c s xs ys ms ns f g i cells rung a h k e q z r w =
     let m : getD ns i 0 ≡ getD ms i 0 = ap (λ (l : List ℕ). getD l i 0) q ∙ over-at 0 g i ms k in
     (simp (w, r, z, x, m), rw add-one (simp (r, z, x)))
 
--- ---- both halves
+-- ---- the first and the second together
+kept-told : (b : Bool) → eqb (keptMark b) 4 ≡ b
+unfolding keptMark
+kept-told true = refl
+kept-told false = refl
+
+module _ (v : VoltsPerOctave) (depth : Float) (rate : Hertz) (d : Driver) (n : ℕ) (xs : List Float) (ms : List ℕ) (ex : xs ≡ tab (strideAt v depth rate d) n) (em : ms ≡ tab (swayAt v depth rate d) n) where
+  stride-at : (i : ℕ) → i < n → getD xs i nan ≡ strideAt v depth rate d i
+  stride-at i h = ap (λ (l : List Float). getD l i nan) ex ∙ getD-tab nan (strideAt v depth rate d) n i h
+
+  sway-at : (i : ℕ) → i < n → eqb (getD ms i 0) 4 ≡ isFin (vibratoSum rate (afterTicks (driveNext v depth rate) i d))
+  unfolding swayAt
+  sway-at i h = ap (λ (l : List ℕ). eqb (getD l i 0) 4) em ∙ ap (λ (k : ℕ). eqb k 4) (getD-tab 0 (swayAt v depth rate d) n i h) ∙ kept-told (isFin (vibratoSum rate (afterTicks (driveNext v depth rate) i d)))
+
+  phase-at : (i : ℕ) → i ≤ n → phaseAt xs (d .phase) i ≡ afterTicks (driveNext v depth rate) i d .phase
+  unfolding phaseAt afterTicks driveNext phaseSum strideAt
+  phase-at zero h = refl
+  phase-at (suc i) h = let p = phase-at i (omega arith) in let q = stride-at i (omega arith) in (λ k. turns (wrapOf (add binary64 (p k .0) (q k))))
+
+  pub driven : (s : Driver) (p : Turns) (ys : List Float) (ns : List ℕ) → s ≡ swayed v depth rate n d → p ≡ phaseAt xs (d .phase) (length ms)
+      → ys ≡ tab (λ i. glottalPulse (phaseAt xs (d .phase) i .0)) (length ms) → ns ≡ tab (pulseMarkAt xs ms (d .phase)) (length ms)
+      → (driver p (s .«vibrato_phase») (s .«freq_memo») ≡ afterTicks (driveNext v depth rate) n d) × ((ys ≡ tab (pulseAt v depth rate d) n) × (ns ≡ tab (keptAt v depth rate d) n))
+  unfolding swayed pulseAt keptAt keptOf pulseMarkAt phaseSum strideAt
+  driven s p ys ns es ep ey en =
+      let w : length ms ≡ n = ap length em ∙ length-tab (swayAt v depth rate d) n in
+      let a : p ≡ afterTicks (driveNext v depth rate) n d .phase = ep ∙ ap (phaseAt xs (d .phase)) w ∙ phase-at n (omega arith) in (
+        (λ k. driver (a k) (es k .«vibrato_phase») (es k .«freq_memo»)),
+        (
+          ey ∙ ap (tab (λ i. glottalPulse (phaseAt xs (d .phase) i .0))) w ∙ tab-ext _ _ n (λ i h. ap (λ (q : Turns). glottalPulse (q .0)) (phase-at i (omega arith))),
+          en ∙ ap (tab (pulseMarkAt xs ms (d .phase))) w ∙ tab-ext _ _ n (λ i h. let p = phase-at i (omega arith) in let q = stride-at i h in let b = sway-at i h in (λ k. keptMark (isFin (add binary64 (p k .0) (q k)) && b k))),
+        ),
+      )
+
+-- ---- these and the third
 -- what moves in a block
 pub record Moving : Type 0 where
   pub driver : Driver
@@ -123,11 +171,6 @@ heldNext v depth rate c h = moving (driveNext v depth rate (h .driver)) (rungAt 
 
 abbrev heldAnswer : VoltsPerOctave → Float → Hertz → List Float → Moving → Answer
 heldAnswer v depth rate c h = voicedOf (rungAt c h .sum) (keptOf v depth rate (h .driver))
-
-kept-told : (b : Bool) → eqb (keptMark b) 4 ≡ b
-unfolding keptMark
-kept-told true = refl
-kept-told false = refl
 
 module _ (v : VoltsPerOctave) (depth : Float) (rate : Hertz) (c : List Float) (d : Driver) (s : List Float) (n : ℕ) (xs : List Float) (ms : List ℕ) (ex : xs ≡ tab (pulseAt v depth rate d) n) (em : ms ≡ tab (keptAt v depth rate d) n) where
   driverAt : ℕ → Driver
@@ -242,7 +285,7 @@ module _ (s : FormantOsc) (c : FormantControls) (e : formantRefusalOf s ≡ 0) w
         moves = λ h g. ap (λ (t : FormantTicked). t .formant) (held-tick h g);
       }
 
-  -- what the two halves leave is what the ticks leave
+  -- what the three loops leave is what the ticks leave
   module _ (n : ℕ) (z : 0 < n) (xs : List Float) (ms : List ℕ) (ex : xs ≡ tab (pulseAt (c .«v_oct») (depthOf c) (s .«sample_rate») (startOf s c)) n) (em : ms ≡ tab (keptAt (c .«v_oct») (depthOf c) (s .«sample_rate») (startOf s c)) n) where
     voicedIn : ℕ → Answer
     voicedIn = voicedAt (coefMemoOf s c .val) (s .«resonator_state») xs ms

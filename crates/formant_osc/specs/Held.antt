@@ -1,5 +1,5 @@
--- The two halves of a block: what drives the resonators, tick by tick, and what they make of it. proofs/Held.antt shows that the ticks of
--- a block are made of these.
+-- What a block does tick by tick: what the phase grows by, the pulse that drives the resonators, and what they make of it.
+-- proofs/Held.antt shows that the ticks of a block are made of these.
 use mathlib.Core.Bool.{Bool, false, cond, _&&_}
 use mathlib.Core.List.{List}
 use Prim.Native.Nat.{ℕ, zero, suc}
@@ -14,6 +14,7 @@ use Rattle.common.specs.Memo.{recall1, voctToHzAt}
 use Rattle.common.specs.Phase.{turns, wrapOf}
 use Rattle.common.specs.declared.Hertz.{Hertz}
 use Rattle.common.specs.declared.Memo1.{Memo1}
+use Rattle.common.specs.declared.Turns.{Turns}
 use Rattle.common.specs.declared.VoltsPerOctave.{VoltsPerOctave}
 use Rattle.formant_osc.specs.Consts.{vibratoRate}
 use Rattle.formant_osc.specs.Sound.{glottalPulse, pitchOf, rungOf, onlyOf}
@@ -47,6 +48,27 @@ keptMark phases = cond phases 4 3
 
 unfoldable pub keptAt : VoltsPerOctave → Float → Hertz → Driver → ℕ → ℕ
 keptAt v depth rate d i = keptMark (keptOf v depth rate (afterTicks (driveNext v depth rate) i d))
+
+-- ---- the same in two goes
+-- first what the phase grows by in tick i, and 4 or 3 by the vibrato's phase alone
+unfoldable pub strideAt : VoltsPerOctave → Float → Hertz → Driver → ℕ → Float
+strideAt v depth rate d i = div binary64 (driveMemo v depth (afterTicks (driveNext v depth rate) i d) .val .0) (rate .0)
+
+unfoldable pub swayAt : VoltsPerOctave → Float → Hertz → Driver → ℕ → ℕ
+swayAt v depth rate d i = keptMark (isFin (vibratoSum rate (afterTicks (driveNext v depth rate) i d)))
+
+-- what it leaves after n ticks: the phase waits
+unfoldable pub swayed : VoltsPerOctave → Float → Hertz → ℕ → Driver → Driver
+swayed v depth rate n d =
+    record { phase = d .phase; «vibrato_phase» = afterTicks (driveNext v depth rate) n d .«vibrato_phase»; «freq_memo» = afterTicks (driveNext v depth rate) n d .«freq_memo» }
+
+-- then the phase before tick i, over those increments xs, and 4 or 3 by both phases, over those marks ms
+unfoldable pub phaseAt : List Float → Turns → ℕ → Turns
+phaseAt xs p zero = p
+phaseAt xs p (suc i) = turns (wrapOf (add binary64 (phaseAt xs p i .0) (getD xs i nan)))
+
+unfoldable pub pulseMarkAt : List Float → List ℕ → Turns → ℕ → ℕ
+pulseMarkAt xs ms p i = keptMark (isFin (add binary64 (phaseAt xs p i .0) (getD xs i nan)) && eqb (getD ms i 0) 4)
 
 -- ---- the resonators, over the pulses xs and those marks ms
 -- what a tick answers to their sum

@@ -23,7 +23,7 @@ ghost use Rattle.formant_osc.specs.Coefs.{spotOf, formantOf, getFormants
 ghost use Rattle.formant_osc.specs.Memo.{newCoefMemo, coefHits, coefFilled, coefRecall};
 ghost use Rattle.formant_osc.specs.Sound.{glottalPulse, pitchOf, resonateOf, rungOf, onlyOf};
 ghost use Rattle.formant_osc.specs.FormantOsc.{formantAtRest, formantRefusalOf, formantNewOf, coefMemoOf, formantSoundOf, formantTickOf, formantAnswerOf, formantNextOf, formantBlockOf, formantResetOf, formantSetSampleRateOf};
-ghost use Rattle.formant_osc.specs.Held.{driveNext, pulseAt, keptMark, keptAt, voicedOf, voicedAt, cellsAt};
+ghost use Rattle.formant_osc.specs.Held.{driveNext, pulseAt, keptMark, keptAt, strideAt, swayAt, swayed, phaseAt, pulseMarkAt, voicedOf, voicedAt, cellsAt};
 
 // The Rust's Memo<3, [[f64; 3]; 5]>: b0/norm, a1/norm and a2/norm of each of the five resonators, one after another.
 pub struct CoefMemo {
@@ -415,9 +415,65 @@ fn voiced(sum: f64, phases: bool) -> Answer
     answer::mark(volts, false, numeric::is_finite(sum), phases)
 }
 
-// The first half of a block, tick by tick: the pulse that goes into the resonators in the place of the sample that
-// comes out, and in the mark's place what the phases make of it. The pulses wait for nothing but the phase, so a processor
-// works at several ticks at once; with the resonators in the same loop it couldn't.
+// A block goes over its ticks three times, each time with little to wait for, so that a processor works at several ticks at
+// once; with all in one loop it couldn't. The first time: what the phase grows by, in the place of the sample, and in the
+// mark's place what the vibrato's phase makes of it.
+fn sway(
+    start: Driver,
+    v_oct: VoltsPerOctave,
+    depth: f64,
+    sample_rate: Hertz,
+    samples: &mut [f64],
+    marks: &mut [u32],
+) -> Driver
+    requires { ⌜ (phaseOk (start .«vibrato_phase») ≡ true) × (recall1 voctToHzAt (start .«freq_memo») (pitchOf «v_oct» depth (start .«vibrato_phase» .0) .0) ≡ start .«freq_memo») × (length (now samples) ≡ length (now marks)) ⌝ }
+    ensures { λ r. ⌜ r ≡ swayed «v_oct» depth «sample_rate» (length (now (marks .entry))) start ⌝ }
+    ensures { λ r. ⌜ now (samples .exit) ≡ tab (strideAt «v_oct» depth «sample_rate» start) (length (now (marks .entry))) ⌝ }
+    ensures { λ r. ⌜ now (marks .exit) ≡ tab (swayAt «v_oct» depth «sample_rate» start) (length (now (marks .entry))) ⌝ }
+{
+    let memo = start.freq_memo;
+    let still = both(depth == 0.0, v_oct.0 != 0.0);
+    let step = increment(memo.val, sample_rate);
+    let vibrato_step = increment(Hertz(5.5), sample_rate);
+    let mut vibrato_phase = start.vibrato_phase;
+    let mut freq_memo = memo;
+    let mut i = 0;
+    while i < marks.len() {
+        let next = Turns(vibrato_phase.0 + vibrato_step.0);
+        freq_memo = tuned(still, freq_memo, v_oct, depth, vibrato_phase);
+        samples[i] = stride(still, step, freq_memo.val, sample_rate).0;
+        marks[i] = kept_mark(numeric::is_finite(next.0));
+        vibrato_phase = common::wrap_phase(next);
+        i += 1;
+    }
+    let phase = start.phase;
+    Driver {
+        phase,
+        vibrato_phase,
+        freq_memo,
+    }
+}
+
+// The second time: the pulse that goes into the resonators, and in the mark's place what both phases make of it.
+fn pulse(start: Turns, samples: &mut [f64], marks: &mut [u32]) -> Turns
+    requires { ⌜ length (now samples) ≡ length (now marks) ⌝ }
+    ensures { λ r. ⌜ r ≡ phaseAt (now (samples .entry)) start (length (now (marks .entry))) ⌝ }
+    ensures { λ r. ⌜ now (samples .exit) ≡ tab (λ i. glottalPulse (phaseAt (now (samples .entry)) start i .0)) (length (now (marks .entry))) ⌝ }
+    ensures { λ r. ⌜ now (marks .exit) ≡ tab (pulseMarkAt (now (samples .entry)) (now (marks .entry)) start) (length (now (marks .entry))) ⌝ }
+{
+    let mut phase = start;
+    let mut i = 0;
+    while i < marks.len() {
+        let next = Turns(phase.0 + samples[i]);
+        samples[i] = glottal_pulse(phase);
+        marks[i] = kept_mark(both(numeric::is_finite(next.0), marks[i] == 4));
+        phase = common::wrap_phase(next);
+        i += 1;
+    }
+    phase
+}
+
+// Both.
 fn drive(
     start: Driver,
     v_oct: VoltsPerOctave,
@@ -431,35 +487,17 @@ fn drive(
     ensures { λ r. ⌜ now (samples .exit) ≡ tab (pulseAt «v_oct» depth «sample_rate» start) (length (now (marks .entry))) ⌝ }
     ensures { λ r. ⌜ now (marks .exit) ≡ tab (keptAt «v_oct» depth «sample_rate» start) (length (now (marks .entry))) ⌝ }
 {
-    let memo = start.freq_memo;
-    let still = both(depth == 0.0, v_oct.0 != 0.0);
-    let step = increment(memo.val, sample_rate);
-    let vibrato_step = increment(Hertz(5.5), sample_rate);
-    let mut phase = start.phase;
-    let mut vibrato_phase = start.vibrato_phase;
-    let mut freq_memo = memo;
-    let mut i = 0;
-    while i < marks.len() {
-        let vibrato_next = Turns(vibrato_phase.0 + vibrato_step.0);
-        freq_memo = tuned(still, freq_memo, v_oct, depth, vibrato_phase);
-        let next = Turns(phase.0 + stride(still, step, freq_memo.val, sample_rate).0);
-        samples[i] = glottal_pulse(phase);
-        marks[i] = kept_mark(both(
-            numeric::is_finite(next.0),
-            numeric::is_finite(vibrato_next.0),
-        ));
-        vibrato_phase = common::wrap_phase(vibrato_next);
-        phase = common::wrap_phase(next);
-        i += 1;
-    }
+    let swayed = sway(start, v_oct, depth, sample_rate, &mut *samples, &mut *marks);
+    let vibrato_phase = swayed.vibrato_phase;
+    let freq_memo = swayed.freq_memo;
     Driver {
-        phase,
+        phase: pulse(start.phase, samples, marks),
         vibrato_phase,
         freq_memo,
     }
 }
 
-// The second half: each pulse becomes the sample that the resonators make of it.
+// The third time: each pulse becomes the sample that the resonators make of it.
 fn voice(c: [f64; 15], start: [f64; 10], samples: &mut [f64], marks: &mut [u32]) -> [f64; 10]
     requires { ⌜ length (now samples) ≡ length (now marks) ⌝ }
     ensures { λ r. ⌜ r ≡ cellsAt c (now (samples .entry)) start (length (now (marks .entry))) ⌝ }

@@ -1,144 +1,27 @@
-use mathlib.Core.Bool.{true}
-use mathlib.Core.Path.{_≡_, refl, ap, _∙_}
-use Prim.Native.Nat.{_-_, _≤_}
-use native.Mathlib.Nat.{le-antisymm}
-use native.Mathlib.Omega.{arith}
-use lib.Ieee.{binary64, fits, eq, ne}
-use lib.Ieee.Fits.{add-fits}
-use lib.ListN.{length, length-set}
-use Rattle.answer.specs.Block.{afterTicks}
-use Rattle.common.specs.Tests.{phaseOk}
-use Rattle.common.proofs.PhaseLaws.{wrap-in}
-use Rattle.laws.specs.Lists.{over}
-use Rattle.laws.proofs.Over.{over-none, over-more}
-use Rattle.laws.proofs.Tests.{of-true}
-use Rattle.formant_osc.specs.Held.{driveNext, pulseAt, keptAt}
-use Rattle.formant_osc.proofs.Held.{driver, still-tuned, still-memo, still-step, drove, pulsed, kept, over-done}
+use lib.ListN.{length}
+use borrow.Author.Needs.{needs}
+use Rattle.formant_osc.proofs.Held.{tabs-alike, driven}
 use Rattle.formant_osc.proofs.drive.Statement.{statement}
 use Rattle.formant_osc.proofs.drive.Tie as tie
 
-abbrev Inv-loop : tie.InvT-loop
-Inv-loop v-oct depth sample-rate samples₀ marks₀ still step vibrato-step phase₀ vibrato-phase₀ freq-memo₀ i₀ samples marks phase vibrato-phase freq-memo i =
-    (i ≤ length marks₀) × (length samples ≡ length samples₀) × (length marks ≡ length marks₀) × (samples ≡ over (pulseAt v-oct depth sample-rate (driver phase₀ vibrato-phase₀ freq-memo₀)) i samples₀) × (marks ≡ over (keptAt v-oct depth sample-rate (driver phase₀ vibrato-phase₀ freq-memo₀)) i marks₀) × (driver phase vibrato-phase freq-memo ≡ afterTicks (driveNext v-oct depth sample-rate) i (driver phase₀ vibrato-phase₀ freq-memo₀)) × (phaseOk vibrato-phase ≡ true) × (still ≡ true → freq-memo ≡ freq-memo₀)
+sway-requires : tie.Need-sway-requires
+sway-requires c κs = search needs
 
-abbrev μ-loop : tie.MeasureT-loop
-μ-loop v-oct depth sample-rate samples₀ marks₀ still step vibrato-step phase₀ vibrato-phase₀ freq-memo₀ i₀ samples marks phase vibrato-phase freq-memo i = length marks₀ - i
+pulse-requires : tie.Need-pulse-requires
+pulse-requires c κs = let g = c .before .before .before .before .before .before .before .before .sway .ensures in tabs-alike _ _ _ _ _ (g .1 .0) (g .1 .1)
 
-both-requires : tie.Need-both-requires Inv-loop μ-loop
-both-requires c κs = tt
+same-length : tie.Need-same-length
+same-length c = search needs
 
-increment-requires : tie.Need-increment-requires Inv-loop μ-loop
-increment-requires c κs = tt
+same-length-2 : tie.Need-same-length-2
+same-length-2 c = search needs
 
-increment-requires-2 : tie.Need-increment-requires-2 Inv-loop μ-loop
-increment-requires-2 c κs = tt
-
-loop-holds : tie.Need-loop-holds Inv-loop μ-loop
-unfolding afterTicks
-loop-holds c = (omega arith, refl, refl, over-none _ _, over-none _ _, refl, c .before .before .before .before .before .before .before .before .before .pre .0, λ t. refl)
-
-tuned-requires : tie.Need-tuned-requires Inv-loop μ-loop
-unfolding eq ne
-tuned-requires c κs =
-    let s = c .before .before .before .loop .inv in
-    let f = of-true (fits binary64 (c .before .before .before .before .before .before .before .before .before .before .before .before .before .args .v-oct .0)) (c .before .before .before .before .before .before .before .before .before .before .before .before .before .good .1 .0 .1 .1 .0 .1) in
-    still-tuned _ _ _ _ _ _ _ f (c .before .before .before .before .before .before .before .before .both .ensures) (c .before .before .before .before .before .before .before .before .before .before .before .before .before .pre .0) (s .6) (c .before .before .before .before .before .before .before .before .before .before .before .before .before .pre .1) (s .7)
-
-stride-requires : tie.Need-stride-requires Inv-loop μ-loop
-unfolding eq ne
-stride-requires c κs =
-    let s = c .before .before .before .before .loop .inv in
-    let f = of-true (fits binary64 (c .before .before .before .before .before .before .before .before .before .before .before .before .before .before .args .v-oct .0)) (c .before .before .before .before .before .before .before .before .before .before .before .before .before .before .good .1 .0 .1 .1 .0 .1) in
-    still-step _ _ _ _ _ _ _ _ _ (still-tuned _ _ _ _ _ _ _ f (c .before .before .before .before .before .before .before .before .before .both .ensures) (c .before .before .before .before .before .before .before .before .before .before .before .before .before .before .pre .0) (s .6) (c .before .before .before .before .before .before .before .before .before .before .before .before .before .before .pre .1) (s .7)) (c .tuned .ensures) (s .7) (c .before .before .before .before .before .before .before .before .increment .ensures)
-
-glottal-pulse-requires : tie.Need-glottal-pulse-requires Inv-loop μ-loop
-glottal-pulse-requires c κs = tt
-
-mul-samples : tie.Need-mul-samples Inv-loop μ-loop
-mul-samples c = let g = c .before .before .before .before .before .before .before .before .before .before .before .before .before .before .before .before .before .before .good in omega arith
-
-slice-write-samples : tie.Need-slice-write-samples Inv-loop μ-loop
-slice-write-samples c = omega arith
-
-is-finite-requires : tie.Need-is-finite-requires Inv-loop μ-loop
-is-finite-requires c κs = tt
-
-is-finite-requires-2 : tie.Need-is-finite-requires-2 Inv-loop μ-loop
-is-finite-requires-2 c κs = tt
-
-both-requires-2 : tie.Need-both-requires-2 Inv-loop μ-loop
-both-requires-2 c κs = tt
-
-kept-mark-requires : tie.Need-kept-mark-requires Inv-loop μ-loop
-kept-mark-requires c κs = tt
-
-mul-marks : tie.Need-mul-marks Inv-loop μ-loop
-mul-marks c = let g = c .before .before .before .before .before .before .before .before .before .before .before .before .before .before .before .before .before .before .before .before .before .before .good in let t = c .before .before .before .before .before .before .before .before .before .before .before .loop-test .taken in let s = c .before .before .before .before .before .before .before .before .before .before .before .before .loop .inv in omega arith
-
-slice-write-marks : tie.Need-slice-write-marks Inv-loop μ-loop
-slice-write-marks c = omega arith
-
-wrap-phase-requires : tie.Need-wrap-phase-requires Inv-loop μ-loop
-wrap-phase-requires c κs = tt
-
-wrap-phase-requires-2 : tie.Need-wrap-phase-requires-2 Inv-loop μ-loop
-wrap-phase-requires-2 c κs = tt
-
-add-i : tie.Need-add-i Inv-loop μ-loop
-add-i c = let g = c .before .before .before .before .before .before .before .before .before .before .before .before .before .before .before .before .before .before .before .before .before .before .before .before .good in let t = c .before .before .before .before .before .before .before .before .before .before .before .before .before .loop-test .taken in let s = c .before .before .before .before .before .before .before .before .before .before .before .before .before .before .loop .inv in omega arith
-
-loop-less : tie.Need-loop-less Inv-loop μ-loop
-loop-less c = omega arith
-
-loop-again : tie.Need-loop-again Inv-loop μ-loop
-unfolding eq ne
-loop-again c =
-    let s = c .before .before .before .before .before .before .before .before .before .before .before .before .before .before .loop .inv in
-    let l = c .before .before .before .before .before .before .before .before .before .before .before .before .before .before .before .before .before .before .before .before .before .before .before .before .pre .2 in
-    let f = of-true (fits binary64 (c .before .before .before .before .before .before .before .before .before .before .before .before .before .before .before .before .before .before .before .before .before .before .before .before .args .v-oct .0)) (c .before .before .before .before .before .before .before .before .before .before .before .before .before .before .before .before .before .before .before .before .before .before .before .before .good .1 .0 .1 .1 .0 .1) in
-    let x = pulsed _ _ _ _ _ _ _ _ _ (c .before .before .before .before .before .before .glottal-pulse .ensures) (s .5) in
-    let n = kept _ _ _ _ _ _ _ _ _ _ _ _ _ _ _ (c .before .before .before .before .before .before .before .before .before .before .tuned .ensures) (c .before .before .before .before .before .before .before .before .before .stride .ensures) (c .before .before .before .before .before .before .before .before .before .before .before .before .before .before .before .before .before .increment2 .ensures) (c .before .before .before .before .before .is-finite .ensures) (c .before .before .before .before .is-finite2 .ensures) (c .before .before .before .both2 .ensures) (c .before .before .kept-mark .ensures) (s .5) in
-    (omega arith, simp length-set (s .1), simp length-set (s .2), over-more _ _ _ _ _ (omega arith) (s .3) x, over-more _ _ _ _ _ (omega arith) (s .4) n, drove _ _ _ _ _ _ _ _ _ _ _ _ _ (c .before .before .before .before .before .before .before .before .before .before .tuned .ensures) (c .before .before .before .before .before .before .before .before .before .stride .ensures) (c .wrap-phase2 .ensures) (c .before .before .before .before .before .before .before .before .before .before .before .before .before .before .before .before .before .increment2 .ensures) (c .before .wrap-phase .ensures) (s .5), rw (c .before .wrap-phase .ensures) (wrap-in _ (add-fits binary64 _ _)), still-memo _ _ _ _ _ _ _ (still-tuned _ _ _ _ _ _ _ f (c .before .before .before .before .before .before .before .before .before .before .before .before .before .before .before .before .before .before .before .both .ensures) (c .before .before .before .before .before .before .before .before .before .before .before .before .before .before .before .before .before .before .before .before .before .before .before .before .pre .0) (s .6) (c .before .before .before .before .before .before .before .before .before .before .before .before .before .before .before .before .before .before .before .before .before .before .before .before .pre .1) (s .7)) (c .before .before .before .before .before .before .before .before .before .before .tuned .ensures) (s .7))
-
-same-length : tie.Need-same-length Inv-loop μ-loop
-same-length c = c .before .loop .inv .1
-
-same-length-2 : tie.Need-same-length-2 Inv-loop μ-loop
-same-length-2 c = c .before .loop .inv .2
-
-returns : tie.Need-returns Inv-loop μ-loop
+returns : tie.Need-returns
 returns c =
-    let s = c .before .loop .inv in
-    let a = c .before .before .before .before .before .before .before .before .before .before .before .args in
-    let n : c .before .loop .i ≡ length (a .marks .now) = le-antisymm (s .0) (omega arith) in
-    (s .5 ∙ ap (λ k. afterTicks (driveNext (a .v-oct) (a .depth) (a .sample-rate)) k (a .start)) n, (over-done _ _ _ _ _ n (c .before .before .before .before .before .before .before .before .before .before .before .pre .2) (s .3), over-done _ _ _ _ _ n refl (s .4)))
+    let a = c .before .before .before .before .before .before .before .before .before .before .before .before .before .before .before .before .before .before .args in
+    let g = c .before .before .before .before .before .before .before .before .before .before .before .before .before .sway .ensures in
+    let p = c .before .before .before .before .pulse .ensures in
+    driven (a .v-oct) (a .depth) (a .sample-rate) (a .start) (length (a .marks .now)) _ _ (g .1 .0) (g .1 .1) _ _ _ _ (g .0) (p .0) (p .1 .0) (p .1 .1)
 
 pub drive-spec : {M : Type 1} → statement M
-drive-spec =
-    tie.close
-    (tie.spec
-    Inv-loop
-    μ-loop
-    both-requires
-    increment-requires
-    increment-requires-2
-    loop-holds
-    tuned-requires
-    stride-requires
-    glottal-pulse-requires
-    mul-samples
-    slice-write-samples
-    is-finite-requires
-    is-finite-requires-2
-    both-requires-2
-    kept-mark-requires
-    mul-marks
-    slice-write-marks
-    wrap-phase-requires
-    wrap-phase-requires-2
-    add-i
-    loop-less
-    loop-again
-    same-length
-    same-length-2
-    returns)
+drive-spec = tie.close (tie.spec sway-requires pulse-requires same-length same-length-2 returns)

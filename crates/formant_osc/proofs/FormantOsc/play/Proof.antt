@@ -1,7 +1,5 @@
-use mathlib.Core.Path.{sym, ap, _∙_}
 use lib.ListN.{length}
-use Rattle.laws.proofs.Over.{length-tab}
-use Rattle.formant_osc.proofs.Held.{accepts, recalled-again, ran}
+use Rattle.formant_osc.proofs.Held.{tabs-alike, accepts, recalled-again, ran}
 use borrow.Author.Needs.{needs}
 use Rattle.formant_osc.proofs.FormantOsc.play.Statement.{statement}
 use Rattle.formant_osc.proofs.FormantOsc.play.Tie as tie
@@ -19,7 +17,7 @@ drive-requires : tie.Need-drive-requires
 drive-requires c κs = (accepts _ (c .before .before .before .before .before .before .before .before .before .before .before .before .before .before .pre .0) .2, recalled-again _ _ _ _ (c .before .before .before .voct-to-hz .ensures) (c .before .before .before .before .pitch .ensures), c .before .before .before .before .before .before .before .before .before .before .before .before .before .before .pre .2)
 
 voice-requires : tie.Need-voice-requires
-voice-requires c κs = let g = c .before .before .before .before .before .before .before .before .before .drive .ensures in ap length (g .1 .0) ∙ length-tab _ _ ∙ sym (ap length (g .1 .1) ∙ length-tab _ _)
+voice-requires c κs = let g = c .before .before .before .before .before .before .before .before .before .drive .ensures in tabs-alike _ _ _ _ _ (g .1 .0) (g .1 .1)
 
 same-length : tie.Need-same-length
 same-length c = search needs

@@ -1,0 +1,116 @@
+use mathlib.Core.Path.{_≡_, refl, ap, _∙_}
+use Prim.Native.Nat.{_-_, _≤_}
+use native.Mathlib.Nat.{le-antisymm}
+use native.Mathlib.Omega.{arith}
+use lib.ListN.{length, length-set}
+use Rattle.laws.specs.Lists.{over}
+use Rattle.laws.proofs.Over.{over-none, over-more}
+use Rattle.common.specs.declared.Turns.{Turns}
+use Rattle.formant_osc.specs.Held.{phaseAt, pulseMarkAt}
+use Rattle.formant_osc.specs.Sound.{glottalPulse}
+use Rattle.formant_osc.proofs.Held.{pulse-turn, over-done}
+use Rattle.formant_osc.proofs.pulse.Statement.{statement}
+use Rattle.formant_osc.proofs.pulse.Tie as tie
+
+abbrev Inv-loop : tie.InvT-loop
+Inv-loop samples₀ marks₀ phase₀ i₀ samples marks phase i =
+    (i ≤ length marks₀) × (length samples ≡ length samples₀) × (length marks ≡ length marks₀) × (samples ≡ over (λ k. glottalPulse (phaseAt samples₀ phase₀ k .0)) i samples₀) × (marks ≡ over (pulseMarkAt samples₀ marks₀ phase₀) i marks₀) × (phase ≡ phaseAt samples₀ phase₀ i)
+
+abbrev μ-loop : tie.MeasureT-loop
+μ-loop samples₀ marks₀ phase₀ i₀ samples marks phase i = length marks₀ - i
+
+loop-holds : tie.Need-loop-holds Inv-loop μ-loop
+unfolding phaseAt
+loop-holds c = (omega arith, refl, refl, over-none _ _, over-none _ _, refl)
+
+mul-t7 : tie.Need-mul-t7 Inv-loop μ-loop
+mul-t7 c = omega arith
+
+slice-read-t10 : tie.Need-slice-read-t10 Inv-loop μ-loop
+slice-read-t10 c = omega arith
+
+glottal-pulse-requires : tie.Need-glottal-pulse-requires Inv-loop μ-loop
+glottal-pulse-requires c κs = tt
+
+mul-samples : tie.Need-mul-samples Inv-loop μ-loop
+mul-samples c = omega arith
+
+slice-write-samples : tie.Need-slice-write-samples Inv-loop μ-loop
+slice-write-samples c = omega arith
+
+is-finite-requires : tie.Need-is-finite-requires Inv-loop μ-loop
+is-finite-requires c κs = tt
+
+mul-both : tie.Need-mul-both Inv-loop μ-loop
+mul-both c = omega arith
+
+slice-read-both : tie.Need-slice-read-both Inv-loop μ-loop
+slice-read-both c = omega arith
+
+both-requires : tie.Need-both-requires Inv-loop μ-loop
+both-requires c κs = tt
+
+kept-mark-requires : tie.Need-kept-mark-requires Inv-loop μ-loop
+kept-mark-requires c κs = tt
+
+mul-marks : tie.Need-mul-marks Inv-loop μ-loop
+mul-marks c = omega arith
+
+slice-write-marks : tie.Need-slice-write-marks Inv-loop μ-loop
+slice-write-marks c = omega arith
+
+wrap-phase-requires : tie.Need-wrap-phase-requires Inv-loop μ-loop
+wrap-phase-requires c κs = tt
+
+add-i : tie.Need-add-i Inv-loop μ-loop
+add-i c = omega arith
+
+loop-less : tie.Need-loop-less Inv-loop μ-loop
+loop-less c = omega arith
+
+loop-again : tie.Need-loop-again Inv-loop μ-loop
+loop-again c =
+    let s = c .before .before .before .before .before .before .before .before .before .loop .inv in
+    let l = c .before .before .before .before .before .before .before .before .before .before .before .before .pre in
+    let w = pulse-turn _ _ _ _ _ _ _ _ _ _ _ _ _ (omega arith) (omega arith) (s .3) (s .4) (s .5) (c .wrap-phase .ensures) (c .before .before .before .before .is-finite .ensures) (c .before .before .both .ensures) (c .before .kept-mark .ensures) in
+    (omega arith, simp length-set (s .1), simp length-set (s .2), over-more _ _ _ _ _ (omega arith) (s .3) (c .before .before .before .before .before .glottal-pulse .ensures ∙ ap (λ (p : Turns). glottalPulse (p .0)) (s .5)), over-more _ _ _ _ _ (omega arith) (s .4) (w .1), w .0)
+
+same-length : tie.Need-same-length Inv-loop μ-loop
+same-length c = c .before .loop .inv .1
+
+same-length-2 : tie.Need-same-length-2 Inv-loop μ-loop
+same-length-2 c = c .before .loop .inv .2
+
+returns : tie.Need-returns Inv-loop μ-loop
+returns c =
+    let s = c .before .loop .inv in
+    let a = c .before .before .before .before .args in
+    let n : c .before .loop .i ≡ length (a .marks .now) = le-antisymm (s .0) (omega arith) in
+    (s .5 ∙ ap (phaseAt (a .samples .now) (a .start)) n, (over-done _ _ _ _ _ n (c .before .before .before .before .pre) (s .3), over-done _ _ _ _ _ n refl (s .4)))
+
+pub pulse-spec : {M : Type 1} → statement M
+pulse-spec =
+    tie.close
+    (tie.spec
+    Inv-loop
+    μ-loop
+    loop-holds
+    mul-t7
+    slice-read-t10
+    glottal-pulse-requires
+    mul-samples
+    slice-write-samples
+    is-finite-requires
+    mul-both
+    slice-read-both
+    both-requires
+    kept-mark-requires
+    mul-marks
+    slice-write-marks
+    wrap-phase-requires
+    add-i
+    loop-less
+    loop-again
+    same-length
+    same-length-2
+    returns)
