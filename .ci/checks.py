@@ -258,6 +258,24 @@ def counted(files):
         yield f"{counts.PAGE}: its counts are others than today's, which `python3 .ci/counts.py --write` puts there"
 
 
+def edits(files):
+    """Each crate has three to eight edits that must fail, and what an edit takes out stands once in its file."""
+    found = {path.split("/")[1]: [] for path in files if re.match("crates/[^/]+/(src|specs)/", path)}
+    for path, crate, text in of_crates(files, {"must-fail"}, ".edit"):
+        found.setdefault(crate, []).append(path)
+        edited = None
+        for said in text.splitlines():
+            if said.startswith("file: "):
+                edited = f"crates/{crate}/{said[len('file: '):]}"
+            if said.startswith("old: "):
+                times = files.get(edited, "").count(said[len("old: "):])
+                if times != 1:
+                    yield f"{path}: what it takes out stands {times} times in {edited}"
+    for crate, paths in found.items():
+        if not 3 <= len(paths) <= 8:
+            yield f"crates/{crate}/must-fail/: {len(paths)} edits"
+
+
 # ---- the checks, each with examples that it must refuse
 
 CHECKS = {
@@ -289,6 +307,10 @@ CHECKS = {
         {"docs/PROOFS.md": "nothing\n"},
     ],
     counted: [{"docs/PROOFS.md": "nothing\n"}],
+    edits: [
+        {"crates/laws/must-fail/x.edit": "file: specs/Lists.antt\nold: no such text\nnew: y\n"},
+        {"crates/x/must-fail/": "", "crates/x/must-fail/y.edit": "file: src/lib.rt\nold: y\nnew: z\n", "crates/x/src/lib.rt": "y\n"},
+    ],
 }
 
 
