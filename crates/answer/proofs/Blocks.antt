@@ -22,7 +22,7 @@ use Rattle.answer.specs.declared.Answer.{Answer}
 use Rattle.answer.specs.declared.Answer.the-variants as answer
 use Rattle.answer.specs.declared.Tally.{Tally}
 use Rattle.answer.specs.declared.Tallied.the-variants as tallied
-use Rattle.answer.specs.Promises.{Block-counts}
+use Rattle.answer.specs.Promises.{Block-counts, AllAccepted, AllTaken}
 
 -- ---- room
 pub room-test : (b n : ℕ) → b ≤ 4294967295 → leb n (4294967295 - b) ≡ leb (b + n) 4294967295
@@ -178,6 +178,9 @@ module _ {S H : Type 0} (answer : S → Answer) (next : S → S) (told : H → A
   held-answer zero = w .first
   held-answer (suc i) = ap answer (held-state i) ∙ w .answers (afterTicks step (suc i) h) (good-at (suc i))
 
+  pub held-accepted : ((g : H) → accepted (told g) ≡ true) → AllAccepted answer next s
+  held-accepted k i = ap accepted (held-answer i) ∙ (unfold answerAt in k (afterTicks step i h))
+
   pub held-marks : (n : ℕ) → tab (markAt answer next s) n ≡ tab (markAt told step h) n
   held-marks n = tab-ext (markAt answer next s) (markAt told step h) n (λ i l. ap markNumber (held-answer i))
 
@@ -286,3 +289,6 @@ module _ (t : Tally) (a : ℕ → Answer) (h : (i : ℕ) → accepted (a i) ≡ 
 
 pub block-counts : Block-counts
 block-counts t a n h r i l = rw add-one (taken-at t a h i n r l)
+
+pub all-taken : {S : Type 0} (answer : S → Answer) (next : S → S) (s : S) → AllAccepted answer next s → AllTaken answer next s
+all-taken answer next s h t n r i l = block-counts t (answerAt answer next s) n h r i l

@@ -16,7 +16,8 @@ use Rattle.answer.specs.Block.{afterTicks, answerAt, markAt, frameAt, portsOf, 
 use Rattle.answer.specs.declared.Answer.{Answer}
 use Rattle.answer.specs.declared.Tally.{Tally}
 use Rattle.answer.specs.declared.Volts.{Volts}
-use Rattle.answer.proofs.Blocks.{Holds, held-after, held-marks, held-frames}
+use Rattle.answer.proofs.Blocks.{Holds, held-after, held-marks, held-frames, held-accepted, all-taken}
+use Rattle.answer.proofs.Laws.{mark-says}
 use Rattle.common.specs.Memo.{recall1, voctToHzAt}
 use Rattle.common.specs.Phase.{turns, wrapOf}
 use Rattle.common.specs.Tests.{rateOk, phaseOk}
@@ -32,6 +33,7 @@ use Rattle.formant_osc.specs.Consts.{vibratoRate}
 use Rattle.formant_osc.specs.FormantOsc.{formantRefusalOf, freqMemoOf, coefMemoOf, formantRung, formantSoundOf, formantTickOf, formantAnswerOf, formantNextOf}
 use Rattle.formant_osc.specs.Held.{driveMemo, phaseSum, vibratoSum, driveNext, pulseAt, keptOf, keptMark, keptAt, voicedOf, cellsAt, voicedAt}
 use Rattle.formant_osc.specs.Sound.{glottalPulse, pitchOf, rungOf}
+use Rattle.formant_osc.specs.Promises.{Block-accepts, Block-tallies}
 use Rattle.formant_osc.specs.declared.CoefMemo.{CoefMemo}
 use Rattle.formant_osc.specs.declared.Driver.{Driver}
 use Rattle.formant_osc.specs.declared.FormantControls.{FormantControls}
@@ -323,3 +325,10 @@ ran s c n depth pitch memo coefs end xs ms cells ys ns e z ed ep em b ee ex ek e
 pub one-each : (o : List Float) (m : List ℕ) (r number : ℕ) (t : Tally) (n : ℕ) → n ≡ blockRefusalOf (eqb (length o) (length m)) r t (length m) → r ≡ number
     → n ≡ blockRefusalOf (eqb (length o) (1 * length m)) number t (length m)
 one-each o m r number t n e h = e ∙ (λ k. blockRefusalOf (eqb (length o) (sym (one-mul (length m)) k)) (h k) t (length m))
+
+-- ---- so no tick of a block is refused
+pub block-accepts : Block-accepts
+block-accepts s c h = held-accepted _ _ _ _ _ _ _ _ (holds s c h) (λ m. unfold answerOf voicedOf in mark-says _ _ _ _ .is-accepted)
+
+pub block-tallies : Block-tallies
+block-tallies s c h = all-taken _ _ s (block-accepts s c h)

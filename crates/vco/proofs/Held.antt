@@ -7,7 +7,8 @@ use native.Mathlib.Omega.{arith}
 use lib.Ieee.{Float, binary64, add, div}
 use lib.Ieee.Fits.{add-fits}
 use Rattle.answer.specs.Block.{afterTicks, answerAt}
-use Rattle.answer.proofs.Blocks.{Holds, held-after}
+use Rattle.answer.proofs.Blocks.{Holds, held-after, held-accepted, all-taken}
+use Rattle.answer.proofs.Laws.{mark-says}
 use Rattle.answer.specs.declared.Answer.{Answer}
 use Rattle.common.specs.Consts.{gateThreshold}
 use Rattle.common.specs.Phase.{turns, wrapOf}
@@ -28,6 +29,7 @@ use Rattle.vco.specs.Vco.{frequencyOf, restartOf, vcoAnswerOf, vcoSoundO
 use Rattle.vco.specs.Held.{Held, held, heldAnswer, heldNext}
 use Rattle.vco.proofs.StateLaws.{unrefused}
 use Rattle.vco.proofs.Reached.{tick-sound}
+use Rattle.vco.specs.Promises.{Block-accepts, Block-tallies}
 use Rattle.vco.specs.declared.Vco.{Vco}
 use Rattle.vco.specs.declared.VcoControls.{VcoControls}
 use Rattle.vco.specs.declared.VcoTicked.{VcoTicked}
@@ -114,3 +116,10 @@ module _ (s : Vco) (c : VcoControls) where
   left wanted n h z =
       let e : crossedOf (s .«sync_edge») (c .sync) .edge ≡ edgeOf Nowhere = unfold edgeOf crossedOf crossedAboveOf in refl in
       simp (e, ← left-at n z) (sym (held-after _ _ _ _ _ _ _ _ (holds wanted h) n z))
+
+-- ---- so none of them is refused
+pub block-accepts : Block-accepts
+block-accepts s c wanted h = held-accepted _ _ _ _ _ _ _ _ (holds s c wanted h) (λ p. unfold heldAnswer vcoAnswerOf in mark-says _ _ _ _ .is-accepted)
+
+pub block-tallies : Block-tallies
+block-tallies s c wanted h = all-taken _ _ s (block-accepts s c wanted h)
