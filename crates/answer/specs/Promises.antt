@@ -1,7 +1,7 @@
 -- Theorems about answers, marks and the tally: the statements. proofs/Laws.antt proves each under the same name in small letters.
 use mathlib.Core.Path.{_≡_}
-use mathlib.Core.Bool.{Bool, true, false, not, _&&_}
-use mathlib.Core.List.{List, [], _∷_}
+use mathlib.Core.Bool.{Bool, true, false, _&&_}
+use mathlib.Core.List.{List}
 use Prim.Native.Nat.{ℕ, _+_, _≤_, _<_}
 use Rattle.answer.specs.Answer.{markNumber, voltsOf, accepted}
 use Rattle.answer.specs.Block.{roomFor, countedTo, answerAt, markAt}

@@ -14,7 +14,7 @@ use lib.ListN.{getD}
 use Rattle.answer.specs.Answer.{markNumber}
 use Rattle.formant_osc.proofs.Coherent.{tick-coefs}
 use Rattle.formant_osc.proofs.Reached.{tick-sounds, good}
-use Rattle.formant_osc.proofs.Spoiled.{sound-unfinished, add-nan-l, mul-nan-r, mul-nan-l, plus-out, plus-sum}
+use Rattle.formant_osc.proofs.Spoiled.{sound-unfinished, plus-out, plus-sum}
 use Rattle.formant_osc.specs.Coefs.{formantOf, getFormants, coefOf, resonatorCoefs}
 use Rattle.formant_osc.specs.Consts.{bandwidth1}
 use Rattle.formant_osc.specs.FormantOsc.{coefMemoOf, formantRung, formantSoundOf}
@@ -23,6 +23,7 @@ use Rattle.formant_osc.specs.Sound.{glottalPulse, resonateOf, rungOf}
 use Rattle.formant_osc.specs.declared.FormantControls.{FormantControls}
 use Rattle.formant_osc.specs.declared.FormantOsc.{FormantOsc}
 use Rattle.formant_osc.specs.declared.FormantTicked.{FormantTicked}
+use Rattle.laws.proofs.Number.{add-nan-l, mul-nan-l, mul-nan-r}
 use Rattle.laws.proofs.Values.{round-zero}
 use Rattle.laws.specs.Float.{zer, one, two, isFin}
 

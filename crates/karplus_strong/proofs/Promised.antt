@@ -7,9 +7,10 @@ use Prim.Native.Nat.{ℕ, _≤_, zero, suc, _<_}
 use native.Mathlib.Nat.{not-suc-le-zero, eq-or-lt-of-le, le-of-suc-le-suc, le-trans}
 use native.Mathlib.Omega.{arith}
 use lib.Dec.{ltb}
-use lib.Ieee.{Float, binary64, lt, le, mul, ofBits, neg, low}
+use lib.Ieee.{Float, binary64, le, mul, neg, low}
 use lib.ListN.{length, getD}
 use borrow.Author.Tests.{le-leb}
+use Rattle.common.proofs.EdgeLaws.{rises-five}
 use Rattle.answer.specs.Answer.{refusalOf, accepted}
 use Rattle.answer.proofs.Blocks.{held-accepted, all-taken}
 use Rattle.common.specs.Consts.{five, gateThreshold, half}
@@ -17,7 +18,7 @@ use Rattle.common.specs.Edge.{risesAbove, risingAboveOf, risingOf}
 use Rattle.common.specs.Memo.{recall1, voctToHzAt}
 use Rattle.common.specs.Tests.{rateOk}
 use Rattle.laws.proofs.Order.{lt-false}
-use Rattle.laws.proofs.Tests.{of-true}
+use Rattle.laws.proofs.Tests.{both-true, of-true}
 use Rattle.laws.specs.Float.{zer, one, isFin}
 use Rattle.numeric.specs.Basic.{clampOf}
 use Rattle.karplus_strong.proofs.Parts.{max-len-range, period-range, memo-number, Sound, sound-line, turn-is}
@@ -91,11 +92,7 @@ draws-less : (d : List ℕ) (n m : ℕ) → m ≤ n → drawsOk d n ≡ true →
 unfolding drawsOk
 draws-less d zero zero h e = e
 draws-less d zero (suc m) h e = absurd (not-suc-le-zero h)
-draws-less d (suc n) m h e = ⊎-elim (λ (q : m ≡ suc n). rw q e) (λ (q : m < suc n). draws-less d n m (le-of-suc-le-suc q) (first (drawsOk d n) (ltb (getD d n 0) 9007199254740992) e)) (eq-or-lt-of-le h)
-  where
-    first : (a b : Bool) → (a && b) ≡ true → a ≡ true
-    first true b k = refl
-    first false b k = k
+draws-less d (suc n) m h e = ⊎-elim (λ (q : m ≡ suc n). rw q e) (λ (q : m < suc n). draws-less d n m (le-of-suc-le-suc q) (both-true (drawsOk d n) (ltb (getD d n 0) 9007199254740992) e .0)) (eq-or-lt-of-le h)
 
 draws-fine : (n : ℕ) (d : List ℕ) → n ≤ 9611 → 9611 ≤ length d → drawsOk d 9611 ≡ true → drawsRefusalOf n d ≡ 0
 unfolding drawsRefusalOf
@@ -160,8 +157,8 @@ unfolding risingOf risingAboveOf risesAbove
 low-rises s c e = simp (lt-false gateThreshold (c .trigger) (of-true (le (c .trigger) gateThreshold) e))
 
 high-rises : (s : KarplusStrong) (c : KarplusStrongControls) (low : Float) → le low gateThreshold ≡ true → s .«trigger_edge» .prev ≡ low → c .trigger ≡ five → risesAt s c ≡ true
-unfolding risingOf risingAboveOf risesAbove
-high-rises s c low el ep eh = rw (eh, ep, el) (unfold lt ofBits in refl)
+unfolding risingOf risingAboveOf
+high-rises s c low el ep eh = rw (eh, ep) (rises-five low el)
 
 low-sounds : (s : KarplusStrong) (c : KarplusStrongControls) (draws : List ℕ) → le (c .trigger) gateThreshold ≡ true → triggerRefusalOf s c draws ≡ 0
 unfolding triggerRefusalOf

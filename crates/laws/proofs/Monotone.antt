@@ -15,7 +15,7 @@ use Rattle.laws.proofs.Tests.{zero-of}
 use Rattle.laws.proofs.Values.{div-round, mul-round, round-neg, round-zero, unlike-plus}
 
 -- ---- rounding
-nonneg : (a c : ℕ) → 0 < c → T (le (fin false 0 (pos 0)) (round binary64 false a c))
+pub nonneg : (a c : ℕ) → 0 < c → T (le (fin false 0 (pos 0)) (round binary64 false a c))
 nonneg a c C = subst (λ (z : Float). T (le z (round binary64 false a c))) (round-zero false 1 (lit< tt)) (round-mono binary64 0 1 a c (lit< tt) C (le-trans (le-of-eq (zero-mul c)) zero-le))
 
 pub round-le : (s t : Bool) (a c b d : ℕ) → 0 < c → 0 < d → Below s (a * d) t (b * c) → T (le (round binary64 s a c) (round binary64 t b d))

@@ -1,12 +1,10 @@
 -- A block's ticks are ticks of the phase alone: its reset and its rate stand still.
-use mathlib.Core.Bool.{Bool, true, false, cond}
-use mathlib.Core.Path.{_≡_, refl, sym, ap, _∙_}
+use mathlib.Core.Bool.{Bool, true, false}
+use mathlib.Core.Path.{_≡_, ap, _∙_}
 use Prim.Native.Nat.{ℕ, _+_}
 use native.Mathlib.Numerals.{add-one}
 use lib.Ieee.{Float, binary64, add, div}
 use lib.Ieee.Fits.{add-fits}
-use lib.Dec.{eqb}
-use borrow.Author.Tests.{eq-eqb}
 use Rattle.answer.specs.Block.{afterTicks, answerAt}
 use Rattle.answer.proofs.Blocks.{Holds, held-accepted, all-taken}
 use Rattle.answer.proofs.Laws.{mark-says}
@@ -14,9 +12,9 @@ use Rattle.answer.specs.Mark.{markOf}
 use Rattle.answer.specs.declared.Answer.{Answer}
 use Rattle.answer.specs.declared.Volts.{Volts}
 use Rattle.common.specs.Phase.{turns, wrapOf}
-use Rattle.common.specs.Edge.{risingOf, risingAboveOf, risesAbove}
+use Rattle.common.specs.Edge.{risingOf, risingAboveOf}
 use Rattle.common.specs.Memo.{recall1}
-use Rattle.common.specs.Tests.{rateOk, phaseOk}
+use Rattle.common.specs.Tests.{phaseOk}
 use Rattle.common.proofs.EdgeLaws.{rises-once}
 use Rattle.common.proofs.MemoLaws.{recall1-again}
 use Rattle.common.proofs.PhaseLaws.{wrap-in}

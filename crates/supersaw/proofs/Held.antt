@@ -25,7 +25,7 @@ use Rattle.laws.specs.Float.{zer, one}
 use Rattle.laws.specs.Lists.{tab}
 use Rattle.numeric.specs.Basic.{clampOf}
 use Rattle.supersaw.proofs.LaneLaws.{sound-is, ok-by, accepts, quiet-ramped}
-use Rattle.supersaw.proofs.Loops.{all-of}
+use Rattle.laws.proofs.All.{all-of}
 use Rattle.supersaw.proofs.Sign.{small, clamp-small}
 use Rattle.supersaw.specs.Held.{heldAnswer, heldNext}
 use Rattle.supersaw.specs.Lanes.{lanesOf, lanesOk, incsOf, sawsOf, wrapsOf, sumsOf, lanesFinite, blendOf, movedOf, steppedOf, quietOf, rampedOf, advancedOf, tickedOf}

@@ -1,76 +1,19 @@
 -- An increment has no minus sign: its factors have none, and 1 plus a product of two numbers from -1 to 1 has none.
-use mathlib.Core.Bool.{Bool, true, false, not, cond, false≢true}
-use mathlib.Core.Path.{_≡_, refl, sym, ap, _∙_, subst}
-use Prim.Native.Nat.{ℕ, zero, suc, _+_, _-_, _*_, _^_, _≤_, _<_}
+use mathlib.Core.Bool.{Bool, true, false, not, cond}
+use mathlib.Core.Path.{refl, sym, subst, _∙_}
+use Prim.Native.Nat.{ℕ, _+_, _-_, _*_, _^_, _≤_, _<_}
 use native.Mathlib.Nat.{zero-lt-suc, mul-pos, mul-le-mul}
 use native.Mathlib.Omega.{arith}
-use lib.Dec.{T, eqb, eqb·suc-zero, leb, ltb, leb→le, le→leb, nltb→le, lit≤}
+use lib.Dec.{T, leb, ltb, leb→le, le→leb, nltb→le, lit≤}
 use lib.IntN.{pos}
-use lib.Ieee.{Float, nan, inf, fin, binary64, up, down, unlike, round, sum, add, mul, div, neg, lt, ofBits}
+use lib.Ieee.{Float, nan, inf, fin, binary64, up, down, unlike, round, sum, add, mul, lt, ofBits}
 use lib.Ieee.Exact.{HasValue}
 use lib.Ieee.Fits.{down-pos}
 use Rattle.laws.proofs.Interval.{part-round}
-use Rattle.laws.proofs.Number.{Signed, round-signed}
-use Rattle.laws.proofs.Order.{neg-neg}
-use Rattle.laws.proofs.Values.{neg-round, neg-value, add-round, sum-pos-neg}
+use Rattle.laws.proofs.Sign.{Plus, round-plus}
+use Rattle.laws.proofs.Values.{round-neg, neg-value, add-round, sum-pos-neg}
 use Rattle.laws.specs.Float.{zer, one}
 use Rattle.numeric.specs.Basic.{clampOf}
-
--- no minus sign; a NaN has none
-abbrev pub Plus : Float → Type 0
-Plus nan = Unit {0}
-Plus (inf s) = s ≡ false
-Plus (fin s m e) = s ≡ false
-
-round-plus : (a c : ℕ) → Plus (round binary64 false a c)
-round-plus a c = go (round binary64 false a c) (round-signed false a c)
-  where
-    go : (x : Float) → Signed false x → Plus x
-    go nan h = tt
-    go (inf s) h = h
-    go (fin s m e) h = h
-
-pub mul-plus : (x y : Float) → Plus x → Plus y → Plus (mul binary64 x y)
-unfolding mul
-mul-plus nan y p q = tt
-mul-plus (inf s) nan p q = tt
-mul-plus (inf s) (inf t) p q = rw (p, q)
-mul-plus (inf s) (fin t n d) p q = go (eqb n 0)
-  where
-    go : (b : Bool) → Plus (cond b nan (inf (unlike s t)))
-    go true = tt
-    go false = rw (p, q)
-mul-plus (fin s m e) nan p q = tt
-mul-plus (fin s m e) (inf t) p q = go (eqb m 0)
-  where
-    go : (b : Bool) → Plus (cond b nan (inf (unlike s t)))
-    go true = tt
-    go false = rw (p, q)
-mul-plus (fin s m e) (fin t n d) p q = rw (p, q) (round-plus (m * up e * (n * up d)) (down e * down d))
-
-pub div-plus : (x y : Float) → Plus x → Plus y → Plus (div binary64 x y)
-unfolding div
-div-plus nan y p q = tt
-div-plus (inf s) nan p q = tt
-div-plus (inf s) (inf t) p q = tt
-div-plus (inf s) (fin t n d) p q = rw (p, q)
-div-plus (fin s m e) nan p q = tt
-div-plus (fin s m e) (inf t) p q = rw (p, q)
-div-plus (fin s m e) (fin t zero d) p q = go (eqb m 0)
-  where
-    go : (b : Bool) → Plus (cond b nan (inf (unlike s t)))
-    go true = tt
-    go false = rw (p, q)
-div-plus (fin s m e) (fin t (suc n) d) p q = rw (p, q, eqb·suc-zero n) (round-plus (m * up e * down d) (suc n * up d * down e))
-
--- what is above 0 has none
-pub above-plus : (x : Float) → lt zer x ≡ true → Plus x
-unfolding lt ofBits
-above-plus nan h = tt
-above-plus (inf true) h = absurd (false≢true h)
-above-plus (inf false) h = refl
-above-plus (fin true m e) h = absurd (false≢true h)
-above-plus (fin false m e) h = refl
 
 -- from -1 to 1, or a NaN
 abbrev pub small : Float → Bool
@@ -102,7 +45,7 @@ one-plus-round s a c C h = go s
         subst Plus
         (sym
         (add-round (fin false 1 (pos 0)) (round binary64 true a c) false true 1 1 b d (zero-lt-suc 0) (p .2) (refl, refl)
-        (subst (λ (z : Float). HasValue z true b d) (sym (sym (neg-neg (round binary64 true a c)) ∙ ap neg (neg-round a c))) (neg-value (round binary64 false a c) false b d (p .4)))
+        (subst (λ (z : Float). HasValue z true b d) (sym (round-neg a c)) (neg-value (round binary64 false a c) false b d (p .4)))
         ∙ sum-pos-neg (1 * d) (b * 1) (1 * d) (under b d (p .3))))
         (round-plus (1 * d - b * 1) (1 * d))
       where

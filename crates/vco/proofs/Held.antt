@@ -1,5 +1,5 @@
 -- A block's ticks are ticks of the phase alone, after a first that may take the edge: the controls stand still.
-use mathlib.Core.Bool.{Bool, true, false, cond}
+use mathlib.Core.Bool.{true}
 use mathlib.Core.Path.{_≡_, refl, sym, ap, _∙_}
 use Prim.Native.Nat.{ℕ, zero, suc, _+_, _<_}
 use native.Mathlib.Numerals.{add-one}
@@ -10,9 +10,8 @@ use Rattle.answer.specs.Block.{afterTicks, answerAt}
 use Rattle.answer.proofs.Blocks.{Holds, held-after, held-accepted, all-taken}
 use Rattle.answer.proofs.Laws.{mark-says}
 use Rattle.answer.specs.declared.Answer.{Answer}
-use Rattle.common.specs.Consts.{gateThreshold}
 use Rattle.common.specs.Phase.{turns, wrapOf}
-use Rattle.common.specs.Edge.{crossedOf, crossedAboveOf, risesAbove}
+use Rattle.common.specs.Edge.{crossedOf, crossedAboveOf}
 use Rattle.common.specs.Memo.{recall3}
 use Rattle.common.specs.Tests.{phaseOk}
 use Rattle.common.proofs.EdgeLaws.{rises-once}
@@ -25,7 +24,7 @@ use Rattle.common.specs.declared.Crossing.{Crossing}
 use Rattle.common.specs.declared.Crossing.the-variants.{Nowhere, At}
 use Rattle.numeric.specs.Basic.{clampOf}
 use Rattle.vco.specs.Consts.{pwLow, pwHigh}
-use Rattle.vco.specs.Vco.{frequencyOf, restartOf, vcoAnswerOf, vcoSoundOf, vcoRefusalOf, vcoTickOf, vcoToldOf, vcoNextOf}
+use Rattle.vco.specs.Vco.{frequencyOf, restartOf, vcoAnswerOf, vcoSoundOf, vcoRefusalOf, vcoToldOf, vcoNextOf}
 use Rattle.vco.specs.Held.{Held, held, heldAnswer, heldNext}
 use Rattle.vco.proofs.StateLaws.{unrefused}
 use Rattle.vco.proofs.Reached.{tick-sound}

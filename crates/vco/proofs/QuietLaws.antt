@@ -12,16 +12,16 @@ use lib.Ieee.Exact.{HasValue}
 use lib.Ieee.Fits.{down-pos}
 use lib.Ieee.Order.{round-mono, le-of-values}
 use Rattle.laws.specs.Float.{zer, one, F64}
-use Rattle.laws.proofs.Order.{values-le, lt-false, lt-not-ge, neg-neg, neg-lt-zero}
+use Rattle.laws.proofs.Rounded.{Rounded, rounded}
+use Rattle.laws.proofs.Order.{values-le, lt-false, lt-not-ge, neg-lt-zero}
 use Rattle.laws.proofs.Tests.{of-true, of-false}
 use Rattle.laws.proofs.Unique.{round-own}
-use Rattle.laws.proofs.Values.{add-round, sub-round, sum-pos-neg, sum-neg, sum-neg-pos, neg-round, neg-value, exact-at}
+use Rattle.laws.proofs.Values.{add-round, sub-round, sum-pos-neg, sum-neg, sum-neg-pos, neg-value, exact-at, round-neg}
 use Rattle.numeric.specs.Basic.{fabsOf}
 use Rattle.common.specs.Consts.{half}
 use Rattle.common.specs.Phase.{turns}
 use Rattle.common.specs.Tests.{phaseOk}
 use Rattle.vco.specs.Waves.{cornerHalfOf}
-use Rattle.vco.proofs.Within.{Rounded, rounded}
 use Rattle.vco.proofs.PulseLaws.{Phase, phase-value}
 
 -- one number in two steps: fabsOf of a rounded fraction is that fraction rounded
@@ -39,9 +39,6 @@ turned (inf s) = refl
 turned (fin s m e) = refl
 
 -- round true is the other sign of round false
-minus : (a c : ℕ) → round binary64 true a c ≡ neg (round binary64 false a c)
-minus a c = sym (neg-neg (round binary64 true a c)) ∙ ap neg (neg-round a c)
-
 both : (a b c : ℕ) → sum binary64 true a true b c ≡ round binary64 true (a + b) c
 unfolding sum
 both a b c = refl
@@ -60,12 +57,12 @@ side p f = subst (λ (z : Float). Side z (f .top) (f .bottom)) (sym (sub-round p
     c = f .bottom
 
     go : (s : Bool) → (s ≡ true → a ≡ 0) → (b : Bool) → ltb (a * 2) c ≡ b → Side (sum binary64 s (a * 2) true (1 * c) (c * 2)) a c
-    go false z true e = let h : a * 2 < c = ltb→lt (a * 2) c (of-true (ltb (a * 2) c) e) in inr (h, sum-neg (a * 2) (1 * c) (c * 2) (less a c h) ∙ minus (1 * c - a * 2) (c * 2))
+    go false z true e = let h : a * 2 < c = ltb→lt (a * 2) c (of-true (ltb (a * 2) c) e) in inr (h, sum-neg (a * 2) (1 * c) (c * 2) (less a c h) ∙ round-neg (1 * c - a * 2) (c * 2))
       where
         less : (a c : ℕ) → a * 2 < c → a * 2 < 1 * c
         less a c h = omega arith
     go false z false e = let h : c ≤ a * 2 = nltb→le (a * 2) c (of-false (ltb (a * 2) c) e) in inl (h, sum-pos-neg (a * 2) (1 * c) (c * 2) (le-trans (le-of-eq (one-mul c)) h))
-    go true z b e = let n = none a c (z refl) (f .bottom-pos) in inr (n .0, both (a * 2) (1 * c) (c * 2) ∙ ap (λ (k : ℕ). round binary64 true k (c * 2)) (n .1) ∙ minus (1 * c - a * 2) (c * 2))
+    go true z b e = let n = none a c (z refl) (f .bottom-pos) in inr (n .0, both (a * 2) (1 * c) (c * 2) ∙ ap (λ (k : ℕ). round binary64 true k (c * 2)) (n .1) ∙ round-neg (1 * c - a * 2) (c * 2))
       where
         none : (a c : ℕ) → a ≡ 0 → 0 < c → (a * 2 < c) × (a * 2 + 1 * c ≡ 1 * c - a * 2)
         none a c z p = (omega arith, omega arith)
