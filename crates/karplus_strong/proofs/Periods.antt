@@ -2,19 +2,17 @@
 use mathlib.Core.Bool.{true, false, not}
 use mathlib.Core.Path.{_≡_, refl, sym, ap, _∙_}
 use Prim.Native.Nat.{ℕ, _+_, _-_, _*_, _/_, _%_, _≤_, _<_, min}
-use native.Mathlib.Nat.{le-trans, le-of-eq, div-add-mod', mod-lt, mul-le-mul-right, mul-mul-mul-comm, mul-comm, mul-pos, add-mul}
+use native.Mathlib.Nat.{le-trans, le-of-eq, div-add-mod', mod-lt, add-mul}
 use native.Mathlib.Omega.{arith}
 use lib.Dec.{T, lit<, ltb, lt→ltb}
-use lib.IntN.{pos}
-use lib.Ieee.{Float, nan, inf, fin, binary64, up, down, lt, le, eq, sub, div, round, isNan, ofBits, toUnsigned}
+use lib.Ieee.{Float, nan, inf, fin, binary64, up, down, lt, le, eq, sub, div, isNan, ofBits, toUnsigned}
 use lib.Ieee.Bits.{is-true}
-use lib.Ieee.Fits.{down-pos}
-use lib.Ieee.Order.{round-mono, le-of-values}
-use lib.Ieee.Positive.{positive, num, den, den-pos, own-value, value-pos, le→cross, above, above-of-le, between}
-use Rattle.laws.proofs.Monotone.{div-le, nonneg}
+use lib.Ieee.Order.{le-of-values}
+use lib.Ieee.Positive.{positive, num, den, den-pos, own-value, between}
+use Rattle.laws.proofs.Monotone.{div-le, div-anti}
 use Rattle.laws.proofs.Order.{le-lt-trans, lt-false, lt-by-values, le-of-lt-true, float-le-trans}
 use Rattle.laws.proofs.Tests.{of-true}
-use Rattle.laws.proofs.Values.{div-round, ofInt-val}
+use Rattle.laws.proofs.Values.{ofInt-val}
 use Rattle.laws.specs.Float.{one, two}
 use Rattle.numeric.specs.Basic.{clampOf, wholeOf, realOf}
 use Rattle.numeric.proofs.RangeLaws.{lowest, highest, twenty, rate-whole, real-less, clamp-range}
@@ -28,42 +26,6 @@ rate-cut r l h = (
   float-le-trans one (div binary64 lowest twenty) (div binary64 r twenty) (unfold le lt eq div ofBits in tt) (div-le twenty (unfold ofBits in tt) lowest r l),
   le-lt-trans (div binary64 r twenty) (div binary64 highest twenty) top (div-le twenty (unfold ofBits in tt) r highest h) (unfold lt div ofBits in tt),
 )
-
--- ---- a larger divisor
-over-positive : (x y : Float) → T (positive x) → T (positive y) → div binary64 x y ≡ round binary64 false (num x * den y) (den x * num y)
-over-positive x y p q = div-round x y false (num x) (den x) (num y) (den y) (den-pos x) (den-pos y) (value-pos y (num y) (den y) q (den-pos y) (own-value y q)) (own-value x p) (own-value y q)
-
-over-inf : (x : Float) → T (positive x) → div binary64 x (inf false) ≡ fin false 0 (pos 0)
-unfolding div
-over-inf nan p = absurd p
-over-inf (inf s) p = absurd p
-over-inf (fin true m e) p = absurd p
-over-inf (fin false m e) p = refl
-
-pub div-anti : (x k y : Float) → T (positive x) → T (positive k) → T (le k y) → T (le (div binary64 x y) (div binary64 x k))
-div-anti x k y p q h = go y (above-of-le k y q h) h
-  where
-    K : 0 < num k
-    K = value-pos k (num k) (den k) q (den-pos k) (own-value k q)
-
-    cross : (a b c d e f : ℕ) → f * c ≤ e * d → a * c * (b * f) ≤ a * d * (b * e)
-    cross a b c d e f h =
-        le-trans (le-of-eq (mul-mul-mul-comm a c b f))
-        (le-trans (le-of-eq (mul-comm (a * b) (c * f)))
-        (le-trans (mul-le-mul-right (a * b) (le-trans (le-of-eq (mul-comm c f)) (le-trans h (le-of-eq (mul-comm e d)))))
-        (le-trans (le-of-eq (mul-comm (d * e) (a * b))) (le-of-eq (sym (mul-mul-mul-comm a d b e))))))
-
-    go : (y : Float) → T (above y) → T (le k y) → T (le (div binary64 x y) (div binary64 x k))
-    go nan a h = absurd a
-    go (inf true) a h = absurd a
-    go (inf false) a h = simp (over-inf x p, over-positive x k p q) (nonneg (num x * den k) (den x * num k) (mul-pos (den-pos x) K))
-    go (fin true n d) a h = absurd a
-    go (fin false n d) a h =
-        simp (over-positive x (fin false n d) p a, over-positive x k p q)
-        (round-mono binary64 (num x * down d) (den x * (n * up d)) (num x * den k) (den x * num k)
-        (mul-pos (den-pos x) (value-pos (fin false n d) (n * up d) (down d) a (down-pos d) (own-value (fin false n d) a)))
-        (mul-pos (den-pos x) K)
-        (cross (num x) (den x) (down d) (den k) (n * up d) (num k) (le→cross k (fin false n d) q a h)))
 
 -- ---- a number lies below its whole part and 1, and so below that and 9
 next-above : (n d w : ℕ) → 0 < d → w ≡ n / d → n * 1 ≤ (w + 9) * d

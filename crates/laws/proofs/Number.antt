@@ -101,7 +101,7 @@ is-nan nan e = refl
 is-nan (inf s) e = absurd (false≢true e)
 is-nan (fin s m d) e = absurd (false≢true e)
 
--- ---- NaN goes through a sum and a product
+-- ---- NaN goes through a sum, a product and a quotient
 pub add-nan-r : (x : Float) → add binary64 x nan ≡ nan
 unfolding add
 add-nan-r nan = refl
@@ -125,6 +125,12 @@ unfolding mul
 mul-nan-l nan = refl
 mul-nan-l (inf s) = refl
 mul-nan-l (fin s m e) = refl
+
+pub div-nan-r : (x : Float) → div binary64 x nan ≡ nan
+unfolding div
+div-nan-r nan = refl
+div-nan-r (inf s) = refl
+div-nan-r (fin s m e) = refl
 
 -- ---- what passes a test is a number
 pub lt-number : (x y : Float) → lt x y ≡ true → T (not (isNan x))

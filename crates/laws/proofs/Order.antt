@@ -290,6 +290,20 @@ finite-between (inf false) (inf t) h k = absurd (false≢true k)
 finite-between (inf false) (fin t n d) h k = absurd (false≢true k)
 finite-between (fin s m e) y h k = refl
 
+-- what lies between finite ends is finite
+pub between-fin : (x lo hi : Float) → isFin lo ≡ true → isFin hi ≡ true → le lo x ≡ true → le x hi ≡ true → isFin x ≡ true
+unfolding le lt eq
+between-fin nan nan hi l h a b = absurd (false≢true a)
+between-fin nan (inf s) hi l h a b = absurd (false≢true l)
+between-fin nan (fin s m e) hi l h a b = absurd (false≢true a)
+between-fin (inf true) nan hi l h a b = absurd (false≢true l)
+between-fin (inf true) (inf s) hi l h a b = absurd (false≢true l)
+between-fin (inf true) (fin s m e) hi l h a b = absurd (false≢true a)
+between-fin (inf false) lo nan l h a b = absurd (false≢true h)
+between-fin (inf false) lo (inf s) l h a b = absurd (false≢true h)
+between-fin (inf false) lo (fin s m e) l h a b = absurd (false≢true b)
+between-fin (fin s m e) lo hi l h a b = refl
+
 -- ---- a sign turns it round
 pub neg-neg : (x : Float) → neg (neg x) ≡ x
 unfolding neg
@@ -350,16 +364,24 @@ inf-not-below (inf t) = refl
 inf-not-below (fin t n d) = refl
 
 -- ---- a NaN: it alone differs from itself, and it is below nothing and above nothing
-pub nan-test : (x : Float) → ne x x ≡ isNan x
-unfolding ne isNan
-nan-test nan = refl
-nan-test (inf true) = refl
-nan-test (inf false) = refl
-nan-test (fin s m e) = ap not (is-true (level s (m * up e * down e) s (m * up e * down e)) (and-i (eqb (m * up e * down e) (m * up e * down e)) (Bool·beq s s || eqb (m * up e * down e) 0) (eqb-refl (m * up e * down e)) (same s)))
+pub number-test : (x : Float) → eq x x ≡ not (isNan x)
+unfolding eq isNan
+number-test nan = refl
+number-test (inf true) = refl
+number-test (inf false) = refl
+number-test (fin s m e) = is-true (level s (m * up e * down e) s (m * up e * down e)) (and-i (eqb (m * up e * down e) (m * up e * down e)) (Bool·beq s s || eqb (m * up e * down e) 0) (eqb-refl (m * up e * down e)) (same s))
   where
     same : (s : Bool) → T (Bool·beq s s || eqb (m * up e * down e) 0)
     same true = tt
     same false = tt
+
+pub nan-test : (x : Float) → ne x x ≡ isNan x
+unfolding ne
+nan-test x = ap not (number-test x) ∙ twice (isNan x)
+  where
+    twice : (b : Bool) → not (not b) ≡ b
+    twice true = refl
+    twice false = refl
 
 pub nan-lt : (x : Float) → lt nan x ≡ false
 unfolding lt

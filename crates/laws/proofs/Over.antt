@@ -4,7 +4,7 @@ use mathlib.Core.List.{List, [], _++_, _∷_, append-assoc, append-nil}
 use mathlib.Core.Logic.{⊎-elim}
 use mathlib.Core.Path.{_∙_, _≡_, ap, refl, sym}
 use Prim.Native.Nat.{_+_, _<_, _≤_, suc, zero, ℕ}
-use native.Mathlib.Nat.{eq-or-lt-of-le, le-of-suc-le-suc, not-suc-le-zero}
+use native.Mathlib.Nat.{eq-or-lt-of-le, le-of-suc-le-suc, not-suc-le-zero, zero-add, suc-add}
 use native.Mathlib.Numerals.{add-one}
 use native.Mathlib.Omega.{arith}
 use lib.ListN.{List·getD-append, drop, drop-of-length-le, getD, length, length-append, length-drop, set, take, take-append-drop}
@@ -52,6 +52,14 @@ tab-ext f g (suc n) h =
     let a : tab f n ≡ tab g n = tab-ext f g n (λ i l. h i (omega arith)) in
     let b : f n ≡ g n = h n (omega arith) in
     cc
+
+-- two runs of cells
+pub tab-append : {A : Type 0} (f : ℕ → A) (m n : ℕ) → tab f (n + m) ≡ tab f m ++ tab (λ j. f (j + m)) n
+unfolding tab
+tab-append f m zero = simp zero-add (sym (append-nil (tab f m)))
+tab-append {A} f m (suc n) =
+    ap (tab f) (suc-add n m) ∙ ap (λ (l : List A). l ++ (f (n + m) ∷ [])) (tab-append f m n)
+    ∙ append-assoc (tab f m) (tab (λ j. f (j + m)) n) (f (n + m) ∷ [])
 
 pub tab-take : {A : Type 0} (d : A) (f : ℕ → A) (l : List A) (n : ℕ) → n ≤ length l → ((i : ℕ) → i < n → f i ≡ getD l i d) → tab f n ≡ take n l
 unfolding tab

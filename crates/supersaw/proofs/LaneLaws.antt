@@ -116,7 +116,7 @@ module _ (detune : Float) (base rate : Hertz) (D : T (small detune)) (B : lt zer
       rate-plus
 
   low-plus : Plus (div binary64 (base .0) (mul binary64 two (rate .0)))
-  low-plus = div-plus (base .0) (mul binary64 two (rate .0)) (above-plus (base .0) B) (mul-plus two (rate .0) (unfold ofBits in refl) rate-plus)
+  low-plus = div-plus (base .0) (mul binary64 two (rate .0)) (above-plus (base .0) B) (mul-plus two (rate .0) (unfold ofBits in tt) rate-plus)
 
   inc-at : (i : ℕ) → i < 7 → at (incsOf detune base rate) i ≡ dtOf i detune base rate
   inc-at i l =

@@ -1,17 +1,13 @@
 -- An increment has no minus sign: its factors have none, and 1 plus a product of two numbers from -1 to 1 has none.
 use mathlib.Core.Bool.{Bool, true, false, not, cond}
-use mathlib.Core.Path.{refl, sym, subst, _∙_}
-use Prim.Native.Nat.{ℕ, _+_, _-_, _*_, _^_, _≤_, _<_}
-use native.Mathlib.Nat.{zero-lt-suc, mul-pos, mul-le-mul}
+use Prim.Native.Nat.{ℕ, _+_, _*_, _≤_}
+use native.Mathlib.Nat.{mul-pos, mul-le-mul}
 use native.Mathlib.Omega.{arith}
-use lib.Dec.{T, leb, ltb, leb→le, le→leb, nltb→le, lit≤}
+use lib.Dec.{T, leb, ltb, leb→le, le→leb, nltb→le}
 use lib.IntN.{pos}
-use lib.Ieee.{Float, nan, inf, fin, binary64, up, down, unlike, round, sum, add, mul, lt, ofBits}
-use lib.Ieee.Exact.{HasValue}
+use lib.Ieee.{Float, nan, inf, fin, binary64, up, down, unlike, add, mul, lt, ofBits}
 use lib.Ieee.Fits.{down-pos}
-use Rattle.laws.proofs.Interval.{part-round}
-use Rattle.laws.proofs.Sign.{Plus, round-plus}
-use Rattle.laws.proofs.Values.{round-neg, neg-value, add-round, sum-pos-neg}
+use Rattle.laws.proofs.Sign.{Plus, one-round}
 use Rattle.laws.specs.Float.{zer, one}
 use Rattle.numeric.specs.Basic.{clampOf}
 
@@ -21,37 +17,6 @@ small nan = true
 small (inf s) = false
 small (fin s m e) = leb (m * up e) (down e)
 
-one-plus-round : (s : Bool) (a c : ℕ) → 0 < c → a ≤ c → Plus (add binary64 one (round binary64 s a c))
-unfolding sum ofBits
-one-plus-round s a c C h = go s
-  where
-    p : (b : ℕ) × (d : ℕ) × (0 < d) × (b * 2 ^ 0 ≤ d) × HasValue (round binary64 false a c) false b d
-    p = part-round 0 a c (lit≤ tt) C (whole a c h)
-      where
-        whole : (a c : ℕ) → a ≤ c → a * 1 ≤ c
-        whole a c h = omega arith
-
-    b : ℕ
-    b = p .0
-
-    d : ℕ
-    d = p .1
-
-    go : (s : Bool) → Plus (add binary64 (fin false 1 (pos 0)) (round binary64 s a c))
-    go false =
-        subst Plus (sym (add-round (fin false 1 (pos 0)) (round binary64 false a c) false false 1 1 b d (zero-lt-suc 0) (p .2) (refl, refl) (p .4)))
-        (round-plus (1 * d + b * 1) (1 * d))
-    go true =
-        subst Plus
-        (sym
-        (add-round (fin false 1 (pos 0)) (round binary64 true a c) false true 1 1 b d (zero-lt-suc 0) (p .2) (refl, refl)
-        (subst (λ (z : Float). HasValue z true b d) (sym (round-neg a c)) (neg-value (round binary64 false a c) false b d (p .4)))
-        ∙ sum-pos-neg (1 * d) (b * 1) (1 * d) (under b d (p .3))))
-        (round-plus (1 * d - b * 1) (1 * d))
-      where
-        under : (b d : ℕ) → b * 1 ≤ d → b * 1 ≤ 1 * d
-        under b d h = omega arith
-
 pub one-plus : (x y : Float) → T (small x) → T (small y) → Plus (add binary64 one (mul binary64 x y))
 unfolding mul
 one-plus nan y h k = unfold add ofBits in tt
@@ -59,7 +24,7 @@ one-plus (inf s) y h k = absurd h
 one-plus (fin s m e) nan h k = unfold add ofBits in tt
 one-plus (fin s m e) (inf t) h k = absurd k
 one-plus (fin s m e) (fin t n d) h k =
-    one-plus-round (unlike s t) (m * up e * (n * up d)) (down e * down d) (mul-pos (down-pos e) (down-pos d)) (mul-le-mul (leb→le (m * up e) (down e) h) (leb→le (n * up d) (down d) k))
+    one-round (unlike s t) (m * up e * (n * up d)) (down e * down d) (mul-pos (down-pos e) (down-pos d)) (mul-le-mul (leb→le (m * up e) (down e) h) (leb→le (n * up d) (down d) k)) .1
 
 pub clamp-small : (x : Float) → T (small (clampOf x zer one))
 unfolding clampOf lt ofBits

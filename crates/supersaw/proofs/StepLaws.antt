@@ -1,5 +1,5 @@
 -- A phase more than an increment above its step and below the next one: in [0, 1), with no residual, and its sum needs no wrap.
-use mathlib.Core.Bool.{true, false, _&&_, true≢false, false≢true}
+use mathlib.Core.Bool.{true, false, _&&_, false≢true}
 use mathlib.Core.Path.{_≡_, refl, sym, _∙_, subst}
 use Prim.Native.Nat.{ℕ, _+_, _-_, _*_, _≤_, _<_}
 use native.Mathlib.Nat.{zero-lt-suc, mul-pos, mul-comm, mul-sub, mul-le-mul-right, le-of-mul-le-mul-right}
@@ -113,9 +113,9 @@ steady-law t dt p h =
   where
     go : (t dt : Float) → F64 t → Plus dt → lt dt t ≡ true → lt (add binary64 t dt) one ≡ true → Steady t dt
     go t nan F p h k = absurd (false≢true (unfold lt in h))
-    go t (inf true) F p h k = absurd (true≢false p)
+    go t (inf true) F p h k = absurd p
     go t (inf false) F p h k = absurd (false≢true (sym (inf-not-below t) ∙ h))
-    go t (fin true m e) F p h k = absurd (true≢false p)
+    go t (fin true m e) F p h k = absurd p
     go nan (fin false m e) F p h k = absurd (false≢true (unfold lt in h))
     go (inf true) (fin false m e) F p h k = absurd (false≢true (unfold lt in h))
     go (inf false) (fin false m e) F p h k = absurd (false≢true (unfold lt add ofBits in k))

@@ -56,12 +56,6 @@ quiet-of at p edge w t u h m n l k i j =
       small = float-le-trans w p one (a .above) (below-one p h);
     }
 
-pub fabs-twice : (x : Float) → fabsOf (fabsOf x) ≡ fabsOf x
-unfolding fabsOf
-fabs-twice nan = refl
-fabs-twice (inf s) = refl
-fabs-twice (fin s m e) = refl
-
 -- ---- the samples
 -- a magnitude of at most 1: four of it are a number that isn't negative
 tick-value : (dt : Float) → T (le (fabsOf dt) one) → Within 0 dt × Rounded (mul binary64 four (fabsOf dt)) 0 4 0

@@ -1,6 +1,6 @@
 -- Away from its corners nothing is smoothed. With half = |phase - 1/2|, a tick dt of at most half that leaves half below 1/2 - dt
 -- keeps the phase from dt to 1 - dt, and so the phase seen from the triangle's upper corner.
-use mathlib.Core.Bool.{Bool, true, false, not, true≢false, false≢true}
+use mathlib.Core.Bool.{Bool, true, false, not, false≢true}
 use mathlib.Core.Logic.{_⊎_, inl, inr, ⊎-elim}
 use mathlib.Core.Path.{_≡_, refl, sym, ap, _∙_, subst}
 use Prim.Native.Nat.{ℕ, _+_, _-_, _*_, _≤_, _<_}
@@ -11,6 +11,7 @@ use lib.Ieee.{Float, nan, inf, fin, binary64, round, sum, add, sub, neg, lt, le,
 use lib.Ieee.Exact.{HasValue}
 use lib.Ieee.Fits.{down-pos}
 use lib.Ieee.Order.{round-mono, le-of-values}
+use Rattle.numeric.proofs.BasicLaws.{fabs-plain, fabs-neg}
 use Rattle.laws.specs.Float.{zer, one, F64}
 use Rattle.laws.proofs.Rounded.{Rounded, rounded}
 use Rattle.laws.proofs.Order.{values-le, lt-false, lt-not-ge, neg-lt-zero}
@@ -24,21 +25,6 @@ use Rattle.common.specs.Tests.{phaseOk}
 use Rattle.vco.specs.Waves.{cornerHalfOf}
 use Rattle.vco.proofs.PulseLaws.{Phase, phase-value}
 
--- one number in two steps: fabsOf of a rounded fraction is that fraction rounded
-plain : (x : Float) (a c : ℕ) → HasValue x false a c → fabsOf x ≡ x
-unfolding fabsOf
-plain nan a c v = absurd v
-plain (inf s) a c v = absurd v
-plain (fin true m e) a c v = absurd (true≢false (v .0))
-plain (fin false m e) a c v = refl
-
-turned : (x : Float) → fabsOf (neg x) ≡ fabsOf x
-unfolding fabsOf neg
-turned nan = refl
-turned (inf s) = refl
-turned (fin s m e) = refl
-
--- round true is the other sign of round false
 both : (a b c : ℕ) → sum binary64 true a true b c ≡ round binary64 true (a + b) c
 unfolding sum
 both a b c = refl
@@ -195,7 +181,7 @@ upper p w t f r h e l k =
         fit a c h = omega arith
 
     same : fabsOf (sub binary64 p half) ≡ x
-    same = ap fabsOf e ∙ plain x (q .top) (q .bottom) (q .value)
+    same = ap fabsOf e ∙ fabs-plain x (q .top) (q .bottom) (q .value)
 
     l1 : T (le w x)
     l1 = subst (λ (z : Float). T (le w z)) same l
@@ -326,7 +312,7 @@ lower p w t u f r h e l k =
     N1 = mul-pos (q .bottom-pos) (lit< tt)
 
     same : fabsOf (sub binary64 p half) ≡ x
-    same = ap fabsOf e ∙ turned x ∙ plain x m n (q .value)
+    same = ap fabsOf e ∙ fabs-neg x ∙ fabs-plain x m n (q .value)
 
     l1 : T (le w x)
     l1 = subst (λ (z : Float). T (le w z)) same l
