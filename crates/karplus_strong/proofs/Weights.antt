@@ -1,24 +1,19 @@
 -- The two taps have weights that add up to 1 exactly, since a delay of 1 and more is a multiple of 2 ^ -52; and so has the one-pole
 -- filter, whose coefficient is one of 2 ^ -53.
-use mathlib.Core.Bool.{Bool, true, false, cond, _&&_, true≢false}
+use mathlib.Core.Bool.{true, false}
 use mathlib.Core.Logic.{⊎-elim}
 use mathlib.Core.Path.{_≡_, refl, sym, ap, _∙_, subst}
 use Prim.Native.Nat.{ℕ, _+_, _-_, _*_, _/_, _%_, _^_, _≤_, _<_, min}
 use native.Mathlib.Nat.{le-trans, le-of-eq, le-of-mul-le-mul-right, mul-le-mul-right, mul-one, div-add-mod', mod-lt, eq-or-lt-of-le}
 use native.Mathlib.Omega.{arith}
-use lib.Dec.{T, ltb, lit<, lit≤}
-use lib.IntN.{pos, negsuc}
-use lib.Ieee.{Float, nan, inf, fin, binary64, up, down, add, sub, mul, sum, round, lt, le, eq, ofBits, fits, toUnsigned}
+use lib.Dec.{T, lit<, lit≤}
+use lib.Ieee.{Float, nan, inf, fin, binary64, up, down, add, sub, mul, round, le, ofBits, toUnsigned}
 use lib.Ieee.Exact.{HasValue}
 use lib.Ieee.Fits.{down-pos, add-fits}
-use lib.Ieee.Order.{round-mono}
 use lib.Ieee.Positive.{positive, num, den, den-pos, own-value, between}
 use lib.Ieee.Scale.{round-same}
-use borrow.Author.Tests.{le-ltb}
 use Rattle.laws.proofs.Interval.{Exact}
-use Rattle.laws.proofs.Order.{le-below, values-le, float-le-trans}
-use Rattle.laws.proofs.Monotone.{mul-le}
-use Rattle.laws.proofs.Unique.{round-own}
+use Rattle.laws.proofs.Order.{values-le}
 use Rattle.laws.proofs.Values.{sub-round, sum-pos-neg, rescale, exact-at, ofInt-val}
 use Rattle.laws.proofs.Weights.{on-grid, grid-of, rest-of}
 use Rattle.laws.specs.Float.{F64, zer, one}
@@ -104,41 +99,6 @@ tap-weights (fin false m e) f q l h = (r, top, v, rest-of 52 r (sub binary64 x (
         within r h = omega arith
 
 -- ---- the filter's: its coefficient is p parts of 2 ^ 53
-half-own : round binary64 false 1 2 ≡ fin false 1 (negsuc 0)
-unfolding fits
-half-own = round-own false (fin false 1 (negsuc 0)) 1 2 (lit< tt) tt (refl, refl)
-
--- one half and what is not below 0
-half-least : (q : Float) → T (le zer q) → T (le q half) → T (le half (add binary64 half q))
-unfolding add sum ofBits
-half-least nan l h = absurd (unfold le lt eq in h)
-half-least (inf true) l h = absurd (unfold le lt eq in l)
-half-least (inf false) l h = absurd (unfold le lt eq in h)
-half-least (fin false n d) l h = subst (λ (z : Float). T (le z (round binary64 false (1 * down d + n * up d * 2) (2 * down d)))) half-own (round-mono binary64 1 2 (1 * down d + n * up d * 2) (2 * down d) (lit< tt) (twice (down d) (down-pos d)) (more (n * up d) (down d)))
-  where
-    twice : (d : ℕ) → 0 < d → 0 < 2 * d
-    twice d D = omega arith
-
-    more : (n d : ℕ) → 1 * (2 * d) ≤ (1 * d + n * 2) * 2
-    more n d = omega arith
-half-least (fin true n d) l h = go (ltb (1 * down d) (n * up d * 2)) (le-ltb (1 * down d) (n * up d * 2) (none (n * up d) (down d) nothing))
-  where
-    nothing : n * up d * 1 ≡ 0
-    nothing = le-below false true 0 n (pos 0) d l .1
-
-    none : (n d : ℕ) → n * 1 ≡ 0 → n * 2 ≤ 1 * d
-    none n d h = omega arith
-
-    twice : (d : ℕ) → 0 < d → 0 < 2 * d
-    twice d D = omega arith
-
-    more : (n d : ℕ) → n * 1 ≡ 0 → 1 * (2 * d) ≤ (1 * d - n * 2) * 2
-    more n d h = omega arith
-
-    go : (t : Bool) → t ≡ false → T (le (fin false 1 (negsuc 0)) (cond t (round binary64 true (n * up d * 2 - 1 * down d) (2 * down d)) (round binary64 (false && ltb (n * up d * 2) (1 * down d)) (1 * down d - n * up d * 2) (2 * down d))))
-    go true e = absurd (true≢false e)
-    go false e = subst (λ (z : Float). T (le z (round binary64 false (1 * down d - n * up d * 2) (2 * down d)))) half-own (round-mono binary64 1 2 (1 * down d - n * up d * 2) (2 * down d) (lit< tt) (twice (down d) (down-pos d)) (more (n * up d) (down d) nothing))
-
 pub filter-weights : (d : Float) → T (le zer d) → T (le d one) → let c = add binary64 half (mul binary64 d spread) in
     (p : ℕ) × (2 ^ 52 ≤ p) × (p ≤ 2 ^ 53) × HasValue c false p (2 ^ 53) × HasValue (sub binary64 one c) false (2 ^ 53 - p) (2 ^ 53)
 filter-weights d l h = (grid .0, least, most, grid .1, rest-of 53 (grid .0) c (lit≤ tt) most (short (grid .0) least) (grid .1))
@@ -147,9 +107,7 @@ filter-weights d l h = (grid .0, least, most, grid .1, rest-of 53 (grid .0) c (l
     c = add binary64 half (mul binary64 d spread)
 
     low : T (le half c)
-    low = half-least (mul binary64 d spread)
-        (float-le-trans zer (mul binary64 zer spread) (mul binary64 d spread) (unfold le lt eq mul ofBits in tt) (mul-le spread (unfold ofBits in tt) zer d l))
-        (float-le-trans (mul binary64 d spread) (mul binary64 one spread) half (mul-le spread (unfold ofBits in tt) d one h) (unfold le lt eq mul ofBits in tt))
+    low = filter-unit d l h .0
 
     high : T (le c one)
     high = filter-unit d l h .1

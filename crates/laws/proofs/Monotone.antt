@@ -1,4 +1,4 @@
--- Rounding keeps an order, and so do a product and a quotient with a number that is finite and above 0.
+-- Rounding keeps an order, and so do a product and a quotient with a number that is finite and above 0; a larger divisor turns it round.
 use mathlib.Core.Bool.{Bool, cond, false, not, true}
 use mathlib.Core.Path.{_∙_, _≡_, ap, refl, subst, sym}
 use Prim.Native.Nat.{_*_, _<_, _≤_, zero-le, ℕ}

@@ -1,4 +1,4 @@
--- Values that have no minus sign: sums, products and quotients of such have none, and what is less by one isn't above.
+-- Values that have no minus sign: sums, products and quotients of such have none, and a number less one of them isn't above itself.
 use mathlib.Core.Bool.{Bool, true, false, not, cond, _&&_, true≢false, false≢true}
 use mathlib.Core.Path.{_≡_, refl, sym, subst}
 use Prim.Native.Nat.{ℕ, _+_, _-_, _*_, _<_, _≤_}
@@ -95,7 +95,7 @@ above-plus (inf false) h = tt
 above-plus (fin true m e) h = absurd (false≢true h)
 above-plus (fin false m e) h = tt
 
--- one less a number of at most one
+-- 1 less a number of at most 1 has none
 pub one-less : (y : Float) → T (le y one) → Plus (sub binary64 one y)
 unfolding sub add neg sum ofBits
 one-less nan h = absurd (unfold le lt eq in h)
@@ -108,7 +108,7 @@ one-less (fin false n d) h = go (ltb (1 * down d) (n * up d * 1)) (le-ltb (1 * d
     go true e = absurd (true≢false e)
     go false e = round-plus (1 * down d - n * up d * 1) (1 * down d)
 
--- 1 less and plus what lies from -1 to 1
+-- nor have 1 less and 1 plus what lies from -1 to 1
 around : (r : Float) → Plus r → T (le r one) → Plus (sub binary64 one r) × Plus (add binary64 one r) × Plus (sub binary64 one (neg r)) × Plus (add binary64 one (neg r))
 around r p q =
     let a : Plus (add binary64 one r) = add-plus one r (unfold ofBits in tt) p in
@@ -120,7 +120,7 @@ one-round true a c C h =
     let r = around (round binary64 false a c) (round-plus a c) (unfold ofBits in unit-law a c C h .1) in
     simp (round-neg a c) (r .2, r .3)
 
--- ---- a number less one whose sign is clear isn't above it
+-- ---- a number less one of these
 sum-below : (s : Bool) (a b c : ℕ) → 0 < c → T (le (sum binary64 s a true b c) (round binary64 s a c))
 unfolding sum
 sum-below true a b c C = round-le true true (a + b) c a c C C (mul-le-mul-right c (le-add-right a b))

@@ -32,7 +32,7 @@ times-nought (fin s m e) (fin t n g) h k =
     nothing : (a b d : ℕ) → b * 1 ≡ 0 * d → a * b ≡ 0
     nothing a b d h = ap (λ (z : ℕ). a * z) (nil b d h) ∙ mul-zero a
 
--- ---- what isn't a zero and a zero
+-- ---- a zero added to what isn't one leaves it
 alone : (s t : Bool) (a c : ℕ) → 0 < a → sum binary64 s a t 0 c ≡ round binary64 s a c
 unfolding sum
 alone s t a c h = go s t
@@ -71,7 +71,7 @@ plus-nought (fin s m e) t f h =
     some false zero d h = absurd (subst (λ (z : ℕ). T (not (eqb 0 z && true))) (zero-mul d) h)
     some s (suc a) d h = zero-lt-suc a
 
--- ---- and where a size is kept
+-- ---- with numbers whose size is known
 pub zero-times : (k : ℕ) (z x : Float) (t : Bool) → HasValue z t 0 1 → Within k x → (r : Bool) × HasValue (mul binary64 z x) r 0 1
 zero-times k z x t h X =
     let p = X .1 in
