@@ -1,9 +1,9 @@
 -- Laws of blocks: room in a tally, marks counted one by one, samples joined frame by frame.
-use mathlib.Core.Bool.{Bool, true, false, cond, _&&_, true≢false, false≢true}
-use mathlib.Core.List.{List, [], _∷_, _++_}
-use mathlib.Core.Path.{_≡_, refl, sym, ap, _∙_, subst}
-use Prim.Native.Nat.{ℕ, zero, suc, _+_, _-_, _*_, _≤_, _<_}
-use native.Mathlib.Nat.{zero-add, add-zero, mul-zero}
+use mathlib.Core.Bool.{Bool, true, false, cond, _&&_, false≢true}
+use mathlib.Core.List.{List, [], _∷_}
+use mathlib.Core.Path.{_≡_, refl, sym, ap, _∙_}
+use Prim.Native.Nat.{ℕ, zero, suc, _+_, _-_, _*_, _/_, _%_, _≤_, _<_}
+use native.Mathlib.Nat.{zero-add, add-zero, mul-zero, div-add-mod', mul-comm, eq-of-mul-eq-mul-right, mul-mod-left}
 use native.Mathlib.Numerals.{add-one}
 use native.Mathlib.Omega.{arith}
 use lib.Dec.{eqb, leb, lit≤}
@@ -11,9 +11,10 @@ use lib.ListN.{length, length-append, set}
 use lib.Ieee.{Float}
 use lib.Seq.{sets}
 use borrow.Author.Tests.{eqb-true, eqb-false, eq-eqb, leb-true, leb-false, le-leb, lt-leb, ne-eqb}
+use Rattle.laws.proofs.Tests.{eqb-iff}
 use Rattle.laws.specs.Lists.{tab, over}
 use Rattle.laws.proofs.Slices.{stored, sets-append}
-use Rattle.laws.proofs.Over.{getD-tab, length-tab, tab-ext, over-more, over-all}
+use Rattle.laws.proofs.Over.{getD-tab, length-tab, tab-ext, over-more, over-done}
 use Rattle.answer.specs.Answer.{markNumber, voltsOf, accepted, answerOf}
 use Rattle.answer.specs.Block.{manyTo, countedTo, cellsOf, roomFor, marksTaken, joined, afterTicks, answerAt, markAt, frameAt, portsOf, block, blockRefusalOf, ticksOf, blockOf, grownBy}
 use Rattle.answer.specs.Tally.{addsUp, oneIf, sumOf, counted, tallyOf}
@@ -22,7 +23,7 @@ use Rattle.answer.specs.declared.Answer.{Answer}
 use Rattle.answer.specs.declared.Answer.the-variants as answer
 use Rattle.answer.specs.declared.Tally.{Tally}
 use Rattle.answer.specs.declared.Tallied.the-variants as tallied
-use Rattle.answer.specs.Promises.{Block-counts}
+use Rattle.answer.specs.Promises.{Block-counts, AllAccepted, AllTaken}
 
 -- ---- room
 pub room-test : (b n : ℕ) → b ≤ 4294967295 → leb n (4294967295 - b) ≡ leb (b + n) 4294967295
@@ -108,6 +109,15 @@ unfolding joined
 joined-ext f g zero h = refl
 joined-ext f g (suc n) h = let a : joined f n ≡ joined g n = joined-ext f g n h in let b : f n ≡ g n = h n in cc
 
+-- so many samples are k for each of n ticks
+pub whole-frames : (k o n : ℕ) → 0 < k → o % k ≡ 0 → eqb (o / k) n ≡ eqb o (k * n)
+whole-frames k o n K h =
+    let z : o ≡ o / k * k = sym (div-add-mod' o k) ∙ ap (λ (r : ℕ). o / k * k + r) h ∙ add-zero (o / k * k) in
+    eqb-iff (o / k) n o (k * n) (λ e. z ∙ ap (λ (q : ℕ). q * k) e ∙ mul-comm n k) (λ e. eq-of-mul-eq-mul-right k K (o / k) n (sym z ∙ e ∙ mul-comm k n))
+
+pub part-frames : (k o n : ℕ) → (o % k ≡ 0 → ⊥) → false ≡ eqb o (k * n)
+part-frames k o n h = sym (ne-eqb o (k * n) (λ e. h (ap (λ (x : ℕ). x % k) (e ∙ mul-comm k n) ∙ mul-mod-left n k)))
+
 -- ---- a loop that puts one answer after another
 -- an oscillator has one output, two, four or five
 pub one-port : (v : Volts) → length (portsOf 1 v) ≡ 1
@@ -143,7 +153,7 @@ module _ {S : Type 0} (ports : ℕ) (whole : (v : Volts) → length (portsOf por
   marks-more i l m a h e q = over-more (markAt answer next s) i l m (markNumber a) h e (ap markNumber q)
 
   pub marks-done : (i n : ℕ) (l m : List ℕ) → i ≡ n → length l ≡ n → m ≡ over (markAt answer next s) i l → m ≡ tab (markAt answer next s) n
-  marks-done i n l m h k e = e ∙ ap (λ (j : ℕ). over (markAt answer next s) j l) h ∙ over-all (markAt answer next s) n l k
+  marks-done i n l m h k e = over-done (markAt answer next s) i n l m h k e
 
 -- ---- held controls: a machine with less state goes through the same ticks. `embed` is the whole state that a small one stands for,
 -- from the second tick on; before the first the whole state may still be another.
@@ -177,6 +187,9 @@ module _ {S H : Type 0} (answer : S → Answer) (next : S → S) (told : H → A
   unfolding answerAt afterTicks
   held-answer zero = w .first
   held-answer (suc i) = ap answer (held-state i) ∙ w .answers (afterTicks step (suc i) h) (good-at (suc i))
+
+  pub held-accepted : ((g : H) → accepted (told g) ≡ true) → AllAccepted answer next s
+  held-accepted k i = ap accepted (held-answer i) ∙ (unfold answerAt in k (afterTicks step i h))
 
   pub held-marks : (n : ℕ) → tab (markAt answer next s) n ≡ tab (markAt told step h) n
   held-marks n = tab-ext (markAt answer next s) (markAt told step h) n (λ i l. ap markNumber (held-answer i))
@@ -286,3 +299,6 @@ module _ (t : Tally) (a : ℕ → Answer) (h : (i : ℕ) → accepted (a i) ≡ 
 
 pub block-counts : Block-counts
 block-counts t a n h r i l = rw add-one (taken-at t a h i n r l)
+
+pub all-taken : {S : Type 0} (answer : S → Answer) (next : S → S) (s : S) → AllAccepted answer next s → AllTaken answer next s
+all-taken answer next s h t n r i l = block-counts t (answerAt answer next s) n h r i l

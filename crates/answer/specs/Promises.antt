@@ -1,10 +1,10 @@
 -- Theorems about answers, marks and the tally: the statements. proofs/Laws.antt proves each under the same name in small letters.
 use mathlib.Core.Path.{_≡_}
-use mathlib.Core.Bool.{Bool, true, false, not, _&&_}
-use mathlib.Core.List.{List, [], _∷_}
+use mathlib.Core.Bool.{Bool, true, false, _&&_}
+use mathlib.Core.List.{List}
 use Prim.Native.Nat.{ℕ, _+_, _≤_, _<_}
 use Rattle.answer.specs.Answer.{markNumber, voltsOf, accepted}
-use Rattle.answer.specs.Block.{roomFor, countedTo}
+use Rattle.answer.specs.Block.{roomFor, countedTo, answerAt, markAt}
 use Rattle.answer.specs.Mark.{allFinite, markOf, ruleOf}
 use Rattle.answer.specs.Tally.{Run, run, newRun, sumOf, many, tallyOf}
 use Rattle.answer.specs.declared.Volts.{Volts}
@@ -38,7 +38,16 @@ Tally-counts = (xs : List Answer) → Counts (run newRun xs)
 abbrev pub Refused-nowhere : Type 0
 Refused-nowhere = (t : Tally) (a : Answer) → accepted a ≡ false → t .begun ≡ sumOf t → tallyOf t a ≡ tallied.Taken t
 
--- a block's tally is the one that is given each of its answers, in order: none of them is refused
+-- a tally with room for n answers takes each of n that are accepted, in order, and is then the one that a block leaves
 abbrev pub Block-counts : Type 0
 Block-counts = (t : Tally) (a : ℕ → Answer) (n : ℕ) → ((i : ℕ) → accepted (a i) ≡ true) → roomFor t n ≡ true
     → (i : ℕ) → i < n → tallyOf (countedTo t (λ j. markNumber (a j)) i) (a i) ≡ tallied.Taken (countedTo t (λ j. markNumber (a j)) (i + 1))
+
+-- the same of an oscillator's ticks: each is accepted, whatever their number
+abbrev pub AllAccepted : {S : Type 0} → (S → Answer) → (S → S) → S → Type 0
+AllAccepted answer next s = (i : ℕ) → accepted (answerAt answer next s i) ≡ true
+
+-- and a tally takes their answers one by one
+abbrev pub AllTaken : {S : Type 0} → (S → Answer) → (S → S) → S → Type 0
+AllTaken answer next s = (t : Tally) (n : ℕ) → roomFor t n ≡ true
+    → (i : ℕ) → i < n → tallyOf (countedTo t (markAt answer next s) i) (answerAt answer next s i) ≡ tallied.Taken (countedTo t (markAt answer next s) (i + 1))

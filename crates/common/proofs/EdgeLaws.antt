@@ -2,11 +2,11 @@
 use mathlib.Core.Bool.{Bool, _&&_, true, false}
 use mathlib.Core.Path.{_≡_, refl}
 use lib.Dec.{T}
-use lib.Ieee.{lt, le, ofBits, eq}
+use lib.Ieee.{Float, lt, le, ofBits, eq}
 use lib.Ieee.Bits.{is-true}
 use Rattle.laws.specs.Float.{zer}
 use Rattle.laws.proofs.Order.{le-false}
-use Rattle.common.specs.Consts.{gateThreshold}
+use Rattle.common.specs.Consts.{five, gateThreshold}
 use Rattle.common.specs.Edge.{risesAbove}
 use Rattle.common.specs.Promises.{Rises-new, Rises-once}
 
@@ -30,3 +30,8 @@ rises-once threshold v = go (lt threshold v) refl
     go : (b : Bool) → lt threshold v ≡ b → (b && le v threshold) ≡ false
     go true e = le-false threshold v (rw e tt)
     go false e = refl
+
+-- from a low gate to 5 V an edge comes
+pub rises-five : (v : Float) → le v gateThreshold ≡ true → risesAbove gateThreshold v five ≡ true
+unfolding risesAbove
+rises-five v h = rw h (unfold lt ofBits in refl)

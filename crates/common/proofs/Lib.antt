@@ -1,4 +1,5 @@
 pub mod PhaseLaws
+pub mod Bounds
 pub mod MemoLaws
 pub mod EdgeLaws
 pub mod Settled

@@ -1,11 +1,12 @@
 -- A coherent memo is left the same by a hit and by a miss.
-use mathlib.Core.Bool.{Bool, _&&_, true, false, cond, true≢false, false≢true}
+use mathlib.Core.Bool.{Bool, _&&_, true, false, cond, true≢false}
 use mathlib.Core.Logic.{inr, ⊎-elim}
 use mathlib.Core.Path.{_≡_, refl, sym, ap, _∙_}
 use lib.Dec.{eqb}
 use lib.Ieee.{Float, binary64, ofBits, toBits}
 use lib.Ieee.Bits.{ofBits-toBits}
 use borrow.Author.Tests.{eqb-true, eq-eqb}
+use Rattle.laws.proofs.Tests.{both-true}
 use Rattle.laws.specs.Float.{F64}
 use Rattle.common.specs.declared.Hertz.{Hertz}
 use Rattle.common.specs.declared.Memo1.{Memo1}
@@ -17,10 +18,6 @@ use Rattle.common.specs.Promises.{Coherent1, Coherent3, Recall1-is, Reca
 pub bits-same : (x y : Float) → F64 x → F64 y → toBits binary64 x ≡ toBits binary64 y → x ≡ y
 bits-same x y p q h = sym (ofBits-toBits binary64 x p) ∙ ap (ofBits binary64) h ∙ ofBits-toBits binary64 y q
 
-and-both : (a b : Bool) → (a && b) ≡ true → (a ≡ true) × (b ≡ true)
-and-both true b h = (refl, h)
-and-both false b h = absurd (false≢true h)
-
 pub recall1-is : Recall1-is
 unfolding recall1 hits1
 recall1-is f m h x t = go (m .valid && eqb (m .key) (toBits binary64 x)) refl
@@ -28,7 +25,7 @@ recall1-is f m h x t = go (m .valid && eqb (m .key) (toBits binary64 x)) refl
     go : (b : Bool) → (m .valid && eqb (m .key) (toBits binary64 x)) ≡ b → cond b m (filled1 x (f x)) ≡ filled1 x (f x)
     go false e = refl
     go true e =
-        let a = and-both (m .valid) (eqb (m .key) (toBits binary64 x)) e in
+        let a = both-true (m .valid) (eqb (m .key) (toBits binary64 x)) e in
         ⊎-elim (λ (n : m .valid ≡ false). absurd (true≢false (sym (a .0) ∙ n)))
         (λ (k : (y : Float) × F64 y × (m ≡ filled1 y (f y))).
         k .2 ∙ ap (λ (z : Float). filled1 z (f z)) (bits-same (k .0) x (k .1) t (unfold filled1 in sym (ap (λ (n : Memo1). n .key) (k .2)) ∙ eqb-true (m .key) (toBits binary64 x) (a .1))))
@@ -41,9 +38,9 @@ recall3-is f m h x y z t u v = go (m .valid && (eqb (m .key0) (toBits binary64 x
     go : (b : Bool) → (m .valid && (eqb (m .key0) (toBits binary64 x) && (eqb (m .key1) (toBits binary64 y) && eqb (m .key2) (toBits binary64 z)))) ≡ b → cond b m (filled3 x y z (f x y z)) ≡ filled3 x y z (f x y z)
     go false e = refl
     go true e =
-        let a = and-both (m .valid) (eqb (m .key0) (toBits binary64 x) && (eqb (m .key1) (toBits binary64 y) && eqb (m .key2) (toBits binary64 z))) e in
-        let b = and-both (eqb (m .key0) (toBits binary64 x)) (eqb (m .key1) (toBits binary64 y) && eqb (m .key2) (toBits binary64 z)) (a .1) in
-        let c = and-both (eqb (m .key1) (toBits binary64 y)) (eqb (m .key2) (toBits binary64 z)) (b .1) in
+        let a = both-true (m .valid) (eqb (m .key0) (toBits binary64 x) && (eqb (m .key1) (toBits binary64 y) && eqb (m .key2) (toBits binary64 z))) e in
+        let b = both-true (eqb (m .key0) (toBits binary64 x)) (eqb (m .key1) (toBits binary64 y) && eqb (m .key2) (toBits binary64 z)) (a .1) in
+        let c = both-true (eqb (m .key1) (toBits binary64 y)) (eqb (m .key2) (toBits binary64 z)) (b .1) in
         ⊎-elim (λ (n : m .valid ≡ false). absurd (true≢false (sym (a .0) ∙ n)))
         (λ (k : (x' : Float) × (y' : Float) × (z' : Float) × F64 x' × F64 y' × F64 z' × (m ≡ filled3 x' y' z' (f x' y' z'))).
         let p : k .0 ≡ x = bits-same (k .0) x (k .3) t (unfold filled3 in sym (ap (λ (n : Memo3). n .key0) (k .6)) ∙ eqb-true (m .key0) (toBits binary64 x) (b .0)) in

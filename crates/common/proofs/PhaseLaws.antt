@@ -1,10 +1,12 @@
 -- The wrap: it lies in [0, 1), and above -1 and below 2 it needs no floor.
 use mathlib.Core.Bool.{Bool, true, false, cond, false≢true}
 use mathlib.Core.Path.{_≡_, refl, ap}
+use Prim.Native.Nat.{ℕ}
+use native.Mathlib.Omega.{arith}
 use lib.Dec.{T}
 use lib.Ieee.{Float, binary64, lt, le, ofBits, nan, inf, fin, eq, sub, add, neg}
 use lib.Ieee.Bits.{is-true}
-use Rattle.laws.proofs.Order.{lt-of-le-not-ge, neg-neg, le-false}
+use Rattle.laws.proofs.Order.{finite-between, lt-of-le-not-ge, neg-neg, le-false}
 use Rattle.laws.proofs.Tests.{of-true, of-false}
 use Rattle.laws.specs.Float.{zer, one, two, F64, isFin}
 use Rattle.numeric.proofs.FloorLaws.{floor-rest}
@@ -13,15 +15,6 @@ use Rattle.numeric.specs.Floor.{floorOf}
 use Rattle.common.specs.Phase.{turns, wrapOf}
 use Rattle.common.specs.Promises.{Wrap-in}
 use Rattle.common.specs.Tests.{phaseOk}
-
-finite-between : (x y : Float) → lt zer x ≡ true → lt x y ≡ true → isFin x ≡ true
-unfolding lt ofBits
-finite-between nan y h k = absurd (false≢true h)
-finite-between (inf true) y h k = absurd (false≢true h)
-finite-between (inf false) nan h k = absurd (false≢true k)
-finite-between (inf false) (inf t) h k = absurd (false≢true k)
-finite-between (inf false) (fin t n d) h k = absurd (false≢true k)
-finite-between (fin s m e) y h k = refl
 
 finite-below : (x : Float) → lt x zer ≡ true → lt (neg one) x ≡ true → isFin x ≡ true
 unfolding lt ofBits neg
@@ -53,7 +46,7 @@ wrap-minus x h k = simp (finite-below x h k, floor-minus x h k, minus-minus x)
 below-one : (w : Float) → T (le w one) → le one w ≡ false → T (lt w one)
 below-one w h k = lt-of-le-not-ge w one h (of-false (le one w) k)
 
-zero-in : phaseOk (turns zer) ≡ true
+pub zero-in : phaseOk (turns zer) ≡ true
 unfolding phaseOk le lt eq ofBits
 zero-in = refl
 
@@ -72,3 +65,9 @@ wrap-in x t = go (isFin x) (λ (f : T (isFin x)). floor-rest x t f)
     go : (b : Bool) → (T b → T (le zer w) × T (le w one)) → phaseOk (turns (cond b (cond (le one w) zer w) zer)) ≡ true
     go true f = let r = f tt in inner (le one w) refl (r .0) (r .1)
     go false f = zero-in
+
+-- ---- a state that refusals 1 and 2 let pass has a good rate and a good phase
+pub accepted-state : (rate phase : Bool) → _≡_ {A = ℕ} (cond rate (cond phase 0 2) 1) 0 → (rate ≡ true) × (phase ≡ true)
+accepted-state true true h = (refl, refl)
+accepted-state true false h = absurd (omega arith)
+accepted-state false phase h = absurd (omega arith)

@@ -20,7 +20,7 @@ pub struct Turns(pub f64);
 const C4_HZ: f64 = 261.6255653005986;
 
 // Where a gate counts as high.
-const GATE_THRESHOLD_V: f64 = 2.5;
+pub const GATE_THRESHOLD_V: f64 = 2.5;
 
 // The widest pitch that voct_to_hz takes.
 const MAX_ABS_VOCT: f64 = 32.0;

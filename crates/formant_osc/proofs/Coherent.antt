@@ -1,11 +1,12 @@
 -- A memo of coefficients that is empty, or holds what it would compute, is left the same by a hit and by a miss.
-use mathlib.Core.Bool.{Bool, _&&_, true, false, cond, true≢false, false≢true}
+use mathlib.Core.Bool.{Bool, _&&_, true, false, cond, true≢false}
 use mathlib.Core.Logic.{_⊎_, inr, ⊎-elim}
 use mathlib.Core.Path.{_≡_, refl, sym, ap, _∙_}
 use lib.Dec.{eqb}
 use lib.Ieee.{Float, binary64, lt, toBits}
 use lib.Ieee.Bits.{ofBits-fits}
 use borrow.Author.Tests.{eqb-true, eq-eqb}
+use Rattle.laws.proofs.Tests.{both-true}
 use Rattle.common.proofs.MemoLaws.{bits-same}
 use Rattle.formant_osc.specs.Calls.{FitCall, Tick}
 use Rattle.formant_osc.specs.Coefs.{resonatorCoefs}
@@ -27,10 +28,6 @@ Made m = (x : Float) × (y : Float) × (z : Float) × F64 x × F64 y × F64 z ×
 abbrev pub Coherent : CoefMemo → Type 0
 Coherent m = (m .valid ≡ false) ⊎ Made m
 
-and-both : (a b : Bool) → (a && b) ≡ true → (a ≡ true) × (b ≡ true)
-and-both true b h = (refl, h)
-and-both false b h = absurd (false≢true h)
-
 recall-is : (m : CoefMemo) → Coherent m → (x y z : Float) → F64 x → F64 y → F64 z → coefRecall m x y z ≡ made x y z
 unfolding coefRecall coefHits
 recall-is m h x y z t u v = go (m .valid && (p && (q && r))) refl
@@ -47,9 +44,9 @@ recall-is m h x y z t u v = go (m .valid && (p && (q && r))) refl
     go : (b : Bool) → (m .valid && (p && (q && r))) ≡ b → cond b m (made x y z) ≡ made x y z
     go false e = refl
     go true e =
-        let a = and-both (m .valid) (p && (q && r)) e in
-        let b = and-both p (q && r) (a .1) in
-        let d = and-both q r (b .1) in
+        let a = both-true (m .valid) (p && (q && r)) e in
+        let b = both-true p (q && r) (a .1) in
+        let d = both-true q r (b .1) in
         ⊎-elim (λ (n : m .valid ≡ false). absurd (true≢false (sym (a .0) ∙ n)))
         (λ (k : Made m).
         let i : k .0 ≡ x = bits-same (k .0) x (k .3) t (unfold coefFilled in sym (ap (λ (n : CoefMemo). n .key0) (k .6)) ∙ eqb-true (m .key0) (toBits binary64 x) (b .0)) in

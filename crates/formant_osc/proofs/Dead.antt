@@ -14,7 +14,7 @@ use lib.ListN.{getD}
 use Rattle.answer.specs.Answer.{markNumber}
 use Rattle.formant_osc.proofs.Coherent.{tick-coefs}
 use Rattle.formant_osc.proofs.Reached.{tick-sounds, good}
-use Rattle.formant_osc.proofs.Spoiled.{sound-unfinished, add-nan-l, mul-nan-r, mul-nan-l, plus-out, plus-sum}
+use Rattle.formant_osc.proofs.Spoiled.{sound-unfinished, plus-out, plus-sum}
 use Rattle.formant_osc.specs.Coefs.{formantOf, getFormants, coefOf, resonatorCoefs}
 use Rattle.formant_osc.specs.Consts.{bandwidth1}
 use Rattle.formant_osc.specs.FormantOsc.{coefMemoOf, formantRung, formantSoundOf}
@@ -23,6 +23,7 @@ use Rattle.formant_osc.specs.Sound.{glottalPulse, resonateOf, rungOf}
 use Rattle.formant_osc.specs.declared.FormantControls.{FormantControls}
 use Rattle.formant_osc.specs.declared.FormantOsc.{FormantOsc}
 use Rattle.formant_osc.specs.declared.FormantTicked.{FormantTicked}
+use Rattle.laws.proofs.Number.{add-nan-l, mul-nan-l, mul-nan-r, div-nan-r}
 use Rattle.laws.proofs.Values.{round-zero}
 use Rattle.laws.specs.Float.{zer, one, two, isFin}
 
@@ -68,14 +69,8 @@ by-zero (fin t m e) s = go (eqb m 0)
     go true = inl refl
     go false = inr (unlike t s, refl)
 
-by-nan : (x : Float) → div binary64 x nan ≡ nan
-unfolding div
-by-nan nan = refl
-by-nan (inf s) = refl
-by-nan (fin s m e) = refl
-
 by-dead : (x y : Float) → Dead y → Wild (div binary64 x y)
-by-dead x y (inl e) = inl (rw e (by-nan x))
+by-dead x y (inl e) = inl (rw e (div-nan-r x))
 by-dead x y (inr (s, e)) = rw e (by-zero x s)
 
 -- alpha / (1.0 + alpha)

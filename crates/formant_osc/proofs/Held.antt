@@ -1,6 +1,6 @@
 -- A block's ticks are ticks of the phases, the pitch and the resonators: its coefficients are those of the first, and its pitch stands still
 -- where the vibrato has no depth.
-use mathlib.Core.Bool.{Bool, true, false, not, cond, _&&_}
+use mathlib.Core.Bool.{Bool, true, false, not, _&&_}
 use mathlib.Core.List.{List, [], _∷_, _++_}
 use mathlib.Core.Path.{_≡_, refl, sym, ap, _∙_}
 use Prim.Native.Nat.{ℕ, zero, suc, _+_, _*_, _<_, _≤_}
@@ -11,17 +11,19 @@ use lib.Dec.{eqb}
 use lib.Ieee.{Float, nan, binary64, add, div, eq}
 use lib.Ieee.Fits.{add-fits}
 use lib.ListN.{length, getD}
+use Rattle.laws.proofs.Tests.{both-true}
 use Rattle.answer.specs.Answer.{markNumber, voltsOf}
 use Rattle.answer.specs.Block.{afterTicks, answerAt, markAt, frameAt, portsOf, joined, blockRefusalOf}
 use Rattle.answer.specs.declared.Answer.{Answer}
 use Rattle.answer.specs.declared.Tally.{Tally}
 use Rattle.answer.specs.declared.Volts.{Volts}
-use Rattle.answer.proofs.Blocks.{Holds, held-after, held-marks, held-frames}
+use Rattle.answer.proofs.Blocks.{Holds, held-after, held-marks, held-frames, held-accepted, all-taken}
+use Rattle.answer.proofs.Laws.{mark-says}
 use Rattle.common.specs.Memo.{recall1, voctToHzAt}
 use Rattle.common.specs.Phase.{turns, wrapOf}
 use Rattle.common.specs.Tests.{rateOk, phaseOk}
 use Rattle.common.proofs.MemoLaws.{recall1-again}
-use Rattle.common.proofs.PhaseLaws.{wrap-in}
+use Rattle.common.proofs.PhaseLaws.{wrap-in, accepted-state}
 use Rattle.common.specs.declared.Hertz.{Hertz}
 use Rattle.common.specs.declared.Memo1.{Memo1}
 use Rattle.common.specs.declared.Turns.{Turns}
@@ -32,6 +34,7 @@ use Rattle.formant_osc.specs.Consts.{vibratoRate}
 use Rattle.formant_osc.specs.FormantOsc.{formantRefusalOf, freqMemoOf, coefMemoOf, formantRung, formantSoundOf, formantTickOf, formantAnswerOf, formantNextOf}
 use Rattle.formant_osc.specs.Held.{driveMemo, phaseSum, vibratoSum, driveNext, pulseAt, keptOf, keptMark, keptAt, strideAt, swayAt, swayed, phaseAt, pulseMarkAt, voicedOf, cellsAt, voicedAt}
 use Rattle.formant_osc.specs.Sound.{glottalPulse, pitchOf, rungOf}
+use Rattle.formant_osc.specs.Promises.{Block-accepts, Block-tallies}
 use Rattle.formant_osc.specs.declared.CoefMemo.{CoefMemo}
 use Rattle.formant_osc.specs.declared.Driver.{Driver}
 use Rattle.formant_osc.specs.declared.FormantControls.{FormantControls}
@@ -40,21 +43,13 @@ use Rattle.formant_osc.specs.declared.FormantTicked.{FormantTicked}
 use Rattle.formant_osc.specs.declared.Rung.{Rung}
 use Rattle.laws.specs.Float.{F64, zer, one, isFin}
 use Rattle.laws.specs.Lists.{tab, over}
-use Rattle.laws.proofs.Over.{getD-tab, length-tab, tab-ext, over-at, over-all}
+use Rattle.laws.proofs.Over.{getD-tab, length-tab, tab-ext, over-at}
 use Rattle.numeric.specs.Basic.{clampOf}
 
 abbrev pub driver : Turns → Turns → Memo1 → Driver
 driver p q m = record { phase = p; «vibrato_phase» = q; «freq_memo» = m }
 
--- ---- the three loops
--- the list after the last turn
-pub over-done : {A : Type 0} (f : ℕ → A) (i n : ℕ) (l m : List A) → i ≡ n → length l ≡ n → m ≡ over f i l → m ≡ tab f n
-over-done f i n l m h k e = e ∙ ap (λ (j : ℕ). over f j l) h ∙ over-all f n l k
-
-pub tabs-alike : {A B : Type 0} (f : ℕ → A) (g : ℕ → B) (n : ℕ) (xs : List A) (ms : List B) → xs ≡ tab f n → ms ≡ tab g n → length xs ≡ length ms
-tabs-alike f g n xs ms e q = ap length e ∙ length-tab f n ∙ sym (ap length q ∙ length-tab g n)
-
--- ---- a turn of the first
+-- ---- a turn of the first loop
 -- a memo that holds a pitch that stands still is left as it is
 pub still-tuned : (v : VoltsPerOctave) (depth : Float) (p q : Turns) (m n : Memo1) (still : Bool) → F64 (v .0)
     → still ≡ (eq depth zer && not (eq (v .0) zer)) → phaseOk p ≡ true → phaseOk q ≡ true
@@ -226,13 +221,10 @@ stateOf s c h =
 -- no number refuses it: its rate and its phases are good
 pub accepts : (s : FormantOsc) → formantRefusalOf s ≡ 0 → (rateOk (s .«sample_rate») ≡ true) × (phaseOk (s .phase) ≡ true) × (phaseOk (s .«vibrato_phase») ≡ true)
 unfolding formantRefusalOf
-accepts s = go (rateOk (s .«sample_rate»)) (phaseOk (s .phase)) (phaseOk (s .«vibrato_phase»))
-  where
-    go : (a b d : Bool) → _≡_ {A = ℕ} (cond a (cond (b && d) 0 2) 1) 0 → (a ≡ true) × (b ≡ true) × (d ≡ true)
-    go true true true h = (refl, refl, refl)
-    go true true false h = absurd (omega arith)
-    go true false d h = absurd (omega arith)
-    go false b d h = absurd (omega arith)
+accepts s h =
+    let r = accepted-state (rateOk (s .«sample_rate»)) (phaseOk (s .phase) && phaseOk (s .«vibrato_phase»)) h in
+    let p = both-true (phaseOk (s .phase)) (phaseOk (s .«vibrato_phase»)) (r .1) in
+    (r .0, p .0, p .1)
 
 abbrev Good : Moving → Type 0
 Good h = (phaseOk (h .driver .phase) ≡ true) × (phaseOk (h .driver .«vibrato_phase») ≡ true)
@@ -366,3 +358,10 @@ ran s c n depth pitch memo coefs end xs ms cells ys ns e z ed ep em b ee ex ek e
 pub one-each : (o : List Float) (m : List ℕ) (r number : ℕ) (t : Tally) (n : ℕ) → n ≡ blockRefusalOf (eqb (length o) (length m)) r t (length m) → r ≡ number
     → n ≡ blockRefusalOf (eqb (length o) (1 * length m)) number t (length m)
 one-each o m r number t n e h = e ∙ (λ k. blockRefusalOf (eqb (length o) (sym (one-mul (length m)) k)) (h k) t (length m))
+
+-- ---- so no tick of a block is refused
+pub block-accepts : Block-accepts
+block-accepts s c h = held-accepted _ _ _ _ _ _ _ _ (holds s c h) (λ m. unfold answerOf voicedOf in mark-says _ _ _ _ .is-accepted)
+
+pub block-tallies : Block-tallies
+block-tallies s c h = all-taken _ _ s (block-accepts s c h)

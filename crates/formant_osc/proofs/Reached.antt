@@ -4,13 +4,12 @@ use mathlib.Core.Logic.{inl}
 use mathlib.Core.Path.{_≡_, refl, sym, ap, subst}
 use Prim.Native.Nat.{ℕ}
 use native.Mathlib.Omega.{arith}
-use lib.Ieee.{binary64, lt, le, eq, ofBits}
+use lib.Ieee.{binary64}
 use lib.Ieee.Fits.{add-fits}
 use Rattle.answer.proofs.Laws.{mark-says}
 use Rattle.answer.specs.Answer.{accepted}
 use Rattle.answer.specs.declared.Outcome.the-variants as outcome
-use Rattle.common.proofs.PhaseLaws.{wrap-in}
-use Rattle.common.specs.Phase.{turns}
+use Rattle.common.proofs.PhaseLaws.{wrap-in, zero-in}
 use Rattle.common.specs.Tests.{rateOk, phaseOk}
 use Rattle.common.specs.declared.Hertz.{Hertz}
 use Rattle.formant_osc.proofs.Coherent.{Coherent, tick-coherent}
@@ -24,7 +23,7 @@ use Rattle.formant_osc.specs.declared.FormantMade.{FormantMade}
 use Rattle.formant_osc.specs.declared.FormantOsc.{FormantOsc}
 use Rattle.formant_osc.specs.declared.FormantTicked.{FormantTicked}
 use Rattle.laws.proofs.Always.{always}
-use Rattle.laws.specs.Float.{zer, F64}
+use Rattle.laws.specs.Float.{F64}
 
 pub record Good (s : FormantOsc) : Type 0 where
   pub rate : rateOk (s .«sample_rate») ≡ true
@@ -47,17 +46,13 @@ unfolding formantSoundOf
 sound-accepted s c = mark-says _ _ _ _ .is-accepted
 
 -- ---- it stays good
-zero-ok : phaseOk (turns zer) ≡ true
-unfolding phaseOk le lt eq ofBits
-zero-ok = refl
-
 rest-good : (s : FormantOsc) → Good s → Good (formantAtRest (s .«sample_rate») (s .«freq_memo») (s .«coef_memo»))
 unfolding formantAtRest
-rest-good s g = record { rate = g .rate; fit = g .fit; phase = zero-ok; vibrato = zero-ok; coefs = g .coefs }
+rest-good s g = record { rate = g .rate; fit = g .fit; phase = zero-in; vibrato = zero-in; coefs = g .coefs }
 
 new-good : (r : Hertz) → rateOk r ≡ true → F64 (r .0) → Good (newFormantOsc r)
 unfolding newFormantOsc formantAtRest newCoefMemo
-new-good r h f = record { rate = h; fit = f; phase = zero-ok; vibrato = zero-ok; coefs = inl refl }
+new-good r h f = record { rate = h; fit = f; phase = zero-in; vibrato = zero-in; coefs = inl refl }
 
 first-good : (s : FormantOsc) → First s → Good s
 unfolding formantNewOf formantUnless

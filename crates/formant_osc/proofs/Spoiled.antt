@@ -4,7 +4,7 @@ use mathlib.Core.List.{List}
 use mathlib.Core.Path.{_≡_, refl, sym, ap, _∙_, subst}
 use Prim.Native.Nat.{ℕ, zero, suc, _<_, _*_}
 use native.Mathlib.Omega.{arith}
-use lib.Ieee.{Float, nan, inf, fin, binary64, add, mul, neg}
+use lib.Ieee.{Float, nan, binary64, mul, neg}
 use lib.ListN.{getD}
 use Rattle.answer.proofs.Laws.{mark-says}
 use Rattle.answer.specs.Answer.{markNumber, accepted}
@@ -19,6 +19,7 @@ use Rattle.formant_osc.specs.declared.FormantControls.{FormantControls}
 use Rattle.formant_osc.specs.declared.FormantOsc.{FormantOsc}
 use Rattle.formant_osc.specs.declared.FormantTicked.{FormantTicked}
 use Rattle.laws.proofs.Always.{always}
+use Rattle.laws.proofs.Number.{add-nan-l, add-nan-r, mul-nan-l, mul-nan-r}
 use Rattle.laws.specs.Float.{isFin}
 
 -- ---- the mark
@@ -44,31 +45,6 @@ clean-finite s c = tick-either (λ (t : FormantTicked). markNumber (t .answer) �
     go : (b : Bool) → isFin (formantRung s c .sum) ≡ b → markNumber (formantSoundOf s c .answer) ≡ 4 → b ≡ true
     go true e h = refl
     go false e h = absurd (let k = sound-unfinished s c e in omega arith)
-
--- ---- NaN goes through a sum and a product
-pub add-nan-r : (x : Float) → add binary64 x nan ≡ nan
-unfolding add
-add-nan-r nan = refl
-add-nan-r (inf s) = refl
-add-nan-r (fin s m e) = refl
-
-pub add-nan-l : (x : Float) → add binary64 nan x ≡ nan
-unfolding add
-add-nan-l nan = refl
-add-nan-l (inf s) = refl
-add-nan-l (fin s m e) = refl
-
-pub mul-nan-r : (x : Float) → mul binary64 x nan ≡ nan
-unfolding mul
-mul-nan-r nan = refl
-mul-nan-r (inf s) = refl
-mul-nan-r (fin s m e) = refl
-
-pub mul-nan-l : (x : Float) → mul binary64 nan x ≡ nan
-unfolding mul
-mul-nan-l nan = refl
-mul-nan-l (inf s) = refl
-mul-nan-l (fin s m e) = refl
 
 -- ---- through a resonator
 out-nan : (b0 a1 a2 s0 s1 x : Float) → s0 ≡ nan → resonateOf b0 a1 a2 s0 s1 x .out ≡ nan

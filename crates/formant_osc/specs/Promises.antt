@@ -8,13 +8,14 @@ use lib.Ieee.{Float, nan, binary64, div}
 use lib.ListN.{getD}
 use Rattle.answer.specs.Answer.{markNumber, accepted}
 use Rattle.answer.specs.Block.{Block}
+use Rattle.answer.specs.Promises.{AllAccepted, AllTaken}
 use Rattle.answer.specs.declared.Outcome.the-variants as outcome
 use Rattle.answer.specs.declared.Tally.{Tally}
 use Rattle.common.specs.Consts.{five}
 use Rattle.common.specs.Tests.{rateOk, phaseOk}
 use Rattle.common.specs.declared.Hertz.{Hertz}
 use Rattle.formant_osc.specs.Calls.{FitCall, ReachedFormant, Later, Tick}
-use Rattle.formant_osc.specs.FormantOsc.{formantNewOf, formantRung, formantTickOf, formantBlockOf, formantResetOf, formantSetSampleRateOf}
+use Rattle.formant_osc.specs.FormantOsc.{formantNewOf, formantRung, formantTickOf, formantBlockOf, formantResetOf, formantSetSampleRateOf, formantRefusalOf, formantAnswerOf, formantNextOf}
 use Rattle.formant_osc.specs.declared.FormantControls.{FormantControls}
 use Rattle.formant_osc.specs.declared.FormantMade.{FormantMade}
 use Rattle.formant_osc.specs.declared.FormantOsc.{FormantOsc}
@@ -58,6 +59,13 @@ shiftFactor c = exp2Of (div binary64 (c .«formant_shift») five)
 abbrev pub Dead-shift : Type 0
 Dead-shift = (s : FormantOsc) → ReachedFormant s → (c : FormantControls) → FitCall (Tick c) → (shiftFactor c ≡ zer) ⊎ (shiftFactor c ≡ nan)
     → (markNumber (formantTickOf s c .answer) ≡ 2) × Spoiled (formantTickOf s c .formant)
+
+-- ---- no tick of a block is refused whose first isn't, and a tally with room takes each of their answers
+abbrev pub Block-accepts : Type 0
+Block-accepts = (s : FormantOsc) (c : FormantControls) → formantRefusalOf s ≡ 0 → AllAccepted (formantAnswerOf c) (formantNextOf c) s
+
+abbrev pub Block-tallies : Type 0
+Block-tallies = (s : FormantOsc) (c : FormantControls) → formantRefusalOf s ≡ 0 → AllTaken (formantAnswerOf c) (formantNextOf c) s
 
 -- ---- each contract settles its answer
 pub record Settled : Type 0 where

@@ -11,8 +11,7 @@ use lib.Bits.{bitAnd, bitOr}
 use lib.Ieee.Bits.{ofBits-toBits, is-true}
 use lib.Ieee.Exact.{HasValue, odd-sign}
 use lib.Ieee.Positive.{positive, between}
-use Rattle.laws.proofs.Order.{lt-by-values, le-of-lt-true}
-use Rattle.karplus_strong.proofs.Orders.{lt-of-le-lt}
+use Rattle.laws.proofs.Order.{le-lt-trans, lt-by-values, le-of-lt-true}
 use Rattle.laws.proofs.Tests.{of-false}
 use Rattle.laws.specs.Float.{F64, one}
 use Rattle.std.proofs.num.Truncating.{two-to, at-least-one, is-no-nan, down-by, cut-down}
@@ -77,7 +76,7 @@ module _ (x : Float) (f : F64 x) (h : Cut x) where
   at-one = at-least-one x (is-true (le one x) (h .0))
 
   below-64 : T (lt x (two-to 64))
-  below-64 = lt-of-le-lt x top (two-to 64) (le-of-lt-true x top (h .1)) (unfold lt ofBits in tt)
+  below-64 = le-lt-trans x top (two-to 64) (le-of-lt-true x top (h .1)) (unfold lt ofBits in tt)
 
   pub cut-number : T (not (isNan x))
   cut-number = is-no-nan x f at-one below-64

@@ -1,6 +1,5 @@
 pub mod Ring
 pub mod Finite
-pub mod Orders
 pub mod Cuts
 pub mod Periods
 pub mod Delays

@@ -13,8 +13,8 @@ use lib.Ieee.Fits.{cond-fits, div-fits, sub-fits}
 use lib.Ieee.Bits.{is-false}
 use borrow.Author.Tests.{le-leb, lt-leb, lt-ltb, leb-true, ltb-true}
 use Rattle.laws.proofs.Number.{mul-number, le-numbers}
-use Rattle.laws.proofs.Order.{lt-false, float-le-trans}
-use Rattle.laws.proofs.Tests.{of-true, of-false}
+use Rattle.laws.proofs.Order.{lt-of-not-ge, lt-false, float-le-trans}
+use Rattle.laws.proofs.Tests.{both-true, of-true, of-false}
 use Rattle.laws.proofs.Values.{float-mul-comm}
 use Rattle.laws.specs.Float.{zer, one, two, isFin, F64}
 use Rattle.numeric.proofs.PowerRange.{exp2-number}
@@ -45,18 +45,13 @@ use Rattle.karplus_strong.specs.declared.KarplusStrongControls.{KarplusS
 use Rattle.karplus_strong.specs.declared.KarplusStrongTicked.{KarplusStrongTicked}
 use Rattle.karplus_strong.specs.declared.Tuning.{Tuning}
 use Rattle.karplus_strong.specs.declared.KarplusStrongMade.the-variants as made
-use Rattle.karplus_strong.proofs.Orders.{lt-of-not-ge}
 use Rattle.karplus_strong.proofs.Periods.{rate-cut, high-period, clamped-cut}
 use Rattle.karplus_strong.proofs.Delays.{filter-unit, filter-delay, allpass-delay, left-below}
 
 -- ---- rates
-and-both : (a b : Bool) → (a && b) ≡ true → (a ≡ true) × (b ≡ true)
-and-both true b e = (refl, e)
-and-both false b e = absurd (true≢false (sym e))
-
 pub rate-ends : (r : Hertz) → rateOk r ≡ true → T (le rateLow (r .0)) × T (le (r .0) rateHigh)
 unfolding rateOk
-rate-ends r e = let b = and-both (le rateLow (r .0)) (le (r .0) rateHigh) e in (of-true (le rateLow (r .0)) (b .0), of-true (le (r .0) rateHigh) (b .1))
+rate-ends r e = let b = both-true (le rateLow (r .0)) (le (r .0) rateHigh) e in (of-true (le rateLow (r .0)) (b .0), of-true (le (r .0) rateHigh) (b .1))
 
 pub rate-in : (r : Hertz) → rateOk r ≡ true → Cut (div binary64 (r .0) twenty)
 rate-in r e = let l = rate-ends r e in rate-cut (r .0) (l .0) (l .1)

@@ -7,27 +7,31 @@ use Prim.Native.Nat.{ℕ, _≤_, zero, suc, _<_}
 use native.Mathlib.Nat.{not-suc-le-zero, eq-or-lt-of-le, le-of-suc-le-suc, le-trans}
 use native.Mathlib.Omega.{arith}
 use lib.Dec.{ltb}
-use lib.Ieee.{Float, binary64, lt, le, mul, ofBits, neg, low}
+use lib.Ieee.{Float, binary64, le, mul, neg, low}
 use lib.ListN.{length, getD}
 use borrow.Author.Tests.{le-leb}
+use Rattle.common.proofs.EdgeLaws.{rises-five}
 use Rattle.answer.specs.Answer.{refusalOf, accepted}
+use Rattle.answer.proofs.Blocks.{held-accepted, all-taken}
 use Rattle.common.specs.Consts.{five, gateThreshold, half}
 use Rattle.common.specs.Edge.{risesAbove, risingAboveOf, risingOf}
 use Rattle.common.specs.Memo.{recall1, voctToHzAt}
 use Rattle.common.specs.Tests.{rateOk}
 use Rattle.laws.proofs.Order.{lt-false}
-use Rattle.laws.proofs.Tests.{of-true}
+use Rattle.laws.proofs.Tests.{both-true, of-true}
 use Rattle.laws.specs.Float.{zer, one, isFin}
 use Rattle.numeric.specs.Basic.{clampOf}
-use Rattle.karplus_strong.proofs.Parts.{max-len-range, period-range, memo-number, Sound, sound-line}
+use Rattle.karplus_strong.proofs.Parts.{max-len-range, period-range, memo-number, Sound, sound-line, turn-is}
 use Rattle.karplus_strong.proofs.Reached.{Good, after-good, reached-good}
-use Rattle.karplus_strong.proofs.Ticks.{heard-number, heard-accepted, struckStep, struck-heard, unless-number, twice-heard, twice-left, tick-is, good-refusal, good-room, good-none, good-tick}
+use Rattle.karplus_strong.proofs.Ticks.{step-heard, heard-number, heard-accepted, struckStep, struck-heard, unless-number, twice-heard, twice-left, tick-is, good-refusal, good-room, good-none, good-tick}
+use Rattle.karplus_strong.proofs.Held.{tuneOf, holds, first-none}
+use Rattle.karplus_strong.specs.Held.{heldAnswer}
 use Rattle.karplus_strong.specs.Calls.{Strung, madeReply, after, reply, Tick, Reset, SetSampleRate, Done}
 use Rattle.karplus_strong.specs.Consts.{loopLeak}
 use Rattle.karplus_strong.specs.Blocks.{triggerRefusalOf}
 use Rattle.karplus_strong.specs.KarplusStrong.{roomOf, karplusStrongRefusalOf, rateRefusalOf, madeUnless, karplusStrongNewOf, karplusStrongResetOf, karplusStrongSetSampleRateOf, finiteOr, struckLen, drawsRefusalOf, strikeOf, strikeIf, heardString, tickUnless, karplusStrongTickOf}
 use Rattle.karplus_strong.specs.Line.{drawsOk}
-use Rattle.karplus_strong.specs.Promises.{periodAt, risesAt, doneOr, Never-refused, New-there, Edge-comes, Clean-or-cleared, Refused-leaves, Keeps-rate}
+use Rattle.karplus_strong.specs.Promises.{periodAt, risesAt, doneOr, Never-refused, New-there, Edge-comes, Clean-or-cleared, Refused-leaves, Keeps-rate, Block-accepts, Block-tallies}
 use Rattle.karplus_strong.specs.Step.{filterCoefOf, apCoefOf, targetDelayOf, tapOf, filteredOf, stretchedOf, Ticking, wroteOf, clearedOf, stepOf}
 use Rattle.common.specs.declared.EdgeDetector.{EdgeDetector}
 use Rattle.common.specs.declared.Hertz.{Hertz}
@@ -88,11 +92,7 @@ draws-less : (d : List ℕ) (n m : ℕ) → m ≤ n → drawsOk d n ≡ true →
 unfolding drawsOk
 draws-less d zero zero h e = e
 draws-less d zero (suc m) h e = absurd (not-suc-le-zero h)
-draws-less d (suc n) m h e = ⊎-elim (λ (q : m ≡ suc n). rw q e) (λ (q : m < suc n). draws-less d n m (le-of-suc-le-suc q) (first (drawsOk d n) (ltb (getD d n 0) 9007199254740992) e)) (eq-or-lt-of-le h)
-  where
-    first : (a b : Bool) → (a && b) ≡ true → a ≡ true
-    first true b k = refl
-    first false b k = k
+draws-less d (suc n) m h e = ⊎-elim (λ (q : m ≡ suc n). rw q e) (λ (q : m < suc n). draws-less d n m (le-of-suc-le-suc q) (both-true (drawsOk d n) (ltb (getD d n 0) 9007199254740992) e .0)) (eq-or-lt-of-le h)
 
 draws-fine : (n : ℕ) (d : List ℕ) → n ≤ 9611 → 9611 ≤ length d → drawsOk d 9611 ≡ true → drawsRefusalOf n d ≡ 0
 unfolding drawsRefusalOf
@@ -157,8 +157,8 @@ unfolding risingOf risingAboveOf risesAbove
 low-rises s c e = simp (lt-false gateThreshold (c .trigger) (of-true (le (c .trigger) gateThreshold) e))
 
 high-rises : (s : KarplusStrong) (c : KarplusStrongControls) (low : Float) → le low gateThreshold ≡ true → s .«trigger_edge» .prev ≡ low → c .trigger ≡ five → risesAt s c ≡ true
-unfolding risingOf risingAboveOf risesAbove
-high-rises s c low el ep eh = rw (eh, ep, el) (unfold lt ofBits in refl)
+unfolding risingOf risingAboveOf
+high-rises s c low el ep eh = rw (eh, ep) (rises-five low el)
 
 low-sounds : (s : KarplusStrong) (c : KarplusStrongControls) (draws : List ℕ) → le (c .trigger) gateThreshold ≡ true → triggerRefusalOf s c draws ≡ 0
 unfolding triggerRefusalOf
@@ -196,3 +196,16 @@ edge-comes x h low high none draws f el eh n ok = (good-accepted (x .string) low
 
     e : risesAt (y .string) high ≡ true
     e = high-rises (y .string) high (low .trigger) el prev eh
+
+-- ---- and no tick of a block is refused whose first isn't
+turn-accepted : (s : KarplusStrong) (c : KarplusStrongControls) (x : Strung) → accepted (heldAnswer (tuneOf s c) x) ≡ true
+unfolding heldAnswer
+turn-accepted s c x = ap (λ (t : Ticking). accepted (t .out .answer)) (turn-is _ _ _ _ _) ∙ heard-accepted _ (step-heard _ _ _ _ _)
+
+pub block-accepts : Block-accepts
+block-accepts x c draws n z h =
+    let k = first-none (x .string) c draws (length (x .line)) n h (λ e. omega arith) in
+    held-accepted _ _ _ _ _ _ _ _ (holds (x .string) c draws (x .line) (k .0) (k .1)) (turn-accepted (x .string) c)
+
+pub block-tallies : Block-tallies
+block-tallies x c draws n z h = all-taken _ _ x (block-accepts x c draws n z h)

@@ -1,5 +1,5 @@
 -- A string whose stretch counts as 0.0 is never cleared: no cell of its line and no filter ever holds more than 8 V.
-use mathlib.Core.Bool.{Bool, Bool·beq, true, false, cond, not, _&&_, true≢false}
+use mathlib.Core.Bool.{Bool, true, false, cond, not, true≢false}
 use mathlib.Core.List.{List}
 use mathlib.Core.Logic.{⊎-elim}
 use mathlib.Core.Path.{_≡_, refl, sym, subst}
@@ -10,17 +10,19 @@ use native.Mathlib.Omega.{arith}
 use lib.Dec.{T, leb, ltb, lit<, lit≤}
 use lib.ListN.{length, getD, set}
 use lib.Seq.{getD-set-same, getD-set-other}
-use lib.Ieee.{Float, nan, inf, fin, binary64, add, sub, mul, sum, round, neg, lt, le, eq, isNan, fits, ofBits, toUnsigned}
+use lib.Ieee.{Float, nan, inf, fin, binary64, add, sub, mul, neg, lt, le, eq, isNan, fits, ofBits, toUnsigned}
 use lib.Ieee.Bits.{is-true}
 use lib.Ieee.Exact.{HasValue}
 use lib.Ieee.Fits.{cond-fits, sub-fits}
 use lib.Ieee.Positive.{positive, above, above-of-le}
 use borrow.Author.Tests.{ltb-true}
 use Rattle.laws.proofs.Always.{always}
-use Rattle.laws.proofs.Interval.{Within, part-of, round-sized, sized-mul, unit-within, within-finite, within-wider, within-mul, within-add}
+use Rattle.laws.proofs.Interval.{Under, Within, part-of, round-sized, sized-mul, sum-under, unit-within, within-add, within-finite, within-minus, within-mul, within-of, within-to}
 use Rattle.laws.proofs.Order.{le-of-lt-true, float-le-trans}
-use Rattle.laws.proofs.Tests.{of-true}
-use Rattle.laws.proofs.Values.{add-round, div-round, neg-value, exact-at, ofInt-val}
+use Rattle.laws.proofs.Tests.{both-true, of-true}
+use Rattle.laws.proofs.Weights.{weighed}
+use Rattle.laws.proofs.Zeros.{zero-times, zero-plus, minus-zero}
+use Rattle.laws.proofs.Values.{add-round, div-round, exact-at, ofInt-val}
 use Rattle.laws.specs.Float.{F64, zer, one, isFin}
 use Rattle.laws.specs.Lists.{over}
 use Rattle.numeric.proofs.DrawLaws.{bipolar-exact}
@@ -49,37 +51,12 @@ use Rattle.karplus_strong.proofs.Parts.{Sound, damped, delay-range, hea
 use Rattle.karplus_strong.proofs.Promised.{struck-short}
 use Rattle.karplus_strong.proofs.Reached.{Good, first-is, first-good, after-good}
 use Rattle.karplus_strong.proofs.Ticks.{struckStep, good-tick}
-use Rattle.karplus_strong.proofs.Weights.{Under, Held, round-under, weighed, zero-times, zero-plus, minus-zero, tap-weights, filter-weights, held-upto}
+use Rattle.karplus_strong.proofs.Weights.{tap-weights, filter-weights, exact-upto}
 
 -- ---- sizes
 zero-within : Within 3 zer
 unfolding ofBits
-zero-within = (false, (0, 1, lit< tt, lit≤ tt, (refl, refl)))
-
-sub-within : (i : ℕ) (x y : Float) → suc i ≤ 1023 → Within i x → Within i y → Within (suc i) (sub binary64 x y)
-unfolding sub
-sub-within i x y I h k = let q = k .1 in within-add i x (neg y) I h (not (k .0), (q .0, q .1, q .2, q .3, neg-value y (k .0) (q .0) (q .1) (q .4)))
-
-sum-under : (s t : Bool) (a b c p d : ℕ) → 0 < c → 0 < d → (a + b) * d ≤ p * c → Held p d → (r : Bool) × Under p d r (sum binary64 s a t b c)
-unfolding sum
-sum-under s t a b c p d C D h top = go (Bool·beq s t) (ltb a b)
-  where
-    less : (m n d k : ℕ) → (m + n) * d ≤ k → (m - n) * d ≤ k
-    less m n d k h = le-trans (mul-le-mul-right d (under m n)) h
-      where
-        under : (m n : ℕ) → m - n ≤ m + n
-        under m n = omega arith
-
-    more : (m n d k : ℕ) → (m + n) * d ≤ k → (n - m) * d ≤ k
-    more m n d k h = le-trans (mul-le-mul-right d (under m n)) h
-      where
-        under : (m n : ℕ) → n - m ≤ m + n
-        under m n = omega arith
-
-    go : (x y : Bool) → (r : Bool) × Under p d r (cond x (round binary64 s (a + b) c) (cond y (round binary64 t (b - a) c) (round binary64 (s && ltb b a) (a - b) c)))
-    go true y = (s, round-under s (a + b) c p d C D h top)
-    go false true = (t, round-under t (b - a) c p d C D (more a b d (p * c) h) top)
-    go false false = (s && ltb b a, round-under (s && ltb b a) (a - b) c p d C D (less a b d (p * c) h) top)
+zero-within = within-of 3 zer tt
 
 -- ---- a strike
 draw-below : (d : List ℕ) (n i : ℕ) → drawsOk d n ≡ true → i < n → getD d i 0 < 2 ^ 53
@@ -87,12 +64,8 @@ unfolding drawsOk
 draw-below d zero i e h = absurd (not-suc-le-zero h)
 draw-below d (suc n) i e h = ⊎-elim (λ (q : i ≡ n). rw q (ltb-true (getD d n 0) 9007199254740992 (parts .1))) (λ (q : i < n). draw-below d n i (parts .0) q) (eq-or-lt-of-le (le-of-suc-le-suc h))
   where
-    both : (a b : Bool) → (a && b) ≡ true → (a ≡ true) × (b ≡ true)
-    both true b e = (refl, e)
-    both false b e = absurd (true≢false (sym e))
-
     parts : (drawsOk d n ≡ true) × (ltb (getD d n 0) 9007199254740992 ≡ true)
-    parts = both (drawsOk d n) (ltb (getD d n 0) 9007199254740992) e
+    parts = both-true (drawsOk d n) (ltb (getD d n 0) 9007199254740992) e
 
 bipolar-within : (k : ℕ) → k < 2 ^ 53 → Within 0 (bipolarOf k)
 bipolar-within k h = (ltb (2 * k) (2 ^ 53), (cond (ltb (2 * k) (2 ^ 53)) (2 ^ 53 - 2 * k) (2 * k - 2 ^ 53), 2 ^ 53, lit< tt, small (ltb (2 * k) (2 ^ 53)) k h, bipolar-exact k h))
@@ -106,17 +79,17 @@ unfolding impulseOf ofBits
 impulse-within n i = go (ltb i (n / 4))
   where
     go : (b : Bool) → Within 0 (cond b one zer)
-    go true = (false, (1, 1, lit< tt, lit≤ tt, (refl, refl)))
-    go false = (false, (0, 1, lit< tt, lit≤ tt, (refl, refl)))
+    go true = within-of 0 one tt
+    go false = within-of 0 zer tt
 
 pulse-within : (n i k : ℕ) (b : Float) → k < 2 ^ 53 → T (le zer b) → T (le b one) → Within 2 (pulseOf n b k i)
 unfolding pulseOf
 pulse-within n i k b h l u =
     let w : Within 0 b = unit-within b (float-le-trans (neg one) zer b (unfold le lt eq neg ofBits in tt) l, u) in
-    let o : Within 0 one = unfold ofBits in (false, (1, 1, lit< tt, lit≤ tt, (refl, refl))) in
+    let o : Within 0 one = unfold ofBits in within-of 0 one tt in
     within-add 1 (mul binary64 (bipolarOf k) b) (mul binary64 (impulseOf n i) (sub binary64 one b)) (lit≤ tt)
-    (within-wider 0 (mul binary64 (bipolarOf k) b) (within-mul 0 0 (bipolarOf k) b (lit≤ tt) (bipolar-within k h) w))
-    (within-mul 0 1 (impulseOf n i) (sub binary64 one b) (lit≤ tt) (impulse-within n i) (sub-within 0 one b (lit≤ tt) o w))
+    (within-to 0 1 (mul binary64 (bipolarOf k) b) (lit≤ tt) (within-mul 0 0 (bipolarOf k) b (lit≤ tt) (bipolar-within k h) w))
+    (within-mul 0 1 (impulseOf n i) (sub binary64 one b) (lit≤ tt) (impulse-within n i) (within-minus 0 one b (lit≤ tt) o w))
 
 -- n cells of at most 4 add up to at most 4 n
 sum-within : (l : List Float) (n : ℕ) → n ≤ 9611 → ((i : ℕ) → i < n → Within 2 (getD l i nan)) → (s : Bool) × Under (4 * n) 1 s (sumTo l n)
@@ -163,7 +136,7 @@ struck-within : (n : ℕ) (b : Float) (d : List ℕ) (l : List Float) → 0 < n 
 unfolding struckOf levelOf excitedOf levelAt excitedAt
 struck-within n b d l N h ok lo hi i q =
     subst (Within 3) (sym (getD-over (levelAt (meanOf n x) x) n x i q))
-    (sub-within 2 (getD x i nan) (meanOf n x) (lit≤ tt) (cell i q) (mean-within x n N h cell))
+    (within-minus 2 (getD x i nan) (meanOf n x) (lit≤ tt) (cell i q) (mean-within x n N h cell))
   where
     x : List Float
     x = over (excitedAt n b d) n l
@@ -214,7 +187,7 @@ unfolding filteredOf filterCoefOf
 filtered-within s x d l h X L =
     let w = filter-weights d l h in
     let c = filterCoefOf d in
-    weighed 3 50 (w .0) (2 ^ 53 - w .0) x (s .«lp_state») c (sub binary64 one c) (lit≤ tt) (held-upto (w .0) (w .2)) (held-upto (2 ^ 53 - w .0) (less (w .0))) (whole (w .0) (w .2)) X L (w .3) (w .4)
+    weighed 3 50 (w .0) (2 ^ 53 - w .0) x (s .«lp_state») c (sub binary64 one c) (lit≤ tt) (exact-upto (w .0) (w .2)) (exact-upto (2 ^ 53 - w .0) (less (w .0))) (whole (w .0) (w .2)) X L (w .3) (w .4)
   where
     less : (p : ℕ) → 9007199254740992 - p ≤ 9007199254740992
     less p = omega arith

@@ -16,12 +16,13 @@ use Rattle.common.specs.Tests.{rateOk}
 use Rattle.common.specs.declared.Hertz.{Hertz}
 use Rattle.answer.specs.Answer.{markNumber, voltsOf, refusalOf, accepted}
 use Rattle.answer.specs.Block.{Block}
+use Rattle.answer.specs.Promises.{AllAccepted, AllTaken}
 use Rattle.answer.specs.declared.Tally.{Tally}
 use Rattle.karplus_strong.specs.Line.{blankOf, drawsOk}
 use Rattle.karplus_strong.specs.Step.{Ticking, outOf}
 use Rattle.karplus_strong.specs.KarplusStrong.{Making, maxLenOf, roomOf, karplusStrongRefusalOf, newKarplusStrong, finiteOr, periodOf, struckLen, drawsRefusalOf, karplusStrongNewOf, karplusStrongTickOf, karplusStrongResetOf, karplusStrongSetSampleRateOf}
 use Rattle.karplus_strong.specs.Calls.{Strung, Call, Tick, Reset, SetSampleRate, Reply, Done, Refused, after, reply, FitCall, First, ReachedString}
-use Rattle.karplus_strong.specs.Blocks.{karplusStrongBlockOf}
+use Rattle.karplus_strong.specs.Blocks.{karplusStrongBlockOf, firstRefusalOf, karplusStrongAnswerOf, karplusStrongNextOf}
 use Rattle.karplus_strong.specs.declared.KarplusStrong.{KarplusStrong}
 use Rattle.karplus_strong.specs.declared.KarplusStrongControls.{KarplusStrongControls}
 
@@ -127,6 +128,13 @@ Refused-leaves = (s : KarplusStrong) (c : KarplusStrongControls) (draws : List �
 -- and every tick the rate
 abbrev pub Keeps-rate : Type 0
 Keeps-rate = (s : KarplusStrong) (c : KarplusStrongControls) (draws : List ℕ) (l : List Float) → karplusStrongTickOf s c draws l .out .«karplus_strong» .«sample_rate» ≡ s .«sample_rate»
+
+-- ---- no tick of a block is refused whose first isn't: its trigger and pitch stand still. And a tally with room takes each of their answers
+abbrev pub Block-accepts : Type 0
+Block-accepts = (x : Strung) (c : KarplusStrongControls) (draws : List ℕ) (n : ℕ) → 0 < n → firstRefusalOf (x .string) c draws (length (x .line)) n ≡ 0 → AllAccepted (karplusStrongAnswerOf c draws) (karplusStrongNextOf c draws) x
+
+abbrev pub Block-tallies : Type 0
+Block-tallies = (x : Strung) (c : KarplusStrongControls) (draws : List ℕ) (n : ℕ) → 0 < n → firstRefusalOf (x .string) c draws (length (x .line)) n ≡ 0 → AllTaken (karplusStrongAnswerOf c draws) (karplusStrongNextOf c draws) x
 
 -- ---- each contract settles the answer and the line, and a block's its samples and marks
 pub record Settled : Type 0 where

@@ -9,13 +9,14 @@ use lib.Dec.{T, leb, leb→le, lit<, lit≤, ltb, ltb→lt, nleb→lt}
 use lib.Ieee.{Float, add, binary64, down, eq, fin, fits, inf, le, lt, mul, nan, neg, ofBits, round, sub, sum, unlike, up}
 use lib.Ieee.Exact.{HasValue, round-exact}
 use lib.Ieee.Fits.{and-l, and-r, down-pos}
-use lib.Ieee.Order.{round-mono}
+use lib.Ieee.Order.{le-of-values, round-mono}
 use lib.Ieee.Positive.{den, den-pos, num, own-value, positive}
 use lib.IntN.{negsuc, pos, ℤ}
-use lib.Pow.{pow-add, pow-lt, pow-pos}
+use lib.Pow.{pow-add, pow-lt, pow-mono, pow-pos}
 use Rattle.laws.proofs.Monotone.{round-le}
 use Rattle.laws.proofs.Number.{Signed, round-signed}
-use Rattle.laws.proofs.Order.{Below, below-le, le-below, le-neg, neg-neg, values-le}
+use Rattle.laws.proofs.Order.{Below, below-le, le-below, le-neg, le-of-lt-true, neg-lt-nonneg, neg-lt-pos, neg-neg, values-le}
+use Rattle.laws.proofs.Tests.{of-true}
 use Rattle.laws.proofs.Values.{add-round, exact-at, fits-small, float-mul-comm, mul-round, neg-value, round-neg, sub-round, sum-pos-neg, unlike-plus}
 use Rattle.laws.specs.Float.{F64, InUnit, isFin, one}
 
@@ -29,6 +30,45 @@ under (inf false) (inf t) b d p D v h = absurd v
 under (inf false) (fin t n g) b d p D v h = absurd h
 under (fin true m e) y b d p D v h = absurd (true≢false p)
 under (fin false m e) y b d p D v h = (m * up e, down e, down-pos e, values-le (fin false m e) y (m * up e) (down e) b d (down-pos e) D (refl, refl) v h, (refl, refl))
+
+-- ---- x has the sign s, and |x| is at most p / d
+abbrev pub Under : ℕ → ℕ → Bool → Float → Type 0
+Under p d s x = (a : ℕ) × (c : ℕ) × (0 < c) × (a * d ≤ p * c) × HasValue x s a c
+
+-- p / d is an f64
+abbrev pub Exact : ℕ → ℕ → Type 0
+Exact p d = HasValue (round binary64 false p d) false p d
+
+pub round-under : (s : Bool) (a c p d : ℕ) → 0 < c → 0 < d → a * d ≤ p * c → Exact p d → Under p d s (round binary64 s a c)
+round-under s a c p d C D h top = go s
+  where
+    r : Under p d false (round binary64 false a c)
+    r = under (round binary64 false a c) (round binary64 false p d) p d (round-signed false a c) D top (round-mono binary64 a c p d C D h)
+
+    go : (s : Bool) → Under p d s (round binary64 s a c)
+    go false = r
+    go true = (r .0, r .1, r .2, r .3, subst (λ (z : Float). HasValue z true (r .0) (r .1)) (sym (round-neg a c)) (neg-value (round binary64 false a c) false (r .0) (r .1) (r .4)))
+
+pub sum-under : (s t : Bool) (a b c p d : ℕ) → 0 < c → 0 < d → (a + b) * d ≤ p * c → Exact p d → (r : Bool) × Under p d r (sum binary64 s a t b c)
+unfolding sum
+sum-under s t a b c p d C D h top = go (Bool·beq s t) (ltb a b)
+  where
+    less : (m n d k : ℕ) → (m + n) * d ≤ k → (m - n) * d ≤ k
+    less m n d k h = le-trans (mul-le-mul-right d (under m n)) h
+      where
+        under : (m n : ℕ) → m - n ≤ m + n
+        under m n = omega arith
+
+    more : (m n d k : ℕ) → (m + n) * d ≤ k → (n - m) * d ≤ k
+    more m n d k h = le-trans (mul-le-mul-right d (under m n)) h
+      where
+        under : (m n : ℕ) → n - m ≤ m + n
+        under m n = omega arith
+
+    go : (x y : Bool) → (r : Bool) × Under p d r (cond x (round binary64 s (a + b) c) (cond y (round binary64 t (b - a) c) (round binary64 (s && ltb b a) (a - b) c)))
+    go true y = (s, round-under s (a + b) c p d C D h top)
+    go false true = (t, round-under t (b - a) c p d C D (more a b d (p * c) h) top)
+    go false false = (s && ltb b a, round-under (s && ltb b a) (a - b) c p d C D (less a b d (p * c) h) top)
 
 -- ---- x is from 0 to 2 ^ -i
 abbrev pub Part : ℕ → Float → Type 0
@@ -58,7 +98,7 @@ between-of j i x t =
 
 pub part-round : (i a c : ℕ) → i ≤ 1074 → 0 < c → a * 2 ^ i ≤ c → Part i (round binary64 false a c)
 part-round i a c I C h =
-    let r = under (round binary64 false a c) (round binary64 false 1 (2 ^ i)) 1 (2 ^ i) (round-signed false a c) (pow-pos i) (exact-at false 1 i (lit< tt) I) (round-mono binary64 a c 1 (2 ^ i) C (pow-pos i) (le-trans h (le-of-eq (sym (one-mul c))))) in
+    let r = round-under false a c 1 (2 ^ i) C (pow-pos i) (le-trans h (le-of-eq (sym (one-mul c)))) (exact-at false 1 i (lit< tt) I) in
     (r .0, r .1, r .2, le-trans (r .3) (le-of-eq (one-mul (r .1))), r .4)
 
 pub part-mul : (i : ℕ) (x y : Float) → i ≤ 1074 → Part i x → Part 0 y → Part i (mul binary64 x y)
@@ -109,21 +149,19 @@ part-sub j i x y I p q =
 abbrev pub Sized : Bool → ℕ → Float → Type 0
 Sized s i x = (a : ℕ) × (c : ℕ) × (0 < c) × (a ≤ 2 ^ i * c) × HasValue x s a c
 
-pub round-sized : (s : Bool) (i a c : ℕ) → i ≤ 1023 → 0 < c → a ≤ 2 ^ i * c → Sized s i (round binary64 s a c)
-round-sized s i a c I C h = go s
+-- 2 ^ i is an f64
+power-exact : (i : ℕ) → i ≤ 1023 → Exact (2 ^ i) 1
+power-exact i I =
+    round-exact binary64 false (2 ^ i) 1 1 (i + 1074) (zero-lt-suc 0) (lit< tt) (subst (λ (z : ℕ). z < 2 ^ 2098) (sym (one-mul (2 ^ (i + 1074)))) (pow-lt {j = 2098} (room i I))) (sym (pow-add 2 i 1074) ∙ sym (one-mul (2 ^ (i + 1074))) ∙ sym (mul-one (1 * 2 ^ (i + 1074))))
   where
-    top : HasValue (round binary64 false (2 ^ i) 1) false (2 ^ i) 1
-    top = round-exact binary64 false (2 ^ i) 1 1 (i + 1074) (zero-lt-suc 0) (lit< tt) (subst (λ (z : ℕ). z < 2 ^ 2098) (sym (one-mul (2 ^ (i + 1074)))) (pow-lt {j = 2098} (room i I))) (sym (pow-add 2 i 1074) ∙ sym (one-mul (2 ^ (i + 1074))) ∙ sym (mul-one (1 * 2 ^ (i + 1074))))
-      where
-        room : (i : ℕ) → i ≤ 1023 → i + 1074 < 2098
-        room i h = omega arith
+    room : (i : ℕ) → i ≤ 1023 → i + 1074 < 2098
+    room i h = omega arith
 
-    r : (b : ℕ) × (d : ℕ) × (0 < d) × (b * 1 ≤ 2 ^ i * d) × HasValue (round binary64 false a c) false b d
-    r = under (round binary64 false a c) (round binary64 false (2 ^ i) 1) (2 ^ i) 1 (round-signed false a c) (zero-lt-suc 0) top (round-mono binary64 a c (2 ^ i) 1 C (zero-lt-suc 0) (le-trans (le-of-eq (mul-one a)) h))
+sized-of : (s : Bool) (i : ℕ) (x : Float) → Under (2 ^ i) 1 s x → Sized s i x
+sized-of s i x r = (r .0, r .1, r .2, le-trans (le-of-eq (sym (mul-one (r .0)))) (r .3), r .4)
 
-    go : (s : Bool) → Sized s i (round binary64 s a c)
-    go false = (r .0, r .1, r .2, le-trans (le-of-eq (sym (mul-one (r .0)))) (r .3), r .4)
-    go true = (r .0, r .1, r .2, le-trans (le-of-eq (sym (mul-one (r .0)))) (r .3), subst (λ (z : Float). HasValue z true (r .0) (r .1)) (sym (round-neg a c)) (neg-value (round binary64 false a c) false (r .0) (r .1) (r .4)))
+pub round-sized : (s : Bool) (i a c : ℕ) → i ≤ 1023 → 0 < c → a ≤ 2 ^ i * c → Sized s i (round binary64 s a c)
+round-sized s i a c I C h = sized-of s i (round binary64 s a c) (round-under s a c (2 ^ i) 1 C (zero-lt-suc 0) (le-trans (le-of-eq (mul-one a)) h) (power-exact i I))
 
 pub part-sized : (x : Float) → Part 0 x → Sized false 0 x
 part-sized x p = (p .0, p .1, p .2, le-trans (le-of-eq (sym (mul-one (p .0)))) (le-trans (p .3) (le-of-eq (sym (one-mul (p .1))))), p .4)
@@ -216,14 +254,22 @@ within-finite i nan h = absurd (h .1 .4)
 within-finite i (inf s) h = absurd (h .1 .4)
 within-finite i (fin s m e) h = tt
 
-pub within-wider : (i : ℕ) (x : Float) → Within i x → Within (suc i) x
-within-wider i x h = let p = h .1 in (h .0, (p .0, p .1, p .2, le-trans (p .3) (le-trans (double (2 ^ i * p .1)) (le-of-eq (twice i (p .1)))), p .4))
-  where
-    double : (n : ℕ) → n ≤ n * 2
-    double n = omega arith
+-- of a given number it is computed
+abbrev pub isWithin : ℕ → Float → Bool
+isWithin i nan = false
+isWithin i (inf s) = false
+isWithin i (fin s m e) = leb (m * up e) (2 ^ i * down e)
 
-    twice : (i c : ℕ) → 2 ^ i * c * 2 ≡ 2 ^ suc i * c
-    twice i c = mul-right-comm (2 ^ i) c 2 ∙ ap (λ (z : ℕ). z * c) (sym (pow-suc 2 i))
+pub within-of : (i : ℕ) (x : Float) → T (isWithin i x) → Within i x
+within-of i nan h = absurd h
+within-of i (inf s) h = absurd h
+within-of i (fin s m e) h = (s, (m * up e, down e, down-pos e, leb→le (m * up e) (2 ^ i * down e) h, (refl, refl)))
+
+pub within-to : (i j : ℕ) (x : Float) → i ≤ j → Within i x → Within j x
+within-to i j x l h = let p = h .1 in (h .0, (p .0, p .1, p .2, le-trans (p .3) (mul-le-mul-right (p .1) (pow-mono l)), p .4))
+
+pub within-neg : (i : ℕ) (x : Float) → Within i x → Within i (neg x)
+within-neg i x h = let p = h .1 in (not (h .0), (p .0, p .1, p .2, p .3, neg-value x (h .0) (p .0) (p .1) (p .4)))
 
 within-round : (i : ℕ) (s : Bool) (a c : ℕ) → i ≤ 1023 → 0 < c → a ≤ 2 ^ i * c → Within i (round binary64 s a c)
 within-round i s a c I C h = (s, round-sized s i a c I C h)
@@ -238,19 +284,9 @@ within-mul i j x y I h k =
 
 -- the size of a sum is at most that of both
 pub within-sum : (i : ℕ) (s t : Bool) (a b c : ℕ) → i ≤ 1023 → 0 < c → a + b ≤ 2 ^ i * c → Within i (sum binary64 s a t b c)
-unfolding sum
-within-sum i s t a b c I C h = go (Bool·beq s t) (ltb a b)
-  where
-    less : (m n k : ℕ) → m + n ≤ k → m - n ≤ k
-    less m n k h = omega arith
-
-    more : (m n k : ℕ) → m + n ≤ k → n - m ≤ k
-    more m n k h = omega arith
-
-    go : (x y : Bool) → Within i (cond x (round binary64 s (a + b) c) (cond y (round binary64 t (b - a) c) (round binary64 (s && ltb b a) (a - b) c)))
-    go true y = within-round i s (a + b) c I C h
-    go false true = within-round i t (b - a) c I C (more a b (2 ^ i * c) h)
-    go false false = within-round i (s && ltb b a) (a - b) c I C (less a b (2 ^ i * c) h)
+within-sum i s t a b c I C h =
+    let r = sum-under s t a b c (2 ^ i) 1 C (zero-lt-suc 0) (le-trans (le-of-eq (mul-one (a + b))) h) (power-exact i I) in
+    (r .0, sized-of (r .0) i (sum binary64 s a t b c) (r .1))
 
 pub within-add : (i : ℕ) (x y : Float) → suc i ≤ 1023 → Within i x → Within i y → Within (suc i) (add binary64 x y)
 within-add i x y I h k =
@@ -263,6 +299,10 @@ within-add i x y I h k =
   where
     twice : (u n : ℕ) → u * n + u * n ≡ u * 2 * n
     twice u n = omega arith
+
+pub within-minus : (i : ℕ) (x y : Float) → suc i ≤ 1023 → Within i x → Within i y → Within (suc i) (sub binary64 x y)
+unfolding sub
+within-minus i x y I h k = within-add i x (neg y) I h (within-neg i y k)
 
 -- two values of one sign that differ by 1 at most
 pub within-sub : (s : Bool) (x y : Float) (a c b d : ℕ) → 0 < c → 0 < d → HasValue x s a c → HasValue y s b d → a * d ≤ b * c + c * d → b * c ≤ a * d + c * d → Within 0 (sub binary64 x y)
@@ -278,14 +318,46 @@ within-sub s x y a c b d C D v w h k = subst (Within 0) (sym (sub-round x y s s 
     go false true = within-round 0 true (b * c - a * d) (c * d) (lit≤ tt) (mul-pos C D) (less (b * c) (a * d) (c * d) k)
     go false false = within-round 0 false (a * d - b * c) (c * d) (lit≤ tt) (mul-pos C D) (less (a * d) (b * c) (c * d) h)
 
+-- ---- by the order: from -2 ^ i to 2 ^ i
+pub within-between : (i : ℕ) (x : Float) → T (le (fin true 1 (pos i)) x) → T (le x (fin false 1 (pos i))) → Within i x
+within-between i nan h k = absurd (unfold le lt eq in k)
+within-between i (inf true) h k = absurd (unfold le lt eq in h)
+within-between i (inf false) h k = absurd (unfold le lt eq in k)
+within-between i (fin false m e) h k = (false, (m * up e, down e, down-pos e, plain (m * up e) (down e) (2 ^ i) (le-below false false m 1 e (pos i) k), (refl, refl)))
+  where
+    plain : (a d u : ℕ) → a * 1 ≤ 1 * u * d → a ≤ u * d
+    plain a d u h = omega arith
+within-between i (fin true m e) h k = (true, (m * up e, down e, down-pos e, plain (m * up e) (down e) (2 ^ i) (le-below true true 1 m (pos i) e h), (refl, refl)))
+  where
+    plain : (a d u : ℕ) → a * 1 ≤ 1 * u * d → a ≤ u * d
+    plain a d u h = omega arith
+
+pub within-le : (i : ℕ) (x : Float) → Within i x → T (le x (fin false 1 (pos i))) × T (le (fin true 1 (pos i)) x)
+within-le i x (s, (a, c, C, h, v)) = go s v
+  where
+    top : Float
+    top = fin false 1 (pos i)
+
+    size : HasValue top false (2 ^ i) 1
+    size = (refl, one-of (2 ^ i))
+      where
+        one-of : (u : ℕ) → 1 * u * 1 ≡ u * 1
+        one-of u = omega arith
+
+    most : a * 1 ≤ 2 ^ i * c
+    most = le-trans (le-of-eq (mul-one a)) h
+
+    go : (s : Bool) → HasValue x s a c → T (le x top) × T (le (fin true 1 (pos i)) x)
+    go false v = (le-of-values x top a c (2 ^ i) 1 C (lit< tt) v size most, le-of-lt-true (fin true 1 (pos i)) x (of-true (lt (fin true 1 (pos i)) x) (neg-lt-nonneg 1 (pos i) x a c (lit< tt) v)))
+    go true v = (
+      le-of-lt-true x top (of-true (lt x top) (neg-lt-pos x a c 1 (pos i) (lit< tt) v)),
+      unfold neg in subst (λ (z : Float). T (le (fin true 1 (pos i)) z)) (neg-neg x) (le-neg (neg x) top (le-of-values (neg x) top a c (2 ^ i) 1 C (lit< tt) (neg-value x true a c v) size most)),
+    )
+
 -- a number from -1 to 1
 pub unit-within : (x : Float) → InUnit x → Within 0 x
-unfolding ofBits
-unit-within nan h = absurd (unfold le lt eq in h .1)
-unit-within (inf true) h = absurd (unfold le lt eq neg in h .0)
-unit-within (inf false) h = absurd (unfold le lt eq in h .1)
-unit-within (fin false m e) h = (false, (m * up e, down e, down-pos e, le-trans (le-of-eq (sym (mul-one (m * up e)))) (le-below false false m 1 e (pos 0) (h .1)), (refl, refl)))
-unit-within (fin true m e) h = (true, (m * up e, down e, down-pos e, le-trans (le-of-eq (sym (mul-one (m * up e)))) (le-below true true 1 m (pos 0) e (unfold neg in h .0)), (refl, refl)))
+unfolding ofBits neg
+unit-within x h = within-between 0 x (h .0) (h .1)
 
 -- ---- the float before 1: what is below 1 is at most 1 - 2 ^ -53
 before : (n d : ℕ) → n < d → (9007199254740992 ≤ d → n < 9007199254740992) → n * 9007199254740992 ≤ 9007199254740991 * d

@@ -3,10 +3,15 @@ pub mod Order
 pub mod Values
 pub mod Unique
 pub mod Number
+pub mod Sign
 pub mod Monotone
 pub mod Near
 pub mod Interval
+pub mod Rounded
+pub mod Weights
+pub mod Zeros
 pub mod Over
+pub mod All
 pub mod Always
 pub mod Settled
 pub mod Slices

@@ -1,13 +1,13 @@
--- Rounding keeps an order, and so do a product and a quotient with a number that is finite and above 0.
+-- Rounding keeps an order, and so do a product and a quotient with a number that is finite and above 0; a larger divisor turns it round.
 use mathlib.Core.Bool.{Bool, cond, false, not, true}
 use mathlib.Core.Path.{_∙_, _≡_, ap, refl, subst, sym}
 use Prim.Native.Nat.{_*_, _<_, _≤_, zero-le, ℕ}
-use native.Mathlib.Nat.{le-of-eq, le-trans, mul-le-mul-right, mul-mul-mul-comm, mul-one, mul-pos, one-mul, zero-mul}
+use native.Mathlib.Nat.{le-of-eq, le-trans, mul-le-mul-right, mul-mul-mul-comm, mul-one, mul-pos, one-mul, zero-mul, mul-comm}
 use lib.Dec.{T, lit<}
 use lib.Ieee.{Float, binary64, div, down, eq, fin, inf, isNan, le, lt, mul, nan, neg, round, unlike, up}
 use lib.Ieee.Fits.{down-pos}
 use lib.Ieee.Order.{round-mono}
-use lib.Ieee.Positive.{den, den-pos, num, own-value, positive, value-pos}
+use lib.Ieee.Positive.{den, den-pos, num, own-value, positive, value-pos, above, above-of-le, le→cross}
 use lib.IntN.{pos, ℤ}
 use Rattle.laws.proofs.Number.{le-numbers, pos-eqb, round-number}
 use Rattle.laws.proofs.Order.{Below, float-le-trans, le-below, le-neg}
@@ -120,3 +120,39 @@ div-le k p =
   where
     N : 0 < num k
     N = value-pos k (num k) (den k) p (den-pos k) (own-value k p)
+
+-- ---- a larger divisor
+over-positive : (x y : Float) → T (positive x) → T (positive y) → div binary64 x y ≡ round binary64 false (num x * den y) (den x * num y)
+over-positive x y p q = div-round x y false (num x) (den x) (num y) (den y) (den-pos x) (den-pos y) (value-pos y (num y) (den y) q (den-pos y) (own-value y q)) (own-value x p) (own-value y q)
+
+over-inf : (x : Float) → T (positive x) → div binary64 x (inf false) ≡ fin false 0 (pos 0)
+unfolding div
+over-inf nan p = absurd p
+over-inf (inf s) p = absurd p
+over-inf (fin true m e) p = absurd p
+over-inf (fin false m e) p = refl
+
+pub div-anti : (x k y : Float) → T (positive x) → T (positive k) → T (le k y) → T (le (div binary64 x y) (div binary64 x k))
+div-anti x k y p q h = go y (above-of-le k y q h) h
+  where
+    K : 0 < num k
+    K = value-pos k (num k) (den k) q (den-pos k) (own-value k q)
+
+    cross : (a b c d e f : ℕ) → f * c ≤ e * d → a * c * (b * f) ≤ a * d * (b * e)
+    cross a b c d e f h =
+        le-trans (le-of-eq (mul-mul-mul-comm a c b f))
+        (le-trans (le-of-eq (mul-comm (a * b) (c * f)))
+        (le-trans (mul-le-mul-right (a * b) (le-trans (le-of-eq (mul-comm c f)) (le-trans h (le-of-eq (mul-comm e d)))))
+        (le-trans (le-of-eq (mul-comm (d * e) (a * b))) (le-of-eq (sym (mul-mul-mul-comm a d b e))))))
+
+    go : (y : Float) → T (above y) → T (le k y) → T (le (div binary64 x y) (div binary64 x k))
+    go nan a h = absurd a
+    go (inf true) a h = absurd a
+    go (inf false) a h = simp (over-inf x p, over-positive x k p q) (nonneg (num x * den k) (den x * num k) (mul-pos (den-pos x) K))
+    go (fin true n d) a h = absurd a
+    go (fin false n d) a h =
+        simp (over-positive x (fin false n d) p a, over-positive x k p q)
+        (round-mono binary64 (num x * down d) (den x * (n * up d)) (num x * den k) (den x * num k)
+        (mul-pos (den-pos x) (value-pos (fin false n d) (n * up d) (down d) a (down-pos d) (own-value (fin false n d) a)))
+        (mul-pos (den-pos x) K)
+        (cross (num x) (den x) (down d) (den k) (n * up d) (num k) (le→cross k (fin false n d) q a h)))

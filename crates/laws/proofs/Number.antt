@@ -101,7 +101,38 @@ is-nan nan e = refl
 is-nan (inf s) e = absurd (false≢true e)
 is-nan (fin s m d) e = absurd (false≢true e)
 
--- what passes a test is a number
+-- ---- NaN goes through a sum, a product and a quotient
+pub add-nan-r : (x : Float) → add binary64 x nan ≡ nan
+unfolding add
+add-nan-r nan = refl
+add-nan-r (inf s) = refl
+add-nan-r (fin s m e) = refl
+
+pub add-nan-l : (x : Float) → add binary64 nan x ≡ nan
+unfolding add
+add-nan-l nan = refl
+add-nan-l (inf s) = refl
+add-nan-l (fin s m e) = refl
+
+pub mul-nan-r : (x : Float) → mul binary64 x nan ≡ nan
+unfolding mul
+mul-nan-r nan = refl
+mul-nan-r (inf s) = refl
+mul-nan-r (fin s m e) = refl
+
+pub mul-nan-l : (x : Float) → mul binary64 nan x ≡ nan
+unfolding mul
+mul-nan-l nan = refl
+mul-nan-l (inf s) = refl
+mul-nan-l (fin s m e) = refl
+
+pub div-nan-r : (x : Float) → div binary64 x nan ≡ nan
+unfolding div
+div-nan-r nan = refl
+div-nan-r (inf s) = refl
+div-nan-r (fin s m e) = refl
+
+-- ---- what passes a test is a number
 pub lt-number : (x y : Float) → lt x y ≡ true → T (not (isNan x))
 unfolding lt isNan
 lt-number nan y h = absurd (false≢true h)

@@ -5,7 +5,7 @@ use Prim.Native.Nat.{ℕ, _+_, _≤_, zero, suc, _<_, _*_, zero-le}
 use native.Mathlib.Nat.{le-antisymm, le-trans, le-of-eq, mul-pos, le-refl, le-of-lt, not-le-of-lt, zero-mul, zero-lt-suc, add-comm, lt-irrefl}
 use native.Mathlib.Omega.{arith}
 use lib.Dec.{T, ltb, eqb, eqb-refl, ltb→lt, eqb→eq, nltb→le, not-T, T-not}
-use lib.Ieee.{Float, lt, le, isNan, nan, inf, fin, eq, ne, neg, up, down, below, level}
+use lib.Ieee.{Float, lt, le, isNan, nan, inf, fin, eq, ne, neg, ofBits, up, down, below, level}
 use lib.Ieee.Bits.{is-true, is-false}
 use lib.Ieee.Exact.{HasValue}
 use lib.Ieee.Fits.{up-pos, down-pos, and-l, and-r, and-i, eq→eqb}
@@ -15,6 +15,7 @@ use lib.IntN.{pos, ℤ}
 use borrow.Author.Tests.{lt-ltb, ltb-false}
 use Rattle.laws.proofs.Number.{le-numbers}
 use Rattle.laws.proofs.Tests.{and-true, or-left, or-case, eqb-iff, ltb-iff, zero-of}
+use Rattle.laws.specs.Float.{zer, isFin}
 
 -- ---- values of one sign compare as their fractions do
 pub eq-by-values : (s : Bool) (x y : Float) (a c b d : ℕ) → 0 < c → 0 < d → HasValue x s a c → HasValue y s b d → eq x y ≡ eqb (a * d) (b * c)
@@ -263,6 +264,46 @@ float-le-trans (fin s m e) (fin t n g) (fin u p f) h k =
     (below-of s (m * up e * down g) t (n * up g * down e) h)
     (below-of t (n * up g * down f) u (p * up f * down g) k))
 
+-- one of two steps strict
+pub lt-le-trans : (x y z : Float) → T (lt x y) → T (le y z) → T (lt x z)
+lt-le-trans x y z h k =
+    lt-of-le-not-ge x z (float-le-trans x y z (le-of-lt-true x y h) k) (not-T (le z x) (λ (l : T (le z x)). lt-not-ge x y h (float-le-trans y z x k l)))
+
+pub le-lt-trans : (x y z : Float) → T (le x y) → T (lt y z) → T (lt x z)
+le-lt-trans x y z h k =
+    lt-of-le-not-ge x z (float-le-trans x y z h (le-of-lt-true y z k)) (not-T (le z x) (λ (l : T (le z x)). lt-not-ge y z k (float-le-trans z x y l h)))
+
+pub lt-of-not-ge : (x y : Float) → T (not (isNan x)) → T (not (isNan y)) → le y x ≡ false → lt x y ≡ true
+lt-of-not-ge x y p q e = go (lt x y) refl
+  where
+    go : (b : Bool) → lt x y ≡ b → b ≡ true
+    go true k = refl
+    go false k = absurd (true≢false (sym (is-true (le y x) (le-of-lt-false x y p q k)) ∙ e))
+
+-- what lies above 0 and below anything is finite
+pub finite-between : (x y : Float) → lt zer x ≡ true → lt x y ≡ true → isFin x ≡ true
+unfolding lt ofBits
+finite-between nan y h k = absurd (false≢true h)
+finite-between (inf true) y h k = absurd (false≢true h)
+finite-between (inf false) nan h k = absurd (false≢true k)
+finite-between (inf false) (inf t) h k = absurd (false≢true k)
+finite-between (inf false) (fin t n d) h k = absurd (false≢true k)
+finite-between (fin s m e) y h k = refl
+
+-- what lies between finite ends is finite
+pub between-fin : (x lo hi : Float) → isFin lo ≡ true → isFin hi ≡ true → le lo x ≡ true → le x hi ≡ true → isFin x ≡ true
+unfolding le lt eq
+between-fin nan nan hi l h a b = absurd (false≢true a)
+between-fin nan (inf s) hi l h a b = absurd (false≢true l)
+between-fin nan (fin s m e) hi l h a b = absurd (false≢true a)
+between-fin (inf true) nan hi l h a b = absurd (false≢true l)
+between-fin (inf true) (inf s) hi l h a b = absurd (false≢true l)
+between-fin (inf true) (fin s m e) hi l h a b = absurd (false≢true a)
+between-fin (inf false) lo nan l h a b = absurd (false≢true h)
+between-fin (inf false) lo (inf s) l h a b = absurd (false≢true h)
+between-fin (inf false) lo (fin s m e) l h a b = absurd (false≢true b)
+between-fin (fin s m e) lo hi l h a b = refl
+
 -- ---- a sign turns it round
 pub neg-neg : (x : Float) → neg (neg x) ≡ x
 unfolding neg
@@ -315,17 +356,32 @@ lt-neg (fin true m e) (fin false n g) = ap (λ (z : ℕ). ltb 0 z) (add-comm (n 
 lt-neg (fin false m e) (fin true n g) = refl
 lt-neg (fin false m e) (fin false n g) = refl
 
+-- ---- infinity is below nothing
+pub inf-not-below : (y : Float) → lt (inf false) y ≡ false
+unfolding lt
+inf-not-below nan = refl
+inf-not-below (inf t) = refl
+inf-not-below (fin t n d) = refl
+
 -- ---- a NaN: it alone differs from itself, and it is below nothing and above nothing
-pub nan-test : (x : Float) → ne x x ≡ isNan x
-unfolding ne isNan
-nan-test nan = refl
-nan-test (inf true) = refl
-nan-test (inf false) = refl
-nan-test (fin s m e) = ap not (is-true (level s (m * up e * down e) s (m * up e * down e)) (and-i (eqb (m * up e * down e) (m * up e * down e)) (Bool·beq s s || eqb (m * up e * down e) 0) (eqb-refl (m * up e * down e)) (same s)))
+pub number-test : (x : Float) → eq x x ≡ not (isNan x)
+unfolding eq isNan
+number-test nan = refl
+number-test (inf true) = refl
+number-test (inf false) = refl
+number-test (fin s m e) = is-true (level s (m * up e * down e) s (m * up e * down e)) (and-i (eqb (m * up e * down e) (m * up e * down e)) (Bool·beq s s || eqb (m * up e * down e) 0) (eqb-refl (m * up e * down e)) (same s))
   where
     same : (s : Bool) → T (Bool·beq s s || eqb (m * up e * down e) 0)
     same true = tt
     same false = tt
+
+pub nan-test : (x : Float) → ne x x ≡ isNan x
+unfolding ne
+nan-test x = ap not (number-test x) ∙ twice (isNan x)
+  where
+    twice : (b : Bool) → not (not b) ≡ b
+    twice true = refl
+    twice false = refl
 
 pub nan-lt : (x : Float) → lt nan x ≡ false
 unfolding lt

@@ -4,11 +4,11 @@ use mathlib.Core.List.{List, [], _++_, _∷_, append-assoc, append-nil}
 use mathlib.Core.Logic.{⊎-elim}
 use mathlib.Core.Path.{_∙_, _≡_, ap, refl, sym}
 use Prim.Native.Nat.{_+_, _<_, _≤_, suc, zero, ℕ}
-use native.Mathlib.Nat.{eq-or-lt-of-le, le-of-suc-le-suc, not-suc-le-zero}
+use native.Mathlib.Nat.{eq-or-lt-of-le, le-of-suc-le-suc, not-suc-le-zero, zero-add, suc-add}
 use native.Mathlib.Numerals.{add-one}
 use native.Mathlib.Omega.{arith}
 use lib.ListN.{List·getD-append, drop, drop-of-length-le, getD, length, length-append, length-drop, set, take, take-append-drop}
-use lib.Seq.{drop-cons, ext-getD, getD-at, getD-set-other, getD-set-same, set-at, take-at, take-suc}
+use lib.Seq.{drop-cons, ext-getD, getD-at, getD-set-other, getD-set-same, set-at, take-suc}
 use Rattle.laws.specs.Lists.{over, tab}
 
 pub length-tab : {A : Type 0} (f : ℕ → A) (n : ℕ) → length (tab f n) ≡ n
@@ -53,6 +53,14 @@ tab-ext f g (suc n) h =
     let b : f n ≡ g n = h n (omega arith) in
     cc
 
+-- two runs of cells
+pub tab-append : {A : Type 0} (f : ℕ → A) (m n : ℕ) → tab f (n + m) ≡ tab f m ++ tab (λ j. f (j + m)) n
+unfolding tab
+tab-append f m zero = simp zero-add (sym (append-nil (tab f m)))
+tab-append {A} f m (suc n) =
+    ap (tab f) (suc-add n m) ∙ ap (λ (l : List A). l ++ (f (n + m) ∷ [])) (tab-append f m n)
+    ∙ append-assoc (tab f m) (tab (λ j. f (j + m)) n) (f (n + m) ∷ [])
+
 pub tab-take : {A : Type 0} (d : A) (f : ℕ → A) (l : List A) (n : ℕ) → n ≤ length l → ((i : ℕ) → i < n → f i ≡ getD l i d) → tab f n ≡ take n l
 unfolding tab
 tab-take d f l zero h e = refl
@@ -62,10 +70,6 @@ tab-take d f l (suc n) h e =
     let t : take (suc n) l ≡ take n l ++ (getD l n d ∷ []) = take-suc l n d h in
     cc
 
-pub take-over : {A : Type 0} (f : ℕ → A) (n : ℕ) (l : List A) → take n (over f n l) ≡ tab f n
-unfolding over
-take-over f n l = take-at (tab f n) (drop n l) n (length-tab f n)
-
 pub over-same : {A : Type 0} (d : A) (f : ℕ → A) (l : List A) (n : ℕ) → n ≤ length l → ((i : ℕ) → i < n → f i ≡ getD l i d) → l ≡ over f n l
 unfolding over
 over-same {A} d f l n h e = sym (take-append-drop n l) ∙ ap (λ (t : List A). t ++ drop n l) (sym (tab-take d f l n h e))
@@ -74,6 +78,14 @@ over-same {A} d f l n h e = sym (take-append-drop n l) ∙ ap (λ (t : List A). 
 pub over-all : {A : Type 0} (f : ℕ → A) (n : ℕ) (l : List A) → length l ≡ n → over f n l ≡ tab f n
 unfolding over
 over-all {A} f n l h = ap (λ (t : List A). tab f n ++ t) (drop-of-length-le l {i = n} (omega arith)) ∙ append-nil (tab f n)
+
+-- the list after the last turn
+pub over-done : {A : Type 0} (f : ℕ → A) (i n : ℕ) (l m : List A) → i ≡ n → length l ≡ n → m ≡ over f i l → m ≡ tab f n
+over-done {A} f i n l m h k e = e ∙ ap (λ (j : ℕ). over f j l) h ∙ over-all f n l k
+
+-- two lists of one number of cells
+pub tabs-alike : {A B : Type 0} (f : ℕ → A) (g : ℕ → B) (n : ℕ) (xs : List A) (ms : List B) → xs ≡ tab f n → ms ≡ tab g n → length xs ≡ length ms
+tabs-alike f g n xs ms e q = ap length e ∙ length-tab f n ∙ sym (ap length q ∙ length-tab g n)
 
 pub getD-tab : {A : Type 0} (d : A) (f : ℕ → A) (n i : ℕ) → i < n → getD (tab f n) i d ≡ f i
 unfolding tab

@@ -2,10 +2,10 @@
 use mathlib.Core.Bool.{Bool, true, false, cond, false≢true}
 use mathlib.Core.Path.{_≡_, refl, sym, ap, _∙_}
 use Prim.Native.Nat.{ℕ}
-use native.Mathlib.Omega.{arith}
 use lib.Dec.{eqb}
 use lib.Ieee.{Float, binary64, lt, le, ofBits, div, eq}
 use borrow.Author.Tests.{eqb-true}
+use Rattle.common.proofs.PhaseLaws.{accepted-state}
 use Rattle.answer.proofs.Laws.{mark-says}
 use Rattle.answer.specs.Answer.{voltsOf, accepted}
 use Rattle.answer.specs.Mark.{allFinite}
@@ -26,12 +26,7 @@ use Rattle.lfo.specs.declared.LfoControls.{LfoControls}
 -- no number refuses it: its rate and its phase are good
 pub accepts : (s : Lfo) → lfoRefusalOf s ≡ 0 → (rateOk (s .«sample_rate») ≡ true) × (phaseOk (s .phase) ≡ true)
 unfolding lfoRefusalOf
-accepts s = go (rateOk (s .«sample_rate»)) (phaseOk (s .phase))
-  where
-    go : (a b : Bool) → _≡_ {A = ℕ} (cond a (cond b 0 2) 1) 0 → (a ≡ true) × (b ≡ true)
-    go true true h = (refl, refl)
-    go true false h = absurd (omega arith)
-    go false b h = absurd (omega arith)
+accepts s h = accepted-state (rateOk (s .«sample_rate»)) (phaseOk (s .phase)) h
 
 -- the phase that the waveforms see is good too
 pub restart-ok : (p : Turns) (edge : Bool) → phaseOk p ≡ true → phaseOk (restartOf p edge) ≡ true

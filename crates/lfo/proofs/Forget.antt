@@ -4,11 +4,11 @@ use mathlib.Core.List.{_∷_}
 use mathlib.Core.Logic.{inl}
 use mathlib.Core.Path.{_≡_, refl, sym, ap, _∙_}
 use Prim.Native.Nat.{ℕ}
-use lib.Ieee.{Float, lt, le, ofBits}
-use Rattle.common.proofs.EdgeLaws.{rises-new, gate-above}
+use lib.Ieee.{Float, le}
+use Rattle.common.proofs.EdgeLaws.{rises-new, gate-above, rises-five}
 use Rattle.common.proofs.MemoLaws.{recall1-is}
 use Rattle.common.specs.Consts.{gateThreshold, five}
-use Rattle.common.specs.Edge.{risesAbove, risingAboveOf, risingOf}
+use Rattle.common.specs.Edge.{risingAboveOf, risingOf}
 use Rattle.common.specs.Memo.{newMemo1}
 use Rattle.laws.specs.Float.{F64}
 use Rattle.laws.specs.Machine.{replies, more}
@@ -41,17 +41,13 @@ forgets s h c w f a e =
     }
 
 -- ---- an edge can be had
-five-above : lt gateThreshold five ≡ true
-unfolding lt ofBits
-five-above = refl
-
 held : (s : Lfo) (c : LfoControls) (w : ℕ) → lfoSoundOf s c w .lfo .«reset_edge» ≡ record { prev = c .reset }
 unfolding lfoSoundOf risingOf risingAboveOf
 held s c w = refl
 
 rises : (edge : EdgeDetector) (prev v : Float) → edge ≡ record { prev = prev } → le prev gateThreshold ≡ true → v ≡ five → risingOf edge v .rising ≡ true
-unfolding risingOf risingAboveOf risesAbove
-rises edge prev v e l q = simp (e, q, l, five-above)
+unfolding risingOf risingAboveOf
+rises edge prev v e l q = rw (e, q) (rises-five prev l)
 
 pub edge-comes : Edge-comes
 unfolding after

@@ -1,21 +1,20 @@
 -- A block's ticks are ticks of the phase alone: its reset and its rate stand still.
-use mathlib.Core.Bool.{Bool, true, false, cond}
-use mathlib.Core.Path.{_≡_, refl, sym, ap, _∙_}
+use mathlib.Core.Bool.{Bool, true, false}
+use mathlib.Core.Path.{_≡_, ap, _∙_}
 use Prim.Native.Nat.{ℕ, _+_}
 use native.Mathlib.Numerals.{add-one}
 use lib.Ieee.{Float, binary64, add, div}
 use lib.Ieee.Fits.{add-fits}
-use lib.Dec.{eqb}
-use borrow.Author.Tests.{eq-eqb}
 use Rattle.answer.specs.Block.{afterTicks, answerAt}
-use Rattle.answer.proofs.Blocks.{Holds}
+use Rattle.answer.proofs.Blocks.{Holds, held-accepted, all-taken}
+use Rattle.answer.proofs.Laws.{mark-says}
 use Rattle.answer.specs.Mark.{markOf}
 use Rattle.answer.specs.declared.Answer.{Answer}
 use Rattle.answer.specs.declared.Volts.{Volts}
 use Rattle.common.specs.Phase.{turns, wrapOf}
-use Rattle.common.specs.Edge.{risingOf, risingAboveOf, risesAbove}
+use Rattle.common.specs.Edge.{risingOf, risingAboveOf}
 use Rattle.common.specs.Memo.{recall1}
-use Rattle.common.specs.Tests.{rateOk, phaseOk}
+use Rattle.common.specs.Tests.{phaseOk}
 use Rattle.common.proofs.EdgeLaws.{rises-once}
 use Rattle.common.proofs.MemoLaws.{recall1-again}
 use Rattle.common.proofs.PhaseLaws.{wrap-in}
@@ -26,6 +25,7 @@ use Rattle.lfo.proofs.Accepted.{accepts, restart-ok}
 use Rattle.lfo.specs.Consts.{ten}
 use Rattle.lfo.specs.Lfo.{lfoRefusalOf, lfoOutputsOf, lfoSoundOf, lfoTickOf, lfoAnswerOf, lfoNextOf}
 use Rattle.lfo.specs.Waves.{rateToHz, restartOf}
+use Rattle.lfo.specs.Promises.{Block-accepts, Block-tallies}
 use Rattle.lfo.specs.declared.Lfo.{Lfo}
 use Rattle.lfo.specs.declared.LfoControls.{LfoControls}
 use Rattle.lfo.specs.declared.LfoTicked.{LfoTicked}
@@ -81,3 +81,10 @@ holds s c wanted h =
       answers = λ p k. ap (λ (t : LfoTicked). t .answer) (tick-sounds (stateOf s c p) c wanted (state-accepted s c p h k) ∙ held-sound s c wanted p);
       moves = λ p k. ap (λ (t : LfoTicked). t .lfo) (tick-sounds (stateOf s c p) c wanted (state-accepted s c p h k) ∙ held-sound s c wanted p);
     }
+
+-- ---- so none of them is refused
+pub block-accepts : Block-accepts
+block-accepts s c wanted h = held-accepted _ _ _ _ _ _ _ _ (holds s c wanted h) (λ p. unfold heldAnswer in mark-says _ _ _ _ .is-accepted)
+
+pub block-tallies : Block-tallies
+block-tallies s c wanted h = all-taken _ _ s (block-accepts s c wanted h)

@@ -1,5 +1,4 @@
 pub mod Shared
-pub mod Magnitude
 pub mod Small
 pub mod Accepted
 pub mod Held

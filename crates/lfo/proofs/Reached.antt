@@ -4,17 +4,16 @@ use mathlib.Core.Logic.{inl}
 use mathlib.Core.Path.{_≡_, refl, sym, subst}
 use Prim.Native.Nat.{ℕ}
 use native.Mathlib.Omega.{arith}
-use lib.Ieee.{binary64, lt, le, ofBits, eq}
+use lib.Ieee.{binary64}
 use lib.Ieee.Fits.{add-fits}
 use Rattle.answer.proofs.Laws.{mark-says}
 use Rattle.answer.specs.Answer.{accepted}
 use Rattle.common.proofs.MemoLaws.{recalled1}
-use Rattle.common.proofs.PhaseLaws.{wrap-in}
-use Rattle.common.specs.Phase.{turns}
+use Rattle.common.proofs.PhaseLaws.{wrap-in, zero-in}
 use Rattle.common.specs.Promises.{Coherent1}
 use Rattle.common.specs.Tests.{rateOk, phaseOk}
 use Rattle.laws.proofs.Always.{always}
-use Rattle.laws.specs.Float.{zer, F64}
+use Rattle.laws.specs.Float.{F64}
 use Rattle.lfo.specs.Calls.{Call, keptOr, toldOf, after, reply, FitCall, First, ReachedLfo, Tick, Reset, SetSampleRate, Done, Refused}
 use Rattle.lfo.specs.Lfo.{newLfo, lfoRefusalOf, lfoNewOf, lfoSoundOf, lfoTickOf, madeUnless, lfoResetOf, rated, lfoSetSampleRateOf}
 use Rattle.lfo.specs.Promises.{Never-refused}
@@ -44,13 +43,9 @@ unfolding lfoSoundOf
 sound-accepted s c w = mark-says _ _ _ _ .is-accepted
 
 -- ---- it stays good
-zero-ok : phaseOk (turns zer) ≡ true
-unfolding phaseOk le lt eq ofBits
-zero-ok = refl
-
 pub good-new : (r : Hertz) → rateOk r ≡ true → Good (newLfo r)
 unfolding newLfo
-good-new r h = record { rate = h; phase = zero-ok; memo = inl refl }
+good-new r h = record { rate = h; phase = zero-in; memo = inl refl }
 
 first-good : (s : Lfo) → First s → Good s
 unfolding lfoNewOf
@@ -67,7 +62,7 @@ sound-good s c w g f = record { rate = g .rate; phase = wrap-in _ (add-fits bina
 after-good : (s : Lfo) (c : Call) → Good s → FitCall c → Good (after s c)
 unfolding after
 after-good s (Tick c w) g f = subst (λ (t : LfoTicked). Good (t .lfo)) (sym (tick-sounds s c w g)) (sound-good s c w g f)
-after-good s Reset g f = unfold lfoResetOf madeUnless in simp (unrefused s g) (record { rate = g .rate; phase = zero-ok; memo = g .memo })
+after-good s Reset g f = unfold lfoResetOf madeUnless in simp (unrefused s g) (record { rate = g .rate; phase = zero-in; memo = g .memo })
 after-good s (SetSampleRate r) g f = unfold lfoSetSampleRateOf madeUnless in go (rateOk r) refl
   where
     go : (b : Bool) → rateOk r ≡ b → Good (keptOr s (cond b (madeUnless (lfoRefusalOf s) (rated s r)) (made.Refused 1)))

@@ -7,49 +7,36 @@ use lib.Ieee.{Float, binary64, lt, le, mul, ofBits, sub, add, neg}
 use lib.Ieee.Bits.{is-true}
 use lib.Ieee.Fits.{and-l, and-r}
 use Rattle.answer.specs.Mark.{allFinite}
+use Rattle.common.proofs.Bounds.{phase-within, sin-within, one-within, half-within, two-within, four-within, five-within, tau-within}
 use Rattle.common.specs.Consts.{four, five, half, tau}
 use Rattle.common.specs.Phase.{turns}
 use Rattle.common.specs.Tests.{phaseOk}
+use Rattle.laws.proofs.Interval.{Within, within-add, within-between, within-finite, within-minus, within-mul, within-neg, within-of, within-to}
 use Rattle.laws.proofs.Tests.{of-true}
 use Rattle.laws.specs.Float.{zer, one, two, isFin}
-use Rattle.numeric.proofs.TrigLaws.{sin-inside}
+use Rattle.numeric.proofs.BasicLaws.{within-fabs}
 use Rattle.numeric.specs.Basic.{fabsOf}
-use Rattle.numeric.specs.Trig.{sinOf}
-use Rattle.lfo.proofs.Magnitude.{AtMost, finite, at-most-more, at-most-neg, at-most-fabs, between, upto, lt-le, inside, at-most-mul, at-most-add, at-most-sub}
 use Rattle.lfo.specs.Consts.{ten}
 use Rattle.lfo.specs.Lfo.{lfoOutputsOf}
 use Rattle.lfo.specs.Small.{most, isSmall}
 use Rattle.lfo.specs.Waves.{wants, sineOf, sinWave, triWave, sawWave, sqrWave, sinUniWave}
 
 -- ---- what goes in
-consts : AtMost 1 one × AtMost 2 two × AtMost 4 four × AtMost 5 five × AtMost 10 ten × AtMost 1 half × AtMost 7 tau
-unfolding ofBits
-consts = (lit≤ tt, lit≤ tt, lit≤ tt, lit≤ tt, lit≤ tt, lit≤ tt, lit≤ tt)
-
-phase-most : (p : Float) → phaseOk (turns p) ≡ true → AtMost 1 p
-unfolding phaseOk ofBits
-phase-most p h =
-    let t = of-true (le zer p && lt p one) h in
-    upto 1 one p (refl, refl) (and-l (le zer p) (lt p one) t) (lt-le p one (is-true (lt p one) (and-r (le zer p) (lt p one) t)))
-
-depth-most : (d : Float) → isSmall d ≡ true → AtMost 1073741824 d
-unfolding isSmall ofBits
-depth-most d h =
+depth-within : (d : Float) → isSmall d ≡ true → Within 30 d
+unfolding isSmall ofBits neg
+depth-within d h =
     let t = of-true (le d most && le (neg most) d) h in
-    between 1073741824 most d (refl, refl) (and-l (le d most) (le (neg most) d) t) (and-r (le d most) (le (neg most) d) t)
+    within-between 30 d (and-r (le d most) (le (neg most) d) t) (and-l (le d most) (le (neg most) d) t)
 
 -- the sine of a phase lies from -1 to 1
-sine-most : (p : Float) → AtMost 1 p → AtMost 1 (sineOf p)
-unfolding sineOf ofBits neg
-sine-most p h =
-    let x = at-most-mul 1 7 p tau (lit≤ tt) h (consts .6) in
-    let s = sin-inside (mul binary64 p tau) (inside 9 (mul binary64 p tau) (at-most-more 7 512 (mul binary64 p tau) (lit≤ tt) x)) in
-    between 1 one (sinOf (mul binary64 p tau)) (refl, refl) (s .1) (s .0)
+sine-within : (p : Float) → Within 0 p → Within 0 (sineOf p)
+unfolding sineOf
+sine-within p h = sin-within 3 (mul binary64 p tau) (lit≤ tt) (within-mul 0 3 p tau (lit≤ tt) h tau-within)
 
 -- ---- what comes out
-finite-if : (want : Bool) (n : ℕ) (x : Float) → AtMost n x → isFin (cond want x zer) ≡ true
+finite-if : (want : Bool) (n : ℕ) (x : Float) → Within n x → isFin (cond want x zer) ≡ true
 unfolding ofBits
-finite-if true n x h = finite n x h
+finite-if true n x h = is-true (isFin x) (within-finite n x h)
 finite-if false n x h = refl
 
 pub outputs-finite : (wanted : ℕ) (p d : Float) → phaseOk (turns p) ≡ true → isSmall d ≡ true → allFinite (lfoOutputsOf wanted p d) ≡ true
@@ -59,41 +46,41 @@ outputs-finite wanted p d h k = simp (sin-finite, tri-finite, saw-finite, sqr-fi
     scale : Float
     scale = mul binary64 five d
 
-    phase : AtMost 1 p
-    phase = phase-most p h
+    phase : Within 0 p
+    phase = phase-within p h
 
-    depth : AtMost 1073741824 d
-    depth = depth-most d k
+    depth : Within 30 d
+    depth = depth-within d k
 
-    loud : AtMost 5368709120 scale
-    loud = at-most-mul 5 1073741824 five d (lit≤ tt) (consts .3) depth
+    loud : Within 33 scale
+    loud = within-mul 3 30 five d (lit≤ tt) five-within depth
 
     sin-finite : isFin (sinWave (wants wanted 1) (sineOf p) scale) ≡ true
-    sin-finite = unfold sinWave in finite-if (wants wanted 1) 5368709120 (mul binary64 (sineOf p) scale) (at-most-mul 1 5368709120 (sineOf p) scale (lit≤ tt) (sine-most p phase) loud)
+    sin-finite = unfold sinWave in finite-if (wants wanted 1) 33 (mul binary64 (sineOf p) scale) (within-mul 0 33 (sineOf p) scale (lit≤ tt) (sine-within p phase) loud)
 
     tri-finite : isFin (triWave (wants wanted 2) p scale) ≡ true
     tri-finite =
         unfold triWave in
-        let off = at-most-fabs 2 (sub binary64 p half) (at-most-sub 1 1 p half (lit≤ tt) phase (consts .5)) in
-        let side = at-most-sub 1 8 one (mul binary64 four (fabsOf (sub binary64 p half))) (lit≤ tt) (consts .0) (at-most-mul 4 2 four (fabsOf (sub binary64 p half)) (lit≤ tt) (consts .2) off) in
-        finite-if (wants wanted 2) 48318382080 _ (at-most-mul 9 5368709120 _ scale (lit≤ tt) side loud)
+        let off = within-fabs 1 (sub binary64 p half) (within-minus 0 p half (lit≤ tt) phase half-within) in
+        let side = within-minus 3 one (mul binary64 four (fabsOf (sub binary64 p half))) (lit≤ tt) (within-to 0 3 one (lit≤ tt) one-within) (within-mul 2 1 four (fabsOf (sub binary64 p half)) (lit≤ tt) four-within off) in
+        finite-if (wants wanted 2) 37 _ (within-mul 4 33 _ scale (lit≤ tt) side loud)
 
     saw-finite : isFin (sawWave (wants wanted 4) p scale) ≡ true
     saw-finite =
         unfold sawWave in
-        let ramp = at-most-sub 2 1 (mul binary64 two p) one (lit≤ tt) (at-most-mul 2 1 two p (lit≤ tt) (consts .1) phase) (consts .0) in
-        finite-if (wants wanted 4) 16106127360 _ (at-most-mul 3 5368709120 _ scale (lit≤ tt) ramp loud)
+        let ramp = within-minus 1 (mul binary64 two p) one (lit≤ tt) (within-mul 1 0 two p (lit≤ tt) two-within phase) (within-to 0 1 one (lit≤ tt) one-within) in
+        finite-if (wants wanted 4) 35 _ (within-mul 2 33 _ scale (lit≤ tt) ramp loud)
 
     sqr-finite : isFin (sqrWave (wants wanted 8) p scale) ≡ true
-    sqr-finite = unfold sqrWave in finite-if (wants wanted 8) 5368709120 (cond (lt p half) scale (neg scale)) (go (lt p half))
+    sqr-finite = unfold sqrWave in finite-if (wants wanted 8) 33 (cond (lt p half) scale (neg scale)) (go (lt p half))
       where
-        go : (b : Bool) → AtMost 5368709120 (cond b scale (neg scale))
+        go : (b : Bool) → Within 33 (cond b scale (neg scale))
         go true = loud
-        go false = at-most-neg 5368709120 scale loud
+        go false = within-neg 33 scale loud
 
     uni-finite : isFin (sinUniWave (wants wanted 16) (sineOf p) d) ≡ true
     uni-finite =
         unfold sinUniWave in
-        let lifted = at-most-add 1 1 (mul binary64 (sineOf p) half) half (lit≤ tt) (at-most-mul 1 1 (sineOf p) half (lit≤ tt) (sine-most p phase) (consts .5)) (consts .5) in
-        let deep = at-most-mul 2 1073741824 (add binary64 (mul binary64 (sineOf p) half) half) d (lit≤ tt) lifted depth in
-        finite-if (wants wanted 16) 21474836480 _ (at-most-mul 2147483648 10 _ ten (lit≤ tt) deep (consts .4))
+        let lifted = within-add 0 (mul binary64 (sineOf p) half) half (lit≤ tt) (within-mul 0 0 (sineOf p) half (lit≤ tt) (sine-within p phase) half-within) half-within in
+        let deep = within-mul 1 30 (add binary64 (mul binary64 (sineOf p) half) half) d (lit≤ tt) lifted depth in
+        finite-if (wants wanted 16) 35 _ (within-mul 31 4 _ ten (lit≤ tt) deep (unfold ofBits in within-of 4 ten tt))

@@ -6,6 +6,7 @@ use Prim.Native.Nat.{ℕ}
 use lib.Ieee.{Float, binary64, le, div}
 use Rattle.answer.specs.Answer.{voltsOf, accepted}
 use Rattle.answer.specs.Block.{Block}
+use Rattle.answer.specs.Promises.{AllAccepted, AllTaken}
 use Rattle.answer.specs.Mark.{allFinite}
 use Rattle.common.specs.Consts.{gateThreshold, five}
 use Rattle.common.specs.Edge.{risingOf}
@@ -14,7 +15,7 @@ use Rattle.laws.specs.Float.{F64}
 use Rattle.laws.specs.Machine.{replies, Settles}
 use Rattle.lfo.specs.Calls.{Call, after, reply, ReachedLfo, Tick, Reset, SetSampleRate, Done, Refused}
 use Rattle.lfo.specs.Consts.{ten}
-use Rattle.lfo.specs.Lfo.{newLfo, lfoNewOf, lfoTickOf, lfoResetOf, lfoSetSampleRateOf, lfoBlockOf}
+use Rattle.lfo.specs.Lfo.{newLfo, lfoNewOf, lfoTickOf, lfoResetOf, lfoSetSampleRateOf, lfoBlockOf, lfoRefusalOf, lfoAnswerOf, lfoNextOf}
 use Rattle.lfo.specs.Small.{isSmall}
 use Rattle.answer.specs.declared.Tally.{Tally}
 use Rattle.common.specs.declared.Hertz.{Hertz}
@@ -57,6 +58,13 @@ Edge-comes = (s : Lfo) → ReachedLfo s → (c d : LfoControls) (v w : ℕ) → 
 abbrev pub Small-finite : Type 0
 Small-finite = (s : Lfo) (c : LfoControls) (wanted : ℕ) → isSmall (div binary64 (c .depth) ten) ≡ true
     → accepted (lfoTickOf s c wanted .answer) ≡ true → allFinite (voltsOf (lfoTickOf s c wanted .answer)) ≡ true
+
+-- ---- no tick of a block is refused whose first isn't, and a tally with room takes each of their answers
+abbrev pub Block-accepts : Type 0
+Block-accepts = (s : Lfo) (c : LfoControls) (wanted : ℕ) → lfoRefusalOf s ≡ 0 → AllAccepted (lfoAnswerOf c wanted) (lfoNextOf c wanted) s
+
+abbrev pub Block-tallies : Type 0
+Block-tallies = (s : Lfo) (c : LfoControls) (wanted : ℕ) → lfoRefusalOf s ≡ 0 → AllTaken (lfoAnswerOf c wanted) (lfoNextOf c wanted) s
 
 -- ---- each contract settles its answer
 pub record Settled : Type 0 where

@@ -11,6 +11,8 @@ use lib.Ieee.Bits.{nanBits-above, nanBits-is}
 use lib.Ieee.Fits.{down-pos, neg-fits}
 use lib.IntN.{pos}
 use borrow.Author.Tests.{le-ltb, lt-ltb, ltb-false}
+use lib.Ieee.Exact.{HasValue}
+use Rattle.laws.proofs.Interval.{Within}
 use Rattle.laws.proofs.Number.{is-nan}
 use Rattle.laws.proofs.Unique.{round-own}
 use Rattle.laws.proofs.Values.{sub-round, sub-self-zero}
@@ -52,6 +54,31 @@ fabs-turned (fin true m e) t h =
   where
     plain : (n d : ℕ) → sum binary64 false (0 * d) false (n * 1) (1 * d) ≡ round binary64 false n d
     plain n d = unfold sum in simp (zero-mul, zero-add, mul-one, one-mul)
+
+pub fabs-plain : (x : Float) (a c : ℕ) → HasValue x false a c → fabsOf x ≡ x
+unfolding fabsOf
+fabs-plain nan a c v = absurd v
+fabs-plain (inf s) a c v = absurd v
+fabs-plain (fin true m e) a c v = absurd (true≢false (v .0))
+fabs-plain (fin false m e) a c v = refl
+
+pub fabs-neg : (x : Float) → fabsOf (neg x) ≡ fabsOf x
+unfolding fabsOf neg
+fabs-neg nan = refl
+fabs-neg (inf s) = refl
+fabs-neg (fin s m e) = refl
+
+pub fabs-twice : (x : Float) → fabsOf (fabsOf x) ≡ fabsOf x
+unfolding fabsOf
+fabs-twice nan = refl
+fabs-twice (inf s) = refl
+fabs-twice (fin s m e) = refl
+
+pub within-fabs : (i : ℕ) (x : Float) → Within i x → Within i (fabsOf x)
+unfolding fabsOf
+within-fabs i nan h = absurd (h .1 .4)
+within-fabs i (inf s) h = absurd (h .1 .4)
+within-fabs i (fin s m e) h = let p = h .1 in (false, (p .0, p .1, p .2, p .3, (refl, p .4 .1)))
 
 -- ---- bits and of_bits
 -- a bit pattern up to infinity's, the sign aside, is no NaN's, and every one above is

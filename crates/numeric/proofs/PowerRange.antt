@@ -12,7 +12,7 @@ use lib.Ieee.Fits.{add-fits, down-pos}
 use lib.Ieee.Positive.{positive}
 use lib.IntN.{pos, ℤ}
 use borrow.Author.Tests.{ltb-false, ltb-true}
-use Rattle.laws.proofs.Interval.{Within, unit-within, within-add, within-finite, within-mul, within-sub, within-sum, within-wider}
+use Rattle.laws.proofs.Interval.{Within, unit-within, within-add, within-finite, within-mul, within-sub, within-sum, within-to}
 use Rattle.laws.proofs.Monotone.{round-le}
 use Rattle.laws.proofs.Near.{near-least, near-most, whole-round}
 use Rattle.laws.proofs.Number.{fin-number, mul-number}
@@ -164,7 +164,7 @@ six-within z c0 c1 c2 c3 c4 c5 Z h0 h1 h2 h3 h4 h5 =
     let q = add binary64 c2 (mul binary64 z c3) in
     let r = mul binary64 w (add binary64 c4 (mul binary64 z c5)) in
     let R = within-mul 0 1 w (add binary64 c4 (mul binary64 z c5)) (lit≤ tt) W (pair c4 c5 h4 h5) in
-    within-add 2 p (mul binary64 w (add binary64 q r)) (lit≤ tt) (within-wider 1 p (pair c0 c1 h0 h1))
+    within-add 2 p (mul binary64 w (add binary64 q r)) (lit≤ tt) (within-to 1 2 p (lit≤ tt) (pair c0 c1 h0 h1))
     (within-mul 0 2 w (add binary64 q r) (lit≤ tt) W (within-add 1 q r (lit≤ tt) (pair c2 c3 h2 h3) R))
   where
     pair : (c d : Float) → Within 0 c → Within 0 d → Within 1 (add binary64 c (mul binary64 z d))

@@ -14,16 +14,15 @@ use lib.Ieee.Exact.{HasValue}
 use lib.Ieee.Fits.{down-pos, ofInt-fits}
 use lib.Ieee.Nearest.{div-mono}
 use lib.Ieee.Order.{le-of-values}
-use lib.Ieee.Positive.{between, positive-of-value}
+use lib.Ieee.Positive.{between}
 use lib.IntN.{pos}
 use Rattle.laws.proofs.Interval.{below-one}
 use Rattle.laws.proofs.Monotone.{div-le, mul-le}
-use Rattle.laws.proofs.Number.{div-number, is-nan, le-numbers}
-use Rattle.laws.proofs.Order.{float-le-refl, le-below, le-of-lt-false, le-of-lt-true, lt-by-values, lt-nan, nan-lt}
+use Rattle.laws.proofs.Number.{div-number, le-numbers}
+use Rattle.laws.proofs.Order.{float-le-refl, le-below, le-of-lt-false, le-of-lt-true, lt-by-values, lt-nan, nan-lt, inf-not-below}
 use Rattle.laws.proofs.Tests.{of-false, zero-of}
-use Rattle.laws.proofs.Unique.{one-times}
 use Rattle.laws.proofs.Values.{ofInt-val, sub-round, sum-pos-neg}
-use Rattle.laws.specs.Float.{F64, one, two, zer}
+use Rattle.laws.specs.Float.{F64, one, two}
 use Rattle.numeric.specs.Basic.{clampOf, maxOf, minOf, realOf, wholeOf}
 use Rattle.numeric.specs.Floor.{floorOf}
 use Rattle.numeric.specs.Promises.{Clamp-nan, Clamp-range, Max-either, Max-nan, Max-range, Min-either, Min-nan, Min-range, Whole-below, Whole-monotone, Whole-real, Whole-top}
@@ -40,9 +39,6 @@ clamp-range x lo hi h q = go (lt x lo) (lt hi x) refl refl
     go true b e f = (float-le-refl lo (n .0), h)
     go false true e f = (h, float-le-refl hi (n .1))
     go false false e f = (le-of-lt-false x lo q (n .0) e, le-of-lt-false hi x (n .1) q f)
-
-pub clamp-number : (x lo hi : Float) → T (le lo hi) → T (not (isNan x)) → T (not (isNan (clampOf x lo hi)))
-clamp-number x lo hi h q = le-numbers lo (clampOf x lo hi) (clamp-range x lo hi h q .0) .1
 
 pub clamp-nan : Clamp-nan
 unfolding clampOf
@@ -122,12 +118,6 @@ whole-real n h = unsigned-back binary64 64 n (held n h) (lt-of-le-of-lt h (lit< 
   where
     held : (n : ℕ) → n ≤ 2 ^ 53 → T (inFloat binary64 (pos n))
     held n h = unfold inFloat in le→leb n (2 ^ 53) h
-
-inf-not-below : (y : Float) → lt (inf false) y ≡ false
-unfolding lt
-inf-not-below nan = refl
-inf-not-below (inf t) = refl
-inf-not-below (fin t n d) = refl
 
 pub whole-below : Whole-below
 unfolding toUnsigned
@@ -229,23 +219,6 @@ turn-whole x t h =
 
     most : wholeOf (mul binary64 last cells) ≡ 255
     most = unfold mul ofBits toUnsigned in refl
-
--- x clamped to [0, 1], times n; of a NaN 0
-pub unit-whole : (x : Float) (n : ℕ) → 0 < n → n ≤ 2 ^ 53 → wholeOf (mul binary64 (clampOf x zer one) (realOf n)) ≤ n
-unit-whole x n p h = go (isNan x) refl
-  where
-    times : mul binary64 one (realOf n) ≡ realOf n
-    times = one-times (realOf n) (ofInt-fits binary64 (pos n))
-
-    unit : T (le zer one)
-    unit = unfold le lt eq ofBits in tt
-
-    go : (b : Bool) → isNan x ≡ b → wholeOf (mul binary64 (clampOf x zer one) (realOf n)) ≤ n
-    go true e = simp (is-nan x e, clamp-nan zer one) (unfold mul toUnsigned in zero-le)
-    go false e =
-        le-trans (whole-monotone (mul binary64 (clampOf x zer one) (realOf n)) (mul binary64 one (realOf n))
-        (mul-le (realOf n) (positive-of-value (realOf n) n 1 (ofInt-val n h) p) (clampOf x zer one) one (clamp-range x zer one unit (of-false (isNan x) e) .1)))
-        (le-of-eq (ap wholeOf times ∙ whole-real n h))
 
 -- ---- the floor of a number from 0 up is its whole part
 pub floor-cast : (x : Float) (a c : ℕ) → 0 < c → F64 x → HasValue x false a c → a ≤ 2 ^ 53 * c → floorOf x ≡ realOf (wholeOf x)

@@ -4,7 +4,7 @@ use mathlib.Core.List.{List, [], _∷_, _++_}
 use mathlib.Core.Logic.{⊎-elim}
 use mathlib.Core.Path.{_≡_, refl, sym, ap, _∙_}
 use Prim.Native.Nat.{ℕ, zero, suc, _+_, _*_, _≤_, _<_}
-use native.Mathlib.Nat.{zero-add, add-zero, mul-suc, mul-le-mul-left, mul-le-mul, eq-or-lt-of-le, le-of-suc-le-suc, not-suc-le-zero}
+use native.Mathlib.Nat.{zero-add, add-zero, mul-suc, mul-le-mul-left, mul-le-mul, eq-or-lt-of-le, le-of-suc-le-suc, not-suc-le-zero, suc-add}
 use native.Mathlib.Numerals.{add-one}
 use native.Mathlib.Omega.{arith}
 use lib.Dec.{eqb, lit≤}
@@ -157,12 +157,9 @@ module _ (p : Player) (sum : p .tally .begun ≡ sumOf (p .tally)) where
   after-block (suc k) h = ap (λ (n : ℕ). afterOf n p) (sym (add-one k)) ∙ after-last p k ∙ ap nextOf (after-block k (omega arith)) ∙ block-next k (omega arith)
 
 -- ---- the texts
-suc-plus : (j k : ℕ) → suc j + k ≡ suc (j + k)
-suc-plus j k = omega arith
-
 past : {A : Type 0} (a b : List A) (d : A) (j : ℕ) → getD (a ++ b) (length a + j) d ≡ getD b j d
 past [] b d j = ap (λ (n : ℕ). getD b n d) (zero-add j)
-past (x ∷ a) b d j = ap (λ (n : ℕ). getD (x ∷ (a ++ b)) n d) (suc-plus (length a) j) ∙ past a b d j
+past (x ∷ a) b d j = ap (λ (n : ℕ). getD (x ∷ (a ++ b)) n d) (suc-add (length a) j) ∙ past a b d j
 
 -- number j of frame i
 joined-cell : {A : Type 0} (d : A) (f : ℕ → List A) (k : ℕ) → ((x : ℕ) → length (f x) ≡ k) → (n i j : ℕ) → i < n → j < k → getD (joined f n) (k * i + j) d ≡ getD (f i) j d

@@ -2,27 +2,24 @@
 use Prim.Native.Nat.{ℕ, zero, suc, _+_}
 use mathlib.Core.List.{List, _++_, append-assoc, append-nil}
 use mathlib.Core.Path.{_≡_, refl, sym, ap, _∙_}
-use native.Mathlib.Nat.{zero-add, add-zero}
+use native.Mathlib.Nat.{zero-add, add-zero, suc-add}
 use native.Mathlib.Omega.{arith}
 use Rattle.player.specs.Player.{frameOf, nextOf, textOf, afterOf}
 use Rattle.player.specs.Promises.{Pieces}
 use Rattle.player.specs.declared.Player.{Player}
 
-suc-plus : (j k : ℕ) → suc j + k ≡ suc (j + k)
-suc-plus j k = omega arith
-
 text-pieces : (p : Player) (j k : ℕ) → textOf (j + k) p ≡ textOf j p ++ textOf k (afterOf j p)
 unfolding textOf afterOf
 text-pieces p zero k = ap (λ (n : ℕ). textOf n p) (zero-add k)
 text-pieces p (suc j) k =
-    ap (λ (n : ℕ). textOf n p) (suc-plus j k)
+    ap (λ (n : ℕ). textOf n p) (suc-add j k)
     ∙ ap (λ (t : List ℕ). frameOf p ++ t) (text-pieces (nextOf p) j k)
     ∙ sym (append-assoc (frameOf p) (textOf j (nextOf p)) (textOf k (afterOf j (nextOf p))))
 
 after-pieces : (p : Player) (j k : ℕ) → afterOf (j + k) p ≡ afterOf k (afterOf j p)
 unfolding afterOf
 after-pieces p zero k = ap (λ (n : ℕ). afterOf n p) (zero-add k)
-after-pieces p (suc j) k = ap (λ (n : ℕ). afterOf n p) (suc-plus j k) ∙ after-pieces (nextOf p) j k
+after-pieces p (suc j) k = ap (λ (n : ℕ). afterOf n p) (suc-add j k) ∙ after-pieces (nextOf p) j k
 
 pub pieces : Pieces
 pieces p j k = (text-pieces p j k, after-pieces p j k)

@@ -5,12 +5,13 @@ use mathlib.Core.Bool.{Bool, true, false}
 use mathlib.Core.List.{List}
 use mathlib.Core.Path.{_≡_, refl, ap}
 use native.Mathlib.Omega.{arith}
-use lib.Dec.{T, ltb, eqb}
+use lib.Dec.{ltb, eqb}
 use lib.IntN.{pos}
 use lib.ListN.{length}
 use lib.Ieee.{binary64, le, ofInt, ofBits}
 use lib.Ieee.Order.{round-mono}
 use borrow.Author.Tests.{ltb-false}
+use lib.Ieee.Bits.{is-true}
 use Rattle.common.specs.Consts.{rateLow, rateHigh}
 use Rattle.common.specs.Tests.{rateOk}
 use Rattle.line.specs.Bytes.{ascii, sameOf}
@@ -156,10 +157,6 @@ low = refl
 high : rateHigh ≡ ofInt binary64 (pos 192000)
 unfolding ofInt ofBits
 high = refl
-
-is-true : (b : Bool) → T b → b ≡ true
-is-true true h = refl
-is-true false h = absurd h
 
 in-order : (a b : ℕ) → a ≤ b → le (ofInt binary64 (pos a)) (ofInt binary64 (pos b)) ≡ true
 unfolding ofInt

@@ -5,6 +5,7 @@ use mathlib.Core.Path.{_≡_, _∙_}
 use Prim.Native.Nat.{ℕ, zero, suc, _+_, _-_, _≤_, _<_}
 use native.Mathlib.Omega.{arith}
 use lib.ListN.{length, take, drop, drop-of-length-le}
+use Rattle.line.proofs.Laws.{rest-of}
 use Rattle.replay.specs.Judge.{verdictOf, countedOf, tallyFrom}
 use Rattle.replay.specs.Split.{untilOf, linesOf}
 use Rattle.replay.specs.Table.{rows, numberOf, runOf}
@@ -12,7 +13,7 @@ use Rattle.replay.specs.Words.{wellFormed}
 use Rattle.replay.specs.declared.judge.Tally.{Tally}
 use Rattle.replay.specs.declared.cases.Verdict.{Verdict}
 use Rattle.replay.specs.declared.cases.Verdict.the-variants.{Malformed}
-use Rattle.replay.proofs.SplitLaws.{rest-of, line-at, lines-end}
+use Rattle.replay.proofs.SplitLaws.{line-at, lines-end}
 
 -- k is none of the first n
 abbrev pub Other : ℕ → ℕ → Type 0

@@ -7,7 +7,6 @@ pub replay-settled : Settled
 replay-settled =
     record {
       until = λ text mark. settled _;
-      same = λ a b. settled _;
       «place_of» = λ names name. settled _;
       word = λ words k. settled _;
       value = λ words k. settled _;

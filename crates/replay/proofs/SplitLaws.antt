@@ -7,9 +7,11 @@ use native.Mathlib.Numerals.{add-one}
 use native.Mathlib.Omega.{arith}
 use lib.Dec.{eqb}
 use lib.ListN.{length, getD, take, drop, drop-of-length-le, length-drop}
-use lib.Seq.{drop-cons, drop-drop, take-all}
+use lib.Seq.{drop-cons, drop-drop}
 use borrow.Author.Tests.{eq-eqb, ne-eqb}
-use Rattle.replay.specs.Split.{untilOf, sameOf, inFront, linesOf, placeIn}
+use Rattle.line.proofs.Laws.{rest-of}
+use Rattle.line.specs.Bytes.{sameOf}
+use Rattle.replay.specs.Split.{untilOf, inFront, linesOf, placeIn}
 
 -- ---- up to a mark
 module _ (s : List ℕ) (i : ℕ) (h : i < length s) (mark : ℕ) where
@@ -40,34 +42,6 @@ unfolding untilOf
 until-bound mark [] = omega arith
 until-bound mark (b ∷ s) = bound-by (eqb b mark) (untilOf mark s) (length s) (until-bound mark s)
 
--- ---- the same text
-module _ (a b : List ℕ) (i : ℕ) (h : i < length a) (g : i < length b) where
-  pub same-no : (getD a i 0 ≡ getD b i 0 → ⊥) → sameOf (drop i a) (drop i b) ≡ false
-  unfolding sameOf
-  same-no e = simp (drop-cons a i 0 h, drop-cons b i 0 g, ne-eqb (getD a i 0) (getD b i 0) e)
-
-  pub same-next : getD a i 0 ≡ getD b i 0 → sameOf (drop i a) (drop i b) ≡ sameOf (drop (i + 1) a) (drop (i + 1) b)
-  unfolding sameOf
-  same-next e = simp (add-one, drop-cons a i 0 h, drop-cons b i 0 g, eq-eqb (getD a i 0) (getD b i 0) e)
-
-pub same-end : (a b : List ℕ) (i : ℕ) → length a ≤ i → length b ≤ i → sameOf (drop i a) (drop i b) ≡ true
-unfolding sameOf
-same-end a b i h g = simp (drop-of-length-le a h, drop-of-length-le b g)
-
-none : (n : ℕ) → (n ≡ n → ⊥) → ⊥
-none n h = h refl
-
-either : {x : Bool} (b : Bool) → x ≡ false → cond b x false ≡ false
-either true e = e
-either false e = refl
-
-pub same-lengths : (a b : List ℕ) → (length a ≡ length b → ⊥) → sameOf a b ≡ false
-unfolding sameOf
-same-lengths [] [] h = elim (none 0 h) [ ]
-same-lengths [] (y ∷ b) h = refl
-same-lengths (x ∷ a) [] h = refl
-same-lengths (x ∷ a) (y ∷ b) h = either (eqb x y) (same-lengths a b (λ e. h (ap suc e)))
-
 -- ---- lines
 first-by : (b : ℕ) (s : List ℕ) (x : Bool) → eqb b 10 ≡ x
     → (0 < length s → linesOf s ≡ take (untilOf 10 s) s ∷ linesOf (drop (suc (untilOf 10 s)) s))
@@ -83,10 +57,6 @@ first-line [] h = elim (no h) [ ]
     no : 0 < 0 → ⊥
     no h = omega arith
 first-line (b ∷ s) h = first-by b s (eqb b 10) refl (first-line s)
-
--- `&s[from..]` is the rest
-pub rest-of : (s : List ℕ) (from : ℕ) → take (length s - from) (drop from s) ≡ drop from s
-rest-of s from = take-all (length s - from) (drop from s) (omega (arith, length-drop from s))
 
 -- the lines from a place on: the one up to the line feed, and those after it
 pub line-at : (s : List ℕ) (from n : ℕ) → from < length s → n ≡ untilOf 10 (take (length s - from) (drop from s))

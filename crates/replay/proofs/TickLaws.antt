@@ -3,14 +3,12 @@ use mathlib.Core.Bool.{Bool, true, false, cond}
 use mathlib.Core.List.{List, [], _∷_, _++_, map}
 use mathlib.Core.Path.{_≡_, refl, sym, ap, _∙_}
 use Prim.Native.Nat.{ℕ, suc, _+_, _≤_, _<_}
-use native.Mathlib.Nat.{add-zero, le-antisymm}
+use native.Mathlib.Nat.{add-zero}
 use native.Mathlib.Omega.{arith}
 use lib.Dec.{eqb}
 use lib.Ieee.{Float, binary64, nan, toBits}
 use lib.ListN.{length, getD, drop, length-map, length-append, List·getD-map}
 use borrow.Author.Tests.{eq-eqb, ne-eqb}
-use Rattle.laws.specs.Lists.{tab, over}
-use Rattle.laws.proofs.Over.{over-all}
 use Rattle.answer.specs.Flat.{Heard, heard}
 use Rattle.exports_karplus_strong.specs.Calls.{Sounded, sounded}
 use Rattle.exports_vco.specs.Calls.{Hears}
@@ -19,10 +17,6 @@ use Rattle.replay.specs.Ticks.{heardWords, strungWords, toldWords}
 use Rattle.replay.specs.Words.{countOf, valueAt, sameFrom}
 use Rattle.replay.specs.declared.cases.Verdict.the-variants.{Same, Differs, Malformed}
 use Rattle.replay.proofs.WordLaws.{from-no, from-next, from-end}
-
--- ---- a loop that stores every cell has stored them
-pub over-done : {A : Type 0} (f : ℕ → A) (i : ℕ) (l m : List A) → i ≤ length l → length m ≡ length l → length m ≤ i → m ≡ over f i l → m ≡ tab f (length l)
-over-done {A} f i l m a b d e = e ∙ ap (λ (k : ℕ). over f k l) (le-antisymm a (rw (← b) d)) ∙ over-all f (length l) l refl
 
 -- ---- against floats
 module _ (words : List ℕ) (from : ℕ) (xs : List Float) (i : ℕ) where

@@ -10,7 +10,7 @@ use Rattle.text.specs.declared.Word.{Word}
 use Rattle.replay.specs.Held.{heldOf}
 use Rattle.replay.specs.Judge.{verdictOf, tallyOf}
 use Rattle.replay.specs.Report.{reportOf}
-use Rattle.replay.specs.Split.{untilOf, sameOf, linesOf, placeIn}
+use Rattle.replay.specs.Split.{untilOf, linesOf, placeIn}
 use Rattle.replay.specs.Table.{numberOf, runOf}
 use Rattle.replay.specs.Ticks.{lfoWords, vcoWords, supersawWords, formantWords, wavetableWords, karplusStrongWords}
 use Rattle.replay.specs.Words.{wordAt, valueAt, wellFormed}
@@ -19,7 +19,6 @@ use Rattle.replay.specs.declared.judge.Tally.{Tally}
 
 pub record Settled : Type 0 where
   pub until : (text : List ℕ) (mark : ℕ) → Settles (λ (r : ℕ). r ≡ untilOf mark text)
-  pub same : (a b : List ℕ) → Settles (λ (r : Bool). r ≡ sameOf a b)
   pub «place_of» : (names name : List ℕ) → Settles (λ (r : ℕ). r ≡ placeIn name (linesOf names))
   pub word : (words : List ℕ) (k : ℕ) → Settles (λ (r : Word). r ≡ wordAt words k)
   pub value : (words : List ℕ) (k : ℕ) → Settles (λ (r : ℕ). r ≡ valueAt words k)

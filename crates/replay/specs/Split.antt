@@ -1,19 +1,14 @@
 -- Stretches of a text.
-use mathlib.Core.Bool.{Bool, true, false, cond}
+use mathlib.Core.Bool.{cond}
 use mathlib.Core.List.{List, [], _∷_}
 use Prim.Native.Nat.{ℕ, suc}
 use lib.Dec.{eqb}
+use Rattle.line.specs.Bytes.{sameOf}
 
 -- how many bytes stand before the first mark, or in all
 unfoldable pub untilOf : ℕ → List ℕ → ℕ
 untilOf mark [] = 0
 untilOf mark (b ∷ bs) = cond (eqb b mark) 0 (suc (untilOf mark bs))
-
-unfoldable pub sameOf : List ℕ → List ℕ → Bool
-sameOf [] [] = true
-sameOf [] (b ∷ u) = false
-sameOf (a ∷ t) [] = false
-sameOf (a ∷ t) (b ∷ u) = cond (eqb a b) (sameOf t u) false
 
 -- a byte before lines belongs to the first of them
 abbrev pub inFront : ℕ → List (List ℕ) → List (List ℕ)

@@ -1,6 +1,6 @@
 // Stretches of a text.
 ghost use mathlib.Core.Path.{_≡_};
-ghost use Rattle.replay.specs.Split.{untilOf, sameOf, linesOf, placeIn};
+ghost use Rattle.replay.specs.Split.{untilOf, linesOf, placeIn};
 
 // How many bytes stand before the first `mark`, or in all.
 pub fn until(text: &[u8], mark: u8) -> usize
@@ -16,22 +16,6 @@ pub fn until(text: &[u8], mark: u8) -> usize
     i
 }
 
-pub fn same(a: &[u8], b: &[u8]) -> bool
-    ensures { λ r. ⌜ r ≡ sameOf (now (a .entry)) (now (b .entry)) ⌝ }
-{
-    if a.len() != b.len() {
-        return false;
-    }
-    let mut i = 0;
-    while i < a.len() {
-        if a[i] != b[i] {
-            return false;
-        }
-        i += 1;
-    }
-    true
-}
-
 // The number of a name among the lines of a text, or how many lines there are.
 pub fn place_of(names: &[u8], name: &[u8]) -> usize
     ensures { λ r. ⌜ r ≡ placeIn (now (name .entry)) (linesOf (now (names .entry))) ⌝ }
@@ -41,7 +25,7 @@ pub fn place_of(names: &[u8], name: &[u8]) -> usize
     while from < names.len() {
         let rest = &names[from..];
         let n = until(rest, b'\n');
-        if same(&rest[..n], name) {
+        if line::same(&rest[..n], name) {
             return k;
         }
         k += 1;

@@ -8,7 +8,7 @@ use lib.Dec.{T}
 use lib.Ieee.Fits.{add-fits}
 use lib.Ieee.{Float, nan, binary64, add}
 use lib.ListN.{length}
-use Rattle.answer.proofs.Blocks.{Holds, answer-back}
+use Rattle.answer.proofs.Blocks.{Holds, answer-back, held-accepted, all-taken}
 use Rattle.answer.proofs.Laws.{mark-says}
 use Rattle.answer.specs.Answer.{markNumber, voltsOf, answerOf}
 use Rattle.answer.specs.Block.{afterTicks, answerAt}
@@ -25,12 +25,13 @@ use Rattle.laws.specs.Float.{zer, one}
 use Rattle.laws.specs.Lists.{tab}
 use Rattle.numeric.specs.Basic.{clampOf}
 use Rattle.supersaw.proofs.LaneLaws.{sound-is, ok-by, accepts, quiet-ramped}
-use Rattle.supersaw.proofs.Loops.{all-of}
+use Rattle.laws.proofs.All.{all-of}
 use Rattle.supersaw.proofs.Sign.{small, clamp-small}
 use Rattle.supersaw.specs.Held.{heldAnswer, heldNext}
 use Rattle.supersaw.specs.Lanes.{lanesOf, lanesOk, incsOf, sawsOf, wrapsOf, sumsOf, lanesFinite, blendOf, movedOf, steppedOf, quietOf, rampedOf, advancedOf, tickedOf}
 use Rattle.supersaw.specs.Supersaw.{supersawRefusalOf, supersawSoundOf, supersawTickOf, supersawAnswerOf, supersawNextOf}
 use Rattle.supersaw.specs.Voices.{at}
+use Rattle.supersaw.specs.Promises.{Block-accepts, Block-tallies}
 use Rattle.supersaw.specs.declared.Moved.{Moved}
 use Rattle.supersaw.specs.declared.Supersaw.{Supersaw}
 use Rattle.supersaw.specs.declared.SupersawControls.{SupersawControls}
@@ -130,3 +131,10 @@ holds s c h k =
       answers = λ t g. ap (λ (r : SupersawTicked). r .answer) (tick-sounds (stateOf s c t) c (state-accepted s c t h g) ∙ held-sound s c t (g .0));
       moves = λ t g. ap (λ (r : SupersawTicked). r .supersaw) (tick-sounds (stateOf s c t) c (state-accepted s c t h g) ∙ held-sound s c t (g .0));
     }
+
+-- ---- so none of them is refused
+pub block-accepts : Block-accepts
+block-accepts s c k h = held-accepted _ _ _ _ _ _ _ _ (holds s c h k) (λ t. unfold steppedOf movedOf in mark-says _ _ _ _ .is-accepted)
+
+pub block-tallies : Block-tallies
+block-tallies s c k h = all-taken _ _ s (block-accepts s c k h)

@@ -1,5 +1,5 @@
 -- The code's lanes give what the Rust's loop gives: the loop's lines done for all at once, and a quiet tick's shortcut.
-use mathlib.Core.Bool.{Bool, true, false, cond, _&&_}
+use mathlib.Core.Bool.{Bool, true, _&&_}
 use mathlib.Core.List.{List, [], _∷_, _++_}
 use mathlib.Core.Logic.{⊎-elim}
 use mathlib.Core.Path.{_≡_, refl, sym, ap, _∙_, subst}
@@ -10,10 +10,14 @@ use lib.Dec.{T, lit<}
 use lib.ListN.{length, List·getD-append}
 use lib.Ieee.{Float, nan, binary64, round, add, sub, mul, div, lt, le, ofBits}
 use lib.Ieee.Bits.{is-true}
+use Rattle.common.proofs.PhaseLaws.{accepted-state}
 use Rattle.laws.proofs.Over.{length-tab, tab-ext, getD-tab}
-use Rattle.laws.proofs.Tests.{of-true}
+use Rattle.laws.proofs.All.{all-at, all-of}
+use Rattle.laws.proofs.Order.{lt-le-trans}
+use Rattle.laws.proofs.Sign.{Plus, mul-plus, div-plus, above-plus}
+use Rattle.laws.proofs.Tests.{both-true, of-true}
 use Rattle.laws.specs.Float.{zer, one, two, isFin}
-use Rattle.laws.specs.Lists.{tab}
+use Rattle.laws.specs.Lists.{all, tab}
 use Rattle.numeric.specs.Basic.{clampOf}
 use Rattle.common.specs.Consts.{rateLow, rateHigh}
 use Rattle.common.specs.Memo.{recall1, voctToHzAt}
@@ -21,13 +25,11 @@ use Rattle.common.specs.Phase.{turns, wrapOf, polyblepOf}
 use Rattle.common.specs.Tests.{rateOk, phaseOk}
 use Rattle.common.specs.declared.Hertz.{Hertz}
 use Rattle.common.specs.declared.Memo1.{Memo1}
-use Rattle.supersaw.proofs.FloatLaws.{lt-le-trans}
-use Rattle.supersaw.proofs.Loops.{both-true, all-at, all-of}
-use Rattle.supersaw.proofs.Sign.{Plus, mul-plus, div-plus, above-plus, small, one-plus, clamp-small}
+use Rattle.supersaw.proofs.Sign.{small, one-plus, clamp-small}
 use Rattle.supersaw.proofs.StepLaws.{Steady, steady-law}
 use Rattle.supersaw.specs.Consts.{detuneRatios, mixLevels}
 use Rattle.supersaw.specs.Lanes.{lanesOf, lanesOk, incsOf, sawsOf, sumsOf, wrapsOf, lanesFinite, mixTo, totalMix, blendOf, movedOf, steppedOf, advancedOf, tickedOf, steadyOf, lanesSteady, quietOf, rampsOf, rampedOf}
-use Rattle.supersaw.specs.Supersaw.{all, supersawRefusalOf, supersawSoundOf, supersawTickOf}
+use Rattle.supersaw.specs.Supersaw.{supersawRefusalOf, supersawSoundOf, supersawTickOf}
 use Rattle.supersaw.specs.Voices.{at, dtOf, sawOf, Voices, voiceOf, voicesOf}
 use Rattle.supersaw.specs.declared.Supersaw.{Supersaw}
 use Rattle.supersaw.specs.declared.SupersawControls.{SupersawControls}
@@ -90,13 +92,8 @@ ok-by s t b e h = sym (h ∙ ap lanesOk e ∙ lanes-ok s)
 pub accepts : (s : Supersaw) → supersawRefusalOf s ≡ 0 → (rateOk (s .«sample_rate») ≡ true) × (lanesOk (lanesOf (s .phases) (s .«sub_phase»)) ≡ true)
 unfolding supersawRefusalOf
 accepts s h =
-    let p = go (rateOk (s .«sample_rate»)) (all (λ i. phaseOk (turns (at (s .phases) i))) 7 && phaseOk (s .«sub_phase»)) h in
+    let p = accepted-state (rateOk (s .«sample_rate»)) (all (λ i. phaseOk (turns (at (s .phases) i))) 7 && phaseOk (s .«sub_phase»)) h in
     (p .0, lanes-ok s ∙ p .1)
-  where
-    go : (a b : Bool) → _≡_ {A = ℕ} (cond a (cond b 0 2) 1) 0 → (a ≡ true) × (b ≡ true)
-    go true true z = (refl, refl)
-    go true false z = absurd (omega arith)
-    go false b z = absurd (omega arith)
 
 -- ---- increments have no minus sign
 module _ (detune : Float) (base rate : Hertz) (D : T (small detune)) (B : lt zer (base .0) ≡ true) (R : rateOk rate ≡ true) where
@@ -119,7 +116,7 @@ module _ (detune : Float) (base rate : Hertz) (D : T (small detune)) (B : lt zer
       rate-plus
 
   low-plus : Plus (div binary64 (base .0) (mul binary64 two (rate .0)))
-  low-plus = div-plus (base .0) (mul binary64 two (rate .0)) (above-plus (base .0) B) (mul-plus two (rate .0) (unfold ofBits in refl) rate-plus)
+  low-plus = div-plus (base .0) (mul binary64 two (rate .0)) (above-plus (base .0) B) (mul-plus two (rate .0) (unfold ofBits in tt) rate-plus)
 
   inc-at : (i : ℕ) → i < 7 → at (incsOf detune base rate) i ≡ dtOf i detune base rate
   inc-at i l =

@@ -1,5 +1,4 @@
 pub mod Loops
-pub mod FloatLaws
 pub mod Sign
 pub mod StepLaws
 pub mod LaneLaws

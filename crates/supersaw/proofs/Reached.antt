@@ -12,18 +12,17 @@ use lib.Ieee.{Float, nan, binary64, div, round, lt, le, eq, ofBits, ofInt}
 use lib.Ieee.Fits.{add-fits}
 use borrow.Author.Tests.{eqb-true, eqb-false}
 use Rattle.laws.proofs.Always.{always}
-use Rattle.laws.specs.Float.{zer}
-use Rattle.laws.specs.Lists.{tab}
-use Rattle.common.proofs.PhaseLaws.{wrap-in}
+use Rattle.laws.specs.Lists.{all, tab}
+use Rattle.common.proofs.PhaseLaws.{wrap-in, zero-in}
 use Rattle.common.specs.Phase.{turns}
 use Rattle.common.specs.Tests.{rateOk, phaseOk}
 use Rattle.common.specs.declared.Hertz.{Hertz}
 use Rattle.answer.proofs.Laws.{mark-says}
 use Rattle.answer.specs.Answer.{accepted}
-use Rattle.supersaw.proofs.Loops.{all-at, all-of}
+use Rattle.laws.proofs.All.{all-at, all-of}
 use Rattle.supersaw.specs.Calls.{Call, Tick, Reset, SetSampleRate, Done, Refused, replyOf, after, reply, First, ReachedSupersaw}
 use Rattle.supersaw.specs.Promises.{Never-refused}
-use Rattle.supersaw.specs.Supersaw.{startPhases, newSupersaw, all, supersawRefusalOf, madeUnless, supersawNewOf, supersawSoundOf, supersawTickOf, restarted, supersawResetOf, rated, supersawSetSampleRateOf}
+use Rattle.supersaw.specs.Supersaw.{startPhases, newSupersaw, supersawRefusalOf, madeUnless, supersawNewOf, supersawSoundOf, supersawTickOf, restarted, supersawResetOf, rated, supersawSetSampleRateOf}
 use Rattle.supersaw.specs.Voices.{at, voiceOf, voicesOf}
 use Rattle.supersaw.specs.declared.Supersaw.{Supersaw}
 use Rattle.supersaw.specs.declared.SupersawControls.{SupersawControls}
@@ -58,10 +57,6 @@ start-ok = refl
 start : Phases startPhases
 start = record { size = unfold startPhases tab in refl; ok = all-at (λ (i : ℕ). phaseOk (turns (at startPhases i))) 7 start-ok }
 
-zero-ok : phaseOk (turns zer) ≡ true
-unfolding phaseOk le lt eq ofBits
-zero-ok = refl
-
 record Good (s : Supersaw) : Type 0 where
   rate : rateOk (s .«sample_rate») ≡ true
   phases : Phases (s .phases)
@@ -69,7 +64,7 @@ record Good (s : Supersaw) : Type 0 where
 
 good-new : (r : Hertz) → rateOk r ≡ true → Good (newSupersaw r)
 unfolding newSupersaw
-good-new r h = record { rate = h; phases = start; low = zero-ok }
+good-new r h = record { rate = h; phases = start; low = zero-in }
 
 not-refused : (s : Supersaw) → Good s → supersawRefusalOf s ≡ 0
 unfolding supersawRefusalOf
@@ -114,7 +109,7 @@ first-good s f = go (rateOk (f .0)) refl (f .1)
 good-after : (s : Supersaw) (c : Call) → Good s → Good (after s c)
 unfolding after
 good-after s (Tick c) h = subst (λ (t : SupersawTicked). Good (t .supersaw)) (sym (tick-is s h c)) (good-sound s h c)
-good-after s Reset h = subst (λ (m : SupersawMade). Good (m .supersaw)) (sym (reset-is s h)) (record { rate = h .rate; phases = start; low = zero-ok })
+good-after s Reset h = subst (λ (m : SupersawMade). Good (m .supersaw)) (sym (reset-is s h)) (record { rate = h .rate; phases = start; low = zero-in })
 good-after s (SetSampleRate r) h = subst (λ (m : SupersawMade). Good (m .supersaw)) (sym (rate-is s h r)) (go (rateOk r) refl)
   where
     go : (b : Bool) → rateOk r ≡ b → Good (cond b (done (rated s r)) (refused 1 s) .supersaw)

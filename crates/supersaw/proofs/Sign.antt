@@ -1,113 +1,21 @@
 -- An increment has no minus sign: its factors have none, and 1 plus a product of two numbers from -1 to 1 has none.
-use mathlib.Core.Bool.{Bool, true, false, not, cond, false≢true}
-use mathlib.Core.Path.{_≡_, refl, sym, ap, _∙_, subst}
-use Prim.Native.Nat.{ℕ, zero, suc, _+_, _-_, _*_, _^_, _≤_, _<_}
-use native.Mathlib.Nat.{zero-lt-suc, mul-pos, mul-le-mul}
+use mathlib.Core.Bool.{Bool, true, false, not, cond}
+use Prim.Native.Nat.{ℕ, _+_, _*_, _≤_}
+use native.Mathlib.Nat.{mul-pos, mul-le-mul}
 use native.Mathlib.Omega.{arith}
-use lib.Dec.{T, eqb, eqb·suc-zero, leb, ltb, leb→le, le→leb, nltb→le, lit≤}
+use lib.Dec.{T, leb, ltb, leb→le, le→leb, nltb→le}
 use lib.IntN.{pos}
-use lib.Ieee.{Float, nan, inf, fin, binary64, up, down, unlike, round, sum, add, mul, div, neg, lt, ofBits}
-use lib.Ieee.Exact.{HasValue}
+use lib.Ieee.{Float, nan, inf, fin, binary64, up, down, unlike, add, mul, lt, ofBits}
 use lib.Ieee.Fits.{down-pos}
-use Rattle.laws.proofs.Interval.{part-round}
-use Rattle.laws.proofs.Number.{Signed, round-signed}
-use Rattle.laws.proofs.Order.{neg-neg}
-use Rattle.laws.proofs.Values.{neg-round, neg-value, add-round, sum-pos-neg}
+use Rattle.laws.proofs.Sign.{Plus, one-round}
 use Rattle.laws.specs.Float.{zer, one}
 use Rattle.numeric.specs.Basic.{clampOf}
-
--- no minus sign; a NaN has none
-abbrev pub Plus : Float → Type 0
-Plus nan = Unit {0}
-Plus (inf s) = s ≡ false
-Plus (fin s m e) = s ≡ false
-
-round-plus : (a c : ℕ) → Plus (round binary64 false a c)
-round-plus a c = go (round binary64 false a c) (round-signed false a c)
-  where
-    go : (x : Float) → Signed false x → Plus x
-    go nan h = tt
-    go (inf s) h = h
-    go (fin s m e) h = h
-
-pub mul-plus : (x y : Float) → Plus x → Plus y → Plus (mul binary64 x y)
-unfolding mul
-mul-plus nan y p q = tt
-mul-plus (inf s) nan p q = tt
-mul-plus (inf s) (inf t) p q = rw (p, q)
-mul-plus (inf s) (fin t n d) p q = go (eqb n 0)
-  where
-    go : (b : Bool) → Plus (cond b nan (inf (unlike s t)))
-    go true = tt
-    go false = rw (p, q)
-mul-plus (fin s m e) nan p q = tt
-mul-plus (fin s m e) (inf t) p q = go (eqb m 0)
-  where
-    go : (b : Bool) → Plus (cond b nan (inf (unlike s t)))
-    go true = tt
-    go false = rw (p, q)
-mul-plus (fin s m e) (fin t n d) p q = rw (p, q) (round-plus (m * up e * (n * up d)) (down e * down d))
-
-pub div-plus : (x y : Float) → Plus x → Plus y → Plus (div binary64 x y)
-unfolding div
-div-plus nan y p q = tt
-div-plus (inf s) nan p q = tt
-div-plus (inf s) (inf t) p q = tt
-div-plus (inf s) (fin t n d) p q = rw (p, q)
-div-plus (fin s m e) nan p q = tt
-div-plus (fin s m e) (inf t) p q = rw (p, q)
-div-plus (fin s m e) (fin t zero d) p q = go (eqb m 0)
-  where
-    go : (b : Bool) → Plus (cond b nan (inf (unlike s t)))
-    go true = tt
-    go false = rw (p, q)
-div-plus (fin s m e) (fin t (suc n) d) p q = rw (p, q, eqb·suc-zero n) (round-plus (m * up e * down d) (suc n * up d * down e))
-
--- what is above 0 has none
-pub above-plus : (x : Float) → lt zer x ≡ true → Plus x
-unfolding lt ofBits
-above-plus nan h = tt
-above-plus (inf true) h = absurd (false≢true h)
-above-plus (inf false) h = refl
-above-plus (fin true m e) h = absurd (false≢true h)
-above-plus (fin false m e) h = refl
 
 -- from -1 to 1, or a NaN
 abbrev pub small : Float → Bool
 small nan = true
 small (inf s) = false
 small (fin s m e) = leb (m * up e) (down e)
-
-one-plus-round : (s : Bool) (a c : ℕ) → 0 < c → a ≤ c → Plus (add binary64 one (round binary64 s a c))
-unfolding sum ofBits
-one-plus-round s a c C h = go s
-  where
-    p : (b : ℕ) × (d : ℕ) × (0 < d) × (b * 2 ^ 0 ≤ d) × HasValue (round binary64 false a c) false b d
-    p = part-round 0 a c (lit≤ tt) C (whole a c h)
-      where
-        whole : (a c : ℕ) → a ≤ c → a * 1 ≤ c
-        whole a c h = omega arith
-
-    b : ℕ
-    b = p .0
-
-    d : ℕ
-    d = p .1
-
-    go : (s : Bool) → Plus (add binary64 (fin false 1 (pos 0)) (round binary64 s a c))
-    go false =
-        subst Plus (sym (add-round (fin false 1 (pos 0)) (round binary64 false a c) false false 1 1 b d (zero-lt-suc 0) (p .2) (refl, refl) (p .4)))
-        (round-plus (1 * d + b * 1) (1 * d))
-    go true =
-        subst Plus
-        (sym
-        (add-round (fin false 1 (pos 0)) (round binary64 true a c) false true 1 1 b d (zero-lt-suc 0) (p .2) (refl, refl)
-        (subst (λ (z : Float). HasValue z true b d) (sym (sym (neg-neg (round binary64 true a c)) ∙ ap neg (neg-round a c))) (neg-value (round binary64 false a c) false b d (p .4)))
-        ∙ sum-pos-neg (1 * d) (b * 1) (1 * d) (under b d (p .3))))
-        (round-plus (1 * d - b * 1) (1 * d))
-      where
-        under : (b d : ℕ) → b * 1 ≤ d → b * 1 ≤ 1 * d
-        under b d h = omega arith
 
 pub one-plus : (x y : Float) → T (small x) → T (small y) → Plus (add binary64 one (mul binary64 x y))
 unfolding mul
@@ -116,7 +24,7 @@ one-plus (inf s) y h k = absurd h
 one-plus (fin s m e) nan h k = unfold add ofBits in tt
 one-plus (fin s m e) (inf t) h k = absurd k
 one-plus (fin s m e) (fin t n d) h k =
-    one-plus-round (unlike s t) (m * up e * (n * up d)) (down e * down d) (mul-pos (down-pos e) (down-pos d)) (mul-le-mul (leb→le (m * up e) (down e) h) (leb→le (n * up d) (down d) k))
+    one-round (unlike s t) (m * up e * (n * up d)) (down e * down d) (mul-pos (down-pos e) (down-pos d)) (mul-le-mul (leb→le (m * up e) (down e) h) (leb→le (n * up d) (down d) k)) .1
 
 pub clamp-small : (x : Float) → T (small (clampOf x zer one))
 unfolding clampOf lt ofBits

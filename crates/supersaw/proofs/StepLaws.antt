@@ -1,5 +1,5 @@
 -- A phase more than an increment above its step and below the next one: in [0, 1), with no residual, and its sum needs no wrap.
-use mathlib.Core.Bool.{true, false, _&&_, true≢false, false≢true}
+use mathlib.Core.Bool.{true, false, _&&_, false≢true}
 use mathlib.Core.Path.{_≡_, refl, sym, _∙_, subst}
 use Prim.Native.Nat.{ℕ, _+_, _-_, _*_, _≤_, _<_}
 use native.Mathlib.Nat.{zero-lt-suc, mul-pos, mul-comm, mul-sub, mul-le-mul-right, le-of-mul-le-mul-right}
@@ -11,17 +11,16 @@ use lib.Ieee.Bits.{is-true}
 use lib.Ieee.Fits.{down-pos, add-fits}
 use lib.Ieee.Order.{round-mono}
 use lib.Ieee.Positive.{first-pos}
-use Rattle.laws.proofs.Order.{lt-false, lt-by-values, le-of-lt-true}
-use Rattle.laws.proofs.Tests.{of-true}
+use Rattle.laws.proofs.Order.{lt-false, lt-by-values, le-of-lt-true, lt-le-trans, le-lt-trans, finite-between, inf-not-below}
+use Rattle.laws.proofs.Rounded.{round-below-one}
+use Rattle.laws.proofs.Sign.{Plus}
+use Rattle.laws.proofs.Tests.{both-true, of-true}
 use Rattle.laws.proofs.Unique.{round-own}
 use Rattle.laws.proofs.Values.{sub-round, sum-pos-neg}
 use Rattle.laws.specs.Float.{zer, one, F64, isFin}
 use Rattle.common.proofs.PhaseLaws.{wrap-unit}
 use Rattle.common.specs.Phase.{turns, wrapOf, polyblepOf}
 use Rattle.common.specs.Tests.{phaseOk}
-use Rattle.supersaw.proofs.FloatLaws.{lt-le-trans, le-lt-trans, below-one, between-finite}
-use Rattle.supersaw.proofs.Loops.{both-true}
-use Rattle.supersaw.proofs.Sign.{Plus}
 use Rattle.supersaw.specs.Lanes.{steadyOf}
 
 pub record Steady (t dt : Float) : Type 0 where
@@ -45,7 +44,7 @@ module _ (n m : ℕ) (g e : ℤ) (F : F64 (fin false n g)) (above : m * up e * d
   next-is = unfold add sum in refl
 
   room : n * up g * down e + m * up e * down g < down g * down e
-  room = below-one (n * up g * down e + m * up e * down g) (down g * down e) (mul-pos (down-pos g) (down-pos e)) (subst (λ (z : Float). lt z one ≡ true) next-is below)
+  room = round-below-one (n * up g * down e + m * up e * down g) (down g * down e) (mul-pos (down-pos g) (down-pos e)) (subst (λ (z : Float). lt z one ≡ true) next-is below)
 
   -- t is its own rounding
   own : (a c : ℕ) → 0 < c → n * up g * c ≡ a * down g → round binary64 false a c ≡ t
@@ -102,7 +101,7 @@ module _ (n m : ℕ) (g e : ℤ) (F : F64 (fin false n g)) (above : m * up e * d
         ok = unfold phaseOk in simp (is-true (le zer t) (le-of-lt-true zer t positive), is-true (lt t one) (le-lt-trans t next one grows b));
         still = unfold polyblepOf in simp (lt-false t dt (le-of-lt-true dt t h), lt-false (sub binary64 one dt) t under);
         kept = wrap-unit next (add-fits binary64 t dt) (is-true (lt zer next) z) below;
-        finite = between-finite next (is-true (lt zer next) z) below;
+        finite = finite-between next one (is-true (lt zer next) z) below;
       }
 
 pub steady-law : (t dt : Float) → Plus dt → steadyOf t dt ≡ true → Steady t dt
@@ -114,14 +113,9 @@ steady-law t dt p h =
   where
     go : (t dt : Float) → F64 t → Plus dt → lt dt t ≡ true → lt (add binary64 t dt) one ≡ true → Steady t dt
     go t nan F p h k = absurd (false≢true (unfold lt in h))
-    go t (inf true) F p h k = absurd (true≢false p)
-    go t (inf false) F p h k = absurd (false≢true (sym (top t) ∙ h))
-      where
-        top : (t : Float) → lt (inf false) t ≡ false
-        top nan = unfold lt in refl
-        top (inf s) = unfold lt in refl
-        top (fin s n g) = unfold lt in refl
-    go t (fin true m e) F p h k = absurd (true≢false p)
+    go t (inf true) F p h k = absurd p
+    go t (inf false) F p h k = absurd (false≢true (sym (inf-not-below t) ∙ h))
+    go t (fin true m e) F p h k = absurd p
     go nan (fin false m e) F p h k = absurd (false≢true (unfold lt in h))
     go (inf true) (fin false m e) F p h k = absurd (false≢true (unfold lt in h))
     go (inf false) (fin false m e) F p h k = absurd (false≢true (unfold lt add ofBits in k))

@@ -5,7 +5,7 @@ use mathlib.Core.List.{List, [], _∷_, _++_}
 use Prim.Native.Nat.{ℕ, zero, suc}
 use lib.Ieee.{Float, binary64, add, sub, mul, div, lt, ofBits, fits}
 use Rattle.laws.specs.Float.{zer, one, two, isFin}
-use Rattle.laws.specs.Lists.{tab}
+use Rattle.laws.specs.Lists.{all, tab}
 use Rattle.common.specs.Phase.{turns, wrapOf}
 use Rattle.common.specs.Tests.{rateOk, phaseOk}
 use Rattle.common.specs.declared.Hertz.{Hertz}
@@ -14,7 +14,6 @@ use Rattle.common.specs.declared.Turns.{Turns}
 use Rattle.answer.specs.Mark.{markOf}
 use Rattle.supersaw.specs.Consts.{mixLevels}
 use Rattle.supersaw.specs.Voices.{at, dtOf, sawOf}
-use Rattle.supersaw.specs.Supersaw.{all}
 use Rattle.supersaw.specs.declared.Supersaw.{Supersaw}
 use Rattle.supersaw.specs.declared.SupersawTicked.{SupersawTicked}
 use Rattle.supersaw.specs.declared.Moved.{Moved}

@@ -4,15 +4,17 @@ use mathlib.Core.Bool.{true, cond}
 use mathlib.Core.List.{List}
 use Prim.Native.Nat.{ℕ, _<_}
 use lib.Ieee.{Float}
+use lib.ListN.{length}
 use Rattle.laws.specs.Machine.{Settles}
 use Rattle.common.specs.Phase.{turns}
 use Rattle.common.specs.Tests.{rateOk, phaseOk}
 use Rattle.common.specs.declared.Hertz.{Hertz}
 use Rattle.answer.specs.Answer.{accepted}
 use Rattle.answer.specs.Block.{Block}
+use Rattle.answer.specs.Promises.{AllAccepted, AllTaken}
 use Rattle.answer.specs.declared.Tally.{Tally}
 use Rattle.supersaw.specs.Voices.{at}
-use Rattle.supersaw.specs.Supersaw.{supersawNewOf, supersawTickOf, supersawBlockOf, supersawResetOf, supersawSetSampleRateOf}
+use Rattle.supersaw.specs.Supersaw.{supersawNewOf, supersawTickOf, supersawBlockOf, supersawResetOf, supersawSetSampleRateOf, supersawRefusalOf, supersawAnswerOf, supersawNextOf}
 use Rattle.supersaw.specs.Calls.{Done, Refused, Reset, SetSampleRate, reply, ReachedSupersaw}
 use Rattle.supersaw.specs.declared.Supersaw.{Supersaw}
 use Rattle.supersaw.specs.declared.SupersawControls.{SupersawControls}
@@ -29,6 +31,13 @@ pub record Accepting (s : Supersaw) : Type 0 where
 
 abbrev pub Never-refused : Type 0
 Never-refused = (s : Supersaw) → ReachedSupersaw s → Accepting s
+
+-- ---- no tick of a block is refused whose first isn't, and a tally with room takes each of their answers. Seven phases stand in the code's array
+abbrev pub Block-accepts : Type 0
+Block-accepts = (s : Supersaw) (c : SupersawControls) → length (s .phases) ≡ 7 → supersawRefusalOf s ≡ 0 → AllAccepted (supersawAnswerOf c) (supersawNextOf c) s
+
+abbrev pub Block-tallies : Type 0
+Block-tallies = (s : Supersaw) (c : SupersawControls) → length (s .phases) ≡ 7 → supersawRefusalOf s ≡ 0 → AllTaken (supersawAnswerOf c) (supersawNextOf c) s
 
 -- ---- each contract settles its answer, and what a block leaves in the lent slices
 pub record Settled : Type 0 where

@@ -1,11 +1,11 @@
 -- The Supersaw's calls, written from oscillators.rs, with document 01's refusals and marks.
-use mathlib.Core.Bool.{Bool, true, false, cond, _&&_}
+use mathlib.Core.Bool.{true, false, cond, _&&_}
 use mathlib.Core.List.{List}
-use Prim.Native.Nat.{ℕ, zero, suc}
+use Prim.Native.Nat.{ℕ}
 use lib.Dec.{eqb}
 use lib.Ieee.{Float, binary64, add, sub, mul, div}
 use Rattle.laws.specs.Float.{zer, one, two, isFin}
-use Rattle.laws.specs.Lists.{tab}
+use Rattle.laws.specs.Lists.{all, tab}
 use Rattle.numeric.specs.Basic.{clampOf, realOf}
 use Rattle.common.specs.Memo.{newMemo1, recall1, voctToHzAt}
 use Rattle.common.specs.Phase.{turns, wrapOf}
@@ -31,11 +31,6 @@ startPhases = tab (λ i. div binary64 (realOf i) seven) 7
 -- Supersaw::new
 unfoldable pub newSupersaw : Hertz → Supersaw
 newSupersaw r = record { phases = startPhases; «sub_phase» = turns zer; «sample_rate» = r; «freq_memo» = newMemo1 }
-
--- f holds of each number below n
-unfoldable pub all : (ℕ → Bool) → ℕ → Bool
-all f zero = true
-all f (suc n) = all f n && f n
 
 -- 0, or what refuses a state: 1 its rate, 2 one of its eight phases
 unfoldable pub supersawRefusalOf : Supersaw → ℕ

@@ -3,12 +3,13 @@ use mathlib.Core.Bool.{Bool, true, false}
 use mathlib.Core.List.{List, [], _∷_, _++_}
 use mathlib.Core.Path.{_≡_, refl, sym, ap, _∙_}
 use Prim.Native.Nat.{ℕ, suc, _+_, _≤_, _<_, min}
-use native.Mathlib.Nat.{min-eq-left, add-zero, min-eq-right}
+use native.Mathlib.Nat.{min-eq-left, min-eq-right}
 use native.Mathlib.Omega.{arith}
 use lib.Dec.{leb}
-use lib.ListN.{length, set, length-append}
+use lib.ListN.{length, length-append}
 use lib.Seq.{sets, set-out, length-sets}
 use borrow.Author.Tests.{leb-true, leb-false}
+use Rattle.laws.proofs.Slices.{sets-append}
 use Rattle.text.specs.Promises.{Put, Put-then, Put-within}
 use Rattle.text.specs.Put.{placeOf}
 
@@ -16,14 +17,6 @@ use Rattle.text.specs.Put.{placeOf}
 sets-out : (o : List ℕ) (at : ℕ) (t : List ℕ) → length o ≤ at → sets o at t ≡ o
 sets-out o at [] h = refl
 sets-out o at (a ∷ t) h = ap (λ (l : List ℕ). sets l (suc at) t) (set-out o at a h) ∙ sets-out o (suc at) t (omega arith)
-
-sets-append : (o : List ℕ) (at : ℕ) (a b : List ℕ) → sets (sets o at a) (at + length a) b ≡ sets o at (a ++ b)
-sets-append o at [] b = ap (λ (n : ℕ). sets o n b) (add-zero at)
-sets-append o at (x ∷ a) b =
-    ap (λ (n : ℕ). sets (sets (set o at x) (suc at) a) n b) (step at (length a)) ∙ sets-append (set o at x) (suc at) a b
-  where
-    step : (n m : ℕ) → n + suc m ≡ suc n + m
-    step n m = omega arith
 
 -- at a place past the end as at the end
 cut-by : (o : List ℕ) (at : ℕ) (t : List ℕ) (b : Bool) → leb (length o) at ≡ b → sets o (min (length o) at) t ≡ sets o at t

@@ -2,7 +2,7 @@
 use mathlib.Core.Bool.{Bool, true, false, cond, _&&_}
 use mathlib.Core.Path.{_≡_, refl, sym, ap, _∙_, subst}
 use Prim.Native.Nat.{ℕ, _+_, _*_, _≤_, _<_}
-use native.Mathlib.Nat.{le-of-lt, le-trans, le-of-eq, mul-one, mul-zero, mul-pos}
+use native.Mathlib.Nat.{mul-zero, mul-pos}
 use native.Mathlib.Omega.{arith}
 use lib.Dec.{T, lit<, lit≤}
 use lib.IntN.{pos}
@@ -11,12 +11,15 @@ use lib.Ieee.{Float, nan, inf, fin, binary64, lt, le, eq, add, sub, mul, neg, ro
 use lib.Ieee.Exact.{HasValue}
 use lib.Ieee.Fits.{and-r, down-pos}
 use Rattle.laws.specs.Float.{zer, one, two, F64, isFin}
-use Rattle.laws.proofs.Order.{lt-false, float-le-trans, values-le}
+use Rattle.laws.proofs.Interval.{Within, within-add, within-finite, within-minus, within-mul, within-neg, within-to}
+use Rattle.laws.proofs.Order.{lt-false, le-of-lt-true, float-le-trans, values-le}
+use Rattle.laws.proofs.Rounded.{Rounded, rounded}
 use Rattle.laws.proofs.Tests.{of-true}
 use Rattle.laws.proofs.Values.{mul-round, round-zero}
 use Rattle.numeric.specs.Basic.{fabsOf}
 use Rattle.numeric.specs.Trig.{sinOf}
-use Rattle.numeric.proofs.TrigLaws.{sin-inside}
+use Rattle.numeric.proofs.BasicLaws.{within-fabs}
+use Rattle.common.proofs.Bounds.{phase-within, sin-within, zer-within, one-within, half-within, two-within, four-within, five-within, tau-within}
 use Rattle.common.specs.Consts.{four, five, half, tau}
 use Rattle.common.specs.Phase.{turns, polyblepOf, polyblampOf}
 use Rattle.common.specs.Tests.{phaseOk}
@@ -24,12 +27,9 @@ use Rattle.answer.specs.Answer.{answerOf}
 use Rattle.answer.specs.Mark.{allFinite, markOf, ruleOf}
 use Rattle.vco.specs.Waves.{outOf, sineOf, sawOf, levelOf, pwEdgeOf, sqrOf, cornerHalfOf, triOf, steppedOf, Quiet}
 use Rattle.vco.specs.Vco.{wants, plainVolts, vcoVoltsOf, vcoAnswerOf}
-use Rattle.vco.proofs.Within.{Rounded, rounded, Within, within-finite, within-mul, within-add, within-sub, within-to, within-fabs, within-neg, within-unit, within-inside, lt-le}
-use Rattle.vco.proofs.PulseLaws.{phase-value}
 use Rattle.vco.proofs.QuietLaws.{away}
 use Rattle.common.specs.declared.Crossing.{Crossing}
 use Rattle.common.specs.declared.Crossing.the-variants.{Nowhere}
-use Rattle.answer.specs.declared.Volts.{Volts}
 use Rattle.answer.specs.declared.Answer.the-variants as answer
 
 -- ---- the test
@@ -40,7 +40,7 @@ calm t w h k = (simp (lt-false t w h, lt-false (sub binary64 one w) t k), simp (
 
 below-one : (p : Float) → phaseOk (turns p) ≡ true → T (le p one)
 unfolding phaseOk
-below-one p h = lt-le p one (is-true (lt p one) (and-r (le zer p) (lt p one) (of-true (le zer p && lt p one) h)))
+below-one p h = le-of-lt-true p one (and-r (le zer p) (lt p one) (of-true (le zer p && lt p one) h))
 
 pub quiet-of : (at : Crossing) (p edge w : Float) → F64 p → F64 w → phaseOk (turns p) ≡ true → fabsOf w ≡ w → at ≡ Nowhere
     → le w (fabsOf (sub binary64 p half)) ≡ true → lt (fabsOf (sub binary64 p half)) (sub binary64 half w) ≡ true → le w edge ≡ true → le edge (sub binary64 one w) ≡ true → Quiet at p edge w
@@ -56,12 +56,6 @@ quiet-of at p edge w t u h m n l k i j =
       small = float-le-trans w p one (a .above) (below-one p h);
     }
 
-pub fabs-twice : (x : Float) → fabsOf (fabsOf x) ≡ fabsOf x
-unfolding fabsOf
-fabs-twice nan = refl
-fabs-twice (inf s) = refl
-fabs-twice (fin s m e) = refl
-
 -- ---- the samples
 -- a magnitude of at most 1: four of it are a number that isn't negative
 tick-value : (dt : Float) → T (le (fabsOf dt) one) → Within 0 dt × Rounded (mul binary64 four (fabsOf dt)) 0 4 0
@@ -73,11 +67,11 @@ tick-value (fin s m e) h =
     let v : HasValue four false 4 1 = unfold ofBits in (refl, refl) in
     let k : m * up e * 1 ≤ 1 * down e = values-le (fin false m e) one (m * up e) (down e) 1 1 (down-pos e) (lit< tt) (refl, refl) o h in
     let f = fit (m * up e) (down e) (down-pos e) k in (
-      (s, m * up e, down e, down-pos e, f .0, (refl, refl)),
+      (s, (m * up e, down e, down-pos e, f .0, (refl, refl))),
       subst (λ (z : Float). Rounded z 0 4 0) (sym (mul-round four (fin false m e) false false 4 1 (m * up e) (down e) (lit< tt) (down-pos e) v (refl, refl))) (rounded (4 * (m * up e)) (1 * down e) 0 4 0 (f .1) (lit< tt) (lit< tt) (lit≤ tt) (f .2) (f .3)),
     )
   where
-    fit : (n d : ℕ) → 0 < d → n * 1 ≤ 1 * d → (n ≤ d * 1) × (0 < 1 * d) × (0 * (1 * d) ≤ 4 * n * 1) × (4 * n * 1 ≤ 4 * (1 * d))
+    fit : (n d : ℕ) → 0 < d → n * 1 ≤ 1 * d → (n ≤ 1 * d) × (0 < 1 * d) × (0 * (1 * d) ≤ 4 * n * 1) × (4 * n * 1 ≤ 4 * (1 * d))
     fit n d p h = (omega arith, omega arith, omega arith, omega arith)
 
 still : (w : Float) → Rounded (mul binary64 four w) 0 4 0 → mul binary64 (mul binary64 four w) zer ≡ zer
@@ -94,57 +88,27 @@ unfolding vcoVoltsOf steppedOf
 quiet-volts at p old pw w wanted q z = simp (q .nowhere, q .wrap, q .fall, q .lower, q .upper, z)
 
 -- ---- they are finite
-phase-within : (p : Float) → phaseOk (turns p) ≡ true → Within 0 p
-phase-within p h = let f = phase-value p h in (f .sign, f .top, f .bottom, f .bottom-pos, le-trans (le-of-lt (f .below)) (le-of-eq (sym (mul-one (f .bottom)))), f .value)
-
-zer-within : Within 0 zer
-unfolding ofBits
-zer-within = (false, 0, 1, lit< tt, lit≤ tt, (refl, refl))
-
-one-within : Within 0 one
-unfolding ofBits
-one-within = (false, 1, 1, lit< tt, lit≤ tt, (refl, refl))
-
-half-within : Within 0 half
-unfolding ofBits
-half-within = (false, 1, 2, lit< tt, lit≤ tt, (refl, refl))
-
-two-within : Within 1 two
-unfolding ofBits
-two-within = (false, 2, 1, lit< tt, lit≤ tt, (refl, refl))
-
-four-within : Within 2 four
-unfolding ofBits
-four-within = (false, 4, 1, lit< tt, lit≤ tt, (refl, refl))
-
-five-within : Within 3 five
-unfolding ofBits
-five-within = (false, 5, 1, lit< tt, lit≤ tt, (refl, refl))
-
-tau-within : Within 3 tau
-unfolding ofBits
-tau-within = (false, 884279719003555, 140737488355328, lit< tt, lit≤ tt, (refl, refl))
-
-out-finite : (want : Bool) (k : ℕ) (x : Float) → k + 3 ≤ 52 → Within k x → isFin (outOf want x) ≡ true
+out-finite : (want : Bool) (k : ℕ) (x : Float) → k + 3 ≤ 1023 → Within k x → isFin (outOf want x) ≡ true
 unfolding outOf
-out-finite true k x h p = within-finite (k + 3) (mul binary64 x five) (within-mul k 3 x five h p five-within)
+out-finite true k x h p = is-true _ (within-finite (k + 3) (mul binary64 x five) (within-mul k 3 x five h p five-within))
 out-finite false k x h p = unfold ofBits in refl
 
 sine-finite : (want : Bool) (p : Float) → Within 0 p → isFin (sineOf want p) ≡ true
 unfolding sineOf
-sine-finite true p h = within-finite 3 (mul binary64 (sinOf (mul binary64 p tau)) five) (within-mul 0 3 (sinOf (mul binary64 p tau)) five (lit≤ tt) (within-unit (sinOf (mul binary64 p tau)) (sin-inside (mul binary64 p tau) (within-inside (mul binary64 p tau) (within-mul 0 3 p tau (lit≤ tt) h tau-within)))) five-within)
+sine-finite true p h =
+    is-true _ (within-finite 3 (mul binary64 (sinOf (mul binary64 p tau)) five) (within-mul 0 3 (sinOf (mul binary64 p tau)) five (lit≤ tt) (sin-within 3 (mul binary64 p tau) (lit≤ tt) (within-mul 0 3 p tau (lit≤ tt) h tau-within)) five-within))
 sine-finite false p h = unfold ofBits in refl
 
 saw-within : (p : Float) → Within 0 p → Within 3 (sawOf p zer)
 unfolding sawOf
 saw-within p h =
     let a = within-mul 1 0 two p (lit≤ tt) two-within h in
-    let b = within-sub 1 (mul binary64 two p) one (lit≤ tt) a (within-to 0 1 one (lit≤ tt) one-within) in
-    within-sub 2 (sub binary64 (mul binary64 two p) one) zer (lit≤ tt) b (within-to 0 2 zer (lit≤ tt) zer-within)
+    let b = within-minus 1 (mul binary64 two p) one (lit≤ tt) a (within-to 0 1 one (lit≤ tt) one-within) in
+    within-minus 2 (sub binary64 (mul binary64 two p) one) zer (lit≤ tt) b (within-to 0 2 zer (lit≤ tt) zer-within)
 
 sqr-within : (p pw : Float) → Within 2 (sqrOf p pw zer zer)
 unfolding sqrOf levelOf
-sqr-within p pw = let b = within-add 0 (levelOf p pw) zer (lit≤ tt) (level (lt p pw)) zer-within in within-sub 1 (add binary64 (levelOf p pw) zer) zer (lit≤ tt) b (within-to 0 1 zer (lit≤ tt) zer-within)
+sqr-within p pw = let b = within-add 0 (levelOf p pw) zer (lit≤ tt) (level (lt p pw)) zer-within in within-minus 1 (add binary64 (levelOf p pw) zer) zer (lit≤ tt) b (within-to 0 1 zer (lit≤ tt) zer-within)
   where
     level : (b : Bool) → Within 0 (cond b one (neg one))
     level true = one-within
@@ -154,11 +118,11 @@ tri-within : (p : Float) → Within 0 p → Within 6 (triOf p zer zer)
 unfolding triOf
 tri-within p h =
     let x = sub binary64 p half in
-    let a = within-fabs 1 x (within-sub 0 p half (lit≤ tt) h half-within) in
+    let a = within-fabs 1 x (within-minus 0 p half (lit≤ tt) h half-within) in
     let b = within-mul 2 1 four (fabsOf x) (lit≤ tt) four-within a in
-    let c = within-sub 3 one (mul binary64 four (fabsOf x)) (lit≤ tt) (within-to 0 3 one (lit≤ tt) one-within) b in
+    let c = within-minus 3 one (mul binary64 four (fabsOf x)) (lit≤ tt) (within-to 0 3 one (lit≤ tt) one-within) b in
     let d = within-add 4 (sub binary64 one (mul binary64 four (fabsOf x))) zer (lit≤ tt) c (within-to 0 4 zer (lit≤ tt) zer-within) in
-    within-sub 5 (add binary64 (sub binary64 one (mul binary64 four (fabsOf x))) zer) zer (lit≤ tt) d (within-to 0 5 zer (lit≤ tt) zer-within)
+    within-minus 5 (add binary64 (sub binary64 one (mul binary64 four (fabsOf x))) zer) zer (lit≤ tt) d (within-to 0 5 zer (lit≤ tt) zer-within)
 
 plain-finite : (p pw : Float) (wanted : ℕ) → Within 0 p → allFinite (plainVolts p pw wanted) ≡ true
 unfolding allFinite
@@ -172,7 +136,7 @@ unfolding markOf ruleOf answerOf
 quiet-clean at p old pw dt wanted h q =
     let t = tick-value dt (q .small) in
     let w = phase-within p h in
-    simp (quiet-volts at p old pw (fabsOf dt) wanted q (still (fabsOf dt) (t .1)), plain-finite p pw wanted w, within-finite 1 (add binary64 p dt) (within-add 0 p dt (lit≤ tt) w (t .0)))
+    simp (quiet-volts at p old pw (fabsOf dt) wanted q (still (fabsOf dt) (t .1)), plain-finite p pw wanted w, is-true (isFin (add binary64 p dt)) (within-finite 1 (add binary64 p dt) (within-add 0 p dt (lit≤ tt) w (t .0))))
 
 pub quiet-answer : (at : Crossing) (p old pw dt : Float) (wanted : ℕ) → phaseOk (turns p) ≡ true → Quiet at p (pwEdgeOf p pw) (fabsOf dt)
     → answer.Clean (plainVolts p pw wanted) ≡ vcoAnswerOf at p old pw dt wanted

@@ -3,15 +3,14 @@ use mathlib.Core.Bool.{Bool, true}
 use mathlib.Core.Logic.{inl}
 use mathlib.Core.Path.{_≡_, refl, sym, ap, _∙_}
 use Prim.Native.Nat.{ℕ}
-use lib.Dec.{T}
-use lib.Ieee.{Float, lt, le, ofBits}
+use lib.Ieee.{le}
 use lib.Ieee.Bits.{is-true}
 use Rattle.laws.specs.Float.{zer}
 use Rattle.laws.specs.Machine.{replies}
-use Rattle.common.specs.Consts.{gateThreshold, five}
+use Rattle.common.specs.Consts.{gateThreshold}
 use Rattle.common.specs.Edge.{risesAbove, crossedAboveOf, crossedOf}
 use Rattle.common.specs.Memo.{newMemo3, filled3, recall3}
-use Rattle.common.proofs.EdgeLaws.{rises-new, gate-above}
+use Rattle.common.proofs.EdgeLaws.{rises-new, gate-above, rises-five}
 use Rattle.common.proofs.MemoLaws.{recall3-is}
 use Rattle.answer.specs.Answer.{voltsOf}
 use Rattle.answer.specs.Mark.{markOf}
@@ -72,10 +71,6 @@ forgets s h c wanted f a e =
     }
 
 -- low, and then 5.0 V
-rises-five : (v : Float) → T (le v gateThreshold) → risesAbove gateThreshold v five ≡ true
-unfolding risesAbove
-rises-five v h = rw (is-true (le v gateThreshold) h) (unfold lt ofBits in refl)
-
 prev-is : (s : Vco) → Good s → (c : VcoControls) (wanted : ℕ) → after s (Tick c wanted) .«sync_edge» .prev ≡ c .sync
 prev-is s g c wanted = let e : vcoSoundOf s c wanted .vco .«sync_edge» .prev ≡ c .sync = unfold vcoSoundOf crossedOf crossedAboveOf in refl in ap (λ (t : Vco). t .«sync_edge» .prev) (after-tick s g c wanted) ∙ e
 
@@ -85,5 +80,5 @@ edge-comes s h c d wanted low high =
     record {
       first = good-accepts s g .tick c wanted;
       second = good-accepts (after s (Tick c wanted)) (good-after s g (Tick c wanted)) .tick d wanted;
-      edge = rw (prev-is s g c wanted, high) (rises-five (c .sync) low);
+      edge = rw (prev-is s g c wanted, high) (rises-five (c .sync) (is-true (le (c .sync) gateThreshold) low));
     }

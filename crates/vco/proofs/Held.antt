@@ -1,5 +1,5 @@
 -- A block's ticks are ticks of the phase alone, after a first that may take the edge: the controls stand still.
-use mathlib.Core.Bool.{Bool, true, false, cond}
+use mathlib.Core.Bool.{true}
 use mathlib.Core.Path.{_≡_, refl, sym, ap, _∙_}
 use Prim.Native.Nat.{ℕ, zero, suc, _+_, _<_}
 use native.Mathlib.Numerals.{add-one}
@@ -7,11 +7,11 @@ use native.Mathlib.Omega.{arith}
 use lib.Ieee.{Float, binary64, add, div}
 use lib.Ieee.Fits.{add-fits}
 use Rattle.answer.specs.Block.{afterTicks, answerAt}
-use Rattle.answer.proofs.Blocks.{Holds, held-after}
+use Rattle.answer.proofs.Blocks.{Holds, held-after, held-accepted, all-taken}
+use Rattle.answer.proofs.Laws.{mark-says}
 use Rattle.answer.specs.declared.Answer.{Answer}
-use Rattle.common.specs.Consts.{gateThreshold}
 use Rattle.common.specs.Phase.{turns, wrapOf}
-use Rattle.common.specs.Edge.{crossedOf, crossedAboveOf, risesAbove}
+use Rattle.common.specs.Edge.{crossedOf, crossedAboveOf}
 use Rattle.common.specs.Memo.{recall3}
 use Rattle.common.specs.Tests.{phaseOk}
 use Rattle.common.proofs.EdgeLaws.{rises-once}
@@ -24,10 +24,11 @@ use Rattle.common.specs.declared.Crossing.{Crossing}
 use Rattle.common.specs.declared.Crossing.the-variants.{Nowhere, At}
 use Rattle.numeric.specs.Basic.{clampOf}
 use Rattle.vco.specs.Consts.{pwLow, pwHigh}
-use Rattle.vco.specs.Vco.{frequencyOf, restartOf, vcoAnswerOf, vcoSoundOf, vcoRefusalOf, vcoTickOf, vcoToldOf, vcoNextOf}
+use Rattle.vco.specs.Vco.{frequencyOf, restartOf, vcoAnswerOf, vcoSoundOf, vcoRefusalOf, vcoToldOf, vcoNextOf}
 use Rattle.vco.specs.Held.{Held, held, heldAnswer, heldNext}
 use Rattle.vco.proofs.StateLaws.{unrefused}
 use Rattle.vco.proofs.Reached.{tick-sound}
+use Rattle.vco.specs.Promises.{Block-accepts, Block-tallies}
 use Rattle.vco.specs.declared.Vco.{Vco}
 use Rattle.vco.specs.declared.VcoControls.{VcoControls}
 use Rattle.vco.specs.declared.VcoTicked.{VcoTicked}
@@ -114,3 +115,10 @@ module _ (s : Vco) (c : VcoControls) where
   left wanted n h z =
       let e : crossedOf (s .«sync_edge») (c .sync) .edge ≡ edgeOf Nowhere = unfold edgeOf crossedOf crossedAboveOf in refl in
       simp (e, ← left-at n z) (sym (held-after _ _ _ _ _ _ _ _ (holds wanted h) n z))
+
+-- ---- so none of them is refused
+pub block-accepts : Block-accepts
+block-accepts s c wanted h = held-accepted _ _ _ _ _ _ _ _ (holds s c wanted h) (λ p. unfold heldAnswer vcoAnswerOf in mark-says _ _ _ _ .is-accepted)
+
+pub block-tallies : Block-tallies
+block-tallies s c wanted h = all-taken _ _ s (block-accepts s c wanted h)

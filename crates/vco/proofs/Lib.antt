@@ -1,5 +1,4 @@
 pub mod StateLaws
-pub mod Within
 pub mod PulseLaws
 pub mod QuietLaws
 pub mod CalmLaws

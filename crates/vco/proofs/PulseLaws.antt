@@ -12,6 +12,8 @@ use lib.Ieee.Fits.{down-pos, and-l, and-r, add-fits}
 use lib.IntN.{ℤ, pos, negsuc}
 use Rattle.common.specs.Phase.{turns}
 use Rattle.common.specs.Tests.{phaseOk}
+use Rattle.laws.proofs.Number.{add-nan-r}
+use Rattle.laws.proofs.Rounded.{Rounded, rounded}
 use Rattle.laws.proofs.Order.{lt-by-values, neg-lt-pos}
 use Rattle.laws.proofs.Tests.{of-true, of-false}
 use Rattle.laws.proofs.Values.{fits-small, add-round, sub-round, sum-pos-neg, sum-neg-pos}
@@ -19,7 +21,6 @@ use Rattle.laws.specs.Float.{zer, one, two, F64}
 use Rattle.numeric.proofs.SmallFloor.{floor-zero, floor-one, pos-sub-zer}
 use Rattle.numeric.specs.Basic.{clampOf}
 use Rattle.numeric.specs.Floor.{floorOf}
-use Rattle.vco.proofs.Within.{Rounded, rounded}
 use Rattle.vco.specs.Consts.{pwLow, pwHigh}
 use Rattle.vco.specs.Waves.{pwEdgeOf, Width}
 
@@ -142,12 +143,6 @@ across p y f r = subst (λ (z : Float). Rounded z 1 63 5) (sym (add-round p y (f
     go false z = unfold sum in all
     go true z = let n = none a c u v (z refl) in subst (λ (q : Float). Rounded q 1 63 5) (sym (sum-neg-pos (a * v) (u * c) (c * v) (n .0) ∙ ap (λ (k : ℕ). round binary64 false k (c * v)) (n .1))) all
 
-add-nan : (p : Float) → add binary64 p nan ≡ nan
-unfolding add
-add-nan nan = refl
-add-nan (inf s) = refl
-add-nan (fin s m e) = refl
-
 -- the test in place of the floor
 fold : (x : Float) → F64 x → Rounded x 1 63 5 → cond (lt x one) x (sub binary64 x one) ≡ sub binary64 x (floorOf x)
 fold x t r = go (lt x one) refl
@@ -169,7 +164,7 @@ fold x t r = go (lt x one) refl
     go false e = sym (ap (λ (z : Float). sub binary64 x z) (floor-one x t e below above))
 
 pub pulse-edge : (p pw : Float) → phaseOk (turns p) ≡ true → Width pw → cond (lt (add binary64 p (sub binary64 one pw)) one) (add binary64 p (sub binary64 one pw)) (sub binary64 (add binary64 p (sub binary64 one pw)) one) ≡ pwEdgeOf p pw
-pulse-edge p nan h w = unfold pwEdgeOf in rw (none, add-nan p) (unfold lt sub add floorOf in refl)
+pulse-edge p nan h w = unfold pwEdgeOf in rw (none, add-nan-r p) (unfold lt sub add floorOf in refl)
   where
     none : sub binary64 one nan ≡ nan
     none = unfold sub add neg ofBits in refl

@@ -1,6 +1,6 @@
 -- Away from its corners nothing is smoothed. With half = |phase - 1/2|, a tick dt of at most half that leaves half below 1/2 - dt
 -- keeps the phase from dt to 1 - dt, and so the phase seen from the triangle's upper corner.
-use mathlib.Core.Bool.{Bool, true, false, not, true≢false, false≢true}
+use mathlib.Core.Bool.{Bool, true, false, not, false≢true}
 use mathlib.Core.Logic.{_⊎_, inl, inr, ⊎-elim}
 use mathlib.Core.Path.{_≡_, refl, sym, ap, _∙_, subst}
 use Prim.Native.Nat.{ℕ, _+_, _-_, _*_, _≤_, _<_}
@@ -11,36 +11,19 @@ use lib.Ieee.{Float, nan, inf, fin, binary64, round, sum, add, sub, neg, lt, le,
 use lib.Ieee.Exact.{HasValue}
 use lib.Ieee.Fits.{down-pos}
 use lib.Ieee.Order.{round-mono, le-of-values}
+use Rattle.numeric.proofs.BasicLaws.{fabs-plain, fabs-neg}
 use Rattle.laws.specs.Float.{zer, one, F64}
-use Rattle.laws.proofs.Order.{values-le, lt-false, lt-not-ge, neg-neg, neg-lt-zero}
+use Rattle.laws.proofs.Rounded.{Rounded, rounded}
+use Rattle.laws.proofs.Order.{values-le, lt-false, lt-not-ge, neg-lt-zero}
 use Rattle.laws.proofs.Tests.{of-true, of-false}
 use Rattle.laws.proofs.Unique.{round-own}
-use Rattle.laws.proofs.Values.{add-round, sub-round, sum-pos-neg, sum-neg, sum-neg-pos, neg-round, neg-value, exact-at}
+use Rattle.laws.proofs.Values.{add-round, sub-round, sum-pos-neg, sum-neg, sum-neg-pos, neg-value, exact-at, round-neg}
 use Rattle.numeric.specs.Basic.{fabsOf}
 use Rattle.common.specs.Consts.{half}
 use Rattle.common.specs.Phase.{turns}
 use Rattle.common.specs.Tests.{phaseOk}
 use Rattle.vco.specs.Waves.{cornerHalfOf}
-use Rattle.vco.proofs.Within.{Rounded, rounded}
 use Rattle.vco.proofs.PulseLaws.{Phase, phase-value}
-
--- one number in two steps: fabsOf of a rounded fraction is that fraction rounded
-plain : (x : Float) (a c : ℕ) → HasValue x false a c → fabsOf x ≡ x
-unfolding fabsOf
-plain nan a c v = absurd v
-plain (inf s) a c v = absurd v
-plain (fin true m e) a c v = absurd (true≢false (v .0))
-plain (fin false m e) a c v = refl
-
-turned : (x : Float) → fabsOf (neg x) ≡ fabsOf x
-unfolding fabsOf neg
-turned nan = refl
-turned (inf s) = refl
-turned (fin s m e) = refl
-
--- round true is the other sign of round false
-minus : (a c : ℕ) → round binary64 true a c ≡ neg (round binary64 false a c)
-minus a c = sym (neg-neg (round binary64 true a c)) ∙ ap neg (neg-round a c)
 
 both : (a b c : ℕ) → sum binary64 true a true b c ≡ round binary64 true (a + b) c
 unfolding sum
@@ -60,12 +43,12 @@ side p f = subst (λ (z : Float). Side z (f .top) (f .bottom)) (sym (sub-round p
     c = f .bottom
 
     go : (s : Bool) → (s ≡ true → a ≡ 0) → (b : Bool) → ltb (a * 2) c ≡ b → Side (sum binary64 s (a * 2) true (1 * c) (c * 2)) a c
-    go false z true e = let h : a * 2 < c = ltb→lt (a * 2) c (of-true (ltb (a * 2) c) e) in inr (h, sum-neg (a * 2) (1 * c) (c * 2) (less a c h) ∙ minus (1 * c - a * 2) (c * 2))
+    go false z true e = let h : a * 2 < c = ltb→lt (a * 2) c (of-true (ltb (a * 2) c) e) in inr (h, sum-neg (a * 2) (1 * c) (c * 2) (less a c h) ∙ round-neg (1 * c - a * 2) (c * 2))
       where
         less : (a c : ℕ) → a * 2 < c → a * 2 < 1 * c
         less a c h = omega arith
     go false z false e = let h : c ≤ a * 2 = nltb→le (a * 2) c (of-false (ltb (a * 2) c) e) in inl (h, sum-pos-neg (a * 2) (1 * c) (c * 2) (le-trans (le-of-eq (one-mul c)) h))
-    go true z b e = let n = none a c (z refl) (f .bottom-pos) in inr (n .0, both (a * 2) (1 * c) (c * 2) ∙ ap (λ (k : ℕ). round binary64 true k (c * 2)) (n .1) ∙ minus (1 * c - a * 2) (c * 2))
+    go true z b e = let n = none a c (z refl) (f .bottom-pos) in inr (n .0, both (a * 2) (1 * c) (c * 2) ∙ ap (λ (k : ℕ). round binary64 true k (c * 2)) (n .1) ∙ round-neg (1 * c - a * 2) (c * 2))
       where
         none : (a c : ℕ) → a ≡ 0 → 0 < c → (a * 2 < c) × (a * 2 + 1 * c ≡ 1 * c - a * 2)
         none a c z p = (omega arith, omega arith)
@@ -198,7 +181,7 @@ upper p w t f r h e l k =
         fit a c h = omega arith
 
     same : fabsOf (sub binary64 p half) ≡ x
-    same = ap fabsOf e ∙ plain x (q .top) (q .bottom) (q .value)
+    same = ap fabsOf e ∙ fabs-plain x (q .top) (q .bottom) (q .value)
 
     l1 : T (le w x)
     l1 = subst (λ (z : Float). T (le w z)) same l
@@ -329,7 +312,7 @@ lower p w t u f r h e l k =
     N1 = mul-pos (q .bottom-pos) (lit< tt)
 
     same : fabsOf (sub binary64 p half) ≡ x
-    same = ap fabsOf e ∙ turned x ∙ plain x m n (q .value)
+    same = ap fabsOf e ∙ fabs-neg x ∙ fabs-plain x m n (q .value)
 
     l1 : T (le w x)
     l1 = subst (λ (z : Float). T (le w z)) same l

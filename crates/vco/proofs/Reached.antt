@@ -4,14 +4,12 @@ use mathlib.Core.Logic.{inl}
 use mathlib.Core.Path.{_≡_, refl, sym, ap, subst}
 use Prim.Native.Nat.{ℕ}
 use lib.Dec.{eqb}
-use lib.Ieee.{binary64, lt, le, eq, ofBits}
+use lib.Ieee.{binary64}
 use lib.Ieee.Fits.{add-fits}
-use Rattle.laws.specs.Float.{zer}
 use Rattle.laws.proofs.Always.{always}
-use Rattle.common.specs.Phase.{turns}
 use Rattle.common.specs.Promises.{Coherent3}
 use Rattle.common.specs.Tests.{rateOk, phaseOk}
-use Rattle.common.proofs.PhaseLaws.{wrap-in}
+use Rattle.common.proofs.PhaseLaws.{wrap-in, zero-in}
 use Rattle.common.proofs.MemoLaws.{recalled3}
 use Rattle.common.specs.declared.Hertz.{Hertz}
 use Rattle.answer.specs.Answer.{accepted}
@@ -36,10 +34,6 @@ pub good-unrefused : (s : Vco) → Good s → vcoRefusalOf s ≡ 0
 unfolding vcoRefusalOf
 good-unrefused s g = simp (g .rate, g .phase)
 
-zero-ok : phaseOk (turns zer) ≡ true
-unfolding phaseOk le lt eq ofBits
-zero-ok = refl
-
 -- ---- each call keeps both
 good-sound : (s : Vco) → Good s → (c : VcoControls) (wanted : ℕ) → Good (vcoSoundOf s c wanted .vco)
 unfolding vcoSoundOf
@@ -51,7 +45,7 @@ tick-sound s g c wanted = simp (good-unrefused s g)
 
 pub good-new : (r : Hertz) → rateOk r ≡ true → Good (newVco r)
 unfolding newVco
-good-new r h = record { rate = h; phase = zero-ok }
+good-new r h = record { rate = h; phase = zero-in }
 
 reset-made : (s : Vco) → Good s → vcoResetOf s ≡ made.Made (restarted s)
 unfolding vcoResetOf
@@ -79,7 +73,7 @@ after-rate s g r = ap (keptBy s) (rate-made s g r)
 
 pub good-after : (s : Vco) → Good s → (c : Call) → Good (after s c)
 good-after s g (Tick c wanted) = rw (after-tick s g c wanted) (good-sound s g c wanted)
-good-after s g Reset = rw (after-reset s g) (unfold restarted in record { rate = g .rate; phase = zero-ok })
+good-after s g Reset = rw (after-reset s g) (unfold restarted in record { rate = g .rate; phase = zero-in })
 good-after s g (SetSampleRate r) = rw (after-rate s g r) (go (rateOk r) refl)
   where
     go : (b : Bool) → rateOk r ≡ b → Good (keptBy s (cond b (made.Made (rated s r)) (made.Refused 1)))

@@ -13,9 +13,10 @@ use Rattle.common.specs.Tests.{rateOk, phaseOk}
 use Rattle.common.specs.declared.Hertz.{Hertz}
 use Rattle.answer.specs.Answer.{accepted, voltsOf}
 use Rattle.answer.specs.Block.{Block}
+use Rattle.answer.specs.Promises.{AllAccepted, AllTaken}
 use Rattle.answer.specs.declared.Answer.the-variants as answer
 use Rattle.answer.specs.declared.Tally.{Tally}
-use Rattle.vco.specs.Vco.{newVco, vcoNewOf, vcoTickOf, vcoBlockOf, vcoResetOf, vcoSetSampleRateOf}
+use Rattle.vco.specs.Vco.{newVco, vcoNewOf, vcoTickOf, vcoBlockOf, vcoResetOf, vcoSetSampleRateOf, vcoRefusalOf, vcoToldOf, vcoNextOf}
 use Rattle.vco.specs.Calls.{Call, Tick, Reset, SetSampleRate, Done, Refused, Fit, after, reply, ReachedVco}
 use Rattle.vco.specs.declared.Vco.{Vco}
 use Rattle.vco.specs.declared.VcoControls.{VcoControls}
@@ -58,6 +59,13 @@ pub record Comes (s : Vco) (c d : VcoControls) (wanted : ℕ) : Type 0 where
 
 abbrev pub Edge-comes : Type 0
 Edge-comes = (s : Vco) → ReachedVco s → (c d : VcoControls) (wanted : ℕ) → T (le (c .sync) gateThreshold) → d .sync ≡ five → Comes s c d wanted
+
+-- ---- no tick of a block is refused whose first isn't, and a tally with room takes each of their answers
+abbrev pub Block-accepts : Type 0
+Block-accepts = (s : Vco) (c : VcoControls) (wanted : ℕ) → vcoRefusalOf s ≡ 0 → AllAccepted (vcoToldOf c wanted) (vcoNextOf c wanted) s
+
+abbrev pub Block-tallies : Type 0
+Block-tallies = (s : Vco) (c : VcoControls) (wanted : ℕ) → vcoRefusalOf s ≡ 0 → AllTaken (vcoToldOf c wanted) (vcoNextOf c wanted) s
 
 -- ---- each contract settles its answer
 pub record Settled : Type 0 where

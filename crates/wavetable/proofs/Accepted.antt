@@ -6,6 +6,7 @@ use native.Mathlib.Omega.{arith}
 use lib.Dec.{eqb}
 use lib.Ieee.{Float, lt, le, eq, ofBits}
 use borrow.Author.Tests.{eqb-true, eqb-false}
+use Rattle.common.proofs.PhaseLaws.{accepted-state}
 use Rattle.common.specs.Tests.{rateOk, phaseOk}
 use Rattle.common.specs.declared.Turns.{Turns}
 use Rattle.wavetable.specs.Held.{PairFits, pairOf}
@@ -14,25 +15,23 @@ use Rattle.wavetable.specs.Wavetable.{wavetableRefusalOf, wavetableTickR
 use Rattle.wavetable.specs.declared.Pair.{Pair}
 use Rattle.wavetable.specs.declared.Wavetable.{Wavetable}
 
--- no number refuses the tick: its bank has the size
+-- no number refuses the tick: the state is accepted, and its bank has the size
+passed : (n size : ℕ) → cond (eqb n 0) (cond (eqb size 16384) 0 4) n ≡ 0 → (n ≡ 0) × (size ≡ 16384)
+passed n size h = go (eqb n 0) (eqb size 16384) refl refl h
+  where
+    go : (a b : Bool) → eqb n 0 ≡ a → eqb size 16384 ≡ b → cond a (cond b 0 4) n ≡ 0 → (n ≡ 0) × (size ≡ 16384)
+    go true true p q h = (eqb-true n 0 p, eqb-true size 16384 q)
+    go true false p q h = absurd (let z : _≡_ {A = ℕ} 4 0 = h in omega arith)
+    go false b p q h = absurd (eqb-false n 0 p h)
+
 pub bank-sized : (s : Wavetable) (size : ℕ) → wavetableTickRefusalOf s size ≡ 0 → size ≡ 16384
 unfolding wavetableTickRefusalOf
-bank-sized s size = go (wavetableRefusalOf s) (eqb (wavetableRefusalOf s) 0) (eqb size 16384) refl refl
-  where
-    go : (n : ℕ) (a b : Bool) → eqb n 0 ≡ a → eqb size 16384 ≡ b → cond a (cond b 0 4) n ≡ 0 → size ≡ 16384
-    go n true true p q h = eqb-true size 16384 q
-    go n true false p q h = absurd (let z : _≡_ {A = ℕ} 4 0 = h in omega arith)
-    go n false b p q h = absurd (eqb-false n 0 p h)
+bank-sized s size h = passed (wavetableRefusalOf s) size h .1
 
 -- and its rate and its phase are good
 pub accepts : (s : Wavetable) (size : ℕ) → wavetableTickRefusalOf s size ≡ 0 → (rateOk (s .«sample_rate») ≡ true) × (phaseOk (s .phase) ≡ true)
 unfolding wavetableRefusalOf wavetableTickRefusalOf
-accepts s size = go (rateOk (s .«sample_rate»)) (phaseOk (s .phase)) (eqb size 16384)
-  where
-    go : (a b d : Bool) → _≡_ {A = ℕ} (cond (eqb (cond a (cond b 0 2) 1) 0) (cond d 0 4) (cond a (cond b 0 2) 1)) 0 → (a ≡ true) × (b ≡ true)
-    go true true d h = (refl, refl)
-    go true false d h = absurd (omega arith)
-    go false b d h = absurd (omega arith)
+accepts s size h = accepted-state (rateOk (s .«sample_rate»)) (phaseOk (s .phase)) (passed (wavetableRefusalOf s) size h .0)
 
 -- the phase that is read is good too
 pub restart-ok : (p : Turns) (edge : Bool) → phaseOk p ≡ true → phaseOk (restartOf p edge) ≡ true

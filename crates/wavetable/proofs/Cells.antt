@@ -1,17 +1,16 @@
 -- Numbers of a table, and tables of the bank.
 use mathlib.Core.Bool.{Bool, true, false, _&&_, false≢true}
-use mathlib.Core.List.{List, [], _∷_, _++_, append-assoc, append-nil}
+use mathlib.Core.List.{List, _++_, append-assoc}
 use mathlib.Core.Logic.{_≢_}
 use mathlib.Core.Path.{_≡_, refl, sym, ap, _∙_}
-use Prim.Native.Nat.{ℕ, zero, suc, _+_, _*_, _/_, _%_, _<_, _≤_}
-use native.Mathlib.Nat.{zero-add, suc-add}
+use Prim.Native.Nat.{ℕ, _+_, _*_, _/_, _%_, _<_, _≤_}
 use native.Mathlib.Omega.{arith}
 use lib.Dec.{eqb, leb}
 use lib.Ieee.{Float, nan, binary64, mul}
 use lib.ListN.{length, getD, set, take, length-append, length-take}
 use lib.Seq.{getD-set-same, getD-set-other, take-at, take-all}
 use borrow.Author.Tests.{eqb-true, eqb-false, leb-true}
-use Rattle.laws.proofs.Over.{by-cells, length-tab, tab-ext}
+use Rattle.laws.proofs.Over.{by-cells, length-tab, tab-ext, tab-append}
 use Rattle.laws.specs.Lists.{tab}
 use Rattle.wavetable.specs.Bank.{plainOf, seriesOf, sumOf, termsOf, scaleOf, isSeries, cellOf, tableCell, tableOf, bankCell, bankOf}
 use Rattle.wavetable.specs.Columns.{Right}
@@ -64,13 +63,6 @@ right-all t p s r = by-cells nan (tableCell t) 2048 p s each
         ap (λ x. getD p x nan) (sym q) ∙ r (j / 256) (j % 256) (omega arith) (omega arith) (omega arith)
 
 -- ---- tables of the bank, one after another
-tab-append : (f : ℕ → Float) (m n : ℕ) → tab f (n + m) ≡ tab f m ++ tab (λ j. f (j + m)) n
-unfolding tab
-tab-append f m zero = simp zero-add (sym (append-nil (tab f m)))
-tab-append f m (suc n) =
-    ap (tab f) (suc-add n m) ∙ ap (λ (l : List Float). l ++ (f (n + m) ∷ [])) (tab-append f m n)
-    ∙ append-assoc (tab f m) (tab (λ j. f (j + m)) n) (f (n + m) ∷ [])
-
 cell-of-table : (t j : ℕ) → j < 2048 → bankCell (j + 2048 * t) ≡ tableCell t j
 unfolding bankCell
 cell-of-table t j h =

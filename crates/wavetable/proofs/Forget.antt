@@ -4,10 +4,10 @@ use mathlib.Core.List.{List, _∷_}
 use mathlib.Core.Logic.{inl}
 use mathlib.Core.Path.{_≡_, refl, sym, ap, _∙_}
 use lib.Dec.{eqb}
-use lib.Ieee.{Float, lt, le, ofBits}
+use lib.Ieee.{Float, le}
 use lib.ListN.{length}
 use borrow.Author.Tests.{eq-eqb}
-use Rattle.common.proofs.EdgeLaws.{rises-new, gate-above}
+use Rattle.common.proofs.EdgeLaws.{rises-new, gate-above, rises-five}
 use Rattle.common.proofs.MemoLaws.{recall1-is}
 use Rattle.common.specs.Consts.{gateThreshold, five}
 use Rattle.common.specs.Edge.{risesAbove}
@@ -44,17 +44,12 @@ forgets s h c bank f a e =
     }
 
 -- ---- an edge can be had
-five-above : lt gateThreshold five ≡ true
-unfolding lt ofBits
-five-above = refl
-
 held : (s : Wavetable) (c : WavetableControls) (bank : List Float) → wavetableSoundOf s c bank .wavetable .«prev_sync» ≡ c .sync
 unfolding wavetableSoundOf
 held s c bank = refl
 
 rises : (kept prev v : Float) → kept ≡ prev → le prev gateThreshold ≡ true → v ≡ five → risesAbove gateThreshold kept v ≡ true
-unfolding risesAbove
-rises kept prev v e l q = simp (e, q, l, five-above)
+rises kept prev v e l q = rw (e, q) (rises-five prev l)
 
 pub edge-comes : Edge-comes
 unfolding after

@@ -8,7 +8,8 @@ use lib.Ieee.Fits.{add-fits}
 use lib.Ieee.{Float, binary64, add, div}
 use lib.ListN.{length}
 use borrow.Author.Tests.{eq-eqb}
-use Rattle.answer.proofs.Blocks.{Holds}
+use Rattle.answer.proofs.Blocks.{Holds, held-accepted, all-taken}
+use Rattle.answer.proofs.Laws.{mark-says}
 use Rattle.answer.specs.Block.{afterTicks, answerAt}
 use Rattle.answer.specs.Mark.{markOf}
 use Rattle.answer.specs.declared.Answer.{Answer}
@@ -27,6 +28,7 @@ use Rattle.wavetable.proofs.Accepted.{accepts, bank-sized, restart-ok}
 use Rattle.wavetable.specs.Held.{pairOf, mixAt, heldAnswer, heldNext}
 use Rattle.wavetable.specs.Reads.{tablePosOf, tableIndexOf, blendOf, readTable, mixOf, restartOf}
 use Rattle.wavetable.specs.Wavetable.{wavetableRefusalOf, wavetableTickRefusalOf, outVolts, wavetableSoundOf, wavetableTickOf, wavetableAnswerOf, wavetableNextOf}
+use Rattle.wavetable.specs.Promises.{Block-accepts, Block-tallies}
 use Rattle.wavetable.specs.declared.Pair.{Pair}
 use Rattle.wavetable.specs.declared.Wavetable.{Wavetable}
 use Rattle.wavetable.specs.declared.WavetableControls.{WavetableControls}
@@ -97,3 +99,10 @@ holds s c bank h =
       answers = λ p k. ap (λ (t : WavetableTicked). t .answer) (tick-sounds (stateOf s c p) c bank (state-accepted s c (length bank) p h k) ∙ held-sound s c bank p);
       moves = λ p k. ap (λ (t : WavetableTicked). t .wavetable) (tick-sounds (stateOf s c p) c bank (state-accepted s c (length bank) p h k) ∙ held-sound s c bank p);
     }
+
+-- ---- so none of them is refused
+pub block-accepts : Block-accepts
+block-accepts s c bank h = held-accepted _ _ _ _ _ _ _ _ (holds s c bank h) (λ p. unfold heldAnswer in mark-says _ _ _ _ .is-accepted)
+
+pub block-tallies : Block-tallies
+block-tallies s c bank h = all-taken _ _ s (block-accepts s c bank h)

@@ -8,18 +8,17 @@ use Prim.Native.Nat.{ℕ}
 use native.Mathlib.Omega.{arith}
 use lib.Dec.{eqb}
 use lib.Ieee.Fits.{add-fits}
-use lib.Ieee.{Float, binary64, lt, le, ofBits, eq}
+use lib.Ieee.{Float, binary64}
 use lib.ListN.{length}
 use Rattle.answer.proofs.Laws.{mark-says}
 use Rattle.answer.specs.Answer.{accepted}
 use Rattle.common.proofs.MemoLaws.{recalled1}
-use Rattle.common.proofs.PhaseLaws.{wrap-in}
+use Rattle.common.proofs.PhaseLaws.{wrap-in, zero-in}
 use Rattle.common.specs.Memo.{voctToHzAt}
-use Rattle.common.specs.Phase.{turns}
 use Rattle.common.specs.Promises.{Coherent1}
 use Rattle.common.specs.Tests.{rateOk, phaseOk}
 use Rattle.laws.proofs.Always.{always}
-use Rattle.laws.specs.Float.{zer, F64}
+use Rattle.laws.specs.Float.{F64}
 use Rattle.wavetable.specs.Calls.{Call, keptOr, toldOf, after, reply, FitCall, First, ReachedWavetable, Tick, Reset, SetSampleRate, Done, Refused}
 use Rattle.wavetable.specs.Promises.{Never-refused}
 use Rattle.wavetable.specs.Wavetable.{newWavetable, wavetableRefusalOf, wavetableTickRefusalOf, wavetableNewOf, wavetableSoundOf, wavetableTickOf, madeUnless, wavetableResetOf, rated, wavetableSetSampleRateOf}
@@ -68,13 +67,9 @@ pub tick-accepted : (s : Wavetable) (c : WavetableControls) (bank : List Float) 
 tick-accepted s c bank g = rw (tick-sized s c bank g) (sized-accepted (eqb (length bank) 16384) s c bank)
 
 -- ---- it stays good
-zero-ok : phaseOk (turns zer) ≡ true
-unfolding phaseOk le lt eq ofBits
-zero-ok = refl
-
 pub good-new : (r : Hertz) → rateOk r ≡ true → Good (newWavetable r)
 unfolding newWavetable
-good-new r h = record { rate = h; phase = zero-ok; memo = inl refl }
+good-new r h = record { rate = h; phase = zero-in; memo = inl refl }
 
 first-good : (s : Wavetable) → First s → Good s
 unfolding wavetableNewOf
@@ -95,7 +90,7 @@ sized-good false s c bank g f = g
 after-good : (s : Wavetable) (c : Call) → Good s → FitCall c → Good (after s c)
 unfolding after
 after-good s (Tick c bank) g f = subst (λ (t : WavetableTicked). Good (t .wavetable)) (sym (tick-sized s c bank g)) (sized-good (eqb (length bank) 16384) s c bank g f)
-after-good s Reset g f = unfold wavetableResetOf madeUnless in simp (unrefused s g) (record { rate = g .rate; phase = zero-ok; memo = g .memo })
+after-good s Reset g f = unfold wavetableResetOf madeUnless in simp (unrefused s g) (record { rate = g .rate; phase = zero-in; memo = g .memo })
 after-good s (SetSampleRate r) g f = unfold wavetableSetSampleRateOf madeUnless in go (rateOk r) refl
   where
     go : (b : Bool) → rateOk r ≡ b → Good (keptOr s (cond b (madeUnless (wavetableRefusalOf s) (rated s r)) (made.Refused 1)))

@@ -8,6 +8,7 @@ use lib.Ieee.{Float, le}
 use lib.ListN.{length}
 use Rattle.answer.specs.Answer.{accepted}
 use Rattle.answer.specs.Block.{Block}
+use Rattle.answer.specs.Promises.{AllAccepted, AllTaken}
 use Rattle.answer.specs.declared.Tally.{Tally}
 use Rattle.common.specs.Consts.{gateThreshold, five}
 use Rattle.common.specs.Edge.{risesAbove}
@@ -16,7 +17,7 @@ use Rattle.laws.specs.Float.{F64}
 use Rattle.laws.specs.Machine.{replies, Settles}
 use Rattle.wavetable.specs.Bank.{Filled, fillTableOf, fillBankOf}
 use Rattle.wavetable.specs.Calls.{Call, after, reply, ReachedWavetable, Tick, Reset, SetSampleRate, Done, Refused}
-use Rattle.wavetable.specs.Wavetable.{newWavetable, wavetableNewOf, wavetableTickOf, wavetableBlockOf, wavetableResetOf, wavetableSetSampleRateOf}
+use Rattle.wavetable.specs.Wavetable.{newWavetable, wavetableNewOf, wavetableTickOf, wavetableBlockOf, wavetableResetOf, wavetableSetSampleRateOf, wavetableTickRefusalOf, wavetableAnswerOf, wavetableNextOf}
 use Rattle.common.specs.declared.Hertz.{Hertz}
 use Rattle.wavetable.specs.declared.Wavetable.{Wavetable}
 use Rattle.wavetable.specs.declared.WavetableControls.{WavetableControls}
@@ -53,6 +54,13 @@ abbrev pub Edge-comes : Type 0
 Edge-comes = (s : Wavetable) → ReachedWavetable s → (c d : WavetableControls) (bank : List Float) → F64 (c .«v_oct» .0) → length bank ≡ 16384
     → le (c .sync) gateThreshold ≡ true → d .sync ≡ five
     → (accepted (wavetableTickOf (after s (Tick c bank)) d bank .answer) ≡ true) × (takesEdge (after s (Tick c bank)) d ≡ true)
+
+-- ---- no tick of a block is refused whose first isn't, and a tally with room takes each of their answers
+abbrev pub Block-accepts : Type 0
+Block-accepts = (s : Wavetable) (c : WavetableControls) (bank : List Float) → wavetableTickRefusalOf s (length bank) ≡ 0 → AllAccepted (wavetableAnswerOf c bank) (wavetableNextOf c bank) s
+
+abbrev pub Block-tallies : Type 0
+Block-tallies = (s : Wavetable) (c : WavetableControls) (bank : List Float) → wavetableTickRefusalOf s (length bank) ≡ 0 → AllTaken (wavetableAnswerOf c bank) (wavetableNextOf c bank) s
 
 -- ---- each contract settles its answer, and what a fill or a block leaves in the lent slices
 pub record Settled : Type 0 where

@@ -5,6 +5,7 @@ pub mod bank;
 use answer::Answer;
 use answer::Tally;
 use answer::Volts;
+use common::GATE_THRESHOLD_V;
 use common::Hertz;
 use common::Memo1;
 use common::Turns;
@@ -74,9 +75,6 @@ const BANK_SIZE: usize = 16384;
 
 // The largest harmonic in the first level of each table.
 const BASE_HARMONICS: [usize; 8] = [1, 31, 64, 63, 64, 64, 10, 10];
-
-// Where a gate counts as high.
-const GATE_THRESHOLD_V: f64 = 2.5;
 
 // Rust's `as f64`.
 fn real(n: usize) -> f64

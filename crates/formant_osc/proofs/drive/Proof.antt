@@ -1,6 +1,7 @@
 use lib.ListN.{length}
 use borrow.Author.Needs.{needs}
-use Rattle.formant_osc.proofs.Held.{tabs-alike, driven}
+use Rattle.laws.proofs.Over.{tabs-alike}
+use Rattle.formant_osc.proofs.Held.{driven}
 use Rattle.formant_osc.proofs.drive.Statement.{statement}
 use Rattle.formant_osc.proofs.drive.Tie as tie
 

@@ -4,11 +4,11 @@ use native.Mathlib.Nat.{le-antisymm}
 use native.Mathlib.Omega.{arith}
 use lib.ListN.{length, length-set}
 use Rattle.laws.specs.Lists.{over}
-use Rattle.laws.proofs.Over.{over-none, over-more}
+use Rattle.laws.proofs.Over.{over-done, over-none, over-more}
 use Rattle.common.specs.declared.Turns.{Turns}
 use Rattle.formant_osc.specs.Held.{phaseAt, pulseMarkAt}
 use Rattle.formant_osc.specs.Sound.{glottalPulse}
-use Rattle.formant_osc.proofs.Held.{pulse-turn, over-done}
+use Rattle.formant_osc.proofs.Held.{pulse-turn}
 use Rattle.formant_osc.proofs.pulse.Statement.{statement}
 use Rattle.formant_osc.proofs.pulse.Tie as tie
 

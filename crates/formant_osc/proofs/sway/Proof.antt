@@ -10,10 +10,10 @@ use Rattle.answer.specs.Block.{afterTicks}
 use Rattle.common.specs.Tests.{phaseOk}
 use Rattle.common.proofs.PhaseLaws.{wrap-in}
 use Rattle.laws.specs.Lists.{over}
-use Rattle.laws.proofs.Over.{over-none, over-more}
+use Rattle.laws.proofs.Over.{over-done, over-none, over-more}
 use Rattle.laws.proofs.Tests.{of-true}
 use Rattle.formant_osc.specs.Held.{driveNext, strideAt, swayAt, swayed}
-use Rattle.formant_osc.proofs.Held.{still-tuned, still-memo, still-step, swung, stridden, swayed-mark, over-done}
+use Rattle.formant_osc.proofs.Held.{still-tuned, still-memo, still-step, swung, stridden, swayed-mark}
 use Rattle.formant_osc.proofs.sway.Statement.{statement}
 use Rattle.formant_osc.proofs.sway.Tie as tie
 

@@ -5,11 +5,11 @@ use native.Mathlib.Omega.{arith}
 use lib.ListN.{length, length-set}
 use Rattle.answer.specs.Answer.{markNumber, voltsOf}
 use Rattle.laws.specs.Lists.{over}
-use Rattle.laws.proofs.Over.{over-none, over-more}
+use Rattle.laws.proofs.Over.{over-done, over-none, over-more}
 use Rattle.answer.specs.declared.Answer.{Answer}
 use Rattle.answer.specs.declared.Volts.{Volts}
 use Rattle.formant_osc.specs.Held.{cellsAt, voicedAt}
-use Rattle.formant_osc.proofs.Held.{voiced-turn, over-done}
+use Rattle.formant_osc.proofs.Held.{voiced-turn}
 use Rattle.formant_osc.proofs.voice.Statement.{statement}
 use Rattle.formant_osc.proofs.voice.Tie as tie
 

@@ -1,5 +1,5 @@
-use Rattle.vco.proofs.CalmLaws.{fabs-twice}
 use borrow.Author.Needs.{needs}
+use Rattle.numeric.proofs.BasicLaws.{fabs-twice}
 use Rattle.vco.proofs.calm.Statement.{statement}
 use Rattle.vco.proofs.calm.Tie as tie
 

@@ -1,5 +1,6 @@
 use lib.ListN.{length}
-use Rattle.formant_osc.proofs.Held.{tabs-alike, accepts, recalled-again, ran}
+use Rattle.laws.proofs.Over.{tabs-alike}
+use Rattle.formant_osc.proofs.Held.{accepts, recalled-again, ran}
 use borrow.Author.Needs.{needs}
 use Rattle.formant_osc.proofs.FormantOsc.play.Statement.{statement}
 use Rattle.formant_osc.proofs.FormantOsc.play.Tie as tie

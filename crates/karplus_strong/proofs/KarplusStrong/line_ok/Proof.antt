@@ -1,6 +1,6 @@
 use borrow.Author.Tests.{le-leb, lt-leb, lt-ltb, le-ltb}
+use Rattle.laws.proofs.Order.{number-test}
 use Rattle.karplus_strong.specs.KarplusStrong.{lineOk}
-use Rattle.karplus_strong.proofs.Finite.{number-test}
 use borrow.Author.Needs.{needs}
 use Rattle.karplus_strong.proofs.KarplusStrong.line_ok.Statement.{statement}
 use Rattle.karplus_strong.proofs.KarplusStrong.line_ok.Tie as tie

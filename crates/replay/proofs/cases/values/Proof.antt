@@ -5,9 +5,8 @@ use native.Mathlib.Omega.{arith}
 use lib.ListN.{length, length-set}
 use borrow.Author.Needs.{needs}
 use Rattle.laws.specs.Lists.{over}
-use Rattle.laws.proofs.Over.{over-none, over-more}
+use Rattle.laws.proofs.Over.{over-none, over-more, over-done}
 use Rattle.replay.specs.Words.{valueAt}
-use Rattle.replay.proofs.TickLaws.{over-done}
 use Rattle.replay.proofs.cases.values.Statement.{statement}
 use Rattle.replay.proofs.cases.values.Tie as tie
 
@@ -45,7 +44,7 @@ same-length : tie.Need-same-length Inv-loop μ-loop
 same-length c = c .before .loop .inv .1
 
 returns : tie.Need-returns Inv-loop μ-loop
-returns c = let s = c .before .loop .inv in over-done _ _ _ _ (s .0) (s .1) (c .loop-test .left) (s .2)
+returns c = let s = c .before .loop .inv in let t = c .loop-test .left in over-done _ _ _ _ _ (omega arith) refl (s .2)
 
 pub values-spec : {M : Type 1} → statement M
 values-spec =

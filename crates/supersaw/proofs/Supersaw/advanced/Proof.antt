@@ -1,10 +1,10 @@
 use mathlib.Core.Path.{_≡_, refl}
 use Prim.Native.Nat.{_≤_, _-_}
+use native.Mathlib.Nat.{le-antisymm}
 use native.Mathlib.Omega.{arith}
 use lib.ListN.{length}
-use Rattle.laws.proofs.Over.{over-none, over-more}
+use Rattle.laws.proofs.Over.{over-done, over-none, over-more}
 use Rattle.laws.specs.Lists.{over}
-use Rattle.supersaw.proofs.Loops.{tab-done}
 use Rattle.supersaw.specs.Voices.{at}
 use Rattle.supersaw.specs.Lanes.{advancedOf}
 use borrow.Author.Needs.{needs}
@@ -46,7 +46,7 @@ array-read-t19 c = omega arith
 
 returns : tie.Need-returns Inv-loop μ-loop
 unfolding advancedOf
-returns c = rw (tab-done _ 7 _ _ _ (c .before .loop .inv .0) (c .loop-test .left) (c .before .loop .inv .2) (c .before .loop .inv .3))
+returns c = rw (over-done _ _ 7 _ _ (le-antisymm (c .before .loop .inv .0) (c .loop-test .left)) (c .before .loop .inv .2) (c .before .loop .inv .3))
 
 pub advanced-spec : {M : Type 1} → statement M
 advanced-spec =
