@@ -1,8 +1,8 @@
 use borrow.Author.Needs.{needs}
 use borrow.Author.Tests.{ne-eqb, eq-eqb}
-use Rattle.exports_lfo.specs.State.{blockSizesOf}
-use Rattle.exports_lfo.proofs.block_sizes.Statement.{statement}
-use Rattle.exports_lfo.proofs.block_sizes.Tie as tie
+use Rattle.answer.specs.Flat.{blockSizesOf}
+use Rattle.answer.proofs.block_sizes.Statement.{statement}
+use Rattle.answer.proofs.block_sizes.Tie as tie
 
 sizes-requires : tie.Need-sizes-requires
 sizes-requires c κs = search needs
