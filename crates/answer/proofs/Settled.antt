@@ -6,6 +6,8 @@ pub answer-settled : Settled
 answer-settled =
     record {
       mark-number = λ a. settled _;
+      is-accepted = λ a. settled _;
+      host-number = λ a. settled _;
       mark = λ v cleared sums phases. settled _;
       tally-new = settled _;
       tally-take = λ t a. settled _;
@@ -16,4 +18,7 @@ answer-settled =
       tally-has-room = λ t n. settled _;
       tally-take-marks = λ t marks. settled _;
       block-refusal = λ fits number t n. settled _;
+      sizes = λ nf nw f w. settled _;
+      tick-sizes = λ nf nw ns f w o. settled _;
+      block-sizes = λ nf nw f w k. settled _;
     }

@@ -1,15 +1,34 @@
--- What an exported call leaves: the number that it answers, and what stands in the lent slices.
+-- What an exported call leaves: the number that it answers, and what stands in the lent slices. `floatsOf` and `wholesOf` are the
+-- floats and the whole numbers of an oscillator's state, nf and nw how many it has; `samplesOf` are its samples, ns how many.
 use mathlib.Core.Bool.{cond}
 use mathlib.Core.List.{List, [], _∷_}
-use Prim.Native.Nat.{ℕ}
+use Prim.Native.Nat.{ℕ, _+_}
 use lib.Dec.{eqb}
 use lib.Ieee.{Float}
 use lib.ListN.{length, getD}
+use Rattle.answer.specs.Answer.{markNumber, voltsOf, refusalOf, accepted}
 use Rattle.answer.specs.Block.{Block}
 use Rattle.answer.specs.Tally.{newTally}
+use Rattle.answer.specs.declared.Volts.{Volts}
+use Rattle.answer.specs.declared.Answer.{Answer}
+use Rattle.answer.specs.declared.Outcome.{Outcome}
+use Rattle.answer.specs.declared.Outcome.the-variants as outcome
 use Rattle.answer.specs.declared.Tally.{Tally}
 
--- a call without samples
+-- ---- lengths
+-- 0, or what refuses the lengths of floats and wholes
+unfoldable pub sizesOf : ℕ → ℕ → ℕ → ℕ → ℕ
+sizesOf nf nw f w = cond (eqb f nf) (cond (eqb w nw) 0 51) 50
+
+-- and that of samples after them
+unfoldable pub tickSizesOf : ℕ → ℕ → ℕ → ℕ → ℕ → ℕ → ℕ
+tickSizesOf nf nw ns f w o = let n = sizesOf nf nw f w in cond (eqb n 0) (cond (eqb o ns) 0 52) n
+
+-- or that of counts
+unfoldable pub blockSizesOf : ℕ → ℕ → ℕ → ℕ → ℕ → ℕ
+blockSizesOf nf nw f w k = let n = sizesOf nf nw f w in cond (eqb n 0) (cond (eqb k 5) 0 53) n
+
+-- ---- a call without samples
 pub record Kept : Type 0 where
   pub code : ℕ
   pub floats : List Float
@@ -18,7 +37,16 @@ pub record Kept : Type 0 where
 abbrev pub kept : ℕ → List Float → List ℕ → Kept
 kept n f w = record { code = n; floats = f; wholes = w }
 
--- a tick, with its samples
+-- 0 and the new state, or what refused it
+unfoldable pub keptBy : {S : Type 0} → (S → List Float) → (S → List ℕ) → Outcome → S → List Float → List ℕ → Kept
+keptBy floatsOf wholesOf outcome.Done s f w = kept 0 (floatsOf s) (wholesOf s)
+keptBy floatsOf wholesOf (outcome.Refused n) s f w = kept n f w
+
+-- k, unless the lengths refuse
+unfoldable pub keptSized : ℕ → ℕ → Kept → List Float → List ℕ → Kept
+keptSized nf nw k f w = let n = sizesOf nf nw (length f) (length w) in cond (eqb n 0) k (kept n f w)
+
+-- ---- a tick, with its samples
 pub record Heard : Type 0 where
   pub code : ℕ
   pub floats : List Float
@@ -28,7 +56,19 @@ pub record Heard : Type 0 where
 abbrev pub heard : ℕ → List Float → List ℕ → List Float → Heard
 heard n f w o = record { code = n; floats = f; wholes = w; samples = o }
 
--- a tally as five counts: begun, finished, cleared, notfinite, lost
+-- the number of an answer: 10 and its mark's, or what refused it
+unfoldable pub hostNumber : Answer → ℕ
+hostNumber a = cond (accepted a) (10 + markNumber a) (refusalOf a)
+
+-- that number; the state and the samples only of an accepted tick
+unfoldable pub heardOf : {S : Type 0} → (S → List Float) → (S → List ℕ) → (Volts → List Float) → Answer → S → List Float → List ℕ → List Float → Heard
+heardOf floatsOf wholesOf samplesOf a s f w o =
+    cond (accepted a) (heard (hostNumber a) (floatsOf s) (wholesOf s) (samplesOf (voltsOf a))) (heard (hostNumber a) f w o)
+
+unfoldable pub heardSized : ℕ → ℕ → ℕ → Heard → List Float → List ℕ → List Float → Heard
+heardSized nf nw ns h f w o = let n = tickSizesOf nf nw ns (length f) (length w) (length o) in cond (eqb n 0) h (heard n f w o)
+
+-- ---- a tally as five counts: begun, finished, cleared, notfinite, lost
 unfoldable pub tallyFrom : List ℕ → Tally
 tallyFrom l =
     cond (eqb (length l) 5) (record { begun = getD l 0 0; finished = getD l 1 0; cleared = getD l 2 0; notfinite = getD l 3 0; lost = getD l 4 0 }) newTally
@@ -39,7 +79,7 @@ countsOf t = t .begun ∷ t .finished ∷ t .cleared ∷ t .notfinite ∷ t .los
 unfoldable pub countsPut : Tally → List ℕ → List ℕ
 countsPut t l = cond (eqb (length l) 5) (countsOf t) l
 
--- a block
+-- ---- a block
 pub record Played : Type 0 where
   pub code : ℕ
   pub floats : List Float
@@ -51,7 +91,10 @@ pub record Played : Type 0 where
 abbrev pub played : ℕ → List Float → List ℕ → List ℕ → List Float → List ℕ → Played
 played n f w k o m = record { code = n; floats = f; wholes = w; counts = k; samples = o; marks = m }
 
--- 0, the state and the counts after it, or what refused it; `floatsOf` and `wholesOf` are the state's
+-- 0, the state and the counts after it, or what refused it
 unfoldable pub playedOf : {S : Type 0} → (S → List Float) → (S → List ℕ) → Block S → List Float → List ℕ → List ℕ → Played
 playedOf floatsOf wholesOf b f w k =
     cond (eqb (b .refused) 0) (played 0 (floatsOf (b .state)) (wholesOf (b .state)) (countsOf (b .tally)) (b .samples) (b .marks)) (played (b .refused) f w k (b .samples) (b .marks))
+
+unfoldable pub playedSized : ℕ → ℕ → Played → List Float → List ℕ → List ℕ → List Float → List ℕ → Played
+playedSized nf nw p f w k o m = let n = blockSizesOf nf nw (length f) (length w) (length k) in cond (eqb n 0) p (played n f w k o m)

@@ -3,10 +3,12 @@ use mathlib.Core.Path.{_≡_}
 use mathlib.Core.Bool.{Bool}
 use mathlib.Core.List.{List}
 use Prim.Native.Nat.{ℕ}
+use lib.Ieee.{Float}
+use lib.ListN.{length}
 use Rattle.laws.specs.Machine.{Settles}
-use Rattle.answer.specs.Answer.{markNumber, voltsOf, answerOf}
+use Rattle.answer.specs.Answer.{markNumber, voltsOf, accepted, answerOf}
 use Rattle.answer.specs.Block.{roomFor, marksTaken, blockRefusalOf}
-use Rattle.answer.specs.Flat.{tallyFrom, countsPut}
+use Rattle.answer.specs.Flat.{sizesOf, tickSizesOf, blockSizesOf, hostNumber, tallyFrom, countsPut}
 use Rattle.answer.specs.Mark.{markOf}
 use Rattle.answer.specs.Tally.{newTally, tallyOf}
 use Rattle.answer.specs.declared.Volts.{Volts}
@@ -16,6 +18,8 @@ use Rattle.answer.specs.declared.Tallied.{Tallied}
 
 pub record Settled : Type 0 where
   pub mark-number : (a : Answer) → Settles (λ (r : ℕ). r ≡ markNumber a)
+  pub is-accepted : (a : Answer) → Settles (λ (r : Bool). r ≡ accepted a)
+  pub host-number : (a : Answer) → Settles (λ (r : ℕ). r ≡ hostNumber a)
   pub mark : (v : Volts) (cleared sums phases : Bool) → Settles (λ (r : Answer). r ≡ markOf v cleared sums phases)
   pub tally-new : Settles (λ (r : Tally). r ≡ newTally)
   pub tally-take : (t : Tally) (a : Answer) → Settles (λ (r : Tallied). r ≡ tallyOf t a)
@@ -27,3 +31,6 @@ pub record Settled : Type 0 where
   pub tally-has-room : (t : Tally) (n : ℕ) → Settles (λ (r : Bool). r ≡ roomFor t n)
   pub tally-take-marks : (t : Tally) (marks : List ℕ) → Settles (λ (r : Tally). r ≡ marksTaken t marks)
   pub block-refusal : (fits : Bool) (number : ℕ) (t : Tally) (n : ℕ) → Settles (λ (r : ℕ). r ≡ blockRefusalOf fits number t n)
+  pub sizes : (nf nw : ℕ) (f : List Float) (w : List ℕ) → Settles (λ (r : ℕ). r ≡ sizesOf nf nw (length f) (length w))
+  pub tick-sizes : (nf nw ns : ℕ) (f : List Float) (w : List ℕ) (o : List Float) → Settles (λ (r : ℕ). r ≡ tickSizesOf nf nw ns (length f) (length w) (length o))
+  pub block-sizes : (nf nw : ℕ) (f : List Float) (w k : List ℕ) → Settles (λ (r : ℕ). r ≡ blockSizesOf nf nw (length f) (length w) (length k))

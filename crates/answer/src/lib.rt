@@ -2,10 +2,10 @@
 ghost use mathlib.Core.Path.{_≡_};
 ghost use Prim.Native.Nat.{_<_, _≤_, _+_};
 ghost use lib.ListN.{length};
-ghost use Rattle.answer.specs.Answer.{markNumber, voltsOf, answerOf};
+ghost use Rattle.answer.specs.Answer.{markNumber, voltsOf, accepted, answerOf};
 ghost use Rattle.answer.specs.Mark.{allFinite, markOf};
 ghost use Rattle.answer.specs.Tally.{newTally, sumOf, addsUp, oneIf, counted, tallyOf};
-ghost use Rattle.answer.specs.Flat.{tallyFrom, countsPut};
+ghost use Rattle.answer.specs.Flat.{sizesOf, tickSizesOf, blockSizesOf, hostNumber, tallyFrom, countsPut};
 ghost use Rattle.answer.specs.Block.{manyTo, cellsOf, roomFor, grownBy, marksTaken, blockRefusalOf};
 
 // Sample volts: a field for each output port number of the Rust. An output that an oscillator doesn't have, or that isn't
@@ -43,6 +43,25 @@ pub fn mark_number(a: Answer) -> u32
         Answer::NotFinite(_) => 2,
         Answer::Lost(_) => 3,
         Answer::Refused(_) => 0,
+    }
+}
+
+pub fn is_accepted(a: Answer) -> bool
+    ensures { λ r. ⌜ r ≡ accepted a ⌝ }
+{
+    mark_number(a) != 0
+}
+
+// What a host is told of an answer: 11 cleared, 12 notfinite, 13 lost, 14 clean, or the number that refused the tick.
+pub fn host_number(a: Answer) -> u32
+    ensures { λ r. ⌜ r ≡ hostNumber a ⌝ }
+{
+    match a {
+        Answer::Clean(_) => 14,
+        Answer::Cleared(_) => 11,
+        Answer::NotFinite(_) => 12,
+        Answer::Lost(_) => 13,
+        Answer::Refused(n) => n,
     }
 }
 
@@ -300,5 +319,47 @@ pub fn block_refusal(fits: bool, number: u32, tally: Tally, n: usize) -> u32
         }
     } else {
         52
+    }
+}
+
+// What a host lends for a state of nf floats and nw whole numbers: 0, or 50, 51 where floats, wholes have another length.
+pub fn sizes(nf: usize, nw: usize, floats: &[f64], wholes: &[u64]) -> u32
+    ensures { λ r. ⌜ r ≡ sizesOf nf nw (length (now (floats .entry))) (length (now (wholes .entry))) ⌝ }
+{
+    if floats.len() == nf {
+        if wholes.len() == nw { 0 } else { 51 }
+    } else {
+        50
+    }
+}
+
+// And for a tick of ns samples: 52.
+pub fn tick_sizes(
+    nf: usize,
+    nw: usize,
+    ns: usize,
+    floats: &[f64],
+    wholes: &[u64],
+    samples: &[f64],
+) -> u32
+    ensures { λ r. ⌜ r ≡ tickSizesOf nf nw ns (length (now (floats .entry))) (length (now (wholes .entry))) (length (now (samples .entry))) ⌝ }
+{
+    let refused = sizes(nf, nw, floats, wholes);
+    if refused == 0 {
+        if samples.len() == ns { 0 } else { 52 }
+    } else {
+        refused
+    }
+}
+
+// Or for a block, with the tally's five counts: 53.
+pub fn block_sizes(nf: usize, nw: usize, floats: &[f64], wholes: &[u64], counts: &[u32]) -> u32
+    ensures { λ r. ⌜ r ≡ blockSizesOf nf nw (length (now (floats .entry))) (length (now (wholes .entry))) (length (now (counts .entry))) ⌝ }
+{
+    let refused = sizes(nf, nw, floats, wholes);
+    if refused == 0 {
+        if counts.len() == 5 { 0 } else { 53 }
+    } else {
+        refused
     }
 }

@@ -1,3 +1,2 @@
-pub mod Lengths
 pub mod Stores
 pub mod Settled

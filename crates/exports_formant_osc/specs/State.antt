@@ -5,22 +5,9 @@ use Prim.Native.Nat.{ℕ, _+_}
 use lib.Dec.{eqb}
 use lib.Ieee.{Float, nan}
 use lib.ListN.{getD}
-use Rattle.common.specs.declared.Hertz.{Hertz}
-use Rattle.common.specs.declared.Turns.{Turns}
+use Rattle.answer.specs.declared.Volts.{Volts}
 use Rattle.formant_osc.specs.declared.FormantOsc.{FormantOsc}
 use Rattle.laws.specs.Lists.{tab}
-
--- 0, or what refuses the lengths of floats and wholes
-unfoldable pub sizesOf : ℕ → ℕ → ℕ
-sizesOf f w = cond (eqb f 29) (cond (eqb w 6) 0 51) 50
-
--- and that of samples after them
-unfoldable pub tickSizesOf : ℕ → ℕ → ℕ → ℕ
-tickSizesOf f w o = cond (eqb (sizesOf f w) 0) (cond (eqb o 1) 0 52) (sizesOf f w)
-
--- or those of counts after them
-unfoldable pub blockSizesOf : ℕ → ℕ → ℕ → ℕ
-blockSizesOf f w k = cond (eqb (sizesOf f w) 0) (cond (eqb k 5) 0 53) (sizesOf f w)
 
 -- n floats of a list, from its cell k on
 abbrev pub part : List Float → ℕ → ℕ → List Float
@@ -39,18 +26,17 @@ stateOf f w =
       «coef_memo» = record { key0 = getD w 2 0; key1 = getD w 3 0; key2 = getD w 4 0; val = part f 14 15; valid = not (eqb (getD w 5 0) 0) };
     }
 
--- the first twelve floats, and the others
-abbrev pub frontOf : Turns → Turns → List Float → List Float
-frontOf phase vibrato cells = phase .0 ∷ vibrato .0 ∷ part cells 0 10
-
-abbrev pub backOf : Hertz → Hertz → List Float → List Float
-backOf rate freq val = rate .0 ∷ freq .0 ∷ part val 0 15
-
 unfoldable pub floatsOf : FormantOsc → List Float
-floatsOf s = frontOf (s .phase) (s .«vibrato_phase») (s .«resonator_state») ++ backOf (s .«sample_rate») (s .«freq_memo» .val) (s .«coef_memo» .val)
+floatsOf s =
+    (s .phase .0 ∷ s .«vibrato_phase» .0 ∷ part (s .«resonator_state») 0 10)
+    ++ (s .«sample_rate» .0 ∷ s .«freq_memo» .val .0 ∷ part (s .«coef_memo» .val) 0 15)
 
 unfoldable pub wholesOf : FormantOsc → List ℕ
 wholesOf s =
     let f = s .«freq_memo» in
     let c = s .«coef_memo» in
     f .key ∷ cond (f .valid) 1 0 ∷ c .key0 ∷ c .key1 ∷ c .key2 ∷ cond (c .valid) 1 0 ∷ []
+
+-- [out]
+unfoldable pub samplesOf : Volts → List Float
+samplesOf v = v .p10 ∷ []

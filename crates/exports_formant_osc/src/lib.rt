@@ -5,7 +5,6 @@
 // 1 to 7 as document 01 has them, or 50, 51, 52, 53 where floats, wholes, samples or counts have another length. A refused
 // call writes nothing. A block answers 0, with the ticks' samples one after another, their marks as 1 cleared, 2 notfinite,
 // 3 lost, 4 clean, and the tally's five counts: begun, finished, cleared, notfinite, lost.
-use answer::Answer;
 use answer::Outcome;
 use answer::Tally;
 use common::Hertz;
@@ -20,48 +19,14 @@ use formant_osc::FormantOsc;
 use formant_osc::FormantTicked;
 ghost use mathlib.Core.Path.{_≡_};
 ghost use mathlib.Core.List.{List};
-ghost use Prim.Native.Nat.{ℕ};
+ghost use Prim.Native.Nat.{ℕ, _+_, _≤_};
 ghost use lib.Ieee.{Float};
 ghost use lib.ListN.{length};
 ghost use lib.Seq.{sets};
 ghost use Rattle.answer.specs.Block.{block};
-ghost use Rattle.answer.specs.Flat.{kept, heard, played, playedOf};
-ghost use Rattle.answer.specs.Answer.{voltsOf, refusalOf};
-ghost use Rattle.exports_formant_osc.specs.State.{sizesOf, tickSizesOf, blockSizesOf, stateOf, frontOf, backOf, floatsOf, wholesOf};
-ghost use Rattle.exports_formant_osc.specs.Calls.{keptOf, heardOf, formantNewAt, formantTickAt, formantBlockAt, formantResetAt, formantSetSampleRateAt};
-
-// 0, or the number that refuses these lengths.
-fn sizes(floats: &[f64], wholes: &[u64]) -> u32
-    ensures { λ r. ⌜ r ≡ sizesOf (length (now (floats .entry))) (length (now (wholes .entry))) ⌝ }
-{
-    if floats.len() == 29 {
-        if wholes.len() == 6 { 0 } else { 51 }
-    } else {
-        50
-    }
-}
-
-fn tick_sizes(floats: &[f64], wholes: &[u64], samples: &[f64]) -> u32
-    ensures { λ r. ⌜ r ≡ tickSizesOf (length (now (floats .entry))) (length (now (wholes .entry))) (length (now (samples .entry))) ⌝ }
-{
-    let n = sizes(floats, wholes);
-    if n == 0 {
-        if samples.len() == 1 { 0 } else { 52 }
-    } else {
-        n
-    }
-}
-
-fn block_sizes(floats: &[f64], wholes: &[u64], counts: &[u32]) -> u32
-    ensures { λ r. ⌜ r ≡ blockSizesOf (length (now (floats .entry))) (length (now (wholes .entry))) (length (now (counts .entry))) ⌝ }
-{
-    let n = sizes(floats, wholes);
-    if n == 0 {
-        if counts.len() == 5 { 0 } else { 53 }
-    } else {
-        n
-    }
-}
+ghost use Rattle.answer.specs.Flat.{kept, heard, heardOf, played, playedOf};
+ghost use Rattle.exports_formant_osc.specs.State.{stateOf, floatsOf, wholesOf, samplesOf};
+ghost use Rattle.exports_formant_osc.specs.Calls.{keptOf, formantNewAt, formantTickAt, formantBlockAt, formantResetAt, formantSetSampleRateAt};
 
 fn state(floats: &[f64], wholes: &[u64]) -> FormantOsc
     requires { ⌜ (length (now floats) ≡ 29) × (length (now wholes) ≡ 6) ⌝ }
@@ -120,47 +85,16 @@ fn state(floats: &[f64], wholes: &[u64]) -> FormantOsc
     }
 }
 
-// The first twelve floats: phases and resonators.
-fn store_front(phase: Turns, vibrato_phase: Turns, cells: [f64; 10], floats: &mut [f64])
-    requires { ⌜ length (now floats) ≡ 29 ⌝ }
-    ensures { λ _. ⌜ now (floats .exit) ≡ sets (now (floats .entry)) 0 (frontOf phase «vibrato_phase» cells) ⌝ }
+// The cells one after another, the first at the place `at`.
+fn store_cells(cells: &[f64], at: usize, floats: &mut [f64])
+    requires { ⌜ at + length (now cells) ≤ length (now floats) ⌝ }
+    ensures { λ _. ⌜ now (floats .exit) ≡ sets (now (floats .entry)) at (now (cells .entry)) ⌝ }
 {
-    floats[0] = phase.0;
-    floats[1] = vibrato_phase.0;
-    floats[2] = cells[0];
-    floats[3] = cells[1];
-    floats[4] = cells[2];
-    floats[5] = cells[3];
-    floats[6] = cells[4];
-    floats[7] = cells[5];
-    floats[8] = cells[6];
-    floats[9] = cells[7];
-    floats[10] = cells[8];
-    floats[11] = cells[9];
-}
-
-// The others: the rate and what the memos hold.
-fn store_back(sample_rate: Hertz, freq: Hertz, val: [f64; 15], floats: &mut [f64])
-    requires { ⌜ length (now floats) ≡ 29 ⌝ }
-    ensures { λ _. ⌜ now (floats .exit) ≡ sets (now (floats .entry)) 12 (backOf «sample_rate» freq val) ⌝ }
-{
-    floats[12] = sample_rate.0;
-    floats[13] = freq.0;
-    floats[14] = val[0];
-    floats[15] = val[1];
-    floats[16] = val[2];
-    floats[17] = val[3];
-    floats[18] = val[4];
-    floats[19] = val[5];
-    floats[20] = val[6];
-    floats[21] = val[7];
-    floats[22] = val[8];
-    floats[23] = val[9];
-    floats[24] = val[10];
-    floats[25] = val[11];
-    floats[26] = val[12];
-    floats[27] = val[13];
-    floats[28] = val[14];
+    let mut i = 0;
+    while i < cells.len() {
+        floats[at + i] = cells[i];
+        i += 1;
+    }
 }
 
 fn store_floats(s: FormantOsc, floats: &mut [f64])
@@ -175,8 +109,12 @@ fn store_floats(s: FormantOsc, floats: &mut [f64])
     let freq = freq_memo.val;
     let coef_memo = s.coef_memo;
     let val = coef_memo.val;
-    store_front(phase, vibrato_phase, cells, &mut *floats);
-    store_back(sample_rate, freq, val, &mut *floats);
+    store_cells(&cells, 2, &mut *floats);
+    store_cells(&val, 14, &mut *floats);
+    floats[0] = phase.0;
+    floats[1] = vibrato_phase.0;
+    floats[12] = sample_rate.0;
+    floats[13] = freq.0;
 }
 
 fn store_wholes(s: FormantOsc, wholes: &mut [u64])
@@ -218,7 +156,7 @@ pub extern "C" fn gruttisol_formant_osc_new(
 ) -> u32
     ensures { λ r. ⌜ kept r (now (floats .exit)) (now (wholes .exit)) ≡ formantNewAt «sample_rate» (now (floats .entry)) (now (wholes .entry)) ⌝ }
 {
-    let n = sizes(floats, wholes);
+    let n = answer::sizes(29, 6, floats, wholes);
     if n == 0 {
         put_made(FormantOsc::new(Hertz(sample_rate)), floats, wholes)
     } else {
@@ -226,47 +164,21 @@ pub extern "C" fn gruttisol_formant_osc_new(
     }
 }
 
-// The one output of an answer; a refused tick has none.
-fn out(a: Answer) -> f64
-    ensures { λ r. ⌜ r ≡ voltsOf a .p10 ⌝ }
-{
-    match a {
-        Answer::Clean(v) => v.p10,
-        Answer::Cleared(v) => v.p10,
-        Answer::NotFinite(v) => v.p10,
-        Answer::Lost(v) => v.p10,
-        Answer::Refused(_) => 0.0,
-    }
-}
-
-// The number that refused a tick; an accepted one has none.
-fn refusal(a: Answer) -> u32
-    ensures { λ r. ⌜ r ≡ refusalOf a ⌝ }
-{
-    match a {
-        Answer::Clean(_) => 0,
-        Answer::Cleared(_) => 0,
-        Answer::NotFinite(_) => 0,
-        Answer::Lost(_) => 0,
-        Answer::Refused(n) => n,
-    }
-}
-
+// The sample and the state after an accepted tick; a refused one leaves them.
 fn put_ticked(t: FormantTicked, floats: &mut [f64], wholes: &mut [u64], samples: &mut [f64]) -> u32
     requires { ⌜ (length (now floats) ≡ 29) × (length (now wholes) ≡ 6) × (length (now samples) ≡ 1) ⌝ }
-    ensures { λ r. ⌜ heard r (now (floats .exit)) (now (wholes .exit)) (now (samples .exit)) ≡ heardOf t (now (floats .entry)) (now (wholes .entry)) (now (samples .entry)) ⌝ }
+    ensures { λ r. ⌜ heard r (now (floats .exit)) (now (wholes .exit)) (now (samples .exit)) ≡ heardOf floatsOf wholesOf samplesOf (t .answer) (t .formant) (now (floats .entry)) (now (wholes .entry)) (now (samples .entry)) ⌝ }
 {
     let answer = t.answer;
-    let mark = answer::mark_number(answer);
-    if mark == 0 {
-        refusal(answer)
-    } else {
+    let code = answer::host_number(answer);
+    if answer::is_accepted(answer) {
         let s = t.formant;
+        let v = answer::samples(answer);
         store_floats(s, &mut *floats);
         store_wholes(s, &mut *wholes);
-        samples[0] = out(answer);
-        10 + mark
+        samples[0] = v.p10;
     }
+    code
 }
 
 #[no_mangle]
@@ -281,7 +193,7 @@ pub extern "C" fn gruttisol_formant_osc_tick(
 ) -> u32
     ensures { λ r. ⌜ heard r (now (floats .exit)) (now (wholes .exit)) (now (samples .exit)) ≡ formantTickAt «v_oct» vowel «formant_shift» vibrato (now (floats .entry)) (now (wholes .entry)) (now (samples .entry)) ⌝ }
 {
-    let n = tick_sizes(floats, wholes, samples);
+    let n = answer::tick_sizes(29, 6, 1, floats, wholes, samples);
     if n == 0 {
         let c = FormantControls {
             v_oct: VoltsPerOctave(v_oct),
@@ -327,7 +239,7 @@ pub extern "C" fn gruttisol_formant_osc_block(
 ) -> u32
     ensures { λ r. ⌜ played r (now (floats .exit)) (now (wholes .exit)) (now (counts .exit)) (now (samples .exit)) (now (marks .exit)) ≡ formantBlockAt «v_oct» vowel «formant_shift» vibrato (now (floats .entry)) (now (wholes .entry)) (now (counts .entry)) (now (samples .entry)) (now (marks .entry)) ⌝ }
 {
-    let n = block_sizes(floats, wholes, counts);
+    let n = answer::block_sizes(29, 6, floats, wholes, counts);
     if n == 0 {
         let c = FormantControls {
             v_oct: VoltsPerOctave(v_oct),
@@ -347,7 +259,7 @@ pub extern "C" fn gruttisol_formant_osc_block(
 pub extern "C" fn gruttisol_formant_osc_reset(floats: &mut [f64], wholes: &mut [u64]) -> u32
     ensures { λ r. ⌜ kept r (now (floats .exit)) (now (wholes .exit)) ≡ formantResetAt (now (floats .entry)) (now (wholes .entry)) ⌝ }
 {
-    let n = sizes(floats, wholes);
+    let n = answer::sizes(29, 6, floats, wholes);
     if n == 0 {
         put_made(state(floats, wholes).reset(), floats, wholes)
     } else {
@@ -363,7 +275,7 @@ pub extern "C" fn gruttisol_formant_osc_set_sample_rate(
 ) -> u32
     ensures { λ r. ⌜ kept r (now (floats .exit)) (now (wholes .exit)) ≡ formantSetSampleRateAt «sample_rate» (now (floats .entry)) (now (wholes .entry)) ⌝ }
 {
-    let n = sizes(floats, wholes);
+    let n = answer::sizes(29, 6, floats, wholes);
     if n == 0 {
         put_made(
             state(floats, wholes).set_sample_rate(Hertz(sample_rate)),

@@ -6,7 +6,7 @@ use lib.Ieee.{Float, nan}
 use lib.ListN.{length, getD}
 use borrow.Author.Tests.{ne-eqb}
 use Rattle.answer.specs.Block.{Block}
-use Rattle.answer.specs.Flat.{Kept, kept, Heard, heard, Played, playedOf, tallyFrom}
+use Rattle.answer.specs.Flat.{sizesOf, tickSizesOf, blockSizesOf, Kept, kept, Heard, heard, heardOf, Played, playedOf, tallyFrom}
 use Rattle.answer.specs.declared.Tally.{Tally}
 use Rattle.common.specs.declared.Hertz.{Hertz}
 use Rattle.karplus_strong.proofs.Promised.{keeps-rate}
@@ -18,11 +18,11 @@ use Rattle.karplus_strong.specs.declared.KarplusStrong.{KarplusStrong}
 use Rattle.karplus_strong.specs.declared.KarplusStrongControls.{KarplusStrongControls}
 use Rattle.karplus_strong.specs.declared.KarplusStrongMade.{KarplusStrongMade}
 use Rattle.karplus_strong.specs.declared.KarplusStrongTicked.{KarplusStrongTicked}
-use Rattle.exports_karplus_strong.specs.State.{sizesOf, tickSizesOf, blockSizesOf, stateOf}
-use Rattle.exports_karplus_strong.specs.Calls.{left, keptOf, leftSized, karplusStrongNewAt, karplusStrongResetAt, karplusStrongSetSampleRateAt, heardOf, sounded, soundedSized, karplusStrongTickAt, rung, strungFloats, strungWholes, karplusStrongBlockAt}
+use Rattle.exports_karplus_strong.specs.State.{stateOf, floatsOf, wholesOf, samplesOf}
+use Rattle.exports_karplus_strong.specs.Calls.{left, keptOf, leftSized, karplusStrongNewAt, karplusStrongResetAt, karplusStrongSetSampleRateAt, sounded, soundedSized, controlsOf, karplusStrongTickAt, rung, strungFloats, strungWholes, karplusStrongBlockAt}
 
 -- ---- calls without samples
-module _ (f : List Float) (w : List ℕ) (l : List Float) (n : ℕ) (e : n ≡ sizesOf (length f) (length w)) where
+module _ (f : List Float) (w : List ℕ) (l : List Float) (n : ℕ) (e : n ≡ sizesOf 6 4 (length f) (length w)) where
   pub left-refused : (m : Making) → (n ≡ 0 → ⊥) → left (kept n f w) l ≡ leftSized m f w l
   unfolding leftSized
   left-refused m h = simp (← e, ne-eqb n 0 h)
@@ -46,21 +46,21 @@ pub rate-stands : (f : List Float) (w : List ℕ) (l : List Float) (draws : List
 unfolding stateOf
 rate-stands f w l draws c s t es et = rw et (sym (ap (λ (r : Hertz). r .0) (keeps-rate s c draws l ∙ ap (λ (s : KarplusStrong). s .«sample_rate») es)))
 
-module _ (f : List Float) (w : List ℕ) (o l : List Float) (n : ℕ) (e : n ≡ tickSizesOf (length f) (length w) (length o)) where
+module _ (f : List Float) (w : List ℕ) (o l : List Float) (n : ℕ) (e : n ≡ tickSizesOf 6 4 1 (length f) (length w) (length o)) where
   pub sounded-refused : (t : Ticking) → (n ≡ 0 → ⊥) → sounded (heard n f w o) l ≡ soundedSized t f w o l
   unfolding soundedSized
   sounded-refused t h = simp (← e, ne-eqb n 0 h)
 
   pub tick-sounded : (voct trigger damping brightness stretch : Float) (draws : List ℕ) (s : KarplusStrong) (t : KarplusStrongTicked) (x : List Float) (h : Heard)
-      → n ≡ 0 → s ≡ stateOf f w → let c : KarplusStrongControls = record { voct = record { 0 = voct }; trigger = trigger; damping = damping; brightness = brightness; stretch = stretch } in
-      t ≡ karplusStrongTickOf s c draws l .out → x ≡ karplusStrongTickOf s c draws l .line → h ≡ heardOf t f w o → sounded h x ≡ karplusStrongTickAt voct trigger damping brightness stretch f w o l draws
+      → n ≡ 0 → s ≡ stateOf f w → let c = controlsOf voct trigger damping brightness stretch in
+      t ≡ karplusStrongTickOf s c draws l .out → x ≡ karplusStrongTickOf s c draws l .line → h ≡ heardOf floatsOf wholesOf samplesOf (t .answer) (t .«karplus_strong») f w o → sounded h x ≡ karplusStrongTickAt voct trigger damping brightness stretch f w o l draws
   unfolding karplusStrongTickAt soundedSized
   tick-sounded voct trigger damping brightness stretch draws s t x h z es et ex eh = rw (← e, z, eh, et, ex, es)
 
 -- ---- the block
-module _ (f : List Float) (w : List ℕ) (l : List Float) (draws k : List ℕ) (o : List Float) (m : List ℕ) (n : ℕ) (e : n ≡ blockSizesOf (length f) (length w) (length k)) where
+module _ (f : List Float) (w : List ℕ) (l : List Float) (draws k : List ℕ) (o : List Float) (m : List ℕ) (n : ℕ) (e : n ≡ blockSizesOf 6 4 (length f) (length w) (length k)) where
   pub block-rung : n ≡ 0 → (voct trigger damping brightness stretch : Float) (s : KarplusStrong) (t : Tally) (b : Block Strung) (p : Played) → s ≡ stateOf f w → t ≡ tallyFrom k
-      → b ≡ karplusStrongBlockOf (strung s l) (record { voct = record { 0 = voct }; trigger = trigger; damping = damping; brightness = brightness; stretch = stretch }) draws t o m
+      → b ≡ karplusStrongBlockOf (strung s l) (controlsOf voct trigger damping brightness stretch) draws t o m
       → p ≡ playedOf strungFloats strungWholes b f w k → rung p (b .state .line) ≡ karplusStrongBlockAt voct trigger damping brightness stretch f w l draws k o m
   unfolding karplusStrongBlockAt
   block-rung z voct trigger damping brightness stretch s t b p es et eb ep = rw (← e, z, ep, eb, es, et)

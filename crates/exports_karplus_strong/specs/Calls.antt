@@ -2,21 +2,19 @@
 -- marks and line as they stood.
 use mathlib.Core.Bool.{cond}
 use mathlib.Core.List.{List}
-use Prim.Native.Nat.{ℕ, _+_}
+use Prim.Native.Nat.{ℕ}
 use lib.Dec.{eqb}
 use lib.Ieee.{Float}
 use lib.ListN.{length}
-use Rattle.answer.specs.Flat.{Kept, kept, Heard, heard, Played, played, playedOf, tallyFrom}
-use Rattle.answer.specs.Answer.{markNumber, voltsOf, refusalOf, accepted}
+use Rattle.answer.specs.Flat.{sizesOf, tickSizesOf, blockSizesOf, Kept, kept, Heard, heard, heardOf, Played, played, playedOf, tallyFrom}
 use Rattle.karplus_strong.specs.Step.{Ticking}
 use Rattle.karplus_strong.specs.KarplusStrong.{Making, karplusStrongNewOf, karplusStrongTickOf, karplusStrongResetOf, karplusStrongSetSampleRateOf}
 use Rattle.karplus_strong.specs.Calls.{Strung, strung}
 use Rattle.karplus_strong.specs.Blocks.{karplusStrongBlockOf}
-use Rattle.exports_karplus_strong.specs.State.{sizesOf, tickSizesOf, blockSizesOf, stateOf, floatsOf, wholesOf, samplesOf}
+use Rattle.exports_karplus_strong.specs.State.{stateOf, floatsOf, wholesOf, samplesOf}
 use Rattle.karplus_strong.specs.declared.KarplusStrongControls.{KarplusStrongControls}
 use Rattle.karplus_strong.specs.declared.KarplusStrongMade.{KarplusStrongMade}
 use Rattle.karplus_strong.specs.declared.KarplusStrongMade.the-variants as made
-use Rattle.karplus_strong.specs.declared.KarplusStrongTicked.{KarplusStrongTicked}
 
 -- 0 and the new state, or what refused it
 unfoldable pub keptOf : KarplusStrongMade → List Float → List ℕ → Kept
@@ -33,7 +31,7 @@ left k l = record { state = k; line = l }
 
 -- what was made, unless the lengths refuse
 unfoldable pub leftSized : Making → List Float → List ℕ → List Float → Left
-leftSized m f w l = let n = sizesOf (length f) (length w) in cond (eqb n 0) (left (keptOf (m .out) f w) (m .line)) (left (kept n f w) l)
+leftSized m f w l = let n = sizesOf 6 4 (length f) (length w) in cond (eqb n 0) (left (keptOf (m .out) f w) (m .line)) (left (kept n f w) l)
 
 unfoldable pub karplusStrongNewAt : Float → List Float → List ℕ → List Float → Left
 karplusStrongNewAt rate f w l = leftSized (karplusStrongNewOf (record { 0 = rate }) l) f w l
@@ -44,12 +42,7 @@ karplusStrongResetAt f w l = leftSized (karplusStrongResetOf (stateOf f w) l) f 
 unfoldable pub karplusStrongSetSampleRateAt : Float → List Float → List ℕ → List Float → Left
 karplusStrongSetSampleRateAt rate f w l = leftSized (karplusStrongSetSampleRateOf (stateOf f w) (record { 0 = rate }) l) f w l
 
--- 10 and the mark's number, the new state and the sample, or what refused it
-unfoldable pub heardOf : KarplusStrongTicked → List Float → List ℕ → List Float → Heard
-heardOf t f w o =
-    let a = t .answer in
-    cond (accepted a) (heard (10 + markNumber a) (floatsOf (t .«karplus_strong»)) (wholesOf (t .«karplus_strong»)) (samplesOf (voltsOf a))) (heard (refusalOf a) f w o)
-
+-- a tick's number, the state and the sample after it, or what refused it, with the line
 pub record Sounded : Type 0 where
   pub heard : Heard
   pub line : List Float
@@ -58,11 +51,18 @@ abbrev pub sounded : Heard → List Float → Sounded
 sounded h l = record { heard = h; line = l }
 
 unfoldable pub soundedSized : Ticking → List Float → List ℕ → List Float → List Float → Sounded
-soundedSized t f w o l = let n = tickSizesOf (length f) (length w) (length o) in cond (eqb n 0) (sounded (heardOf (t .out) f w o) (t .line)) (sounded (heard n f w o) l)
+soundedSized t f w o l =
+    let n = tickSizesOf 6 4 1 (length f) (length w) (length o) in
+    cond (eqb n 0)
+    (sounded (heardOf floatsOf wholesOf samplesOf (t .out .answer) (t .out .«karplus_strong») f w o) (t .line))
+    (sounded (heard n f w o) l)
+
+abbrev pub controlsOf : Float → Float → Float → Float → Float → KarplusStrongControls
+controlsOf voct trigger damping brightness stretch = record { voct = record { 0 = voct }; trigger = trigger; damping = damping; brightness = brightness; stretch = stretch }
 
 unfoldable pub karplusStrongTickAt : Float → Float → Float → Float → Float → List Float → List ℕ → List Float → List Float → List ℕ → Sounded
 karplusStrongTickAt voct trigger damping brightness stretch f w o l draws =
-    soundedSized (karplusStrongTickOf (stateOf f w) (record { voct = record { 0 = voct }; trigger = trigger; damping = damping; brightness = brightness; stretch = stretch }) draws l) f w o l
+    soundedSized (karplusStrongTickOf (stateOf f w) (controlsOf voct trigger damping brightness stretch) draws l) f w o l
 
 -- a block: 0, the state, the counts, the samples and the marks after it, or what refused it
 pub record Rung : Type 0 where
@@ -80,7 +80,6 @@ strungWholes x = wholesOf (x .string)
 
 unfoldable pub karplusStrongBlockAt : Float → Float → Float → Float → Float → List Float → List ℕ → List Float → List ℕ → List ℕ → List Float → List ℕ → Rung
 karplusStrongBlockAt voct trigger damping brightness stretch f w l draws k o m =
-    let n = blockSizesOf (length f) (length w) (length k) in
-    let c : KarplusStrongControls = record { voct = record { 0 = voct }; trigger = trigger; damping = damping; brightness = brightness; stretch = stretch } in
-    let b = karplusStrongBlockOf (strung (stateOf f w) l) c draws (tallyFrom k) o m in
+    let n = blockSizesOf 6 4 (length f) (length w) (length k) in
+    let b = karplusStrongBlockOf (strung (stateOf f w) l) (controlsOf voct trigger damping brightness stretch) draws (tallyFrom k) o m in
     cond (eqb n 0) (rung (playedOf strungFloats strungWholes b f w k) (b .state .line)) (rung (played n f w k o m) l)

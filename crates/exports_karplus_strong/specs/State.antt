@@ -8,18 +8,6 @@ use lib.ListN.{getD}
 use Rattle.answer.specs.declared.Volts.{Volts}
 use Rattle.karplus_strong.specs.declared.KarplusStrong.{KarplusStrong}
 
--- 0, or what refuses the lengths of floats and wholes
-unfoldable pub sizesOf : ℕ → ℕ → ℕ
-sizesOf f w = cond (eqb f 6) (cond (eqb w 4) 0 51) 50
-
--- and those of samples after them
-unfoldable pub tickSizesOf : ℕ → ℕ → ℕ → ℕ
-tickSizesOf f w o = cond (eqb (sizesOf f w) 0) (cond (eqb o 1) 0 52) (sizesOf f w)
-
--- or those of counts after them
-unfoldable pub blockSizesOf : ℕ → ℕ → ℕ → ℕ
-blockSizesOf f w k = cond (eqb (sizesOf f w) 0) (cond (eqb k 5) 0 53) (sizesOf f w)
-
 -- floats [sample_rate, lp_state, ap_x1, ap_y1, trigger_edge.prev, freq_memo.val], wholes [len, write_pos, freq_memo.key, freq_memo.valid]
 unfoldable pub stateOf : List Float → List ℕ → KarplusStrong
 stateOf f w =

@@ -4,9 +4,7 @@
 // 1 to 7 as document 01 has them, or 50, 51, 52, 53 where floats, wholes, samples or counts have another length. A refused
 // call writes nothing. A block answers 0, with the ticks' samples one after another, their marks as 1 cleared, 4 clean, and the
 // tally's five counts: begun, finished, cleared, notfinite, lost.
-use answer::Answer;
 use answer::Tally;
-use answer::Volts;
 use common::EdgeDetector;
 use common::Hertz;
 use common::Memo1;
@@ -22,43 +20,10 @@ ghost use Prim.Native.Nat.{ℕ};
 ghost use lib.Ieee.{Float, nan};
 ghost use lib.ListN.{length, getD};
 ghost use Rattle.answer.specs.Block.{block};
-ghost use Rattle.answer.specs.Flat.{kept, heard, played, playedOf};
+ghost use Rattle.answer.specs.Flat.{kept, heard, heardOf, played, playedOf};
 ghost use Rattle.karplus_strong.specs.Calls.{strung};
-ghost use Rattle.exports_karplus_strong.specs.State.{sizesOf, tickSizesOf, blockSizesOf, stateOf, floatsOf, wholesOf, samplesOf};
-ghost use Rattle.exports_karplus_strong.specs.Calls.{left, sounded, rung, strungFloats, strungWholes, keptOf, heardOf, karplusStrongNewAt, karplusStrongTickAt, karplusStrongBlockAt, karplusStrongResetAt, karplusStrongSetSampleRateAt};
-
-// 0, or the number that refuses these lengths.
-fn sizes(floats: &[f64], wholes: &[u64]) -> u32
-    ensures { λ r. ⌜ r ≡ sizesOf (length (now (floats .entry))) (length (now (wholes .entry))) ⌝ }
-{
-    if floats.len() == 6 {
-        if wholes.len() == 4 { 0 } else { 51 }
-    } else {
-        50
-    }
-}
-
-fn tick_sizes(floats: &[f64], wholes: &[u64], samples: &[f64]) -> u32
-    ensures { λ r. ⌜ r ≡ tickSizesOf (length (now (floats .entry))) (length (now (wholes .entry))) (length (now (samples .entry))) ⌝ }
-{
-    let n = sizes(floats, wholes);
-    if n == 0 {
-        if samples.len() == 1 { 0 } else { 52 }
-    } else {
-        n
-    }
-}
-
-fn block_sizes(floats: &[f64], wholes: &[u64], counts: &[u32]) -> u32
-    ensures { λ r. ⌜ r ≡ blockSizesOf (length (now (floats .entry))) (length (now (wholes .entry))) (length (now (counts .entry))) ⌝ }
-{
-    let n = sizes(floats, wholes);
-    if n == 0 {
-        if counts.len() == 5 { 0 } else { 53 }
-    } else {
-        n
-    }
-}
+ghost use Rattle.exports_karplus_strong.specs.State.{stateOf, floatsOf, wholesOf, samplesOf};
+ghost use Rattle.exports_karplus_strong.specs.Calls.{left, sounded, rung, strungFloats, strungWholes, keptOf, karplusStrongNewAt, karplusStrongTickAt, karplusStrongBlockAt, karplusStrongResetAt, karplusStrongSetSampleRateAt};
 
 fn state(floats: &[f64], wholes: &[u64]) -> KarplusStrong
     requires { ⌜ (length (now floats) ≡ 6) × (length (now wholes) ≡ 4) ⌝ }
@@ -135,7 +100,7 @@ pub extern "C" fn gruttisol_karplus_strong_new(
 ) -> u32
     ensures { λ r. ⌜ left (kept r (now (floats .exit)) (now (wholes .exit))) (now (line .exit)) ≡ karplusStrongNewAt «sample_rate» (now (floats .entry)) (now (wholes .entry)) (now (line .entry)) ⌝ }
 {
-    let n = sizes(floats, wholes);
+    let n = answer::sizes(6, 4, floats, wholes);
     if n == 0 {
         put_made(KarplusStrong::new(Hertz(sample_rate), line), floats, wholes)
     } else {
@@ -143,23 +108,7 @@ pub extern "C" fn gruttisol_karplus_strong_new(
     }
 }
 
-// An accepted tick: its sample and the state after it.
-fn put_heard(
-    code: u32,
-    v: Volts,
-    s: KarplusStrong,
-    floats: &mut [f64],
-    wholes: &mut [u64],
-    samples: &mut [f64],
-) -> u32
-    requires { ⌜ (length (now floats) ≡ 6) × (length (now wholes) ≡ 4) × (length (now samples) ≡ 1) × (getD (now floats) 0 nan ≡ s .«sample_rate» .0) ⌝ }
-    ensures { λ r. ⌜ heard r (now (floats .exit)) (now (wholes .exit)) (now (samples .exit)) ≡ heard code (floatsOf s) (wholesOf s) (samplesOf v) ⌝ }
-{
-    store_kept(s, &mut *floats, &mut *wholes);
-    samples[0] = v.p10;
-    code
-}
-
+// The sample and the state after an accepted tick; a refused one leaves them.
 fn put_ticked(
     t: KarplusStrongTicked,
     floats: &mut [f64],
@@ -167,17 +116,17 @@ fn put_ticked(
     samples: &mut [f64],
 ) -> u32
     requires { ⌜ (length (now floats) ≡ 6) × (length (now wholes) ≡ 4) × (length (now samples) ≡ 1) × (getD (now floats) 0 nan ≡ t .«karplus_strong» .«sample_rate» .0) ⌝ }
-    ensures { λ r. ⌜ heard r (now (floats .exit)) (now (wholes .exit)) (now (samples .exit)) ≡ heardOf t (now (floats .entry)) (now (wholes .entry)) (now (samples .entry)) ⌝ }
+    ensures { λ r. ⌜ heard r (now (floats .exit)) (now (wholes .exit)) (now (samples .exit)) ≡ heardOf floatsOf wholesOf samplesOf (t .answer) (t .«karplus_strong») (now (floats .entry)) (now (wholes .entry)) (now (samples .entry)) ⌝ }
 {
     let answer = t.answer;
-    let s = t.karplus_strong;
-    match answer {
-        Answer::Clean(v) => put_heard(14, v, s, floats, wholes, samples),
-        Answer::Cleared(v) => put_heard(11, v, s, floats, wholes, samples),
-        Answer::NotFinite(v) => put_heard(12, v, s, floats, wholes, samples),
-        Answer::Lost(v) => put_heard(13, v, s, floats, wholes, samples),
-        Answer::Refused(n) => n,
+    let code = answer::host_number(answer);
+    if answer::is_accepted(answer) {
+        let s = t.karplus_strong;
+        let v = answer::samples(answer);
+        store_kept(s, &mut *floats, &mut *wholes);
+        samples[0] = v.p10;
     }
+    code
 }
 
 #[no_mangle]
@@ -195,7 +144,7 @@ pub extern "C" fn gruttisol_karplus_strong_tick(
 ) -> u32
     ensures { λ r. ⌜ sounded (heard r (now (floats .exit)) (now (wholes .exit)) (now (samples .exit))) (now (line .exit)) ≡ karplusStrongTickAt voct trigger damping brightness stretch (now (floats .entry)) (now (wholes .entry)) (now (samples .entry)) (now (line .entry)) (now (draws .entry)) ⌝ }
 {
-    let n = tick_sizes(floats, wholes, samples);
+    let n = answer::tick_sizes(6, 4, 1, floats, wholes, samples);
     if n == 0 {
         let c = KarplusStrongControls {
             voct: VoltsPerOctave(voct),
@@ -254,7 +203,7 @@ pub extern "C" fn gruttisol_karplus_strong_block(
 ) -> u32
     ensures { λ r. ⌜ rung (played r (now (floats .exit)) (now (wholes .exit)) (now (counts .exit)) (now (samples .exit)) (now (marks .exit))) (now (line .exit)) ≡ karplusStrongBlockAt voct trigger damping brightness stretch (now (floats .entry)) (now (wholes .entry)) (now (line .entry)) (now (draws .entry)) (now (counts .entry)) (now (samples .entry)) (now (marks .entry)) ⌝ }
 {
-    let n = block_sizes(floats, wholes, counts);
+    let n = answer::block_sizes(6, 4, floats, wholes, counts);
     if n == 0 {
         let c = KarplusStrongControls {
             voct: VoltsPerOctave(voct),
@@ -279,7 +228,7 @@ pub extern "C" fn gruttisol_karplus_strong_reset(
 ) -> u32
     ensures { λ r. ⌜ left (kept r (now (floats .exit)) (now (wholes .exit))) (now (line .exit)) ≡ karplusStrongResetAt (now (floats .entry)) (now (wholes .entry)) (now (line .entry)) ⌝ }
 {
-    let n = sizes(floats, wholes);
+    let n = answer::sizes(6, 4, floats, wholes);
     if n == 0 {
         put_made(state(floats, wholes).reset(line), floats, wholes)
     } else {
@@ -296,7 +245,7 @@ pub extern "C" fn gruttisol_karplus_strong_set_sample_rate(
 ) -> u32
     ensures { λ r. ⌜ left (kept r (now (floats .exit)) (now (wholes .exit))) (now (line .exit)) ≡ karplusStrongSetSampleRateAt «sample_rate» (now (floats .entry)) (now (wholes .entry)) (now (line .entry)) ⌝ }
 {
-    let n = sizes(floats, wholes);
+    let n = answer::sizes(6, 4, floats, wholes);
     if n == 0 {
         put_made(
             state(floats, wholes).set_sample_rate(Hertz(sample_rate), line),

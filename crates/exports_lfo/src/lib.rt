@@ -4,9 +4,7 @@
 // 1 to 7 as document 01 has them, or 50, 51, 52, 53 where floats, wholes, samples or counts have another length. A refused
 // call writes nothing. A block answers 0, with the tick's samples one after another, their marks as 1 cleared, 2 notfinite,
 // 3 lost, 4 clean, and the tally's five counts: begun, finished, cleared, notfinite, lost.
-use answer::Answer;
 use answer::Tally;
-use answer::Volts;
 use common::EdgeDetector;
 use common::Hertz;
 use common::Memo1;
@@ -22,42 +20,9 @@ ghost use Prim.Native.Nat.{ℕ};
 ghost use lib.Ieee.{Float};
 ghost use lib.ListN.{length};
 ghost use Rattle.answer.specs.Block.{block};
-ghost use Rattle.answer.specs.Flat.{kept, heard, played, playedOf};
-ghost use Rattle.exports_lfo.specs.State.{sizesOf, tickSizesOf, blockSizesOf, stateOf, floatsOf, wholesOf, samplesOf};
-ghost use Rattle.exports_lfo.specs.Calls.{keptOf, heardOf, lfoNewAt, lfoTickAt, lfoBlockAt, lfoResetAt, lfoSetSampleRateAt};
-
-// 0, or the number that refuses these lengths.
-fn sizes(floats: &[f64], wholes: &[u64]) -> u32
-    ensures { λ r. ⌜ r ≡ sizesOf (length (now (floats .entry))) (length (now (wholes .entry))) ⌝ }
-{
-    if floats.len() == 4 {
-        if wholes.len() == 2 { 0 } else { 51 }
-    } else {
-        50
-    }
-}
-
-fn tick_sizes(floats: &[f64], wholes: &[u64], samples: &[f64]) -> u32
-    ensures { λ r. ⌜ r ≡ tickSizesOf (length (now (floats .entry))) (length (now (wholes .entry))) (length (now (samples .entry))) ⌝ }
-{
-    let n = sizes(floats, wholes);
-    if n == 0 {
-        if samples.len() == 5 { 0 } else { 52 }
-    } else {
-        n
-    }
-}
-
-fn block_sizes(floats: &[f64], wholes: &[u64], counts: &[u32]) -> u32
-    ensures { λ r. ⌜ r ≡ blockSizesOf (length (now (floats .entry))) (length (now (wholes .entry))) (length (now (counts .entry))) ⌝ }
-{
-    let n = sizes(floats, wholes);
-    if n == 0 {
-        if counts.len() == 5 { 0 } else { 53 }
-    } else {
-        n
-    }
-}
+ghost use Rattle.answer.specs.Flat.{kept, heard, heardOf, played, playedOf};
+ghost use Rattle.exports_lfo.specs.State.{stateOf, floatsOf, wholesOf, samplesOf};
+ghost use Rattle.exports_lfo.specs.Calls.{keptOf, lfoNewAt, lfoTickAt, lfoBlockAt, lfoResetAt, lfoSetSampleRateAt};
 
 fn state(floats: &[f64], wholes: &[u64]) -> Lfo
     requires { ⌜ (length (now floats) ≡ 4) × (length (now wholes) ≡ 2) ⌝ }
@@ -114,7 +79,7 @@ fn put_made(m: LfoMade, floats: &mut [f64], wholes: &mut [u64]) -> u32
 pub extern "C" fn gruttisol_lfo_new(sample_rate: f64, floats: &mut [f64], wholes: &mut [u64]) -> u32
     ensures { λ r. ⌜ kept r (now (floats .exit)) (now (wholes .exit)) ≡ lfoNewAt «sample_rate» (now (floats .entry)) (now (wholes .entry)) ⌝ }
 {
-    let n = sizes(floats, wholes);
+    let n = answer::sizes(4, 2, floats, wholes);
     if n == 0 {
         put_made(Lfo::new(Hertz(sample_rate)), floats, wholes)
     } else {
@@ -122,40 +87,24 @@ pub extern "C" fn gruttisol_lfo_new(sample_rate: f64, floats: &mut [f64], wholes
     }
 }
 
-// An accepted tick: its samples and the state after it.
-fn put_heard(
-    code: u32,
-    v: Volts,
-    s: Lfo,
-    floats: &mut [f64],
-    wholes: &mut [u64],
-    samples: &mut [f64],
-) -> u32
-    requires { ⌜ (length (now floats) ≡ 4) × (length (now wholes) ≡ 2) × (length (now samples) ≡ 5) ⌝ }
-    ensures { λ r. ⌜ heard r (now (floats .exit)) (now (wholes .exit)) (now (samples .exit)) ≡ heard code (floatsOf s) (wholesOf s) (samplesOf v) ⌝ }
-{
-    store(s, &mut *floats, &mut *wholes);
-    samples[0] = v.p10;
-    samples[1] = v.p11;
-    samples[2] = v.p12;
-    samples[3] = v.p13;
-    samples[4] = v.p14;
-    code
-}
-
+// The samples and the state after an accepted tick; a refused one leaves them.
 fn put_ticked(t: LfoTicked, floats: &mut [f64], wholes: &mut [u64], samples: &mut [f64]) -> u32
     requires { ⌜ (length (now floats) ≡ 4) × (length (now wholes) ≡ 2) × (length (now samples) ≡ 5) ⌝ }
-    ensures { λ r. ⌜ heard r (now (floats .exit)) (now (wholes .exit)) (now (samples .exit)) ≡ heardOf t (now (floats .entry)) (now (wholes .entry)) (now (samples .entry)) ⌝ }
+    ensures { λ r. ⌜ heard r (now (floats .exit)) (now (wholes .exit)) (now (samples .exit)) ≡ heardOf floatsOf wholesOf samplesOf (t .answer) (t .lfo) (now (floats .entry)) (now (wholes .entry)) (now (samples .entry)) ⌝ }
 {
     let answer = t.answer;
-    let s = t.lfo;
-    match answer {
-        Answer::Clean(v) => put_heard(14, v, s, floats, wholes, samples),
-        Answer::Cleared(v) => put_heard(11, v, s, floats, wholes, samples),
-        Answer::NotFinite(v) => put_heard(12, v, s, floats, wholes, samples),
-        Answer::Lost(v) => put_heard(13, v, s, floats, wholes, samples),
-        Answer::Refused(n) => n,
+    let code = answer::host_number(answer);
+    if answer::is_accepted(answer) {
+        let s = t.lfo;
+        let v = answer::samples(answer);
+        store(s, &mut *floats, &mut *wholes);
+        samples[0] = v.p10;
+        samples[1] = v.p11;
+        samples[2] = v.p12;
+        samples[3] = v.p13;
+        samples[4] = v.p14;
     }
+    code
 }
 
 #[no_mangle]
@@ -170,7 +119,7 @@ pub extern "C" fn gruttisol_lfo_tick(
 ) -> u32
     ensures { λ r. ⌜ heard r (now (floats .exit)) (now (wholes .exit)) (now (samples .exit)) ≡ lfoTickAt rate depth reset wanted (now (floats .entry)) (now (wholes .entry)) (now (samples .entry)) ⌝ }
 {
-    let n = tick_sizes(floats, wholes, samples);
+    let n = answer::tick_sizes(4, 2, 5, floats, wholes, samples);
     if n == 0 {
         let c = LfoControls { rate, depth, reset };
         put_ticked(
@@ -215,7 +164,7 @@ pub extern "C" fn gruttisol_lfo_block(
 ) -> u32
     ensures { λ r. ⌜ played r (now (floats .exit)) (now (wholes .exit)) (now (counts .exit)) (now (samples .exit)) (now (marks .exit)) ≡ lfoBlockAt rate depth reset wanted (now (floats .entry)) (now (wholes .entry)) (now (counts .entry)) (now (samples .entry)) (now (marks .entry)) ⌝ }
 {
-    let n = block_sizes(floats, wholes, counts);
+    let n = answer::block_sizes(4, 2, floats, wholes, counts);
     if n == 0 {
         let c = LfoControls { rate, depth, reset };
         let tally = Tally::from_counts(counts);
@@ -230,7 +179,7 @@ pub extern "C" fn gruttisol_lfo_block(
 pub extern "C" fn gruttisol_lfo_reset(floats: &mut [f64], wholes: &mut [u64]) -> u32
     ensures { λ r. ⌜ kept r (now (floats .exit)) (now (wholes .exit)) ≡ lfoResetAt (now (floats .entry)) (now (wholes .entry)) ⌝ }
 {
-    let n = sizes(floats, wholes);
+    let n = answer::sizes(4, 2, floats, wholes);
     if n == 0 {
         put_made(state(floats, wholes).reset(), floats, wholes)
     } else {
@@ -246,7 +195,7 @@ pub extern "C" fn gruttisol_lfo_set_sample_rate(
 ) -> u32
     ensures { λ r. ⌜ kept r (now (floats .exit)) (now (wholes .exit)) ≡ lfoSetSampleRateAt «sample_rate» (now (floats .entry)) (now (wholes .entry)) ⌝ }
 {
-    let n = sizes(floats, wholes);
+    let n = answer::sizes(4, 2, floats, wholes);
     if n == 0 {
         put_made(
             state(floats, wholes).set_sample_rate(Hertz(sample_rate)),

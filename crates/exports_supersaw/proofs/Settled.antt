@@ -1,8 +1,7 @@
 -- What is stored is read back, and each contract, being one equation, settles what it speaks of.
-use mathlib.Core.Bool.{Bool, true, false, not, cond}
 use mathlib.Core.Path.{_≡_, refl}
-use lib.Dec.{eqb}
 use lib.Ieee.{nan}
+use Rattle.answer.proofs.Flat.{flag}
 use Rattle.exports_supersaw.specs.Calls.{supersawNewAt, supersawResetAt, supersawSetSampleRateAt, supersawTickAt, supersawBlockAt}
 use Rattle.exports_supersaw.specs.Promises.{Read-back, Settled}
 use Rattle.exports_supersaw.specs.State.{stateOf, floatsOf, wholesOf}
@@ -10,10 +9,6 @@ use Rattle.laws.proofs.Over.{by-cells}
 use Rattle.laws.proofs.Settled as laws
 use Rattle.laws.specs.Lists.{tab}
 use Rattle.supersaw.specs.Voices.{at}
-
-flag : (b : Bool) → not (eqb (cond b 1 0) 0) ≡ b
-flag true = refl
-flag false = refl
 
 pub read-back : Read-back
 unfolding stateOf floatsOf wholesOf tab

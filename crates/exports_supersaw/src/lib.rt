@@ -4,10 +4,8 @@
 // 1 to 7 as document 01 has them, or 50, 51, 52, 53 where floats, wholes, samples or counts have another length. A refused
 // call writes nothing. A block answers 0, with the ticks' samples one after another, their marks as 1 cleared, 2 notfinite,
 // 3 lost, 4 clean, and the tally's five counts: begun, finished, cleared, notfinite, lost.
-use answer::Answer;
 use answer::Outcome;
 use answer::Tally;
-use answer::Volts;
 use common::Hertz;
 use common::Memo1;
 use common::Turns;
@@ -23,42 +21,9 @@ ghost use Prim.Native.Nat.{ℕ};
 ghost use lib.Ieee.{Float};
 ghost use lib.ListN.{length};
 ghost use Rattle.answer.specs.Block.{block};
-ghost use Rattle.answer.specs.Flat.{kept, heard, played, playedOf};
-ghost use Rattle.exports_supersaw.specs.State.{sizesOf, tickSizesOf, blockSizesOf, stateOf, floatsOf, wholesOf, samplesOf};
-ghost use Rattle.exports_supersaw.specs.Calls.{keptOf, heardOf, supersawNewAt, supersawTickAt, supersawBlockAt, supersawResetAt, supersawSetSampleRateAt};
-
-// 0, or the number that refuses these lengths.
-fn sizes(floats: &[f64], wholes: &[u64]) -> u32
-    ensures { λ r. ⌜ r ≡ sizesOf (length (now (floats .entry))) (length (now (wholes .entry))) ⌝ }
-{
-    if floats.len() == 10 {
-        if wholes.len() == 2 { 0 } else { 51 }
-    } else {
-        50
-    }
-}
-
-fn tick_sizes(floats: &[f64], wholes: &[u64], samples: &[f64]) -> u32
-    ensures { λ r. ⌜ r ≡ tickSizesOf (length (now (floats .entry))) (length (now (wholes .entry))) (length (now (samples .entry))) ⌝ }
-{
-    let n = sizes(floats, wholes);
-    if n == 0 {
-        if samples.len() == 2 { 0 } else { 52 }
-    } else {
-        n
-    }
-}
-
-fn block_sizes(floats: &[f64], wholes: &[u64], counts: &[u32]) -> u32
-    ensures { λ r. ⌜ r ≡ blockSizesOf (length (now (floats .entry))) (length (now (wholes .entry))) (length (now (counts .entry))) ⌝ }
-{
-    let n = sizes(floats, wholes);
-    if n == 0 {
-        if counts.len() == 5 { 0 } else { 53 }
-    } else {
-        n
-    }
-}
+ghost use Rattle.answer.specs.Flat.{kept, heard, heardOf, played, playedOf};
+ghost use Rattle.exports_supersaw.specs.State.{stateOf, floatsOf, wholesOf, samplesOf};
+ghost use Rattle.exports_supersaw.specs.Calls.{keptOf, supersawNewAt, supersawTickAt, supersawBlockAt, supersawResetAt, supersawSetSampleRateAt};
 
 fn state(floats: &[f64], wholes: &[u64]) -> Supersaw
     requires { ⌜ (length (now floats) ≡ 10) × (length (now wholes) ≡ 2) ⌝ }
@@ -135,7 +100,7 @@ pub extern "C" fn gruttisol_supersaw_new(
 ) -> u32
     ensures { λ r. ⌜ kept r (now (floats .exit)) (now (wholes .exit)) ≡ supersawNewAt «sample_rate» (now (floats .entry)) (now (wholes .entry)) ⌝ }
 {
-    let n = sizes(floats, wholes);
+    let n = answer::sizes(10, 2, floats, wholes);
     if n == 0 {
         put_made(Supersaw::new(Hertz(sample_rate)), floats, wholes)
     } else {
@@ -143,37 +108,21 @@ pub extern "C" fn gruttisol_supersaw_new(
     }
 }
 
-// An accepted tick: its samples and the state after it.
-fn put_heard(
-    code: u32,
-    v: Volts,
-    s: Supersaw,
-    floats: &mut [f64],
-    wholes: &mut [u64],
-    samples: &mut [f64],
-) -> u32
-    requires { ⌜ (length (now floats) ≡ 10) × (length (now wholes) ≡ 2) × (length (now samples) ≡ 2) ⌝ }
-    ensures { λ r. ⌜ heard r (now (floats .exit)) (now (wholes .exit)) (now (samples .exit)) ≡ heard code (floatsOf s) (wholesOf s) (samplesOf v) ⌝ }
-{
-    store(s, &mut *floats, &mut *wholes);
-    samples[0] = v.p10;
-    samples[1] = v.p11;
-    code
-}
-
+// The samples and the state after an accepted tick; a refused one leaves them.
 fn put_ticked(t: SupersawTicked, floats: &mut [f64], wholes: &mut [u64], samples: &mut [f64]) -> u32
     requires { ⌜ (length (now floats) ≡ 10) × (length (now wholes) ≡ 2) × (length (now samples) ≡ 2) ⌝ }
-    ensures { λ r. ⌜ heard r (now (floats .exit)) (now (wholes .exit)) (now (samples .exit)) ≡ heardOf t (now (floats .entry)) (now (wholes .entry)) (now (samples .entry)) ⌝ }
+    ensures { λ r. ⌜ heard r (now (floats .exit)) (now (wholes .exit)) (now (samples .exit)) ≡ heardOf floatsOf wholesOf samplesOf (t .answer) (t .supersaw) (now (floats .entry)) (now (wholes .entry)) (now (samples .entry)) ⌝ }
 {
     let answer = t.answer;
-    let s = t.supersaw;
-    match answer {
-        Answer::Clean(v) => put_heard(14, v, s, floats, wholes, samples),
-        Answer::Cleared(v) => put_heard(11, v, s, floats, wholes, samples),
-        Answer::NotFinite(v) => put_heard(12, v, s, floats, wholes, samples),
-        Answer::Lost(v) => put_heard(13, v, s, floats, wholes, samples),
-        Answer::Refused(n) => n,
+    let code = answer::host_number(answer);
+    if answer::is_accepted(answer) {
+        let s = t.supersaw;
+        let v = answer::samples(answer);
+        store(s, &mut *floats, &mut *wholes);
+        samples[0] = v.p10;
+        samples[1] = v.p11;
     }
+    code
 }
 
 #[no_mangle]
@@ -187,7 +136,7 @@ pub extern "C" fn gruttisol_supersaw_tick(
 ) -> u32
     ensures { λ r. ⌜ heard r (now (floats .exit)) (now (wholes .exit)) (now (samples .exit)) ≡ supersawTickAt voct detune mix (now (floats .entry)) (now (wholes .entry)) (now (samples .entry)) ⌝ }
 {
-    let n = tick_sizes(floats, wholes, samples);
+    let n = answer::tick_sizes(10, 2, 2, floats, wholes, samples);
     if n == 0 {
         let c = SupersawControls {
             voct: VoltsPerOctave(voct),
@@ -230,7 +179,7 @@ pub extern "C" fn gruttisol_supersaw_block(
 ) -> u32
     ensures { λ r. ⌜ played r (now (floats .exit)) (now (wholes .exit)) (now (counts .exit)) (now (samples .exit)) (now (marks .exit)) ≡ supersawBlockAt voct detune mix (now (floats .entry)) (now (wholes .entry)) (now (counts .entry)) (now (samples .entry)) (now (marks .entry)) ⌝ }
 {
-    let n = block_sizes(floats, wholes, counts);
+    let n = answer::block_sizes(10, 2, floats, wholes, counts);
     if n == 0 {
         let c = SupersawControls {
             voct: VoltsPerOctave(voct),
@@ -249,7 +198,7 @@ pub extern "C" fn gruttisol_supersaw_block(
 pub extern "C" fn gruttisol_supersaw_reset(floats: &mut [f64], wholes: &mut [u64]) -> u32
     ensures { λ r. ⌜ kept r (now (floats .exit)) (now (wholes .exit)) ≡ supersawResetAt (now (floats .entry)) (now (wholes .entry)) ⌝ }
 {
-    let n = sizes(floats, wholes);
+    let n = answer::sizes(10, 2, floats, wholes);
     if n == 0 {
         put_made(state(floats, wholes).reset(), floats, wholes)
     } else {
@@ -265,7 +214,7 @@ pub extern "C" fn gruttisol_supersaw_set_sample_rate(
 ) -> u32
     ensures { λ r. ⌜ kept r (now (floats .exit)) (now (wholes .exit)) ≡ supersawSetSampleRateAt «sample_rate» (now (floats .entry)) (now (wholes .entry)) ⌝ }
 {
-    let n = sizes(floats, wholes);
+    let n = answer::sizes(10, 2, floats, wholes);
     if n == 0 {
         put_made(
             state(floats, wholes).set_sample_rate(Hertz(sample_rate)),

@@ -4,9 +4,7 @@
 // 50, 51, 52, 53 for floats, wholes, samples, counts of another length. A refused call leaves every slice as it stood.
 // A block answers 0; its samples come tick by tick, its marks are 1 cleared, 2 notfinite, 3 lost, 4 clean, and counts are
 // the tally's [begun, finished, cleared, notfinite, lost].
-use answer::Answer;
 use answer::Tally;
-use answer::Volts;
 use common::EdgeDetector;
 use common::Hertz;
 use common::Memo3;
@@ -22,44 +20,10 @@ ghost use mathlib.Core.List.{List};
 ghost use Prim.Native.Nat.{ℕ};
 ghost use lib.Ieee.{Float};
 ghost use lib.ListN.{length};
-ghost use Rattle.answer.specs.Answer.{refusalOf};
 ghost use Rattle.answer.specs.Block.{block};
-ghost use Rattle.answer.specs.Flat.{played, playedOf};
+ghost use Rattle.answer.specs.Flat.{kept, heard, heardOf, played, playedOf};
 ghost use Rattle.exports_vco.specs.State.{stateOf, floatsOf, wholesOf, samplesOf};
-ghost use Rattle.exports_vco.specs.Calls.{sizesOf, tickSizesOf, blockSizesOf, Keeps, keptOf, newAt, resetAt, setSampleRateAt, Hears, heardOf, controlsOf, tickAt, blockAt};
-
-// 0, or the boundary's own refusal.
-fn sizes(floats: &[f64], wholes: &[u64]) -> u32
-    ensures { λ r. ⌜ r ≡ sizesOf (length (now (floats .entry))) (length (now (wholes .entry))) ⌝ }
-{
-    if floats.len() == 4 {
-        if wholes.len() == 4 { 0 } else { 51 }
-    } else {
-        50
-    }
-}
-
-fn tick_sizes(floats: &[f64], wholes: &[u64], samples: &[f64]) -> u32
-    ensures { λ r. ⌜ r ≡ tickSizesOf (length (now (floats .entry))) (length (now (wholes .entry))) (length (now (samples .entry))) ⌝ }
-{
-    let refusal = sizes(floats, wholes);
-    if refusal == 0 {
-        if samples.len() == 4 { 0 } else { 52 }
-    } else {
-        refusal
-    }
-}
-
-fn block_sizes(floats: &[f64], wholes: &[u64], counts: &[u32]) -> u32
-    ensures { λ r. ⌜ r ≡ blockSizesOf (length (now (floats .entry))) (length (now (wholes .entry))) (length (now (counts .entry))) ⌝ }
-{
-    let refusal = sizes(floats, wholes);
-    if refusal == 0 {
-        if counts.len() == 5 { 0 } else { 53 }
-    } else {
-        refusal
-    }
-}
+ghost use Rattle.exports_vco.specs.Calls.{keptOf, newAt, resetAt, setSampleRateAt, controlsOf, tickAt, blockAt};
 
 fn state(floats: &[f64], wholes: &[u64]) -> Vco
     requires { ⌜ (length (now floats) ≡ 4) × (length (now wholes) ≡ 4) ⌝ }
@@ -83,113 +47,84 @@ fn state(floats: &[f64], wholes: &[u64]) -> Vco
     }
 }
 
-fn store_floats(s: Vco, floats: &mut [f64])
-    requires { ⌜ length (now floats) ≡ 4 ⌝ }
-    ensures { λ _. ⌜ now (floats .exit) ≡ floatsOf s ⌝ }
+fn store(s: Vco, floats: &mut [f64], wholes: &mut [u64])
+    requires { ⌜ (length (now floats) ≡ 4) × (length (now wholes) ≡ 4) ⌝ }
+    ensures { λ _. ⌜ (now (floats .exit) ≡ floatsOf s) × (now (wholes .exit) ≡ wholesOf s) ⌝ }
 {
     let phase = s.phase;
     let sample_rate = s.sample_rate;
     let sync_edge = s.sync_edge;
-    let freq_memo = s.freq_memo;
-    let val = freq_memo.val;
+    let memo = s.freq_memo;
+    let val = memo.val;
     floats[0] = phase.0;
     floats[1] = sample_rate.0;
     floats[2] = sync_edge.prev;
     floats[3] = val.0;
+    wholes[0] = memo.key0;
+    wholes[1] = memo.key1;
+    wholes[2] = memo.key2;
+    wholes[3] = memo.valid as u64;
 }
 
-fn store_wholes(s: Vco, wholes: &mut [u64])
-    requires { ⌜ length (now wholes) ≡ 4 ⌝ }
-    ensures { λ _. ⌜ now (wholes .exit) ≡ wholesOf s ⌝ }
-{
-    let freq_memo = s.freq_memo;
-    wholes[0] = freq_memo.key0;
-    wholes[1] = freq_memo.key1;
-    wholes[2] = freq_memo.key2;
-    wholes[3] = freq_memo.valid as u64;
-}
-
-fn store_samples(v: Volts, samples: &mut [f64])
-    requires { ⌜ length (now samples) ≡ 4 ⌝ }
-    ensures { λ _. ⌜ now (samples .exit) ≡ samplesOf v ⌝ }
-{
-    samples[0] = v.p10;
-    samples[1] = v.p11;
-    samples[2] = v.p12;
-    samples[3] = v.p13;
-}
-
-// The number that refused a tick; an accepted one has none.
-fn refusal(a: Answer) -> u32
-    ensures { λ r. ⌜ r ≡ refusalOf a ⌝ }
-{
-    match a {
-        Answer::Refused(n) => n,
-        Answer::Clean(_) => 0,
-        Answer::Cleared(_) => 0,
-        Answer::NotFinite(_) => 0,
-        Answer::Lost(_) => 0,
-    }
-}
-
+// What a call without samples made.
 fn put_made(m: VcoMade, floats: &mut [f64], wholes: &mut [u64]) -> u32
     requires { ⌜ (length (now floats) ≡ 4) × (length (now wholes) ≡ 4) ⌝ }
-    ensures { λ r. ⌜ Keeps (keptOf m (now (floats .entry)) (now (wholes .entry))) r (now (floats .exit)) (now (wholes .exit)) ⌝ }
+    ensures { λ r. ⌜ kept r (now (floats .exit)) (now (wholes .exit)) ≡ keptOf m (now (floats .entry)) (now (wholes .entry)) ⌝ }
 {
     match m {
         VcoMade::Made(s) => {
-            store_floats(s, &mut *floats);
-            store_wholes(s, &mut *wholes);
+            store(s, floats, wholes);
             0
         }
         VcoMade::Refused(n) => n,
     }
 }
 
+// The samples and the state after an accepted tick; a refused one leaves them.
 fn put_ticked(t: VcoTicked, floats: &mut [f64], wholes: &mut [u64], samples: &mut [f64]) -> u32
     requires { ⌜ (length (now floats) ≡ 4) × (length (now wholes) ≡ 4) × (length (now samples) ≡ 4) ⌝ }
-    ensures { λ r. ⌜ Hears (heardOf t (now (floats .entry)) (now (wholes .entry)) (now (samples .entry))) r (now (floats .exit)) (now (wholes .exit)) (now (samples .exit)) ⌝ }
+    ensures { λ r. ⌜ heard r (now (floats .exit)) (now (wholes .exit)) (now (samples .exit)) ≡ heardOf floatsOf wholesOf samplesOf (t .answer) (t .vco) (now (floats .entry)) (now (wholes .entry)) (now (samples .entry)) ⌝ }
 {
-    let a = t.answer;
-    let mark = answer::mark_number(a);
-    if mark == 0 {
-        refusal(a)
-    } else {
+    let answer = t.answer;
+    let code = answer::host_number(answer);
+    if answer::is_accepted(answer) {
         let s = t.vco;
-        store_floats(s, &mut *floats);
-        store_wholes(s, &mut *wholes);
-        store_samples(answer::samples(a), &mut *samples);
-        10 + mark
+        let v = answer::samples(answer);
+        store(s, &mut *floats, &mut *wholes);
+        samples[0] = v.p10;
+        samples[1] = v.p11;
+        samples[2] = v.p12;
+        samples[3] = v.p13;
     }
+    code
 }
 
-// A refused block leaves the state and the counts.
+// The state and the counts after a block; a refused one leaves them.
 fn put_block(b: VcoBlock, floats: &mut [f64], wholes: &mut [u64], counts: &mut [u32]) -> u32
     requires { ⌜ (length (now floats) ≡ 4) × (length (now wholes) ≡ 4) × (length (now counts) ≡ 5) ⌝ }
     ensures { λ r. ⌜ ((o : List Float) → (m : List ℕ) → played r (now (floats .exit)) (now (wholes .exit)) (now (counts .exit)) o m ≡ playedOf floatsOf wholesOf (block (b .refused) (b .vco) (b .tally) o m) (now (floats .entry)) (now (wholes .entry)) (now (counts .entry))) ⌝ }
 {
-    let refusal = b.refused;
-    if refusal == 0 {
+    let refused = b.refused;
+    if refused == 0 {
         let s = b.vco;
         let tally = b.tally;
-        store_floats(s, &mut *floats);
-        store_wholes(s, &mut *wholes);
+        store(s, &mut *floats, &mut *wholes);
         tally.put_counts(counts);
         0
     } else {
-        refusal
+        refused
     }
 }
 
 #[no_mangle]
 pub extern "C" fn gruttisol_vco_new(sample_rate: f64, floats: &mut [f64], wholes: &mut [u64]) -> u32
-    ensures { λ r. ⌜ Keeps (newAt «sample_rate» (now (floats .entry)) (now (wholes .entry))) r (now (floats .exit)) (now (wholes .exit)) ⌝ }
+    ensures { λ r. ⌜ kept r (now (floats .exit)) (now (wholes .exit)) ≡ newAt «sample_rate» (now (floats .entry)) (now (wholes .entry)) ⌝ }
 {
-    let refusal = sizes(floats, wholes);
-    if refusal == 0 {
+    let n = answer::sizes(4, 4, floats, wholes);
+    if n == 0 {
         put_made(Vco::new(Hertz(sample_rate)), floats, wholes)
     } else {
-        refusal
+        n
     }
 }
 
@@ -205,10 +140,10 @@ pub extern "C" fn gruttisol_vco_tick(
     wholes: &mut [u64],
     samples: &mut [f64],
 ) -> u32
-    ensures { λ r. ⌜ Hears (tickAt (controlsOf voct fm pw sync «fm_lin») wanted (now (floats .entry)) (now (wholes .entry)) (now (samples .entry))) r (now (floats .exit)) (now (wholes .exit)) (now (samples .exit)) ⌝ }
+    ensures { λ r. ⌜ heard r (now (floats .exit)) (now (wholes .exit)) (now (samples .exit)) ≡ tickAt (controlsOf voct fm pw sync «fm_lin») wanted (now (floats .entry)) (now (wholes .entry)) (now (samples .entry)) ⌝ }
 {
-    let refusal = tick_sizes(floats, wholes, samples);
-    if refusal == 0 {
+    let n = answer::tick_sizes(4, 4, 4, floats, wholes, samples);
+    if n == 0 {
         let c = VcoControls {
             voct: VoltsPerOctave(voct),
             fm: VoltsPerOctave(fm),
@@ -223,7 +158,7 @@ pub extern "C" fn gruttisol_vco_tick(
             samples,
         )
     } else {
-        refusal
+        n
     }
 }
 
@@ -243,8 +178,8 @@ pub extern "C" fn gruttisol_vco_block(
 ) -> u32
     ensures { λ r. ⌜ played r (now (floats .exit)) (now (wholes .exit)) (now (counts .exit)) (now (samples .exit)) (now (marks .exit)) ≡ blockAt (controlsOf voct fm pw sync «fm_lin») wanted (now (floats .entry)) (now (wholes .entry)) (now (counts .entry)) (now (samples .entry)) (now (marks .entry)) ⌝ }
 {
-    let refusal = block_sizes(floats, wholes, counts);
-    if refusal == 0 {
+    let n = answer::block_sizes(4, 4, floats, wholes, counts);
+    if n == 0 {
         let c = VcoControls {
             voct: VoltsPerOctave(voct),
             fm: VoltsPerOctave(fm),
@@ -256,19 +191,19 @@ pub extern "C" fn gruttisol_vco_block(
         let b = state(floats, wholes).block(c, wanted, tally, samples, marks);
         put_block(b, floats, wholes, counts)
     } else {
-        refusal
+        n
     }
 }
 
 #[no_mangle]
 pub extern "C" fn gruttisol_vco_reset(floats: &mut [f64], wholes: &mut [u64]) -> u32
-    ensures { λ r. ⌜ Keeps (resetAt (now (floats .entry)) (now (wholes .entry))) r (now (floats .exit)) (now (wholes .exit)) ⌝ }
+    ensures { λ r. ⌜ kept r (now (floats .exit)) (now (wholes .exit)) ≡ resetAt (now (floats .entry)) (now (wholes .entry)) ⌝ }
 {
-    let refusal = sizes(floats, wholes);
-    if refusal == 0 {
+    let n = answer::sizes(4, 4, floats, wholes);
+    if n == 0 {
         put_made(state(floats, wholes).reset(), floats, wholes)
     } else {
-        refusal
+        n
     }
 }
 
@@ -278,16 +213,16 @@ pub extern "C" fn gruttisol_vco_set_sample_rate(
     floats: &mut [f64],
     wholes: &mut [u64],
 ) -> u32
-    ensures { λ r. ⌜ Keeps (setSampleRateAt «sample_rate» (now (floats .entry)) (now (wholes .entry))) r (now (floats .exit)) (now (wholes .exit)) ⌝ }
+    ensures { λ r. ⌜ kept r (now (floats .exit)) (now (wholes .exit)) ≡ setSampleRateAt «sample_rate» (now (floats .entry)) (now (wholes .entry)) ⌝ }
 {
-    let refusal = sizes(floats, wholes);
-    if refusal == 0 {
+    let n = answer::sizes(4, 4, floats, wholes);
+    if n == 0 {
         put_made(
             state(floats, wholes).set_sample_rate(Hertz(sample_rate)),
             floats,
             wholes,
         )
     } else {
-        refusal
+        n
     }
 }

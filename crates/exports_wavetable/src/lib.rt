@@ -4,10 +4,8 @@
 // 1 to 7 as document 01 has them, or 50, 51, 52, 53 where floats, wholes, samples or counts have another length. A refused
 // call writes nothing. A block answers 0, with the ticks' samples one after another, their marks as 1 cleared, 2 notfinite,
 // 3 lost, 4 clean, and the tally's five counts: begun, finished, cleared, notfinite, lost.
-use answer::Answer;
 use answer::Outcome;
 use answer::Tally;
-use answer::Volts;
 use common::Hertz;
 use common::Memo1;
 use common::Turns;
@@ -23,42 +21,9 @@ ghost use Prim.Native.Nat.{ℕ};
 ghost use lib.Ieee.{Float};
 ghost use lib.ListN.{length};
 ghost use Rattle.answer.specs.Block.{block};
-ghost use Rattle.answer.specs.Flat.{kept, heard, played, playedOf};
-ghost use Rattle.exports_wavetable.specs.State.{sizesOf, tickSizesOf, blockSizesOf, stateOf, floatsOf, wholesOf, samplesOf};
-ghost use Rattle.exports_wavetable.specs.Calls.{keptOf, heardOf, wavetableNewAt, wavetableTickAt, wavetableBlockAt, wavetableResetAt, wavetableSetSampleRateAt, outcomeNumber, filledWith, wavetableFillBankAt, wavetableFillTableAt};
-
-// 0, or the number that refuses these lengths.
-fn sizes(floats: &[f64], wholes: &[u64]) -> u32
-    ensures { λ r. ⌜ r ≡ sizesOf (length (now (floats .entry))) (length (now (wholes .entry))) ⌝ }
-{
-    if floats.len() == 4 {
-        if wholes.len() == 2 { 0 } else { 51 }
-    } else {
-        50
-    }
-}
-
-fn tick_sizes(floats: &[f64], wholes: &[u64], samples: &[f64]) -> u32
-    ensures { λ r. ⌜ r ≡ tickSizesOf (length (now (floats .entry))) (length (now (wholes .entry))) (length (now (samples .entry))) ⌝ }
-{
-    let n = sizes(floats, wholes);
-    if n == 0 {
-        if samples.len() == 1 { 0 } else { 52 }
-    } else {
-        n
-    }
-}
-
-fn block_sizes(floats: &[f64], wholes: &[u64], counts: &[u32]) -> u32
-    ensures { λ r. ⌜ r ≡ blockSizesOf (length (now (floats .entry))) (length (now (wholes .entry))) (length (now (counts .entry))) ⌝ }
-{
-    let n = sizes(floats, wholes);
-    if n == 0 {
-        if counts.len() == 5 { 0 } else { 53 }
-    } else {
-        n
-    }
-}
+ghost use Rattle.answer.specs.Flat.{kept, heard, heardOf, played, playedOf};
+ghost use Rattle.exports_wavetable.specs.State.{stateOf, floatsOf, wholesOf, samplesOf};
+ghost use Rattle.exports_wavetable.specs.Calls.{keptOf, wavetableNewAt, wavetableTickAt, wavetableBlockAt, wavetableResetAt, wavetableSetSampleRateAt, outcomeNumber, filledWith, wavetableFillBankAt, wavetableFillTableAt};
 
 fn state(floats: &[f64], wholes: &[u64]) -> Wavetable
     requires { ⌜ (length (now floats) ≡ 4) × (length (now wholes) ≡ 2) ⌝ }
@@ -117,7 +82,7 @@ pub extern "C" fn gruttisol_wavetable_new(
 ) -> u32
     ensures { λ r. ⌜ kept r (now (floats .exit)) (now (wholes .exit)) ≡ wavetableNewAt «sample_rate» (now (floats .entry)) (now (wholes .entry)) ⌝ }
 {
-    let n = sizes(floats, wholes);
+    let n = answer::sizes(4, 2, floats, wholes);
     if n == 0 {
         put_made(Wavetable::new(Hertz(sample_rate)), floats, wholes)
     } else {
@@ -125,23 +90,7 @@ pub extern "C" fn gruttisol_wavetable_new(
     }
 }
 
-// An accepted tick: its sample and the state after it.
-fn put_heard(
-    code: u32,
-    v: Volts,
-    s: Wavetable,
-    floats: &mut [f64],
-    wholes: &mut [u64],
-    samples: &mut [f64],
-) -> u32
-    requires { ⌜ (length (now floats) ≡ 4) × (length (now wholes) ≡ 2) × (length (now samples) ≡ 1) ⌝ }
-    ensures { λ r. ⌜ heard r (now (floats .exit)) (now (wholes .exit)) (now (samples .exit)) ≡ heard code (floatsOf s) (wholesOf s) (samplesOf v) ⌝ }
-{
-    store(s, &mut *floats, &mut *wholes);
-    samples[0] = v.p10;
-    code
-}
-
+// The sample and the state after an accepted tick; a refused one leaves them.
 fn put_ticked(
     t: WavetableTicked,
     floats: &mut [f64],
@@ -149,17 +98,17 @@ fn put_ticked(
     samples: &mut [f64],
 ) -> u32
     requires { ⌜ (length (now floats) ≡ 4) × (length (now wholes) ≡ 2) × (length (now samples) ≡ 1) ⌝ }
-    ensures { λ r. ⌜ heard r (now (floats .exit)) (now (wholes .exit)) (now (samples .exit)) ≡ heardOf t (now (floats .entry)) (now (wholes .entry)) (now (samples .entry)) ⌝ }
+    ensures { λ r. ⌜ heard r (now (floats .exit)) (now (wholes .exit)) (now (samples .exit)) ≡ heardOf floatsOf wholesOf samplesOf (t .answer) (t .wavetable) (now (floats .entry)) (now (wholes .entry)) (now (samples .entry)) ⌝ }
 {
     let answer = t.answer;
-    let s = t.wavetable;
-    match answer {
-        Answer::Clean(v) => put_heard(14, v, s, floats, wholes, samples),
-        Answer::Cleared(v) => put_heard(11, v, s, floats, wholes, samples),
-        Answer::NotFinite(v) => put_heard(12, v, s, floats, wholes, samples),
-        Answer::Lost(v) => put_heard(13, v, s, floats, wholes, samples),
-        Answer::Refused(n) => n,
+    let code = answer::host_number(answer);
+    if answer::is_accepted(answer) {
+        let s = t.wavetable;
+        let v = answer::samples(answer);
+        store(s, &mut *floats, &mut *wholes);
+        samples[0] = v.p10;
     }
+    code
 }
 
 #[no_mangle]
@@ -175,7 +124,7 @@ pub extern "C" fn gruttisol_wavetable_tick(
 ) -> u32
     ensures { λ r. ⌜ heard r (now (floats .exit)) (now (wholes .exit)) (now (samples .exit)) ≡ wavetableTickAt «v_oct» table morph sync (now (bank .entry)) (now (floats .entry)) (now (wholes .entry)) (now (samples .entry)) ⌝ }
 {
-    let n = tick_sizes(floats, wholes, samples);
+    let n = answer::tick_sizes(4, 2, 1, floats, wholes, samples);
     if n == 0 {
         let c = WavetableControls {
             v_oct: VoltsPerOctave(v_oct),
@@ -221,7 +170,7 @@ pub extern "C" fn gruttisol_wavetable_block(
 ) -> u32
     ensures { λ r. ⌜ played r (now (floats .exit)) (now (wholes .exit)) (now (counts .exit)) (now (samples .exit)) (now (marks .exit)) ≡ wavetableBlockAt «v_oct» table morph sync (now (bank .entry)) (now (floats .entry)) (now (wholes .entry)) (now (counts .entry)) (now (samples .entry)) (now (marks .entry)) ⌝ }
 {
-    let n = block_sizes(floats, wholes, counts);
+    let n = answer::block_sizes(4, 2, floats, wholes, counts);
     if n == 0 {
         let c = WavetableControls {
             v_oct: VoltsPerOctave(v_oct),
@@ -241,7 +190,7 @@ pub extern "C" fn gruttisol_wavetable_block(
 pub extern "C" fn gruttisol_wavetable_reset(floats: &mut [f64], wholes: &mut [u64]) -> u32
     ensures { λ r. ⌜ kept r (now (floats .exit)) (now (wholes .exit)) ≡ wavetableResetAt (now (floats .entry)) (now (wholes .entry)) ⌝ }
 {
-    let n = sizes(floats, wholes);
+    let n = answer::sizes(4, 2, floats, wholes);
     if n == 0 {
         put_made(state(floats, wholes).reset(), floats, wholes)
     } else {
@@ -257,7 +206,7 @@ pub extern "C" fn gruttisol_wavetable_set_sample_rate(
 ) -> u32
     ensures { λ r. ⌜ kept r (now (floats .exit)) (now (wholes .exit)) ≡ wavetableSetSampleRateAt «sample_rate» (now (floats .entry)) (now (wholes .entry)) ⌝ }
 {
-    let n = sizes(floats, wholes);
+    let n = answer::sizes(4, 2, floats, wholes);
     if n == 0 {
         put_made(
             state(floats, wholes).set_sample_rate(Hertz(sample_rate)),

@@ -11,7 +11,6 @@ use lib.ListN.{length, getD, drop, length-map, length-append, List·getD-map}
 use borrow.Author.Tests.{eq-eqb, ne-eqb}
 use Rattle.answer.specs.Flat.{Heard, heard}
 use Rattle.exports_karplus_strong.specs.Calls.{Sounded, sounded}
-use Rattle.exports_vco.specs.Calls.{Hears}
 use Rattle.replay.specs.Held.{heldOf}
 use Rattle.replay.specs.Ticks.{heardWords, strungWords, toldWords}
 use Rattle.replay.specs.Words.{countOf, valueAt, sameFrom}
@@ -107,9 +106,6 @@ module _ (k : ℕ) (words : List ℕ) (inputs : ℕ) (answers : List ℕ) (n : �
 -- ---- what an exported tick's contract says, as words
 pub told : (h : Heard) (code : ℕ) (f : List Float) (w : List ℕ) (o : List Float) → heard code f w o ≡ h → heardWords code f w o ≡ toldWords h
 told h code f w o e = ap toldWords e
-
-pub hears : (h : Heard) (code : ℕ) (f : List Float) (w : List ℕ) (o : List Float) → Hears h code f w o → heardWords code f w o ≡ toldWords h
-hears h code f w o e = rw (e .0, e .1, e .2, e .3) refl
 
 pub strung-told : (t : Sounded) (code : ℕ) (f : List Float) (w : List ℕ) (o l : List Float) → sounded (heard code f w o) l ≡ t
     → strungWords code f w o l ≡ strungWords (t .heard .code) (t .heard .floats) (t .heard .wholes) (t .heard .samples) (t .line)

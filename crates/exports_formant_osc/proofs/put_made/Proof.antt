@@ -1,4 +1,5 @@
-use Rattle.exports_formant_osc.specs.Calls.{keptBy, keptOf}
+use Rattle.answer.specs.Flat.{keptBy}
+use Rattle.exports_formant_osc.specs.Calls.{keptOf}
 use borrow.Author.Needs.{needs}
 use Rattle.exports_formant_osc.proofs.put_made.Statement.{statement}
 use Rattle.exports_formant_osc.proofs.put_made.Tie as tie

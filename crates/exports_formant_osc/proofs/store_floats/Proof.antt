@@ -1,25 +1,49 @@
+use mathlib.Core.Path.{_≡_, _∙_}
+use native.Mathlib.Omega.{arith}
+use lib.Dec.{lit≤}
+use lib.ListN.{length, length-set}
 use borrow.Author.Needs.{needs}
-use Rattle.exports_formant_osc.proofs.Stores.{both-stored}
+use Rattle.exports_formant_osc.proofs.Stores.{room, all-stored}
 use Rattle.exports_formant_osc.proofs.store_floats.Statement.{statement}
 use Rattle.exports_formant_osc.proofs.store_floats.Tie as tie
 
-store-front-requires : tie.Need-store-front-requires
-store-front-requires c κs = search needs
+slice-aggregate-store-cells : tie.Need-slice-aggregate-store-cells
+slice-aggregate-store-cells c = search needs
 
-store-back-requires : tie.Need-store-back-requires
-store-back-requires c κs = search needs
+store-cells-requires : tie.Need-store-cells-requires
+store-cells-requires c κs =
+    let a : length (c .before .before .before .before .before .before .before .before .before .before .before .args .s .«resonator_state») ≡ 10 = search needs in
+    room _ _ _ _ (c .before .before .before .before .before .before .before .before .before .before .before .pre) a (lit≤ tt)
+
+slice-aggregate-store-cells-2 : tie.Need-slice-aggregate-store-cells-2
+slice-aggregate-store-cells-2 c = search needs
+
+store-cells-requires-2 : tie.Need-store-cells-requires-2
+store-cells-requires-2 c κs =
+    let a : length (c .before .before .before .before .before .before .before .before .before .before .before .before .before .before .before .before .args .s .«coef_memo» .val) ≡ 15 = search needs in
+    room _ _ _ _ (c .before .before .before .before .store-cells .kept .1 .1 .0 ∙ c .before .before .before .before .before .before .before .before .before .before .before .before .before .before .before .before .pre) a (lit≤ tt)
+
+slice-write-floats : tie.Need-slice-write-floats
+slice-write-floats c = search needs
+
+slice-write-floats-2 : tie.Need-slice-write-floats-2
+slice-write-floats-2 c = simp length-set (omega (arith, c .before .before .store-cells2 .kept .1 .1 .0, c .before .before .before .before .before .before .before .store-cells .kept .1 .1 .0))
+
+slice-write-floats-3 : tie.Need-slice-write-floats-3
+slice-write-floats-3 c = simp length-set (omega (arith, c .before .before .store-cells2 .kept .1 .1 .0, c .before .before .before .before .before .before .before .store-cells .kept .1 .1 .0))
+
+slice-write-floats-4 : tie.Need-slice-write-floats-4
+slice-write-floats-4 c = simp length-set (omega (arith, c .before .before .store-cells2 .kept .1 .1 .0, c .before .before .before .before .before .before .before .store-cells .kept .1 .1 .0))
 
 same-length : tie.Need-same-length
-same-length c = search needs
+same-length c = simp length-set (c .before .before .store-cells2 .kept .1 .1 .0 ∙ c .before .before .before .before .before .before .before .store-cells .kept .1 .1 .0)
 
 returns : tie.Need-returns
-returns c = both-stored (c .before .before .before .before .before .before .before .before .before .before .before .before .before .before .before .before .before .args .s) (c .before .before .before .before .before .before .before .before .before .before .before .before .before .before .before .before .before .args .floats .now) _ _ (c .before .before .before .before .before .before .before .before .before .before .before .before .before .before .before .before .before .pre) (c .before .before .before .before .before .before .store-front .ensures) (c .before .before .store-back .ensures)
+returns c =
+    let a : length (c .before .before .before .before .before .before .before .before .before .before .before .before .before .before .before .before .before .before .before .args .s .«resonator_state») ≡ 10 = search needs in
+    let g = c .before .before .before .before .before .before .before .before .before .before .before .before .before .before .before .before .before .before .before .good .0 .1 .1 .1 .1 .1 .1 .1 .0 in
+    let b : length (c .before .before .before .before .before .before .before .before .before .before .before .before .before .before .before .before .before .before .before .args .s .«coef_memo» .val) ≡ 15 = search (needs, g) in
+    all-stored (c .before .before .before .before .before .before .before .before .before .before .before .before .before .before .before .before .before .before .before .args .s) (c .before .before .before .before .before .before .before .before .before .before .before .before .before .before .before .before .before .before .before .args .floats .now) _ _ (c .before .before .before .before .before .before .before .before .before .before .before .before .before .before .before .before .before .before .before .pre) a b (c .before .before .before .before .before .before .before .store-cells .ensures) (c .before .before .store-cells2 .ensures)
 
 pub store-floats-spec : {M : Type 1} → statement M
-store-floats-spec =
-    tie.close
-    (tie.spec
-    store-front-requires
-    store-back-requires
-    same-length
-    returns)
+store-floats-spec = tie.close (tie.spec slice-aggregate-store-cells store-cells-requires slice-aggregate-store-cells-2 store-cells-requires-2 slice-write-floats slice-write-floats-2 slice-write-floats-3 slice-write-floats-4 same-length returns)

@@ -1,8 +1,7 @@
+use Rattle.answer.proofs.Flat.{block-sized}
 use Rattle.exports_karplus_strong.specs.Calls.{karplusStrongBlockAt}
 use Rattle.exports_karplus_strong.proofs.CallLaws.{block-rung}
-use Rattle.exports_karplus_strong.proofs.Slices.{block-sized}
 use borrow.Author.Tests.{ne-eqb}
-use mathlib.Core.Path.{sym, _∙_}
 use borrow.Author.Needs.{needs}
 use Rattle.exports_karplus_strong.proofs.gruttisol_karplus_strong_block.Statement.{statement}
 use Rattle.exports_karplus_strong.proofs.gruttisol_karplus_strong_block.Tie as tie
@@ -14,13 +13,13 @@ from-counts-requires : tie.Need-from-counts-requires
 from-counts-requires c κs = search needs
 
 state-requires : tie.Need-state-requires
-state-requires c κs = let z = block-sized _ _ _ (sym (c .before .before .before .before .before .block-sizes .ensures) ∙ c .before .before .before .before .if1 .taken) in (z .0, z .1)
+state-requires c κs = let z = block-sized _ _ _ _ _ _ (c .before .before .before .before .before .block-sizes .ensures) (c .before .before .before .before .if1 .taken) in (z .0, z .1)
 
 block-requires : tie.Need-block-requires
 block-requires c κs = search needs
 
 put-block-requires : tie.Need-put-block-requires
-put-block-requires c κs = block-sized _ _ _ (sym (c .before .before .before .before .before .before .before .before .before .before .before .before .before .before .before .before .before .before .before .block-sizes .ensures) ∙ c .before .before .before .before .before .before .before .before .before .before .before .before .before .before .before .before .before .before .if1 .taken)
+put-block-requires c κs = block-sized _ _ _ _ _ _ (c .before .before .before .before .before .before .before .before .before .before .before .before .before .before .before .before .before .before .before .block-sizes .ensures) (c .before .before .before .before .before .before .before .before .before .before .before .before .before .before .before .before .before .before .if1 .taken)
 
 same-length : tie.Need-same-length
 same-length c = search needs

@@ -1,6 +1,5 @@
-use mathlib.Core.Path.{sym, _∙_}
 use borrow.Author.Needs.{needs}
-use Rattle.exports_karplus_strong.proofs.Slices.{tick-sized}
+use Rattle.answer.proofs.Flat.{tick-sized}
 use Rattle.exports_karplus_strong.proofs.CallLaws.{rate-stands, tick-sounded, sounded-refused}
 use Rattle.exports_karplus_strong.specs.Calls.{karplusStrongTickAt}
 use Rattle.exports_karplus_strong.proofs.gruttisol_karplus_strong_tick.Statement.{statement}
@@ -10,13 +9,13 @@ tick-sizes-requires : tie.Need-tick-sizes-requires
 tick-sizes-requires c κs = search needs
 
 state-requires : tie.Need-state-requires
-state-requires c κs = let z = tick-sized _ _ _ (sym (c .before .before .before .tick-sizes .ensures) ∙ c .before .before .if1 .taken) in (z .0, z .1)
+state-requires c κs = let z = tick-sized _ _ _ _ _ _ _ (c .before .before .before .tick-sizes .ensures) (c .before .before .if1 .taken) in (z .0, z .1)
 
 tick-requires : tie.Need-tick-requires
 tick-requires c κs = search needs
 
 put-ticked-requires : tie.Need-put-ticked-requires
-put-ticked-requires c κs = let z = tick-sized _ _ _ (sym (c .before .before .before .before .before .before .before .before .before .before .before .tick-sizes .ensures) ∙ c .before .before .before .before .before .before .before .before .before .before .if1 .taken) in (z .0, z .1, z .2, rate-stands _ _ _ _ _ _ _ (c .before .before .before .before .before .before .before .state .ensures) (c .before .before .before .before .before .tick .ensures .0))
+put-ticked-requires c κs = let z = tick-sized _ _ _ _ _ _ _ (c .before .before .before .before .before .before .before .before .before .before .before .tick-sizes .ensures) (c .before .before .before .before .before .before .before .before .before .before .if1 .taken) in (z .0, z .1, z .2, rate-stands _ _ _ _ _ _ _ (c .before .before .before .before .before .before .before .state .ensures) (c .before .before .before .before .before .tick .ensures .0))
 
 same-length : tie.Need-same-length
 same-length c = search needs

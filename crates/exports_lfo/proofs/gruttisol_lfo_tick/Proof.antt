@@ -1,8 +1,9 @@
-use mathlib.Core.Path.{sym, _∙_}
+use mathlib.Core.Path.{_∙_}
 use borrow.Author.Needs.{needs}
 use borrow.Author.Tests.{ne-eqb, eq-eqb}
-use Rattle.exports_lfo.proofs.Slices.{tick-sized}
-use Rattle.exports_lfo.specs.Calls.{heardSized, lfoTickAt}
+use Rattle.answer.proofs.Flat.{tick-sized}
+use Rattle.answer.specs.Flat.{heardSized}
+use Rattle.exports_lfo.specs.Calls.{lfoTickAt}
 use Rattle.exports_lfo.proofs.gruttisol_lfo_tick.Statement.{statement}
 use Rattle.exports_lfo.proofs.gruttisol_lfo_tick.Tie as tie
 
@@ -10,13 +11,13 @@ tick-sizes-requires : tie.Need-tick-sizes-requires
 tick-sizes-requires c κs = search needs
 
 state-requires : tie.Need-state-requires
-state-requires c κs = let z = tick-sized _ _ _ (sym (c .before .before .before .tick-sizes .ensures) ∙ c .before .before .if1 .taken) in (z .0, z .1)
+state-requires c κs = let z = tick-sized _ _ _ _ _ _ _ (c .before .before .before .tick-sizes .ensures) (c .before .before .if1 .taken) in (z .0, z .1)
 
 tick-requires : tie.Need-tick-requires
 tick-requires c κs = search needs
 
 put-ticked-requires : tie.Need-put-ticked-requires
-put-ticked-requires c κs = tick-sized _ _ _ (sym (c .before .before .before .before .before .before .before .before .tick-sizes .ensures) ∙ c .before .before .before .before .before .before .before .if1 .taken)
+put-ticked-requires c κs = tick-sized _ _ _ _ _ _ _ (c .before .before .before .before .before .before .before .before .tick-sizes .ensures) (c .before .before .before .before .before .before .before .if1 .taken)
 
 same-length : tie.Need-same-length
 same-length c = search needs

@@ -1,4 +1,4 @@
-use Rattle.exports_supersaw.specs.Calls.{keptBy}
+use Rattle.answer.specs.Flat.{keptBy}
 use borrow.Author.Needs.{needs}
 use Rattle.exports_supersaw.proofs.put_made.Statement.{statement}
 use Rattle.exports_supersaw.proofs.put_made.Tie as tie

@@ -1,8 +1,9 @@
-use mathlib.Core.Path.{refl, sym, _∙_}
-use lib.ListN.{length}
-use Rattle.exports_vco.specs.Calls.{tickAt}
-use Rattle.exports_vco.proofs.CallLaws.{tick-sized, heard-by, heard-refused}
+use mathlib.Core.Path.{_∙_}
 use borrow.Author.Needs.{needs}
+use borrow.Author.Tests.{ne-eqb, eq-eqb}
+use Rattle.answer.proofs.Flat.{tick-sized}
+use Rattle.answer.specs.Flat.{heardSized}
+use Rattle.exports_vco.specs.Calls.{tickAt}
 use Rattle.exports_vco.proofs.gruttisol_vco_tick.Statement.{statement}
 use Rattle.exports_vco.proofs.gruttisol_vco_tick.Tie as tie
 
@@ -10,13 +11,13 @@ tick-sizes-requires : tie.Need-tick-sizes-requires
 tick-sizes-requires c κs = search needs
 
 state-requires : tie.Need-state-requires
-state-requires c κs = let s = tick-sized (length (c .before .before .before .before .before .before .before .before .before .before .args .floats .now)) (length (c .before .before .before .before .before .before .before .before .before .before .args .wholes .now)) (length (c .before .before .before .before .before .before .before .before .before .before .args .samples .now)) (sym (c .before .before .before .tick-sizes .ensures) ∙ c .before .before .if1 .taken) in (s .0, s .1)
+state-requires c κs = let z = tick-sized _ _ _ _ _ _ _ (c .before .before .before .tick-sizes .ensures) (c .before .before .if1 .taken) in (z .0, z .1)
 
 tick-requires : tie.Need-tick-requires
 tick-requires c κs = search needs
 
 put-ticked-requires : tie.Need-put-ticked-requires
-put-ticked-requires c κs = tick-sized (length (c .before .before .before .before .before .before .before .before .before .before .before .before .before .before .before .args .floats .now)) (length (c .before .before .before .before .before .before .before .before .before .before .before .before .before .before .before .args .wholes .now)) (length (c .before .before .before .before .before .before .before .before .before .before .before .before .before .before .before .args .samples .now)) (sym (c .before .before .before .before .before .before .before .before .tick-sizes .ensures) ∙ c .before .before .before .before .before .before .before .if1 .taken)
+put-ticked-requires c κs = tick-sized _ _ _ _ _ _ _ (c .before .before .before .before .before .before .before .before .tick-sizes .ensures) (c .before .before .before .before .before .before .before .if1 .taken)
 
 same-length : tie.Need-same-length
 same-length c = search needs
@@ -28,8 +29,8 @@ same-length-3 : tie.Need-same-length-3
 same-length-3 c = search needs
 
 returns : tie.Need-returns
-unfolding tickAt
-returns c = heard-by _ _ (c .before .before .before .before .before .before .before .before .before .before .before .before .before .before .before .before .before .before .before .before .before .before .args .floats .now) _ (c .before .before .before .before .before .before .before .before .before .before .before .before .before .before .before .before .before .before .before .before .before .before .args .wholes .now) _ (c .before .before .before .before .before .before .before .before .before .before .before .before .before .before .before .before .before .before .before .before .before .before .args .samples .now) _ _ _ (c .before .before .before .before .before .before .before .before .before .before .before .before .before .before .before .tick-sizes .ensures) (c .before .before .before .before .before .before .before .before .before .before .before .before .before .before .if1 .taken) (rw (c .before .before .before .before .before .before .before .before .before .before .tick .ensures, c .before .before .before .before .before .before .before .before .before .before .before .state .ensures) refl) (c .before .before .before .before .before .before .put-ticked .ensures)
+unfolding tickAt heardSized
+returns c = c .before .before .before .before .before .before .put-ticked .ensures ∙ simp (← c .before .before .before .before .before .before .before .before .before .before .before .before .before .before .before .tick-sizes .ensures, eq-eqb _ _ (c .before .before .before .before .before .before .before .before .before .before .before .before .before .before .if1 .taken), c .before .before .before .before .before .before .before .before .before .before .tick .ensures, c .before .before .before .before .before .before .before .before .before .before .before .state .ensures)
 
 same-length-4 : tie.Need-same-length-4
 same-length-4 c = search needs
@@ -41,8 +42,8 @@ same-length-6 : tie.Need-same-length-6
 same-length-6 c = search needs
 
 returns-2 : tie.Need-returns-2
-unfolding tickAt
-returns-2 c = heard-refused _ (c .before .before .before .before .before .before .before .before .args .floats .now) (c .before .before .before .before .before .before .before .before .args .wholes .now) (c .before .before .before .before .before .before .before .before .args .samples .now) _ (c .before .tick-sizes .ensures) (c .if1 .left)
+unfolding tickAt heardSized
+returns-2 c = simp (← c .before .tick-sizes .ensures, ne-eqb _ _ (c .if1 .left))
 
 pub gruttisol-vco-tick-spec : {M : Type 1} → statement M
 gruttisol-vco-tick-spec =

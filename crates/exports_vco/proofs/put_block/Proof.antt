@@ -4,11 +4,8 @@ use borrow.Author.Needs.{needs}
 use Rattle.exports_vco.proofs.put_block.Statement.{statement}
 use Rattle.exports_vco.proofs.put_block.Tie as tie
 
-store-floats-requires : tie.Need-store-floats-requires
-store-floats-requires c κs = search needs
-
-store-wholes-requires : tie.Need-store-wholes-requires
-store-wholes-requires c κs = search needs
+store-requires : tie.Need-store-requires
+store-requires c κs = search needs
 
 put-counts-requires : tie.Need-put-counts-requires
 put-counts-requires c κs = search needs
@@ -24,7 +21,7 @@ same-length-3 c = search needs
 
 returns : tie.Need-returns
 unfolding playedOf countsPut
-returns c = λ o m. simp (c .before .before .put-counts .ensures, c .before .before .before .before .before .before .store-wholes .ensures, c .before .before .before .before .before .before .before .before .before .before .store-floats .ensures, eq-eqb _ _ (c .before .before .before .before .before .before .before .before .before .before .before .before .before .before .if1 .taken), eq-eqb _ _ (c .before .before .before .before .before .before .before .before .before .before .before .before .before .before .before .before .before .before .pre .2))
+returns c = λ o m. simp (c .before .before .put-counts .ensures, c .before .before .before .before .before .before .before .before .store .ensures .0, c .before .before .before .before .before .before .before .before .store .ensures .1, eq-eqb _ _ (c .before .before .before .before .before .before .before .before .before .before .before .before .before .if1 .taken), eq-eqb _ _ (c .before .before .before .before .before .before .before .before .before .before .before .before .before .before .before .before .before .pre .2))
 
 returns-2 : tie.Need-returns-2
 unfolding playedOf
@@ -34,8 +31,7 @@ pub put-block-spec : {M : Type 1} → statement M
 put-block-spec =
     tie.close
     (tie.spec
-    store-floats-requires
-    store-wholes-requires
+    store-requires
     put-counts-requires
     same-length
     same-length-2

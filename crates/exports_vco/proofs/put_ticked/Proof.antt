@@ -1,34 +1,36 @@
-use mathlib.Core.Path.{ap, _∙_}
 use native.Mathlib.Omega.{arith}
-use Rattle.exports_vco.specs.State.{samplesOf}
-use Rattle.exports_vco.proofs.CallLaws.{mark-small, ticked-refused, ticked-heard}
+use lib.ListN.{length-set}
 use borrow.Author.Needs.{needs}
+use Rattle.answer.specs.Answer.{voltsOf}
+use Rattle.answer.specs.Flat.{heardOf}
+use Rattle.exports_vco.specs.State.{samplesOf}
+use Rattle.laws.proofs.Slices.{stored}
 use Rattle.exports_vco.proofs.put_ticked.Statement.{statement}
 use Rattle.exports_vco.proofs.put_ticked.Tie as tie
 
-mark-number-requires : tie.Need-mark-number-requires
-mark-number-requires c κs = search needs
+host-number-requires : tie.Need-host-number-requires
+host-number-requires c κs = search needs
 
-refusal-requires : tie.Need-refusal-requires
-refusal-requires c κs = search needs
-
-store-floats-requires : tie.Need-store-floats-requires
-store-floats-requires c κs = search needs
-
-store-wholes-requires : tie.Need-store-wholes-requires
-store-wholes-requires c κs = search needs
+is-accepted-requires : tie.Need-is-accepted-requires
+is-accepted-requires c κs = search needs
 
 samples-requires : tie.Need-samples-requires
 samples-requires c κs = search needs
 
-store-samples-requires : tie.Need-store-samples-requires
-store-samples-requires c κs = search needs
+store-requires : tie.Need-store-requires
+store-requires c κs = search needs
 
-add-result : tie.Need-add-result
-add-result c = omega (arith, mark-small (c .before .before .before .before .before .before .before .before .before .before .before .before .before .before .before .before .before .before .before .args .t .answer) _ (c .before .before .before .before .before .before .before .before .before .before .before .before .before .before .before .mark-number .ensures))
+slice-write-samples : tie.Need-slice-write-samples
+slice-write-samples c = search needs
 
-returns : tie.Need-returns
-returns c = ticked-refused (c .before .before .before .before .before .before .args .t) (c .before .before .before .before .before .before .args .floats .now) (c .before .before .before .before .before .before .args .wholes .now) (c .before .before .before .before .before .before .args .samples .now) _ _ (c .before .before .mark-number .ensures) (c .before .if1 .taken) (c .refusal .ensures)
+slice-write-samples-2 : tie.Need-slice-write-samples-2
+slice-write-samples-2 c = simp length-set (omega arith)
+
+slice-write-samples-3 : tie.Need-slice-write-samples-3
+slice-write-samples-3 c = simp length-set (omega arith)
+
+slice-write-samples-4 : tie.Need-slice-write-samples-4
+slice-write-samples-4 c = simp length-set (omega arith)
 
 same-length : tie.Need-same-length
 same-length c = search needs
@@ -39,22 +41,13 @@ same-length-2 c = search needs
 same-length-3 : tie.Need-same-length-3
 same-length-3 c = search needs
 
+returns : tie.Need-returns
+unfolding heardOf samplesOf
+returns c = simp (c .before .before .before .before .before .before .before .before .before .before .before .host-number .ensures, ← c .before .before .before .before .before .before .before .before .before .before .is-accepted .ensures, c .before .before .before .before .before .before .before .before .before .if1 .taken, c .before .before .before .before .before .before .before .samples .ensures, c .before .before .before .before .store .ensures .0, c .before .before .before .before .store .ensures .1, stored (c .before .before .before .before .before .before .before .before .before .before .before .before .before .before .before .args .samples .now) (samplesOf (voltsOf (c .before .before .before .before .before .before .before .before .before .before .before .before .before .before .before .args .t .answer))) (c .before .before .before .before .before .before .before .before .before .before .before .before .before .before .before .pre .2))
+
 returns-2 : tie.Need-returns-2
-returns-2 c = ticked-heard (c .before .before .before .before .before .before .before .before .before .before .before .before .before .before .before .before .before .before .before .args .t) (c .before .before .before .before .before .before .before .before .before .before .before .before .before .before .before .before .before .before .before .args .floats .now) _ (c .before .before .before .before .before .before .before .before .before .before .before .before .before .before .before .before .before .before .before .args .wholes .now) _ (c .before .before .before .before .before .before .before .before .before .before .before .before .before .before .before .before .before .before .before .args .samples .now) _ _ (c .before .before .before .before .before .before .before .before .before .before .before .before .before .before .before .mark-number .ensures) (c .before .before .before .before .before .before .before .before .before .before .before .before .before .before .if1 .left) (c .before .before .before .before .before .before .before .before .before .before .before .store-floats .ensures) (c .before .before .before .before .before .before .before .store-wholes .ensures) (c .before .before .store-samples .ensures ∙ ap samplesOf (c .before .before .before .before .samples .ensures))
+unfolding heardOf
+returns-2 c = simp (c .before .before .host-number .ensures, ← c .before .is-accepted .ensures, c .if1 .left)
 
 pub put-ticked-spec : {M : Type 1} → statement M
-put-ticked-spec =
-    tie.close
-    (tie.spec
-    mark-number-requires
-    refusal-requires
-    store-floats-requires
-    store-wholes-requires
-    samples-requires
-    store-samples-requires
-    add-result
-    returns
-    same-length
-    same-length-2
-    same-length-3
-    returns-2)
+put-ticked-spec = tie.close (tie.spec host-number-requires is-accepted-requires samples-requires store-requires slice-write-samples slice-write-samples-2 slice-write-samples-3 slice-write-samples-4 same-length same-length-2 same-length-3 returns returns-2)

@@ -1,7 +1,7 @@
 -- `cases::vco_tick`.
 use borrow.Author.Needs.{needs}
 use Rattle.replay.specs.Ticks.{vcoWords}
-use Rattle.replay.proofs.TickLaws.{hears}
+use Rattle.replay.proofs.TickLaws.{told}
 use Rattle.replay.proofs.cases.vco_tick.Statement.{statement}
 use Rattle.replay.proofs.cases.vco_tick.Tie as tie
 
@@ -61,7 +61,7 @@ heard-requires c κs = search needs
 
 returns : tie.Need-returns
 unfolding vcoWords
-returns c = simp (c .heard .ensures, hears _ _ _ _ _ (c .before .before .before .before .before .before .before .gruttisol-vco-tick .ensures), c .before .before .before .before .before .before .before .before .before .before .before .mask .ensures, c .before .before .before .before .before .before .before .before .before .before .before .before .real5 .ensures, c .before .before .before .before .before .before .before .before .before .before .before .before .before .real4 .ensures, c .before .before .before .before .before .before .before .before .before .before .before .before .before .before .real3 .ensures, c .before .before .before .before .before .before .before .before .before .before .before .before .before .before .before .real2 .ensures, c .before .before .before .before .before .before .before .before .before .before .before .before .before .before .before .before .real .ensures, c .before .before .before .before .before .before .before .before .before .before .before .before .before .before .before .before .before .before .values .ensures, c .before .before .before .before .before .before .before .before .before .before .before .before .before .before .before .before .before .before .before .before .before .reals .ensures)
+returns c = simp (c .heard .ensures, told _ _ _ _ _ (c .before .before .before .before .before .before .before .gruttisol-vco-tick .ensures), c .before .before .before .before .before .before .before .before .before .before .before .mask .ensures, c .before .before .before .before .before .before .before .before .before .before .before .before .real5 .ensures, c .before .before .before .before .before .before .before .before .before .before .before .before .before .real4 .ensures, c .before .before .before .before .before .before .before .before .before .before .before .before .before .before .real3 .ensures, c .before .before .before .before .before .before .before .before .before .before .before .before .before .before .before .real2 .ensures, c .before .before .before .before .before .before .before .before .before .before .before .before .before .before .before .before .real .ensures, c .before .before .before .before .before .before .before .before .before .before .before .before .before .before .before .before .before .before .values .ensures, c .before .before .before .before .before .before .before .before .before .before .before .before .before .before .before .before .before .before .before .before .before .reals .ensures)
 
 pub vco-tick-spec : {M : Type 1} → statement M
 vco-tick-spec =

@@ -1,0 +1,14 @@
+use mathlib.Core.Path.{_∙_}
+use borrow.Author.Needs.{needs}
+use Rattle.answer.proofs.Flat.{mark-accepted}
+use Rattle.answer.proofs.is_accepted.Statement.{statement}
+use Rattle.answer.proofs.is_accepted.Tie as tie
+
+mark-number-requires : tie.Need-mark-number-requires
+mark-number-requires c κs = search needs
+
+returns : tie.Need-returns
+returns c = simp (c .mark-number .ensures, mark-accepted)
+
+pub is-accepted-spec : {M : Type 1} → statement M
+is-accepted-spec = tie.close (tie.spec mark-number-requires returns)
