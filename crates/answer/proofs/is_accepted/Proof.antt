@@ -1,4 +1,3 @@
-use mathlib.Core.Path.{_∙_}
 use borrow.Author.Needs.{needs}
 use Rattle.answer.proofs.Flat.{mark-accepted}
 use Rattle.answer.proofs.is_accepted.Statement.{statement}
