@@ -15,25 +15,25 @@ unfoldable pub keptOf : VcoMade → List Float → List ℕ → Kept
 keptOf (made.Made s) f w = kept 0 (floatsOf s) (wholesOf s)
 keptOf (made.Refused n) f w = kept n f w
 
-unfoldable pub newAt : Float → List Float → List ℕ → Kept
-newAt rate f w = keptSized 4 4 (keptOf (vcoNewOf (record { 0 = rate })) f w) f w
+unfoldable pub vcoNewAt : Float → List Float → List ℕ → Kept
+vcoNewAt rate f w = keptSized 4 4 (keptOf (vcoNewOf (record { 0 = rate })) f w) f w
 
-unfoldable pub resetAt : List Float → List ℕ → Kept
-resetAt f w = keptSized 4 4 (keptOf (vcoResetOf (stateOf f w)) f w) f w
+unfoldable pub vcoResetAt : List Float → List ℕ → Kept
+vcoResetAt f w = keptSized 4 4 (keptOf (vcoResetOf (stateOf f w)) f w) f w
 
-unfoldable pub setSampleRateAt : Float → List Float → List ℕ → Kept
-setSampleRateAt rate f w = keptSized 4 4 (keptOf (vcoSetSampleRateOf (stateOf f w) (record { 0 = rate })) f w) f w
+unfoldable pub vcoSetSampleRateAt : Float → List Float → List ℕ → Kept
+vcoSetSampleRateAt rate f w = keptSized 4 4 (keptOf (vcoSetSampleRateOf (stateOf f w) (record { 0 = rate })) f w) f w
 
 abbrev pub controlsOf : Float → Float → Float → Float → Float → VcoControls
 controlsOf voct fm pw sync fmLin = record { voct = record { 0 = voct }; fm = record { 0 = fm }; pw = pw; sync = sync; «fm_lin» = fmLin }
 
-unfoldable pub tickAt : VcoControls → ℕ → List Float → List ℕ → List Float → Heard
-tickAt c wanted f w o =
+unfoldable pub vcoTickAt : VcoControls → ℕ → List Float → List ℕ → List Float → Heard
+vcoTickAt c wanted f w o =
     let t = vcoTickOf (stateOf f w) c wanted in
     heardSized 4 4 4 (heardOf floatsOf wholesOf samplesOf (t .answer) (t .vco) f w o) f w o
 
 -- a block: 0, the state, the counts, the samples and the marks after it, or what refused it
-unfoldable pub blockAt : VcoControls → ℕ → List Float → List ℕ → List ℕ → List Float → List ℕ → Played
-blockAt c wanted f w k o m =
+unfoldable pub vcoBlockAt : VcoControls → ℕ → List Float → List ℕ → List ℕ → List Float → List ℕ → Played
+vcoBlockAt c wanted f w k o m =
     let b = vcoBlockOf (stateOf f w) c wanted (tallyFrom k) o m in
     playedSized 4 4 (playedOf floatsOf wholesOf b f w k) f w k o m

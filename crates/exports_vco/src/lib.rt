@@ -23,7 +23,7 @@ ghost use lib.ListN.{length};
 ghost use Rattle.answer.specs.Block.{block};
 ghost use Rattle.answer.specs.Flat.{kept, heard, heardOf, played, playedOf};
 ghost use Rattle.exports_vco.specs.State.{stateOf, floatsOf, wholesOf, samplesOf};
-ghost use Rattle.exports_vco.specs.Calls.{keptOf, newAt, resetAt, setSampleRateAt, controlsOf, tickAt, blockAt};
+ghost use Rattle.exports_vco.specs.Calls.{keptOf, vcoNewAt, vcoResetAt, vcoSetSampleRateAt, controlsOf, vcoTickAt, vcoBlockAt};
 
 fn state(floats: &[f64], wholes: &[u64]) -> Vco
     requires { ⌜ (length (now floats) ≡ 4) × (length (now wholes) ≡ 4) ⌝ }
@@ -118,7 +118,7 @@ fn put_block(b: VcoBlock, floats: &mut [f64], wholes: &mut [u64], counts: &mut [
 
 #[no_mangle]
 pub extern "C" fn gruttisol_vco_new(sample_rate: f64, floats: &mut [f64], wholes: &mut [u64]) -> u32
-    ensures { λ r. ⌜ kept r (now (floats .exit)) (now (wholes .exit)) ≡ newAt «sample_rate» (now (floats .entry)) (now (wholes .entry)) ⌝ }
+    ensures { λ r. ⌜ kept r (now (floats .exit)) (now (wholes .exit)) ≡ vcoNewAt «sample_rate» (now (floats .entry)) (now (wholes .entry)) ⌝ }
 {
     let n = answer::sizes(4, 4, floats, wholes);
     if n == 0 {
@@ -140,7 +140,7 @@ pub extern "C" fn gruttisol_vco_tick(
     wholes: &mut [u64],
     samples: &mut [f64],
 ) -> u32
-    ensures { λ r. ⌜ heard r (now (floats .exit)) (now (wholes .exit)) (now (samples .exit)) ≡ tickAt (controlsOf voct fm pw sync «fm_lin») wanted (now (floats .entry)) (now (wholes .entry)) (now (samples .entry)) ⌝ }
+    ensures { λ r. ⌜ heard r (now (floats .exit)) (now (wholes .exit)) (now (samples .exit)) ≡ vcoTickAt (controlsOf voct fm pw sync «fm_lin») wanted (now (floats .entry)) (now (wholes .entry)) (now (samples .entry)) ⌝ }
 {
     let n = answer::tick_sizes(4, 4, 4, floats, wholes, samples);
     if n == 0 {
@@ -176,7 +176,7 @@ pub extern "C" fn gruttisol_vco_block(
     samples: &mut [f64],
     marks: &mut [u32],
 ) -> u32
-    ensures { λ r. ⌜ played r (now (floats .exit)) (now (wholes .exit)) (now (counts .exit)) (now (samples .exit)) (now (marks .exit)) ≡ blockAt (controlsOf voct fm pw sync «fm_lin») wanted (now (floats .entry)) (now (wholes .entry)) (now (counts .entry)) (now (samples .entry)) (now (marks .entry)) ⌝ }
+    ensures { λ r. ⌜ played r (now (floats .exit)) (now (wholes .exit)) (now (counts .exit)) (now (samples .exit)) (now (marks .exit)) ≡ vcoBlockAt (controlsOf voct fm pw sync «fm_lin») wanted (now (floats .entry)) (now (wholes .entry)) (now (counts .entry)) (now (samples .entry)) (now (marks .entry)) ⌝ }
 {
     let n = answer::block_sizes(4, 4, floats, wholes, counts);
     if n == 0 {
@@ -197,7 +197,7 @@ pub extern "C" fn gruttisol_vco_block(
 
 #[no_mangle]
 pub extern "C" fn gruttisol_vco_reset(floats: &mut [f64], wholes: &mut [u64]) -> u32
-    ensures { λ r. ⌜ kept r (now (floats .exit)) (now (wholes .exit)) ≡ resetAt (now (floats .entry)) (now (wholes .entry)) ⌝ }
+    ensures { λ r. ⌜ kept r (now (floats .exit)) (now (wholes .exit)) ≡ vcoResetAt (now (floats .entry)) (now (wholes .entry)) ⌝ }
 {
     let n = answer::sizes(4, 4, floats, wholes);
     if n == 0 {
@@ -213,7 +213,7 @@ pub extern "C" fn gruttisol_vco_set_sample_rate(
     floats: &mut [f64],
     wholes: &mut [u64],
 ) -> u32
-    ensures { λ r. ⌜ kept r (now (floats .exit)) (now (wholes .exit)) ≡ setSampleRateAt «sample_rate» (now (floats .entry)) (now (wholes .entry)) ⌝ }
+    ensures { λ r. ⌜ kept r (now (floats .exit)) (now (wholes .exit)) ≡ vcoSetSampleRateAt «sample_rate» (now (floats .entry)) (now (wholes .entry)) ⌝ }
 {
     let n = answer::sizes(4, 4, floats, wholes);
     if n == 0 {

@@ -10,7 +10,7 @@ use Rattle.exports_formant_osc.specs.Calls.{formantTickAt}
 use Rattle.exports_karplus_strong.specs.Calls.{karplusStrongTickAt}
 use Rattle.exports_lfo.specs.Calls.{lfoTickAt}
 use Rattle.exports_supersaw.specs.Calls.{supersawTickAt}
-use Rattle.exports_vco.specs.Calls.{controlsOf, tickAt}
+use Rattle.exports_vco.specs.Calls.{controlsOf, vcoTickAt}
 use Rattle.exports_wavetable.specs.Calls.{wavetableTickAt, wavetableFillBankAt}
 
 -- the float that the k-th word stands for, and n of them from the k-th on
@@ -46,7 +46,7 @@ lfoWords w = toldWords (lfoTickAt (floatAt w 6) (floatAt w 7) (floatAt w 8) (mas
 unfoldable pub vcoWords : (ℕ → ℕ) → List ℕ
 vcoWords w =
     let c = controlsOf (floatAt w 8) (floatAt w 9) (floatAt w 10) (floatAt w 11) (floatAt w 12) in
-    toldWords (tickAt c (maskAt w 13) (floatsAt w 0 4) (wholesAt w 4 4) (replicate 4 zer))
+    toldWords (vcoTickAt c (maskAt w 13) (floatsAt w 0 4) (wholesAt w 4 4) (replicate 4 zer))
 
 -- ten floats, two whole numbers, voct, detune, mix
 unfoldable pub supersawWords : (ℕ → ℕ) → List ℕ

@@ -2,7 +2,7 @@ use mathlib.Core.Path.{_∙_}
 use borrow.Author.Tests.{eq-eqb, ne-eqb}
 use Rattle.answer.proofs.Flat.{block-sized}
 use Rattle.answer.specs.Flat.{playedSized}
-use Rattle.exports_vco.specs.Calls.{blockAt}
+use Rattle.exports_vco.specs.Calls.{vcoBlockAt}
 use borrow.Author.Needs.{needs}
 use Rattle.exports_vco.proofs.gruttisol_vco_block.Statement.{statement}
 use Rattle.exports_vco.proofs.gruttisol_vco_block.Tie as tie
@@ -38,7 +38,7 @@ same-length-5 : tie.Need-same-length-5
 same-length-5 c = search needs
 
 returns : tie.Need-returns
-unfolding blockAt playedSized
+unfolding vcoBlockAt playedSized
 returns c = c .before .before .before .before .before .before .put-block .ensures _ _ ∙ simp (← c .before .before .before .before .before .before .before .before .before .before .before .before .before .before .before .before .before .before .before .before .before .before .before .block-sizes .ensures, eq-eqb _ _ (c .before .before .before .before .before .before .before .before .before .before .before .before .before .before .before .before .before .before .before .before .before .before .if1 .taken), c .before .before .before .before .before .before .before .before .before .before .before .before .before .before .block .ensures, c .before .before .before .before .before .before .before .before .before .before .before .before .before .before .before .before .before .state .ensures, c .before .before .before .before .before .before .before .before .before .before .before .before .before .before .before .before .before .before .before .before .from-counts .ensures)
 
 same-length-6 : tie.Need-same-length-6
@@ -51,7 +51,7 @@ same-length-8 : tie.Need-same-length-8
 same-length-8 c = search needs
 
 returns-2 : tie.Need-returns-2
-unfolding blockAt playedSized
+unfolding vcoBlockAt playedSized
 returns-2 c = simp (← c .before .block-sizes .ensures, ne-eqb _ _ (c .if1 .left))
 
 pub gruttisol-vco-block-spec : {M : Type 1} → statement M
