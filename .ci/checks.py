@@ -12,6 +12,8 @@ import sys
 
 sys.dont_write_bytecode = True  # no folder of compiled files beside this one
 import counts
+import edits
+import statements
 
 ROOT = pathlib.Path(__file__).resolve().parent.parent
 
@@ -258,22 +260,30 @@ def counted(files):
         yield f"{counts.PAGE}: its counts are others than today's, which `python3 .ci/counts.py --write` puts there"
 
 
-def edits(files):
-    """Each crate has three to eight edits that must fail, and what an edit takes out stands once in its file."""
+# every edit of these is tried from nothing; of any other crate one is
+LIGHT = {"laws", "text", "line", "values", "exports", "exports_score", "examples", "render"}
+WITHOUT_BOTH = {
+    "laws": "it has no code",
+    "examples": "it has no code",
+    "values": "it states no promise",
+}
+
+
+def edits_stand(files):
+    """Each crate has three to eight edits, in must-fail/ all of a light crate and one of another, and what an edit takes out stands once."""
     found = {path.split("/")[1]: [] for path in files if re.match("crates/[^/]+/(src|specs)/", path)}
-    for path, crate, text in of_crates(files, {"must-fail"}, ".edit"):
+    for path, crate, text in of_crates(files, {"must-fail", "wrong"}, ".edit"):
         found.setdefault(crate, []).append(path)
-        edited = None
-        for said in text.splitlines():
-            if said.startswith("file: "):
-                edited = f"crates/{crate}/{said[len('file: '):]}"
-            if said.startswith("old: "):
-                times = files.get(edited, "").count(said[len("old: "):])
-                if times != 1:
-                    yield f"{path}: what it takes out stands {times} times in {edited}"
+        for file, old, _ in edits.changes(text):
+            times = files.get(f"crates/{crate}/{file}", "").count(old)
+            if times != 1:
+                yield f"{path}: what it takes out stands {times} times in crates/{crate}/{file}"
     for crate, paths in found.items():
         if not 3 <= len(paths) <= 8:
-            yield f"crates/{crate}/must-fail/: {len(paths)} edits"
+            yield f"crates/{crate}/must-fail/: {len(paths)} edits, with those of wrong/"
+        inside = sum("/must-fail/" in path for path in paths)
+        if inside != (len(paths) if crate in LIGHT else 1):
+            yield f"crates/{crate}/must-fail/: {inside} edits of {len(paths)}"
 
 
 # ---- the checks, each with examples that it must refuse
@@ -307,8 +317,10 @@ CHECKS = {
         {"docs/PROOFS.md": "nothing\n"},
     ],
     counted: [{"docs/PROOFS.md": "nothing\n"}],
-    edits: [
+    edits_stand: [
         {"crates/laws/must-fail/x.edit": "file: specs/Lists.antt\nold: no such text\nnew: y\n"},
+        {"crates/lfo/must-fail/": "", "crates/lfo/must-fail/y.edit": "file: crates.txt\nold: y\nnew: z\n"},
+        {"crates/laws/must-fail/": "", "crates/laws/wrong/y.edit": "file: crates.txt\nold: y\nnew: z\n"},
         {"crates/x/must-fail/": "", "crates/x/must-fail/y.edit": "file: src/lib.rt\nold: y\nnew: z\n", "crates/x/src/lib.rt": "y\n"},
     ],
 }
