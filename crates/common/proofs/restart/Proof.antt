@@ -1,6 +1,6 @@
-use Rattle.lfo.specs.Waves.{restartOf}
-use Rattle.lfo.proofs.restart.Statement.{statement}
-use Rattle.lfo.proofs.restart.Tie as tie
+use Rattle.common.specs.Phase.{restartOf}
+use Rattle.common.proofs.restart.Statement.{statement}
+use Rattle.common.proofs.restart.Tie as tie
 
 returns : tie.Need-returns
 unfolding restartOf
