@@ -1,6 +1,6 @@
 use Rattle.karplus_strong.proofs.Held.{first-none}
 use Rattle.karplus_strong.specs.Blocks.{karplusStrongBlockOf}
-use Rattle.karplus_strong.specs.Calls.{strung}
+use Rattle.karplus_strong.specs.KarplusStrong.{strung}
 use Rattle.answer.proofs.Blocks.{block-refused, block-fits, block-empty, block-done}
 use native.Mathlib.Omega.{arith}
 use borrow.Author.Needs.{needs}
