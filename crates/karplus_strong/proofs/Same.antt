@@ -12,7 +12,7 @@ use Rattle.laws.proofs.Over.{over-same, tab-ext}
 use Rattle.laws.specs.Lists.{tab, over}
 use Rattle.laws.specs.Machine.{replies}
 use Rattle.common.specs.Edge.{newEdge}
-use Rattle.answer.specs.Answer.{markNumber, voltsOf}
+use Rattle.answer.specs.Answer.{hostNumber, voltsOf}
 use Rattle.answer.specs.Block.{Block, block, blockRefusalOf, blockOf, ticksOf, afterTicks, answerAt, countedTo, joined, portsOf}
 use Rattle.answer.specs.declared.Answer.{Answer}
 use Rattle.answer.specs.declared.Tally.{Tally}
@@ -56,7 +56,7 @@ module _ (c : KarplusStrongControls) (draws : List ℕ) (t : Tally) (x y : Strun
   by-ticks : (n : ℕ) → ((i : ℕ) → answersOf x i ≡ answersOf y i) → Same (afterTicks (karplusStrongNextOf c draws) n x) (afterTicks (karplusStrongNextOf c draws) n y) → SameBlock (ticksFrom n x) (ticksFrom n y)
   unfolding ticksOf
   by-ticks n h e = record {
-    told = λ j. block 0 (e .string j) (countedTo t (λ i. markNumber (h i j)) n) (joined (λ i. portsOf 1 (voltsOf (h i j))) n) (tab (λ i. markNumber (h i j)) n);
+    told = λ j. block 0 (e .string j) (countedTo t (λ i. hostNumber (h i j)) n) (joined (λ i. portsOf 1 (voltsOf (h i j))) n) (tab (λ i. hostNumber (h i j)) n);
     state = e;
   }
 

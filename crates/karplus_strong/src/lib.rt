@@ -19,7 +19,7 @@ ghost use Rattle.numeric.specs.Basic.{clampOf, wholeOf};
 ghost use Rattle.common.specs.Consts.{half};
 ghost use Rattle.common.specs.Memo.{recall1, voctToHzAt};
 ghost use Rattle.common.specs.Tests.{rateOk};
-ghost use Rattle.answer.specs.Answer.{markNumber, voltsOf};
+ghost use Rattle.answer.specs.Answer.{hostNumber, voltsOf};
 ghost use Rattle.answer.specs.Block.{afterTicks, portsOf, joined, block, markAt, frameAt};
 ghost use Rattle.karplus_strong.specs.Ranges.{Cut};
 ghost use Rattle.karplus_strong.specs.Line.{blankOf, pulseOf, excitedOf, sumTo, levelOf, struckOf, drawsOk};
@@ -346,11 +346,11 @@ fn fits(samples: usize, n: usize) -> bool
 // What tick i of a block answers.
 fn put(a: Answer, i: usize, samples: &mut [f64], marks: &mut [u32])
     requires { ⌜ (i < length (now marks)) × (length (now samples) ≡ 1 * length (now marks)) ⌝ }
-    ensures { λ _. ⌜ (now (samples .exit) ≡ sets (now (samples .entry)) (1 * i) (portsOf 1 (voltsOf a))) × (now (marks .exit) ≡ set (now (marks .entry)) i (markNumber a)) ⌝ }
+    ensures { λ _. ⌜ (now (samples .exit) ≡ sets (now (samples .entry)) (1 * i) (portsOf 1 (voltsOf a))) × (now (marks .exit) ≡ set (now (marks .entry)) i (hostNumber a)) ⌝ }
 {
     let v = answer::samples(a);
     samples[i] = v.p10;
-    marks[i] = answer::mark_number(a);
+    marks[i] = answer::host_number(a);
 }
 
 impl KarplusStrong {
@@ -728,7 +728,7 @@ impl KarplusStrong {
                 KarplusStrongBlock {
                     refused: 0,
                     karplus_strong,
-                    tally: tally.take_marks(marks),
+                    tally: tally.take_marks(marks).or(tally),
                 }
             }
         } else {
