@@ -26,11 +26,10 @@ use Rattle.karplus_strong.specs.Calls.{Call, Tick, Play, Ticked, after, 
 use Rattle.karplus_strong.specs.Promises.{periodAt, risesAt, Strikes, Fresh, Forgotten, Forgets, Block-forgets, SameTick}
 use Rattle.karplus_strong.specs.declared.KarplusStrong.{KarplusStrong}
 use Rattle.karplus_strong.specs.declared.KarplusStrongControls.{KarplusStrongControls}
-use Rattle.karplus_strong.specs.declared.KarplusStrongTicked.{KarplusStrongTicked}
 use Rattle.karplus_strong.proofs.Parts.{struck-room, memo-number}
 use Rattle.karplus_strong.proofs.Alike.{alike-struck, alike-step, length-struck}
 use Rattle.karplus_strong.proofs.Reached.{Good, fits-or, first-is, first-good, reached-good}
-use Rattle.karplus_strong.proofs.Same.{SameNext, SameBlock, SameCall, same-ticks, block-call, same-replies}
+use Rattle.karplus_strong.proofs.Same.{SameNext, SameBlock, SameCall, same-next, same-ticks, block-call, same-replies}
 use Rattle.karplus_strong.proofs.Ticks.{struckStep, good-tick, first-good-none}
 
 -- ---- the tick that takes the edge
@@ -73,7 +72,8 @@ unfolding tickUnless
 struck-tick s c draws l g e = good-tick s c draws l g ∙ ap (λ (k : ℕ). tickUnless k s l (struckStep s c draws l)) e
 
 -- ---- from it on a string is a new one
-module _ (x : Strung) (h : ReachedString x) (c : KarplusStrongControls) (draws : List ℕ) (f : FitCall (Tick c draws)) (z : Strikes x c draws) (y : Strung) (w : Fresh x y) where
+module _ (x : Strung) (h : ReachedString x) (c : KarplusStrongControls) (draws : List ℕ) (f : FitCall (Tick c draws)) (z : Strikes x c draws)
+    (y : Strung) (w : Fresh x y) where
   abbrev s : KarplusStrong
   s = x .string
 
@@ -87,7 +87,9 @@ module _ (x : Strung) (h : ReachedString x) (c : KarplusStrongControls) (draws :
   gy = first-good y (w .is-new)
 
   em : recall1 voctToHzAt (s .«freq_memo») v ≡ recall1 voctToHzAt (y .string .«freq_memo») v
-  em = recall1-is voctToHzAt (s .«freq_memo») (g .memo) v (fits-or (c .voct .0) f) ∙ sym (recall1-is voctToHzAt (y .string .«freq_memo») (gy .memo) v (fits-or (c .voct .0) f))
+  em =
+      recall1-is voctToHzAt (s .«freq_memo») (g .memo) v (fits-or (c .voct .0) f)
+      ∙ sym (recall1-is voctToHzAt (y .string .«freq_memo») (gy .memo) v (fits-or (c .voct .0) f))
 
   en : risesAt (y .string) c ≡ true
   en = rises-y s (y .string) c (ap (λ (k : KarplusStrong). k .«trigger_edge») (first-is y (w .is-new) .2)) (z .edge)
@@ -101,13 +103,16 @@ module _ (x : Strung) (h : ReachedString x) (c : KarplusStrongControls) (draws :
   r : struckLen (periodAt s c) ≤ length (x .line)
   r =
       let memo = recall1 voctToHzAt (s .«freq_memo») v in
-      struck-room (s .«sample_rate») (memo .val) (periodAt s c) (length (x .line)) refl (g .sound .rate) (memo-number (s .«freq_memo») (c .voct .0) v memo (g .sound .value) refl refl) (g .room)
+      let number = memo-number (s .«freq_memo») (c .voct .0) v memo (g .sound .value) refl refl in
+      struck-room (s .«sample_rate») (memo .val) (periodAt s c) (length (x .line)) refl (g .sound .rate) number (g .room)
 
   both : SameTick (karplusStrongTickOf s c draws (x .line)) (karplusStrongTickOf (y .string) c draws (y .line))
-  both = rw (struck-tick s c draws (x .line) g ks, struck-tick (y .string) c draws (y .line) gy ky) (struck-same s (y .string) c draws (x .line) (y .line) (sym (w .rate)) em (z .edge) en r (sym (w .size)))
+  both =
+      rw (struck-tick s c draws (x .line) g ks, struck-tick (y .string) c draws (y .line) gy ky)
+      (struck-same s (y .string) c draws (x .line) (y .line) (sym (w .rate)) em (z .edge) en r (sym (w .size)))
 
   same : SameNext c draws x y
-  same = record { told = ap (λ (o : KarplusStrongTicked). o .answer) (both .out); state = record { string = ap (λ (o : KarplusStrongTicked). o .«karplus_strong») (both .out); line = both .line } }
+  same = same-next c draws x y both
 
   tick-call : SameCall x y (Tick c draws)
   unfolding reply after
@@ -122,7 +127,9 @@ module _ (x : Strung) (h : ReachedString x) (c : KarplusStrongControls) (draws :
     ey = first-good-none (y .string) c draws (length (y .line)) (length m) gy ky
 
     takes : blockRefusalOf (eqb (length o) (1 * length m)) 0 t (length m) ≡ 0
-    takes = ap (λ (k : ℕ). blockRefusalOf (eqb (length o) (1 * length m)) k t (length m)) (sym ex) ∙ (unfold karplusStrongBlockOf in sym (block-refusal 1 _ _ _ x t o m) ∙ e)
+    takes =
+        ap (λ (k : ℕ). blockRefusalOf (eqb (length o) (1 * length m)) k t (length m)) (sym ex)
+        ∙ (unfold karplusStrongBlockOf in sym (block-refusal 1 _ _ _ x t o m) ∙ e)
 
     same-blocks : SameBlock (karplusStrongBlockOf x c draws t o m) (karplusStrongBlockOf y c draws t o m)
     unfolding karplusStrongBlockOf blockOf
@@ -135,4 +142,5 @@ pub forgets : Forgets
 forgets x h c draws f z y w = forgotten x y (Tick c draws) (tick-call x h c draws f z y w)
 
 pub block-forgets : Block-forgets
-block-forgets x h c draws f z t o m some e y w = forgotten x y (Play c draws t o m) (block-call x y c draws t o m (same-blocks x h c draws f z y w t o m some e))
+block-forgets x h c draws f z t o m some e y w =
+    forgotten x y (Play c draws t o m) (block-call x y c draws t o m (same-blocks x h c draws f z y w t o m some e))

@@ -49,14 +49,19 @@ pub refused-leaves : Refused-leaves
 refused-leaves s c draws l e = rw (tick-is s c draws l) (twice-left (karplusStrongRefusalOf s (length l)) (triggerRefusalOf s c draws) s l (struckStep s c draws l) (struck-heard s c draws l) (rw (tick-is s c draws l) at e))
 
 -- ---- a reached string is ready
-good-number : (s : KarplusStrong) (c : KarplusStrongControls) (draws : List ℕ) (l : List Float) → Good s (length l) → refusalOf (karplusStrongTickOf s c draws l .out .answer) ≡ triggerRefusalOf s c draws
-good-number s c draws l g = ap (λ (t : Ticking). refusalOf (t .out .answer)) (good-tick s c draws l g) ∙ unless-number (triggerRefusalOf s c draws) s l (struckStep s c draws l) (heard-number (struckStep s c draws l .out .answer) (struck-heard s c draws l))
+good-number : (s : KarplusStrong) (c : KarplusStrongControls) (draws : List ℕ) (l : List Float) → Good s (length l)
+    → refusalOf (karplusStrongTickOf s c draws l .out .answer) ≡ triggerRefusalOf s c draws
+good-number s c draws l g =
+    ap (λ (t : Ticking). refusalOf (t .out .answer)) (good-tick s c draws l g)
+    ∙ unless-number (triggerRefusalOf s c draws) s l (struckStep s c draws l) (heard-number (struckStep s c draws l .out .answer) (struck-heard s c draws l))
 
 good-block : (x : Strung) (c : KarplusStrongControls) (draws : List ℕ) (t : Tally) (o : List Float) (m : List ℕ) → Good (x .string) (length (x .line))
-    → karplusStrongBlockOf x c draws t o m .refused ≡ blockRefusalOf (eqb (length o) (1 * length m)) (cond (eqb (length m) 0) 0 (triggerRefusalOf (x .string) c draws)) t (length m)
+    → karplusStrongBlockOf x c draws t o m .refused
+    ≡ blockRefusalOf (eqb (length o) (1 * length m)) (cond (eqb (length m) 0) 0 (triggerRefusalOf (x .string) c draws)) t (length m)
 unfolding karplusStrongBlockOf
 good-block x c draws t o m g =
-    block-refusal 1 _ _ _ x t o m ∙ ap (λ (k : ℕ). blockRefusalOf (eqb (length o) (1 * length m)) k t (length m)) (good-first (x .string) c draws (length (x .line)) (length m) g)
+    block-refusal 1 _ _ _ x t o m
+    ∙ ap (λ (k : ℕ). blockRefusalOf (eqb (length o) (1 * length m)) k t (length m)) (good-first (x .string) c draws (length (x .line)) (length m) g)
 
 made-says : (k : ℕ) (t : KarplusStrong) (m l : List Float) → madeNumber (madeUnless k (record { out = made.Made t; line = m }) l .out) ≡ k
 unfolding madeUnless madeNumber
@@ -77,14 +82,16 @@ never-refused x h = record {
     g = reached-good x h
 
     reset-says : reply x Reset ≡ Told 0
-    reset-says = unfold reply karplusStrongResetOf in ap Told (made-says (karplusStrongRefusalOf (x .string) (length (x .line))) _ _ (x .line) ∙ good-none (x .string) (length (x .line)) g)
+    reset-says = unfold reply karplusStrongResetOf in ap Told (made-says _ _ _ (x .line) ∙ good-none (x .string) (length (x .line)) g)
 
     both : (b : Bool) (k : ℕ) → _≡_ {A = ℕ} (cond (true && b) (cond true k 2) 1) (cond b k 1)
     both true k = refl
     both false k = refl
 
     rate-says : (r : Hertz) → reply x (SetSampleRate r) ≡ Told (cond (rateOk r) (roomOf r (length (x .line))) 1)
-    rate-says r = unfold reply karplusStrongSetSampleRateOf rateRefusalOf in ap Told (made-says (rateRefusalOf (x .string) r (length (x .line))) _ _ (x .line) ∙ simp (g .sound .rate, sound-line (x .string) (g .sound)) (both (rateOk r) (roomOf r (length (x .line)))))
+    rate-says r =
+        unfold reply karplusStrongSetSampleRateOf rateRefusalOf in
+        ap Told (made-says _ _ _ (x .line) ∙ simp (g .sound .rate, sound-line (x .string) (g .sound)) (both (rateOk r) (roomOf r (length (x .line)))))
 
 pub first-there : First-there
 first-there rate l e h = record { rate = rate; lent = l; is-new = unfold karplusStrongNewOf madeUnless in simp (e, h) }
@@ -93,7 +100,11 @@ pub new-there : New-there
 new-there x h l e =
     let g = reached-good x h in
     let r = g .room in
-    record { is-new = first-there (x .string .«sample_rate») l (g .sound .rate) (rw e (good-room (x .string) (length (x .line)) g)); rate = refl; size = length-blank 0 (maxLenOf (x .string .«sample_rate»)) l (omega arith) ∙ e }
+    record {
+      is-new = first-there (x .string .«sample_rate») l (g .sound .rate) (rw e (good-room (x .string) (length (x .line)) g));
+      rate = refl;
+      size = length-blank 0 (maxLenOf (x .string .«sample_rate»)) l (omega arith) ∙ e;
+    }
 
 -- ---- a line of enough cells
 pub cells-enough : Cells-enough

@@ -186,7 +186,9 @@ lent-good : (x : Strung) (l : List Float) → Good (x .string) (length (x .line)
 lent-good x l g = go (eqb (roomOf (x .string .«sample_rate») (length l)) 0) (eqb-true (roomOf (x .string .«sample_rate») (length l)) 0)
   where
     go : (b : Bool) → (b ≡ true → roomOf (x .string .«sample_rate») (length l) ≡ 0) → Good (x .string) (length (cond b (lentOf x l) (x .line)))
-    go true h = let r = room-of (x .string .«sample_rate») (length l) (h refl) in record { sound = g .sound; room = rw (lent-length x l _ g r) r; memo = g .memo }
+    go true h =
+        let r = room-of (x .string .«sample_rate») (length l) (h refl) in
+        record { sound = g .sound; room = rw (lent-length x l _ g r) r; memo = g .memo }
     go false h = g
 
 -- what new made is the new string
@@ -223,7 +225,8 @@ unfolding after karplusStrongResetOf karplusStrongSetSampleRateOf
 after-good x (Tick c draws) g f = let t = tick-good (x .string) c draws (x .line) g f in rw (t .line) (t .state)
 after-good x (Play c draws t o m) g f =
     unfold karplusStrongBlockOf in
-    block-keeps 1 _ _ _ (λ (y : Strung). Good (y .string) (length (y .line))) (λ y h. let u = tick-good (y .string) c draws (y .line) h f in rw (u .line) (u .state)) x g t o m
+    block-keeps 1 _ _ _ (λ (y : Strung). Good (y .string) (length (y .line)))
+    (λ y h. let u = tick-good (y .string) c draws (y .line) h f in rw (u .line) (u .state)) x g t o m
 after-good x Reset g f = made-good (karplusStrongRefusalOf (x .string) (length (x .line))) (x .string) (restOf (x .string) (x .string .len) newEdge) (x .line) (blankOf 0 (x .string .len) (x .line)) g (λ (e : karplusStrongRefusalOf (x .string) (length (x .line)) ≡ 0). reset-good (x .string) (x .line) g)
 after-good x (SetSampleRate r) g f =
     made-good (rateRefusalOf (x .string) r (length (x .line))) (x .string) (resizedString (x .string) r (maxLenOf r)) (x .line) (blankOf (min (x .string .len) (maxLenOf r)) (maxLenOf r) (x .line)) g

@@ -127,11 +127,13 @@ unfolding tickUnless
 good-tick s c draws l g = tick-is s c draws l ∙ ap (λ (k : ℕ). tickUnless k s l (tickUnless (triggerRefusalOf s c draws) s l (struckStep s c draws l))) (good-none s (length l) g)
 
 -- and so is a block's first
-pub good-first : (s : KarplusStrong) (c : KarplusStrongControls) (draws : List ℕ) (n k : ℕ) → Good s n → firstRefusalOf s c draws n k ≡ cond (eqb k 0) 0 (triggerRefusalOf s c draws)
+pub good-first : (s : KarplusStrong) (c : KarplusStrongControls) (draws : List ℕ) (n k : ℕ) → Good s n
+    → firstRefusalOf s c draws n k ≡ cond (eqb k 0) 0 (triggerRefusalOf s c draws)
 unfolding firstRefusalOf
 good-first s c draws n k g = simp (good-none s n g)
 
-pub first-good-none : (s : KarplusStrong) (c : KarplusStrongControls) (draws : List ℕ) (n k : ℕ) → Good s n → triggerRefusalOf s c draws ≡ 0 → firstRefusalOf s c draws n k ≡ 0
+pub first-good-none : (s : KarplusStrong) (c : KarplusStrongControls) (draws : List ℕ) (n k : ℕ) → Good s n
+    → triggerRefusalOf s c draws ≡ 0 → firstRefusalOf s c draws n k ≡ 0
 first-good-none s c draws n k g e = good-first s c draws n k g ∙ rw e (go (eqb k 0))
   where
     go : (b : Bool) → _≡_ {A = ℕ} (cond b 0 0) 0

@@ -199,9 +199,12 @@ filtered-within s x d l h X L =
 -- a zero of either sign
 none : (x : Float) → eq x zer ≡ true → (s : Bool) × HasValue (apCoefOf x) s 0 1
 unfolding apCoefOf
-none x e = let t = times-nought (neg half) x (unfold neg ofBits in tt) (of-true (eq x zer) e) in (t .0, subst (λ (v : Float). HasValue v (t .0) 0 1) (sym (t .1)) (refl, refl))
+none x e =
+    let t = times-nought (neg half) x (unfold neg ofBits in tt) (of-true (eq x zer) e) in
+    (t .0, subst (λ (v : Float). HasValue v (t .0) 0 1) (sym (t .1)) (refl, refl))
 
-stretched-within : (s : KarplusStrong) (y x : Float) → eq x zer ≡ true → Within 3 y → Within 3 (s .«ap_x1») → Within 3 (s .«ap_y1») → Within 3 (stretchedOf s y (apCoefOf x))
+stretched-within : (s : KarplusStrong) (y x : Float) → eq x zer ≡ true → Within 3 y → Within 3 (s .«ap_x1») → Within 3 (s .«ap_y1»)
+    → Within 3 (stretchedOf s y (apCoefOf x))
 unfolding stretchedOf
 stretched-within s y x e w x1 y1 =
     let n = none x e in
@@ -213,9 +216,15 @@ stretched-within s y x e w x1 y1 =
 leaked-within : (x : Float) → Within 3 x → Within 3 (mul binary64 x loopLeak)
 leaked-within x h = (h .0, sized-mul (h .0) 3 x loopLeak (lit≤ tt) (h .1) (part-of 0 loopLeak (unfold ofBits in tt)))
 
-step-calm : (s : KarplusStrong) (p d bend : Float) (l : List Float) → eq bend zer ≡ true → s .«write_pos» < s .len → s .len ≤ length l → T (le zer d) → T (le d one) → Delay (targetDelayOf p (filterCoefOf d) (apCoefOf bend)) → Calm s l → CalmTick (stepOf s p d bend l)
+step-calm : (s : KarplusStrong) (p d bend : Float) (l : List Float) → eq bend zer ≡ true → s .«write_pos» < s .len → s .len ≤ length l
+    → T (le zer d) → T (le d one) → Delay (targetDelayOf p (filterCoefOf d) (apCoefOf bend)) → Calm s l → CalmTick (stepOf s p d bend l)
 unfolding stepOf
-step-calm s p d bend l flat h k lo hi g c = rw (is-true (isFin v) (within-finite 3 v leaked)) (record { calm = record { cells = λ i q. cell i q (ℕ-discrete i (s .«write_pos»)); lp = filtered; x1 = filtered; y1 = bent }; mark = λ e. subst (λ (a : Answer). markNumber a ≡ 4) (heard-clean v (is-true (isFin v) (within-finite 3 v leaked))) (unfold markNumber in refl) })
+step-calm s p d bend l flat h k lo hi g c =
+    rw settled
+    (record {
+      calm = record { cells = λ i q. cell i q (ℕ-discrete i (s .«write_pos»)); lp = filtered; x1 = filtered; y1 = bent };
+      mark = λ e. subst (λ (a : Answer). markNumber a ≡ 4) (heard-clean v settled) (unfold markNumber in refl);
+    })
   where
     x : Float
     x = tapOf l (s .«write_pos») (s .len) (targetDelayOf p (filterCoefOf d) (apCoefOf bend))
@@ -238,6 +247,9 @@ step-calm s p d bend l flat h k lo hi g c = rw (is-true (isFin v) (within-finite
     leaked : Within 3 v
     leaked = leaked-within z bent
 
+    settled : isFin v ≡ true
+    settled = is-true (isFin v) (within-finite 3 v leaked)
+
     cell : (i : ℕ) → i < s .len → Dec (i ≡ s .«write_pos») → Within 3 (getD (set l (s .«write_pos») v) i nan)
     cell i q (yes e) = rw e (subst (Within 3) (sym (getD-set-same l (s .«write_pos») v nan (omega arith))) leaked)
     cell i q (no e) = subst (Within 3) (sym (getD-set-other l (s .«write_pos») i v nan e)) (c .cells i q)
@@ -253,20 +265,29 @@ finite-positive (fin true m e) a w = absurd a
 finite-positive (fin false m e) a w = a
 
 -- the delay of a tick is such a one
-delay-fine : (r f : Hertz) (d t : Float) → rateOk r ≡ true → T (not (isNan (f .0))) → Delay (targetDelayOf (periodOf r f) (filterCoefOf (clampOf (finiteOr d half) zer one)) (apCoefOf (clampOf (finiteOr t zer) (neg one) one)))
+abbrev delayAt : Hertz → Hertz → Float → Float → Float
+delayAt r f d t = targetDelayOf (periodOf r f) (filterCoefOf (clampOf (finiteOr d half) zer one)) (apCoefOf (clampOf (finiteOr t zer) (neg one) one))
+
+delay-fine : (r f : Hertz) (d t : Float) → rateOk r ≡ true → T (not (isNan (f .0))) → Delay (delayAt r f d t)
 delay-fine r f d t e q = record { fits = max-fits; sign = finite-positive x (above-of-le one x (unfold ofBits in tt) least) most; least = least; most = most }
   where
     x : Float
-    x = targetDelayOf (periodOf r f) (filterCoefOf (clampOf (finiteOr d half) zer one)) (apCoefOf (clampOf (finiteOr t zer) (neg one) one))
+    x = delayAt r f d t
+
+    left : Float
+    left = sub binary64 (periodOf r f) (filterDelayOf (filterCoefOf (clampOf (finiteOr d half) zer one)))
+
+    bent : Float
+    bent = apDelayOf (apCoefOf (clampOf (finiteOr t zer) (neg one) one))
 
     y : Float
-    y = sub binary64 (sub binary64 (periodOf r f) (filterDelayOf (filterCoefOf (clampOf (finiteOr d half) zer one)))) (apDelayOf (apCoefOf (clampOf (finiteOr t zer) (neg one) one)))
+    y = sub binary64 left bent
 
     most : wholeOf x ≤ 9610
     most = delay-range r f d t e q
 
     max-fits : F64 x
-    max-fits = unfold targetDelayOf maxOf in cond-fits binary64 (lt one y) y (cond (isNan one) y one) (sub-fits binary64 (sub binary64 (periodOf r f) (filterDelayOf (filterCoefOf (clampOf (finiteOr d half) zer one)))) (apDelayOf (apCoefOf (clampOf (finiteOr t zer) (neg one) one)))) (unfold isNan fits ofBits in tt)
+    max-fits = unfold targetDelayOf maxOf in cond-fits binary64 (lt one y) y (cond (isNan one) y one) (sub-fits binary64 left bent) (unfold isNan fits ofBits in tt)
 
     least : T (le one x)
     least = unfold targetDelayOf maxOf in go (lt one y) refl
@@ -285,8 +306,10 @@ draws-fine n d e = go (leb n (length d)) (drawsOk d n) refl e
     go false b h k = absurd (omega arith)
 
 struck-calm : (rising : Bool) (t : KarplusStrong) (p b d bend : Float) (draws : List ℕ) (l : List Float)
-    → eq bend zer ≡ true → _≡_ {A = ℕ} (cond rising (drawsRefusalOf (struckLen p) draws) 0) 0 → struckLen p ≤ length l → struckLen p ≤ 9611 → t .«write_pos» < t .len → t .len ≤ length l → T (le zer b) → T (le b one) → T (le zer d) → T (le d one)
-    → Delay (targetDelayOf p (filterCoefOf d) (apCoefOf bend)) → Calm t l → CalmTick (stepOf (strikeIf rising t p b draws l .out) p d bend (strikeIf rising t p b draws l .line))
+    → eq bend zer ≡ true → _≡_ {A = ℕ} (cond rising (drawsRefusalOf (struckLen p) draws) 0) 0 → struckLen p ≤ length l → struckLen p ≤ 9611
+    → t .«write_pos» < t .len → t .len ≤ length l → T (le zer b) → T (le b one) → T (le zer d) → T (le d one)
+    → Delay (targetDelayOf p (filterCoefOf d) (apCoefOf bend)) → Calm t l
+    → CalmTick (stepOf (strikeIf rising t p b draws l .out) p d bend (strikeIf rising t p b draws l .line))
 struck-calm false t p b d bend draws l flat e r n h k bl bh dl dh g c = unfold strikeIf in step-calm t p d bend l flat h k dl dh g c
 struck-calm true t p b d bend draws l flat e r n h k bl bh dl dh g c =
     unfold strikeIf strikeOf in
@@ -295,11 +318,15 @@ struck-calm true t p b d bend draws l flat e r n h k bl bh dl dh g c =
     step-calm (restOf t (struckLen p) (t .«trigger_edge»)) p d bend (struckOf (struckLen p) b draws l) flat z (omega arith) dl dh g
     (record { cells = struck-within (struckLen p) b draws l z n (draws-fine (struckLen p) draws e) bl bh; lp = zero-within; x1 = zero-within; y1 = zero-within }))
 
-sound-calm : (s : KarplusStrong) (c : KarplusStrongControls) (draws : List ℕ) (l : List Float) → Good s (length l) → NoStretch c → triggerRefusalOf s c draws ≡ 0 → Calm s l → CalmTick (struckStep s c draws l)
+sound-calm : (s : KarplusStrong) (c : KarplusStrongControls) (draws : List ℕ) (l : List Float) → Good s (length l) → NoStretch c
+    → triggerRefusalOf s c draws ≡ 0 → Calm s l → CalmTick (struckStep s c draws l)
 unfolding struckStep triggerRefusalOf
 sound-calm s c draws l g z e k =
-    struck-calm (risesAt s c) (heardString s (risingOf (s .«trigger_edge») (c .trigger) .edge) memo) (periodAt s c) (clampOf (finiteOr (c .brightness) half) zer one) (clampOf (finiteOr (c .damping) half) zer one) (clampOf (finiteOr (c .stretch) zer) (neg one) one) draws l z e
-    (struck-room (s .«sample_rate») (memo .val) (periodAt s c) (length l) refl (a .rate) number (g .room)) (struck-short s c a) (a .place) (let q = a .most in let r = g .room in omega arith) (damped (c .brightness) .0) (damped (c .brightness) .1) (damped (c .damping) .0) (damped (c .damping) .1)
+    struck-calm (risesAt s c) (heardString s (risingOf (s .«trigger_edge») (c .trigger) .edge) memo) (periodAt s c)
+    (clampOf (finiteOr (c .brightness) half) zer one) (clampOf (finiteOr (c .damping) half) zer one) (clampOf (finiteOr (c .stretch) zer) (neg one) one) draws l z e
+    (struck-room (s .«sample_rate») (memo .val) (periodAt s c) (length l) refl (a .rate) number (g .room)) (struck-short s c a) (a .place)
+    (let q = a .most in let r = g .room in omega arith)
+    (damped (c .brightness) .0) (damped (c .brightness) .1) (damped (c .damping) .0) (damped (c .damping) .1)
     (delay-fine (s .«sample_rate») (memo .val) (c .damping) (c .stretch) (a .rate) number)
     (record { cells = k .cells; lp = k .lp; x1 = k .x1; y1 = k .y1 })
   where
@@ -312,7 +339,8 @@ sound-calm s c draws l g z e k =
     number : T (not (isNan (memo .val .0)))
     number = memo-number (s .«freq_memo») (c .voct .0) (finiteOr (c .voct .0) zer) memo (a .value) refl refl
 
-tick-calm : (s : KarplusStrong) (c : KarplusStrongControls) (draws : List ℕ) (l : List Float) → Good s (length l) → NoStretch c → Calm s l → CalmTick (karplusStrongTickOf s c draws l)
+tick-calm : (s : KarplusStrong) (c : KarplusStrongControls) (draws : List ℕ) (l : List Float) → Good s (length l) → NoStretch c → Calm s l
+    → CalmTick (karplusStrongTickOf s c draws l)
 tick-calm s c draws l g z k = rw (good-tick s c draws l g) (pick (triggerRefusalOf s c draws) refl)
   where
     pick : (n : ℕ) → triggerRefusalOf s c draws ≡ n → CalmTick (tickUnless n s l (struckStep s c draws l))
@@ -335,14 +363,21 @@ made-calm (suc k) s t l m c d = c
 
 lent-calm : (s : KarplusStrong) (l m : List Float) → Calm s l → Calm s (lentOf (strung s l) m)
 unfolding lentOf
-lent-calm s l m k = record { cells = λ i q. subst (Within 3) (sym (getD-over (λ j. getD l j nan) (s .len) m i q)) (k .cells i q); lp = k .lp; x1 = k .x1; y1 = k .y1 }
+lent-calm s l m k = record {
+  cells = λ i q. subst (Within 3) (sym (getD-over (λ j. getD l j nan) (s .len) m i q)) (k .cells i q);
+  lp = k .lp;
+  x1 = k .x1;
+  y1 = k .y1;
+}
 
 -- a string that goes through ticks of such a stretch
 abbrev Quiet : Strung → Type 0
 Quiet y = Good (y .string) (length (y .line)) × Calm (y .string) (y .line)
 
 tick-quiet : (c : KarplusStrongControls) (draws : List ℕ) → F64 (c .voct .0) → NoStretch c → (y : Strung) → Quiet y → Quiet (karplusStrongNextOf c draws y)
-tick-quiet c draws f z y q = let t = tick-good (y .string) c draws (y .line) (q .0) f in (rw (t .line) (t .state), tick-calm (y .string) c draws (y .line) (q .0) z (q .1) .calm)
+tick-quiet c draws f z y q =
+    let t = tick-good (y .string) c draws (y .line) (q .0) f in
+    (rw (t .line) (t .state), tick-calm (y .string) c draws (y .line) (q .0) z (q .1) .calm)
 
 after-calm : (x : Strung) (c : Call) → Good (x .string) (length (x .line)) → Unstretched c → Calm (x .string) (x .line) → Calm (after x c .string) (after x c .line)
 unfolding after karplusStrongResetOf karplusStrongSetSampleRateOf

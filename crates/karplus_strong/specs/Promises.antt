@@ -41,9 +41,11 @@ risesAt s c = risingOf (s .«trigger_edge») (c .trigger) .rising
 pub record Ready (x : Strung) : Type 0 where
   pub state : (n : ℕ) → karplusStrongRefusalOf (x .string) n ≡ roomOf (x .string .«sample_rate») n
   pub room : roomOf (x .string .«sample_rate») (length (x .line)) ≡ 0
-  pub tick : (c : KarplusStrongControls) (draws : List ℕ) → refusalOf (karplusStrongTickOf (x .string) c draws (x .line) .out .answer) ≡ triggerRefusalOf (x .string) c draws
+  pub tick : (c : KarplusStrongControls) (draws : List ℕ)
+      → refusalOf (karplusStrongTickOf (x .string) c draws (x .line) .out .answer) ≡ triggerRefusalOf (x .string) c draws
   pub block : (c : KarplusStrongControls) (draws : List ℕ) (t : Tally) (o : List Float) (m : List ℕ)
-      → karplusStrongBlockOf x c draws t o m .refused ≡ blockRefusalOf (eqb (length o) (1 * length m)) (cond (eqb (length m) 0) 0 (triggerRefusalOf (x .string) c draws)) t (length m)
+      → karplusStrongBlockOf x c draws t o m .refused
+      ≡ blockRefusalOf (eqb (length o) (1 * length m)) (cond (eqb (length m) 0) 0 (triggerRefusalOf (x .string) c draws)) t (length m)
   pub reset : reply x Reset ≡ Told 0
   pub rate : (r : Hertz) → reply x (SetSampleRate r) ≡ Told (cond (rateOk r) (roomOf r (length (x .line))) 1)
 
@@ -72,27 +74,33 @@ pub record Forgotten (x y : Strung) (call : Call) : Type 0 where
   pub state : Same (after x call) (after y call)
   pub later : (cs : List Call) → replies after reply (after x call) cs ≡ replies after reply (after y call) cs
 
--- a new string of the same rate in a line of the same size
+-- y is a new string of x's rate in a line of the same size
 pub record Fresh (x y : Strung) : Type 0 where
   pub is-new : First y
   pub rate : y .string .«sample_rate» ≡ x .string .«sample_rate»
   pub size : length (y .line) ≡ length (x .line)
 
--- such a tick leaves what it leaves of any such string
+-- such a tick makes of x what it makes of any such y
 abbrev pub Forgets : Type 0
-Forgets = (x : Strung) → ReachedString x → (c : KarplusStrongControls) (draws : List ℕ) → FitCall (Tick c draws) → Strikes x c draws → (y : Strung) → Fresh x y → Forgotten x y (Tick c draws)
+Forgets = (x : Strung) → ReachedString x → (c : KarplusStrongControls) (draws : List ℕ) → FitCall (Tick c draws) → Strikes x c draws
+    → (y : Strung) → Fresh x y → Forgotten x y (Tick c draws)
 
 -- and so does a block that isn't refused and whose first tick is such a one
 abbrev pub Block-forgets : Type 0
 Block-forgets = (x : Strung) → ReachedString x → (c : KarplusStrongControls) (draws : List ℕ) → FitCall (Tick c draws) → Strikes x c draws
-    → (t : Tally) (o : List Float) (m : List ℕ) → 0 < length m → karplusStrongBlockOf x c draws t o m .refused ≡ 0 → (y : Strung) → Fresh x y → Forgotten x y (Play c draws t o m)
+    → (t : Tally) (o : List Float) (m : List ℕ) → 0 < length m → karplusStrongBlockOf x c draws t o m .refused ≡ 0
+    → (y : Strung) → Fresh x y → Forgotten x y (Play c draws t o m)
+
+abbrev pub newStrung : Hertz → List Float → Strung
+newStrung rate l = strung (newKarplusStrong rate) (blankOf 0 (maxLenOf rate) l)
 
 -- such a string there is: at each rate that isn't refused, in each line that has room for it
 abbrev pub First-there : Type 0
-First-there = (rate : Hertz) (l : List Float) → rateOk rate ≡ true → roomOf rate (length l) ≡ 0 → First (strung (newKarplusStrong rate) (blankOf 0 (maxLenOf rate) l))
+First-there = (rate : Hertz) (l : List Float) → rateOk rate ≡ true → roomOf rate (length l) ≡ 0 → First (newStrung rate l)
 
+-- so of each reached string, in each line of its line's size
 abbrev pub New-there : Type 0
-New-there = (x : Strung) → ReachedString x → (l : List Float) → length l ≡ length (x .line) → Fresh x (strung (newKarplusStrong (x .string .«sample_rate»)) (blankOf 0 (maxLenOf (x .string .«sample_rate»)) l))
+New-there = (x : Strung) → ReachedString x → (l : List Float) → length l ≡ length (x .line) → Fresh x (newStrung (x .string .«sample_rate») l)
 
 -- and such a tick: after one whose trigger is not above the threshold, one with 5.0 V and enough draws
 abbrev pub Edge-comes : Type 0
@@ -114,7 +122,8 @@ Same-replies = (x y : Strung) → Same x y → (cs : List Call) → replies afte
 
 -- so its caller may take any other line that has room and the same cells there
 abbrev pub Any-line : Type 0
-Any-line = (x : Strung) → ReachedString x → (l : List Float) → roomOf (x .string .«sample_rate») (length l) ≡ 0 → ((i : ℕ) → i < x .string .len → getD (x .line) i nan ≡ getD l i nan) → after x (Lend l) ≡ strung (x .string) l
+Any-line = (x : Strung) → ReachedString x → (l : List Float) → roomOf (x .string .«sample_rate») (length l) ≡ 0
+    → ((i : ℕ) → i < x .string .len → getD (x .line) i nan ≡ getD l i nan) → after x (Lend l) ≡ strung (x .string) l
 
 -- and nothing is written from cell n on
 pub record SamePast (n : ℕ) (l m : List Float) : Type 0 where
@@ -173,7 +182,8 @@ Block-tallies = (x : Strung) (c : KarplusStrongControls) (draws : List ℕ) (n :
 
 -- ---- a line of so many cells is enough, and a shorter one isn't
 abbrev pub Cells-enough : Type 0
-Cells-enough = (rate : Hertz) (l : List Float) → madeNumber (karplusStrongNewOf rate l .out) ≡ cond (rateOk rate) (cond (leb (karplusStrongCellsOf rate) (length l)) 0 3) 1
+Cells-enough = (rate : Hertz) (l : List Float)
+    → madeNumber (karplusStrongNewOf rate l .out) ≡ cond (rateOk rate) (cond (leb (karplusStrongCellsOf rate) (length l)) 0 3) 1
 
 -- ---- each contract settles the answer and the line, and a block's its samples and marks
 pub record Settled : Type 0 where
