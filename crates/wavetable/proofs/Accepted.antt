@@ -7,10 +7,11 @@ use lib.Dec.{eqb}
 use lib.Ieee.{Float, lt, le, eq, ofBits}
 use borrow.Author.Tests.{eqb-true, eqb-false}
 use Rattle.common.proofs.PhaseLaws.{accepted-state}
+use Rattle.common.specs.Phase.{restartOf}
 use Rattle.common.specs.Tests.{rateOk, phaseOk}
 use Rattle.common.specs.declared.Turns.{Turns}
 use Rattle.wavetable.specs.Held.{PairFits, pairOf}
-use Rattle.wavetable.specs.Reads.{startOf, tableIndexOf, restartOf}
+use Rattle.wavetable.specs.Reads.{startOf, tableIndexOf}
 use Rattle.wavetable.specs.Wavetable.{wavetableRefusalOf, wavetableTickRefusalOf}
 use Rattle.wavetable.specs.declared.Pair.{Pair}
 use Rattle.wavetable.specs.declared.Wavetable.{Wavetable}
