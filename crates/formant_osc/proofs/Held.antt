@@ -12,7 +12,7 @@ use lib.Ieee.{Float, nan, binary64, add, eq}
 use lib.Ieee.Fits.{add-fits}
 use lib.ListN.{length, getD}
 use Rattle.laws.proofs.Tests.{both-true}
-use Rattle.answer.specs.Answer.{markNumber, voltsOf}
+use Rattle.answer.specs.Answer.{hostNumber, voltsOf}
 use Rattle.answer.specs.Block.{afterTicks, answerAt, markAt, frameAt, portsOf, joined, blockRefusalOf}
 use Rattle.answer.specs.declared.Answer.{Answer}
 use Rattle.answer.specs.declared.Tally.{Tally}
@@ -300,9 +300,9 @@ module _ (s : FormantOsc) (c : FormantControls) (e : formantRefusalOf s ≡ 0) w
         ∙ joined-one (λ i. voltsOf (answerAt answerOf nextOf (moving (startOf s c) (s .«resonator_state»)) i)) n
         ∙ tab-ext _ _ n (λ i h. ap (λ (a : Answer). voltsOf a .p10) (same-answer i h))
 
-    pub marks-after : tab (markAt (formantAnswerOf c) (formantNextOf c) s) n ≡ tab (λ i. markNumber (voicedAt (coefMemoOf s c .val) (s .«resonator_state») xs ms i)) n
+    pub marks-after : tab (markAt (formantAnswerOf c) (formantNextOf c) s) n ≡ tab (λ i. hostNumber (voicedAt (coefMemoOf s c .val) (s .«resonator_state») xs ms i)) n
     unfolding voicedIn
-    marks-after = held-marks _ _ _ _ _ _ _ _ holds n ∙ tab-ext _ _ n (λ i h. ap markNumber (same-answer i h))
+    marks-after = held-marks _ _ _ _ _ _ _ _ holds n ∙ tab-ext _ _ n (λ i h. ap hostNumber (same-answer i h))
 
 -- ---- a block's code
 -- the pitch of the first tick is in the memo that was asked for it
@@ -320,7 +320,7 @@ pub ran : (s : FormantOsc) (c : FormantControls) (n : ℕ) (depth : Float) (pitc
     → ms ≡ tab (keptAt (c .«v_oct») depth (s .«sample_rate») (driver (s .phase) (s .«vibrato_phase») memo)) n
     → cells ≡ cellsAt (coefs .val) xs (s .«resonator_state») (length ms)
     → ys ≡ tab (λ i. voltsOf (voicedAt (coefs .val) (s .«resonator_state») xs ms i) .p10) (length ms)
-    → ns ≡ tab (λ i. markNumber (voicedAt (coefs .val) (s .«resonator_state») xs ms i)) (length ms)
+    → ns ≡ tab (λ i. hostNumber (voicedAt (coefs .val) (s .«resonator_state») xs ms i)) (length ms)
     → (record {
       phase = end .phase;
       «vibrato_phase» = end .«vibrato_phase»;
@@ -350,7 +350,7 @@ ran s c n depth pitch memo coefs end xs ms cells ys ns e z ed ep em b ee ex ek e
           ∙ sym (state-after s c e n z xs ms x m),
       (
         ey ∙ (λ k. tab (λ i. voltsOf (voicedAt (b k .val) (s .«resonator_state») xs ms i) .p10) (w k)) ∙ sym (samples-after s c e n z xs ms x m),
-        en ∙ (λ k. tab (λ i. markNumber (voicedAt (b k .val) (s .«resonator_state») xs ms i)) (w k)) ∙ sym (marks-after s c e n z xs ms x m),
+        en ∙ (λ k. tab (λ i. hostNumber (voicedAt (b k .val) (s .«resonator_state») xs ms i)) (w k)) ∙ sym (marks-after s c e n z xs ms x m),
       ),
     )
 

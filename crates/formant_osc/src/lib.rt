@@ -17,7 +17,7 @@ ghost use Rattle.laws.specs.Lists.{tab};
 ghost use Rattle.common.specs.Memo.{recall1, voctToHzAt};
 ghost use Rattle.common.specs.Phase.{turns, incrementOf};
 ghost use Rattle.common.specs.Tests.{phaseOk};
-ghost use Rattle.answer.specs.Answer.{markNumber, voltsOf};
+ghost use Rattle.answer.specs.Answer.{hostNumber, voltsOf};
 ghost use Rattle.answer.specs.Block.{afterTicks, joined, block, markAt, frameAt};
 ghost use Rattle.formant_osc.specs.Coefs.{spotOf, formantOf, getFormants, coefOf, resonatorCoefs};
 ghost use Rattle.formant_osc.specs.Memo.{newCoefMemo, coefHits, coefFilled, coefRecall};
@@ -511,7 +511,7 @@ fn voice(c: [f64; 15], start: [f64; 10], samples: &mut [f64], marks: &mut [u32])
     requires { ⌜ length (now samples) ≡ length (now marks) ⌝ }
     ensures { λ r. ⌜ r ≡ cellsAt c (now (samples .entry)) start (length (now (marks .entry))) ⌝ }
     ensures { λ r. ⌜ now (samples .exit) ≡ tab (λ i. voltsOf (voicedAt c start (now (samples .entry)) (now (marks .entry)) i) .p10) (length (now (marks .entry))) ⌝ }
-    ensures { λ r. ⌜ now (marks .exit) ≡ tab (λ i. markNumber (voicedAt c start (now (samples .entry)) (now (marks .entry)) i)) (length (now (marks .entry))) ⌝ }
+    ensures { λ r. ⌜ now (marks .exit) ≡ tab (λ i. hostNumber (voicedAt c start (now (samples .entry)) (now (marks .entry)) i)) (length (now (marks .entry))) ⌝ }
 {
     let mut cells = start;
     let mut i = 0;
@@ -519,7 +519,7 @@ fn voice(c: [f64; 15], start: [f64; 10], samples: &mut [f64], marks: &mut [u32])
         let rung = ring(c, cells, samples[i]);
         let heard = voiced(rung.sum, marks[i] == 14);
         samples[i] = answer::samples(heard).p10;
-        marks[i] = answer::mark_number(heard);
+        marks[i] = answer::host_number(heard);
         cells = rung.state;
         i += 1;
     }
@@ -714,7 +714,7 @@ impl FormantOsc {
                 FormantBlock {
                     refused: 0,
                     formant,
-                    tally: tally.take_marks(marks),
+                    tally: tally.take_marks(marks).or(tally),
                 }
             }
         } else {

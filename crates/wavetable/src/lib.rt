@@ -17,7 +17,7 @@ ghost use lib.Ieee.{binary64, sub};
 ghost use lib.ListN.{length, set};
 ghost use lib.Seq.{sets};
 ghost use Rattle.laws.specs.Lists.{tab};
-ghost use Rattle.answer.specs.Answer.{markNumber, voltsOf};
+ghost use Rattle.answer.specs.Answer.{hostNumber, voltsOf};
 ghost use Rattle.answer.specs.Mark.{markOf};
 ghost use Rattle.answer.specs.Block.{afterTicks, portsOf, joined, block, markAt, frameAt};
 ghost use Rattle.common.specs.Consts.{gateThreshold};
@@ -225,10 +225,10 @@ fn mark(out: f64, phases: bool) -> Answer
 // What tick i of a block answers.
 fn put(a: Answer, i: usize, samples: &mut [f64], marks: &mut [u32])
     requires { ⌜ (i < length (now marks)) × (length (now samples) ≡ 1 * length (now marks)) ⌝ }
-    ensures { λ _. ⌜ (now (samples .exit) ≡ sets (now (samples .entry)) (1 * i) (portsOf 1 (voltsOf a))) × (now (marks .exit) ≡ set (now (marks .entry)) i (markNumber a)) ⌝ }
+    ensures { λ _. ⌜ (now (samples .exit) ≡ sets (now (samples .entry)) (1 * i) (portsOf 1 (voltsOf a))) × (now (marks .exit) ≡ set (now (marks .entry)) i (hostNumber a)) ⌝ }
 {
     samples[i] = answer::samples(a).p10;
-    marks[i] = answer::mark_number(a);
+    marks[i] = answer::host_number(a);
 }
 
 impl Wavetable {
@@ -388,7 +388,7 @@ impl Wavetable {
                 WavetableBlock {
                     refused: 0,
                     wavetable,
-                    tally: tally.take_marks(marks),
+                    tally: tally.take_marks(marks).or(tally),
                 }
             }
         } else {
