@@ -315,7 +315,7 @@ module _ {S : Type 0} (next : S → S) (s r : S) (e : next s ≡ next r) where
       block-same h =
           let frames = joined-ext (frameAt ports answer next s) (frameAt ports answer next r) (length m) same-frames in
           let marks = tab-ext (markAt answer next s) (markAt answer next r) (length m) (λ i l. same-marks i) in
-          simp (h .0, ticks-meet (length m) (h .1), same-many 1, same-many 2, same-many 3, same-many 4, frames, marks)
+          simp (h .0, ticks-meet (length m) (h .1), same-many 11, same-many 12, same-many 13, same-many 14, frames, marks)
 
 -- ---- a tick as a block of one
 pub answer-back : (a : Answer) → accepted a ≡ true → answerOf (hostNumber a) (voltsOf a) ≡ a

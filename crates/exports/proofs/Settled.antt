@@ -26,5 +26,5 @@ exports-settled =
       «wrap_phase» = λ x. laws.settled _;
       polyblep = λ t dt. laws.settled _;
       polyblamp = λ t dt. laws.settled _;
-      «tally_take» = λ code counts j k p q i. record { code = (p .0 ∙ sym (q .0)) i; counts = (p .1 ∙ sym (q .1)) i };
+      «tally_take» = λ code counts. laws.settled _;
     }
