@@ -15,7 +15,7 @@ use Rattle.answer.specs.Mark.{markOf}
 use Rattle.answer.specs.declared.Answer.{Answer}
 use Rattle.common.proofs.EdgeLaws.{rises-once}
 use Rattle.common.proofs.MemoLaws.{recall1-again}
-use Rattle.common.proofs.PhaseLaws.{wrap-in}
+use Rattle.common.proofs.PhaseLaws.{restart-in, wrap-in}
 use Rattle.common.specs.Consts.{gateThreshold}
 use Rattle.common.specs.Edge.{risesAbove}
 use Rattle.common.specs.Memo.{recall1, voctToHzAt}
@@ -24,7 +24,7 @@ use Rattle.common.specs.Tests.{phaseOk}
 use Rattle.common.specs.declared.Memo1.{Memo1}
 use Rattle.common.specs.declared.Turns.{Turns}
 use Rattle.laws.specs.Float.{isFin}
-use Rattle.wavetable.proofs.Accepted.{accepts, bank-sized, restart-ok}
+use Rattle.wavetable.proofs.Accepted.{accepts, bank-sized}
 use Rattle.wavetable.specs.Held.{pairOf, mixAt, heldAnswer, heldNext}
 use Rattle.wavetable.specs.Reads.{tablePosOf, tableIndexOf, blendOf, readTable, mixOf}
 use Rattle.wavetable.specs.Wavetable.{wavetableRefusalOf, wavetableTickRefusalOf, outVolts, wavetableSoundOf, wavetableTickOf, wavetableAnswerOf, wavetableNextOf}
@@ -92,7 +92,7 @@ pub holds : (s : Wavetable) (c : WavetableControls) (bank : List Float) → wave
     → Holds (wavetableAnswerOf c bank) (wavetableNextOf c bank) (heldAnswer bank (heldPair s c) (stepOf s c)) (heldNext (stepOf s c)) (stateOf s c) (λ p. phaseOk p ≡ true) s (firstOf s c)
 holds s c bank h =
     record {
-      good = restart-ok (s .phase) (risesAbove gateThreshold (s .«prev_sync») (c .sync)) (accepts s (length bank) h .1);
+      good = restart-in (s .phase) (risesAbove gateThreshold (s .«prev_sync») (c .sync)) (accepts s (length bank) h .1);
       first = ap (λ (t : WavetableTicked). t .answer) (tick-sounds s c bank h ∙ first-sound s c bank);
       second = ap (λ (t : WavetableTicked). t .wavetable) (tick-sounds s c bank h ∙ first-sound s c bank);
       stays = λ p k. unfold heldNext in wrap-in _ (add-fits binary64 _ _);
