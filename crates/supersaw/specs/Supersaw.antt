@@ -1,5 +1,5 @@
 -- The Supersaw's calls, written from oscillators.rs, with document 01's refusals and marks.
-use mathlib.Core.Bool.{true, false, cond, _&&_}
+use mathlib.Core.Bool.{Bool, true, false, cond, _&&_}
 use mathlib.Core.List.{List}
 use Prim.Native.Nat.{ℕ}
 use lib.Dec.{eqb}
@@ -32,11 +32,15 @@ startPhases = tab (λ i. div binary64 (realOf i) seven) 7
 unfoldable pub newSupersaw : Hertz → Supersaw
 newSupersaw r = record { phases = startPhases; «sub_phase» = turns zer; «sample_rate» = r; «freq_memo» = newMemo1 }
 
+-- the seven voices' phases are in range
+unfoldable pub phasesOk : List Float → Bool
+phasesOk phases = all (λ i. phaseOk (turns (at phases i))) 7
+
 -- 0, or what refuses a state: 1 its rate, 2 one of its eight phases
 unfoldable pub supersawRefusalOf : Supersaw → ℕ
 supersawRefusalOf s =
     cond (rateOk (s .«sample_rate»))
-    (cond (all (λ i. phaseOk (turns (at (s .phases) i))) 7 && phaseOk (s .«sub_phase»)) 0 2)
+    (cond (phasesOk (s .phases) && phaseOk (s .«sub_phase»)) 0 2)
     1
 
 -- t, unless n refuses, which leaves s
