@@ -156,6 +156,12 @@ module _ {S : Type 0} (ports : ℕ) (whole : (v : Volts) → length (portsOf por
   pub marks-done : (i n : ℕ) (l m : List ℕ) → i ≡ n → length l ≡ n → m ≡ over (markAt answer next s) i l → m ≡ tab (markAt answer next s) n
   marks-done i n l m h k e = over-done (markAt answer next s) i n l m h k e
 
+-- ---- what each tick keeps
+pub ticks-keep : {S : Type 0} (P : S → Type 0) (next : S → S) → ((s : S) → P s → P (next s)) → (s : S) → P s → (n : ℕ) → P (afterTicks next n s)
+unfolding afterTicks
+ticks-keep P next k s h zero = h
+ticks-keep P next k s h (suc n) = k (afterTicks next n s) (ticks-keep P next k s h n)
+
 -- ---- held controls: a machine with less state goes through the same ticks. `embed` is the whole state that a small one stands for,
 -- from the second tick on; before the first the whole state may still be another.
 pub record Holds {S H : Type 0} (answer : S → Answer) (next : S → S) (told : H → Answer) (step : H → H) (embed : H → S) (Good : H → Type 0) (s : S) (h : H) : Type 0 where
@@ -166,14 +172,9 @@ pub record Holds {S H : Type 0} (answer : S → Answer) (next : S → S) (told :
   pub answers : (g : H) → Good g → answer (embed g) ≡ told g
   pub moves : (g : H) → Good g → next (embed g) ≡ embed (step g)
 
-good-after : {H : Type 0} (step : H → H) (Good : H → Type 0) (h : H) → Good h → ((g : H) → Good g → Good (step g)) → (n : ℕ) → Good (afterTicks step n h)
-unfolding afterTicks
-good-after step Good h z k zero = z
-good-after step Good h z k (suc n) = k (afterTicks step n h) (good-after step Good h z k n)
-
 module _ {S H : Type 0} (answer : S → Answer) (next : S → S) (told : H → Answer) (step : H → H) (embed : H → S) (Good : H → Type 0) (s : S) (h : H) (w : Holds answer next told step embed Good s h) where
   good-at : (n : ℕ) → Good (afterTicks step n h)
-  good-at n = good-after step Good h (w .good) (w .stays) n
+  good-at n = ticks-keep Good step (w .stays) h (w .good) n
 
   held-state : (n : ℕ) → afterTicks next (suc n) s ≡ embed (afterTicks step (suc n) h)
   unfolding afterTicks
@@ -244,6 +245,77 @@ module _ {S : Type 0} (ports number : ℕ) (answer : S → Answer) (next : S →
       → l ≡ tab (markAt answer next s) (length m) → u ≡ tallyOr t (marksTaken t l) → block 0 r u p l ≡ blockOf ports number answer next s t o m
   unfolding ticksOf
   block-done h u r p l a b d g = simp (accepted-block h, a, b, g, d, counted-tab t (markAt answer next s) (length m) (block-fits ports number t o m n e h .2))
+
+-- ---- a block as a call on a state
+module _ {S : Type 0} (ports number : ℕ) (answer : S → Answer) (next : S → S) where
+  -- it keeps what each tick keeps
+  pub block-keeps : (P : S → Type 0) → ((s : S) → P s → P (next s)) → (s : S) → P s → (t : Tally) (o : List Float) (m : List ℕ)
+      → P (blockOf ports number answer next s t o m .state)
+  unfolding blockOf
+  block-keeps P k s h t o m = go (eqb n 0)
+    where
+      n : ℕ
+      n = blockRefusalOf (eqb (length o) (ports * length m)) number t (length m)
+
+      go : (b : Bool) → P (cond b (ticksOf ports answer next (length m) s t) (block n s t o m) .state)
+      go true = unfold ticksOf in ticks-keep P next k s h (length m)
+      go false = h
+
+  -- it is refused for its buffers, for what refuses its first tick or for its tally
+  pub block-refusal : (s : S) (t : Tally) (o : List Float) (m : List ℕ)
+      → blockOf ports number answer next s t o m .refused ≡ blockRefusalOf (eqb (length o) (ports * length m)) number t (length m)
+  unfolding blockOf
+  block-refusal s t o m = go (eqb n 0) refl
+    where
+      n : ℕ
+      n = blockRefusalOf (eqb (length o) (ports * length m)) number t (length m)
+
+      go : (b : Bool) → eqb n 0 ≡ b → cond b (ticksOf ports answer next (length m) s t) (block n s t o m) .refused ≡ n
+      go true e = unfold ticksOf in sym (eqb-true n 0 e)
+      go false e = refl
+
+-- ---- two states that one tick leaves alike
+module _ {S : Type 0} (next : S → S) (s r : S) (e : next s ≡ next r) where
+  meet : (n : ℕ) → afterTicks next (suc n) s ≡ afterTicks next (suc n) r
+  unfolding afterTicks
+  meet zero = e
+  meet (suc n) = ap next (meet n)
+
+  ticks-meet : (n : ℕ) → 0 < n → afterTicks next n s ≡ afterTicks next n r
+  ticks-meet zero z = absurd (omega arith)
+  ticks-meet (suc n) z = meet n
+
+  module _ (ports number : ℕ) (answer : S → Answer) (t : Tally) (o : List Float) (m : List ℕ) where
+    abbrev Taken : Type 0
+    Taken = (blockRefusalOf (eqb (length o) (ports * length m)) number t (length m) ≡ 0) × (0 < length m)
+
+    -- so does a block that is taken and has a tick
+    pub block-meets : Taken → blockOf ports number answer next s t o m .state ≡ blockOf ports number answer next r t o m .state
+    unfolding blockOf ticksOf
+    block-meets h = simp (h .0, ticks-meet (length m) (h .1))
+
+    module _ (q : answer s ≡ answer r) where
+      same-answers : (i : ℕ) → answerAt answer next s i ≡ answerAt answer next r i
+      unfolding answerAt afterTicks
+      same-answers zero = q
+      same-answers (suc i) = ap answer (meet i)
+
+      same-marks : (i : ℕ) → markAt answer next s i ≡ markAt answer next r i
+      same-marks i = simp (same-answers i)
+
+      same-frames : (i : ℕ) → frameAt ports answer next s i ≡ frameAt ports answer next r i
+      same-frames i = simp (same-answers i)
+
+      same-many : (k : ℕ) → manyTo k (markAt answer next s) (length m) ≡ manyTo k (markAt answer next r) (length m)
+      same-many k = many-ext k (markAt answer next s) (markAt answer next r) (length m) (λ i l. same-marks i)
+
+      -- and if the tick answers the same, so does the block
+      pub block-same : Taken → blockOf ports number answer next s t o m ≡ blockOf ports number answer next r t o m
+      unfolding blockOf ticksOf countedTo
+      block-same h =
+          let frames = joined-ext (frameAt ports answer next s) (frameAt ports answer next r) (length m) same-frames in
+          let marks = tab-ext (markAt answer next s) (markAt answer next r) (length m) (λ i l. same-marks i) in
+          simp (h .0, ticks-meet (length m) (h .1), same-many 11, same-many 12, same-many 13, same-many 14, frames, marks)
 
 -- ---- a tick as a block of one
 pub answer-back : (a : Answer) → accepted a ≡ true → answerOf (hostNumber a) (voltsOf a) ≡ a

@@ -78,6 +78,15 @@ lfoNextOf c wanted s = lfoTickOf s c wanted .lfo
 unfoldable pub lfoBlockOf : Lfo → LfoControls → ℕ → Tally → List Float → List ℕ → Block Lfo
 lfoBlockOf s c wanted t o m = blockOf 5 (lfoRefusalOf s) (lfoAnswerOf c wanted) (lfoNextOf c wanted) s t o m
 
+-- document 01's number of what a call made, 0 unless it was refused, and the state then: a refusal leaves the old one
+unfoldable pub madeNumber : LfoMade → ℕ
+madeNumber (made.Made t) = 0
+madeNumber (made.Refused n) = n
+
+unfoldable pub madeOr : Lfo → LfoMade → Lfo
+madeOr s (made.Made t) = t
+madeOr s (made.Refused n) = s
+
 -- s, unless n refuses
 unfoldable pub madeUnless : ℕ → Lfo → LfoMade
 madeUnless n s = cond (eqb n 0) (made.Made s) (made.Refused n)
