@@ -21,7 +21,7 @@ use Rattle.laws.specs.Lists.{all, tab}
 use Rattle.numeric.specs.Basic.{clampOf}
 use Rattle.common.specs.Consts.{rateLow, rateHigh}
 use Rattle.common.specs.Memo.{recall1, voctToHzAt}
-use Rattle.common.specs.Phase.{wrapOf, polyblepOf}
+use Rattle.common.specs.Phase.{incrementOf, wrapOf, polyblepOf}
 use Rattle.common.specs.Tests.{rateOk, phaseOk}
 use Rattle.common.specs.declared.Hertz.{Hertz}
 use Rattle.common.specs.declared.Memo1.{Memo1}
@@ -30,7 +30,7 @@ use Rattle.supersaw.proofs.StepLaws.{Steady, steady-law}
 use Rattle.supersaw.specs.Consts.{detuneRatios, mixLevels}
 use Rattle.supersaw.specs.Lanes.{lanesOf, incsOf, sawsOf, sumsOf, wrapsOf, lanesFinite, mixTo, totalMix, blendOf, movedOf, steppedOf, advancedOf, steadyOf, lanesSteady, quietOf, rampsOf, rampedOf}
 use Rattle.supersaw.specs.Supersaw.{phasesOk, supersawRefusalOf, supersawSoundOf}
-use Rattle.supersaw.specs.Voices.{at, dtOf, sawOf, Voices, voiceOf, voicesOf}
+use Rattle.supersaw.specs.Voices.{at, freqOf, dtOf, sawOf, subDtOf, Voices, voiceOf, voicesOf}
 use Rattle.supersaw.specs.declared.Supersaw.{Supersaw}
 use Rattle.supersaw.specs.declared.SupersawControls.{SupersawControls}
 use Rattle.supersaw.specs.declared.SupersawTicked.{SupersawTicked}
@@ -105,22 +105,23 @@ module _ (detune : Float) (base rate : Hertz) (D : T (small detune)) (B : lt zer
   ratios-small : all (λ i. small (at detuneRatios i)) 7 ≡ true
   ratios-small = unfold all ofBits in refl
 
-  dt-plus : (i : ℕ) → i < 7 → Plus (dtOf i detune base rate)
+  dt-plus : (i : ℕ) → i < 7 → Plus (dtOf i detune base rate .0)
   dt-plus i l =
-      unfold dtOf in
+      unfold dtOf freqOf incrementOf in
       div-plus (mul binary64 (base .0) (add binary64 one (mul binary64 (at detuneRatios i) detune))) (rate .0)
       (mul-plus (base .0) (add binary64 one (mul binary64 (at detuneRatios i) detune)) (above-plus (base .0) B) (one-plus (at detuneRatios i) detune (of-true (small (at detuneRatios i)) (all-at (λ j. small (at detuneRatios j)) 7 ratios-small i l)) D))
       rate-plus
 
-  low-plus : Plus (div binary64 (base .0) (mul binary64 two (rate .0)))
+  low-plus : Plus (subDtOf base rate .0)
+  unfolding subDtOf incrementOf
   low-plus = div-plus (base .0) (mul binary64 two (rate .0)) (above-plus (base .0) B) (mul-plus two (rate .0) (unfold ofBits in tt) rate-plus)
 
-  inc-at : (i : ℕ) → i < 7 → at (incsOf detune base rate) i ≡ dtOf i detune base rate
+  inc-at : (i : ℕ) → i < 7 → at (incsOf detune base rate) i ≡ dtOf i detune base rate .0
   inc-at i l =
-      let z = length-tab (λ (j : ℕ). dtOf j detune base rate) 7 in
+      let z = length-tab (λ (j : ℕ). dtOf j detune base rate .0) 7 in
       unfold incsOf in
-      List·getD-append (tab (λ (j : ℕ). dtOf j detune base rate) 7) (div binary64 (base .0) (mul binary64 two (rate .0)) ∷ []) nan i (omega arith)
-      ∙ getD-tab nan (λ (j : ℕ). dtOf j detune base rate) 7 i l
+      List·getD-append (tab (λ (j : ℕ). dtOf j detune base rate .0) 7) (subDtOf base rate .0 ∷ []) nan i (omega arith)
+      ∙ getD-tab nan (λ (j : ℕ). dtOf j detune base rate .0) 7 i l
 
   incs-plus : (i : ℕ) → i < 8 → Plus (at (incsOf detune base rate) i)
   incs-plus i l =

@@ -22,6 +22,11 @@ use Rattle.common.proofs.PhaseLaws.{wrap-unit}
 use Rattle.common.specs.Phase.{wrapOf, polyblepOf}
 use Rattle.supersaw.specs.Lanes.{steadyOf}
 
+-- the test of a phase that is more than an increment above its step
+pub steady-above : (t dt : Float) → fits binary64 t ≡ true → lt dt t ≡ true → lt (add binary64 t dt) one ≡ steadyOf t dt
+unfolding steadyOf
+steady-above t dt f h = simp (f, h)
+
 pub record Steady (t dt : Float) : Type 0 where
   pub still : polyblepOf t dt ≡ zer
   pub kept : wrapOf (add binary64 t dt) ≡ add binary64 t dt

@@ -4,14 +4,14 @@ use mathlib.Core.Path.{_≡_, ap, _∙_}
 use Prim.Native.Nat.{ℕ, _≤_}
 use native.Mathlib.Nat.{le-antisymm}
 use lib.Ieee.{Float, binary64, add, sub, mul, div}
-use Rattle.laws.specs.Float.{zer, one, two, isFin}
+use Rattle.laws.specs.Float.{zer, one, isFin}
 use Rattle.numeric.specs.Basic.{clampOf}
 use Rattle.common.specs.Memo.{recall1, voctToHzAt}
 use Rattle.common.specs.Phase.{turns, wrapOf}
 use Rattle.common.specs.declared.Memo1.{Memo1}
 use Rattle.answer.specs.Mark.{markOf}
 use Rattle.supersaw.specs.Supersaw.{supersawSoundOf}
-use Rattle.supersaw.specs.Voices.{Voices, sawOf, voicesOf}
+use Rattle.supersaw.specs.Voices.{Voices, sawOf, subDtOf, voicesOf}
 use Rattle.supersaw.specs.declared.Supersaw.{Supersaw}
 use Rattle.supersaw.specs.declared.SupersawControls.{SupersawControls}
 use Rattle.supersaw.specs.declared.SupersawTicked.{SupersawTicked}
@@ -24,7 +24,7 @@ localsOf u sum total center finite =
 -- a tick from them
 abbrev tickedOf : Supersaw → Float → Memo1 → Voices → SupersawTicked
 tickedOf s mix memo v =
-    let dt = div binary64 (memo .val .0) (mul binary64 two (s .«sample_rate» .0)) in
+    let dt = subDtOf (memo .val) (s .«sample_rate») .0 in
     let next = add binary64 (s .«sub_phase» .0) dt in
     let out = add binary64 (mul binary64 (v .«center_saw») (sub binary64 one mix)) (mul binary64 (div binary64 (v .sum) (v .«total_mix»)) mix) in
     record {

@@ -12,7 +12,7 @@ use Rattle.common.specs.declared.Memo1.{Memo1}
 use Rattle.common.specs.declared.Turns.{Turns}
 use Rattle.answer.specs.Mark.{markOf}
 use Rattle.supersaw.specs.Consts.{mixLevels}
-use Rattle.supersaw.specs.Voices.{at, dtOf, sawOf}
+use Rattle.supersaw.specs.Voices.{at, dtOf, sawOf, subDtOf}
 use Rattle.supersaw.specs.declared.Supersaw.{Supersaw}
 use Rattle.supersaw.specs.declared.Moved.{Moved}
 
@@ -22,7 +22,7 @@ lanesOf phases low = tab (at phases) 7 ++ (low .0 ∷ [])
 
 -- the increments
 unfoldable pub incsOf : Float → Hertz → Hertz → List Float
-incsOf detune base rate = tab (λ i. dtOf i detune base rate) 7 ++ (div binary64 (base .0) (mul binary64 two (rate .0)) ∷ [])
+incsOf detune base rate = tab (λ i. dtOf i detune base rate .0) 7 ++ (subDtOf base rate .0 ∷ [])
 
 unfoldable pub sawsOf : List Float → List Float → List Float
 sawsOf t dt = tab (λ i. sawOf (at t i) (at dt i)) 8

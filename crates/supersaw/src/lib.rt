@@ -20,9 +20,9 @@ ghost use lib.ListN.{length, set};
 ghost use lib.Seq.{sets};
 ghost use Rattle.laws.specs.Float.{isFin};
 ghost use Rattle.laws.specs.Lists.{tab};
-ghost use Rattle.answer.specs.Answer.{markNumber, voltsOf};
+ghost use Rattle.answer.specs.Answer.{hostNumber, voltsOf};
 ghost use Rattle.answer.specs.Block.{afterTicks, portsOf, joined, block, markAt, frameAt};
-ghost use Rattle.supersaw.specs.Voices.{sawOf};
+ghost use Rattle.supersaw.specs.Voices.{freqOf, sawOf, subDtOf};
 ghost use Rattle.supersaw.specs.Supersaw.{startPhases, phasesOk, supersawRefusalOf, supersawNewOf, supersawSoundOf, supersawTickOf, supersawAnswerOf, supersawNextOf, supersawBlockOf, supersawResetOf, supersawSetSampleRateOf};
 ghost use Rattle.supersaw.specs.Lanes.{lanesOf, incsOf, sawsOf, rampsOf, sumsOf, wrapsOf, lanesFinite, steadyOf, lanesSteady, mixTo, blendOf, movedOf, steppedOf, rampedOf, quietOf, advancedOf};
 ghost use Rattle.supersaw.specs.Held.{heldAnswer, heldNext};
@@ -184,10 +184,10 @@ fn all_finite(x: [f64; 8]) -> bool
 }
 
 // More than an increment above its step, and more than one below the next.
-fn steady(t: f64, dt: f64) -> bool
-    ensures { λ r. ⌜ r ≡ steadyOf t dt ⌝ }
+fn steady(t: Turns, dt: Turns) -> bool
+    ensures { λ r. ⌜ r ≡ steadyOf (t .0) (dt .0) ⌝ }
 {
-    if dt < t { t + dt < 1.0 } else { false }
+    if dt.0 < t.0 { t.0 + dt.0 < 1.0 } else { false }
 }
 
 fn all_steady(t: [f64; 8], dt: [f64; 8]) -> bool
@@ -195,7 +195,7 @@ fn all_steady(t: [f64; 8], dt: [f64; 8]) -> bool
 {
     let mut i = 0;
     while i < 8 {
-        if !steady(t[i], dt[i]) {
+        if !steady(Turns(t[i]), Turns(dt[i])) {
             return false;
         }
         i += 1;
@@ -234,13 +234,13 @@ fn fits(samples: usize, n: usize) -> bool
 // What tick i of a block answers.
 fn put(a: Answer, i: usize, samples: &mut [f64], marks: &mut [u32])
     requires { ⌜ (i < length (now marks)) × (length (now samples) ≡ 2 * length (now marks)) ⌝ }
-    ensures { λ _. ⌜ (now (samples .exit) ≡ sets (now (samples .entry)) (2 * i) (portsOf 2 (voltsOf a))) × (now (marks .exit) ≡ set (now (marks .entry)) i (markNumber a)) ⌝ }
+    ensures { λ _. ⌜ (now (samples .exit) ≡ sets (now (samples .entry)) (2 * i) (portsOf 2 (voltsOf a))) × (now (marks .exit) ≡ set (now (marks .entry)) i (hostNumber a)) ⌝ }
 {
     let v = answer::samples(a);
     let at = 2 * i;
     samples[at] = v.p10;
     samples[at + 1] = v.p11;
-    marks[i] = answer::mark_number(a);
+    marks[i] = answer::host_number(a);
 }
 
 impl Supersaw {
@@ -314,6 +314,22 @@ impl Supersaw {
         }
     }
 
+    // The frequency of voice i.
+    fn detuned(i: usize, detune: f64, base_freq: Hertz) -> Hertz
+        requires { ⌜ i < 7 ⌝ }
+        ensures { λ r. ⌜ r ≡ freqOf i detune «base_freq» ⌝ }
+    {
+        let detune_amount = Self::DETUNE_RATIOS[i] * detune;
+        Hertz(base_freq.0 * (1.0 + detune_amount))
+    }
+
+    // What the sub oscillator's phase grows by in a tick: half of the center's, as the Rust rounds it.
+    fn sub_increment(base_freq: Hertz, sample_rate: Hertz) -> Turns
+        ensures { λ r. ⌜ r ≡ subDtOf «base_freq» «sample_rate» ⌝ }
+    {
+        common::increment(base_freq, Hertz(2.0 * sample_rate.0))
+    }
+
     // An accepted tick: each voice in its turn, then the sub oscillator.
     fn sound(self, c: SupersawControls) -> SupersawTicked
         ensures { λ r. ⌜ r ≡ supersawSoundOf self c ⌝ }
@@ -332,9 +348,8 @@ impl Supersaw {
         let mut finite = true;
         let mut i = 0;
         while i < 7 {
-            let detune_amount = Self::DETUNE_RATIOS[i] * detune;
-            let freq = base_freq.0 * (1.0 + detune_amount);
-            let dt = Turns(freq / sample_rate.0);
+            let freq = Self::detuned(i, detune, base_freq);
+            let dt = common::increment(freq, sample_rate);
             let phase = Turns(supersaw.phases[i]);
             let saw = saw(phase, dt);
             center_saw = center(i, saw, center_saw);
@@ -347,7 +362,7 @@ impl Supersaw {
         }
         let normalized = sum / total_mix;
         let output = center_saw * (1.0 - mix) + normalized * mix;
-        let sub_dt = Turns(base_freq.0 / (2.0 * sample_rate.0));
+        let sub_dt = Self::sub_increment(base_freq, sample_rate);
         let sub = saw(sub_phase, sub_dt);
         let sub_next = Turns(sub_phase.0 + sub_dt.0);
         supersaw.sub_phase = common::wrap_phase(sub_next);
@@ -382,16 +397,15 @@ impl Supersaw {
     // The sum of MIX_LEVELS, as a tick's loop rounds it.
     const TOTAL_MIX: f64 = 5.2;
 
-    // What each phase grows by in a tick; the sub oscillator's by half the center's.
+    // What each phase grows by in a tick.
     fn increments(detune: f64, base_freq: Hertz, sample_rate: Hertz) -> [f64; 8]
         ensures { λ r. ⌜ r ≡ incsOf detune «base_freq» «sample_rate» ⌝ }
     {
-        let mut dt = [base_freq.0 / (2.0 * sample_rate.0); 8];
+        let mut dt = [Self::sub_increment(base_freq, sample_rate).0; 8];
         let mut i = 0;
         while i < 7 {
-            let detune_amount = Self::DETUNE_RATIOS[i] * detune;
-            let freq = base_freq.0 * (1.0 + detune_amount);
-            dt[i] = freq / sample_rate.0;
+            let freq = Self::detuned(i, detune, base_freq);
+            dt[i] = common::increment(freq, sample_rate).0;
             i += 1;
         }
         dt
@@ -548,7 +562,7 @@ impl Supersaw {
                 SupersawBlock {
                     refused: 0,
                     supersaw,
-                    tally: tally.take_marks(marks),
+                    tally: tally.take_marks(marks).or(tally),
                 }
             }
         } else {

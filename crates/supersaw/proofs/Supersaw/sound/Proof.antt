@@ -31,11 +31,11 @@ loop-holds : tie.Need-loop-holds Inv-loop μ-loop
 unfolding voicesOf
 loop-holds c = (omega arith, search needs, refl, refl)
 
-mul-detune-amount : tie.Need-mul-detune-amount Inv-loop μ-loop
-mul-detune-amount c = omega arith
+detuned-requires : tie.Need-detuned-requires Inv-loop μ-loop
+detuned-requires c κs = search needs
 
-array-read-detune-amount : tie.Need-array-read-detune-amount Inv-loop μ-loop
-array-read-detune-amount c = omega arith
+increment-requires : tie.Need-increment-requires Inv-loop μ-loop
+increment-requires c κs = search needs
 
 mul-sum : tie.Need-mul-sum Inv-loop μ-loop
 mul-sum c = omega arith
@@ -81,7 +81,16 @@ loop-less c = omega arith
 
 loop-again : tie.Need-loop-again Inv-loop μ-loop
 unfolding voicesOf voiceOf dtOf
-loop-again c = let h = c .before .before .before .before .before .before .before .before .before .before .loop .inv in (omega arith, simp length-set (h .1), h .2, simp (c .wrap-phase .ensures, c .before .still-finite .ensures, c .before .before .before .before .center .ensures, c .before .before .before .before .before .saw .ensures, add-one, ← h .3))
+loop-again c =
+    let h = c .before .before .before .before .before .before .before .before .before .before .loop .inv in (
+      omega arith,
+      simp length-set (h .1),
+      h .2,
+      simp (c .wrap-phase .ensures, c .before .still-finite .ensures, c .before .before .before .before .center .ensures, c .before .before .before .before .before .saw .ensures, c .before .before .before .before .before .before .before .increment .ensures, c .before .before .before .before .before .before .before .before .detuned .ensures, add-one, ← h .3),
+    )
+
+sub-increment-requires : tie.Need-sub-increment-requires Inv-loop μ-loop
+sub-increment-requires c κs = search needs
 
 saw-requires-2 : tie.Need-saw-requires-2 Inv-loop μ-loop
 saw-requires-2 c κs = search needs
@@ -97,11 +106,12 @@ mark-requires c κs = search needs
 
 returns : tie.Need-returns Inv-loop μ-loop
 returns c =
-    let a = c .before .before .before .before .before .before .before .before .before .before .before .before .before .before .before .before .before .args in
-    let l = c .before .before .before .before .before .before .before .before .before .loop in
-    simp (c .mark .ensures, c .before .still-finite2 .ensures, c .before .before .wrap-phase2 .ensures, c .before .before .before .before .before .saw2 .ensures, l .inv .2)
+    let a = c .before .before .before .before .before .before .before .before .before .before .before .before .before .before .before .before .args in
+    let l = c .before .before .before .before .before .before .before .before .loop in
+    simp (c .mark .ensures, c .before .still-finite2 .ensures, c .before .before .wrap-phase2 .ensures, c .before .before .before .before .before .saw2 .ensures, c .before .before .before .before .before .before .sub-increment .ensures, l .inv .2)
     (sound-done (a .self) (a .c) (l .supersaw) _ _ _ (l .sum) (l .total-mix) (l .center-saw) (l .finite) (l .i)
-    (c .before .before .before .before .before .before .before .before .before .before .before .before .before .clamp .ensures) (c .before .before .before .before .before .before .before .before .before .before .before .before .clamp2 .ensures) (c .before .before .before .before .before .before .before .before .before .before .before .voct-to-hz .ensures) (l .inv .0) (c .before .before .before .before .before .before .before .before .loop-test .left) (l .inv .3))
+    (c .before .before .before .before .before .before .before .before .before .before .before .before .clamp .ensures) (c .before .before .before .before .before .before .before .before .before .before .before .clamp2 .ensures) (c .before .before .before .before .before .before .before .before .before .before .voct-to-hz .ensures)
+    (l .inv .0) (c .before .before .before .before .before .before .before .loop-test .left) (l .inv .3))
 
 pub sound-spec : {M : Type 1} → statement M
 sound-spec =
@@ -113,8 +123,8 @@ sound-spec =
     clamp-requires-2
     voct-to-hz-requires
     loop-holds
-    mul-detune-amount
-    array-read-detune-amount
+    detuned-requires
+    increment-requires
     mul-sum
     element-copy-out-sum
     saw-requires
@@ -130,6 +140,7 @@ sound-spec =
     add-i
     loop-less
     loop-again
+    sub-increment-requires
     saw-requires-2
     wrap-phase-requires-2
     still-finite-requires-2
