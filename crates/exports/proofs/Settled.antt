@@ -1,5 +1,4 @@
 -- Each contract, being equations, settles what it speaks of.
-use mathlib.Core.Path.{sym, _∙_}
 use Rattle.laws.proofs.Settled as laws
 use Rattle.exports.specs.Settled.{Settled}
 

@@ -11,13 +11,14 @@ use Rattle.common.proofs.MemoLaws.{recall1-is}
 use Rattle.common.specs.Consts.{gateThreshold, five}
 use Rattle.common.specs.Edge.{risingAboveOf, risingOf}
 use Rattle.common.specs.Memo.{newMemo1}
+use Rattle.common.specs.Phase.{restartOf}
 use Rattle.laws.specs.Float.{F64}
 use Rattle.laws.specs.Machine.{replies, more}
 use Rattle.lfo.proofs.Reached.{Good, unrefused, tick-sounds, good-new, good, never-refused}
 use Rattle.lfo.specs.Calls.{after, reply, Tick, Ticked}
 use Rattle.lfo.specs.Lfo.{newLfo, lfoNewOf, lfoSoundOf, lfoTickOf, lfoAnswerOf, lfoNextOf, lfoBlockOf}
 use Rattle.lfo.specs.Promises.{takesEdge, Forgets, Block-forgets, Edge-comes}
-use Rattle.lfo.specs.Waves.{rateToHz, restartOf}
+use Rattle.lfo.specs.Waves.{rateToHz}
 use Rattle.common.specs.declared.EdgeDetector.{EdgeDetector}
 use Rattle.lfo.specs.declared.Lfo.{Lfo}
 use Rattle.lfo.specs.declared.LfoControls.{LfoControls}
