@@ -1,4 +1,5 @@
--- What the walks over a `Reader` share, of this crate and of those above: its type and laws, and what it owns, taken apart for a callee that takes the text and the place, and put together.
+-- What the walks over a `Reader` share, of this crate and of those above: its type and laws, and what it owns, taken apart for a callee that takes the text
+-- and the place, and put together.
 -- The laws take `Given`. The rest assumes nothing.
 use mathlib.Core.Path.{_≡_, refl}
 use Prim.Native.Nat.{ℕ, _<_, _^_}
@@ -12,7 +13,7 @@ use base.Fml.{Lft, Share, Fml, ftrue, flft}
 use prog.Wp.{Heap}
 use ghost.Atoms.{Atoms, sem}
 use contract.Lifetimes.{Lfts}
-use types.Kit.{Given, ‵, _⊛_, given, ⋆, _$_, _∵_, !, qed, by, move, drop, use1, split, join, learn, fsplit, fjoin, frame, done}
+use types.Kit.{Given, ‵, _⊛_, given, ⋆, _$_, _∵_, !, qed, move, drop, use1, split, join, learn, fsplit, fjoin, frame, done}
 use denote.RattleType.{RattleType, owns}
 use denote.Laws.{Is}
 use denote.Plain.{uint-makes}
@@ -66,14 +67,18 @@ module _ {M : Type 1} (𝓤 : URA M) (H : Heap 𝓤) (A : Atoms 𝓤) (W : Given
     pub text-out : ent 𝓤 (sem 𝓤 H A (Own κ d)) (⋆ 𝓤 H A (‵ (OwnText κ (d .text)) ∷ ‵ (Own κ d) ∷ []))
     text-out =
         qed W (‵ (Own κ d) ∷ []) ∵ use1 W (‵ (Own κ d) ⊛ ‵ (Own κ d)) twice $ split ! $
-        use1 W (given (T′.lowered d ∷ [] ≡ T′.lowered d ∷ []) (‵ (all-own (D (κ, tt) .parts) (L (κ, tt)) vd))) (own-open 𝓤 H A W (D (κ, tt)) (L (κ, tt)) vd (T′.lowered d)) $ learn ! (λ _.
-        use1 W (‵ (ownAt (D (κ, tt) .parts) (L (κ, tt)) 0 (d .text)) ⊛ ‵ (rest (D (κ, tt) .parts) (L (κ, tt)) 0 vd)) (own-out 𝓤 H A W (D (κ, tt) .parts) (L (κ, tt)) 0 vd) $ split ! $
+        use1 W (given (T′.lowered d ∷ [] ≡ T′.lowered d ∷ []) (‵ (all-own (D (κ, tt) .parts) (L (κ, tt)) vd)))
+        (own-open 𝓤 H A W (D (κ, tt)) (L (κ, tt)) vd (T′.lowered d)) $ learn ! (λ _.
+        use1 W (‵ (ownAt (D (κ, tt) .parts) (L (κ, tt)) 0 (d .text)) ⊛ ‵ (rest (D (κ, tt) .parts) (L (κ, tt)) 0 vd))
+        (own-out 𝓤 H A W (D (κ, tt) .parts) (L (κ, tt)) 0 vd) $ split ! $
         -- [what text owns; what at owns; what the reader owns]
         move ! (1 ∷ []) $ drop ! $ frame ! $ done !)
 
     -- the same for a callee that takes the text and the place
     pub apart : (q : Share) → d .at < 2 ^ 64 → ent 𝓤 (⋆ 𝓤 H A ((‵ (flft κ q) ⊛ ‵ ftrue) ∷ ‵ (owns (B (κ, tt) ∷ []) (d, tt) (T′.lowered d ∷ [], tt)) ∷ []))
-        (sep 𝓤 (⋆ 𝓤 H A ((‵ (flft κ q) ⊛ ‵ ftrue) ∷ ‵ (owns (ShrSlice (named 0) κ u8 ∷ usize ∷ []) (d .text, (d .at, tt)) (slice (d .text) ∷ [], (vint w64 (d .at) ∷ [], tt))) ∷ [])) (sem 𝓤 H A (Own κ d)))
+        (sep 𝓤 (⋆ 𝓤 H A ((‵ (flft κ q) ⊛ ‵ ftrue) ∷ ‵
+        (owns (ShrSlice (named 0) κ u8 ∷ usize ∷ []) (d .text, (d .at, tt)) (slice (d .text) ∷ [], (vint w64 (d .at) ∷ [], tt))) ∷ []))
+        (sem 𝓤 H A (Own κ d)))
     apart q fits =
         qed W ((‵ (flft κ q) ⊛ ‵ ftrue) ∷ ‵ (owns (B (κ, tt) ∷ []) (d, tt) (T′.lowered d ∷ [], tt)) ∷ []) ∵
         move ! (1 ∷ []) $ fsplit ! $ move ! (1 ∷ []) $ drop ! $ use1 W (‵ (OwnText κ (d .text)) ⊛ ‵ (Own κ d)) text-out $ split ! $

@@ -1,4 +1,5 @@
--- A line that was read at a place is the first of the text from there on; and a line that is taken, and the reading of the text from the next place on, make the reading from the place before.
+-- A line that was read at a place is the first of the text from there on; and a line that is taken, and the reading of the text from the next place on, make
+-- the reading from the place before.
 -- Assumes nothing.
 use Prim.Native.Nat.{ℕ, _-_, _<_, _≤_}
 use Prim.Native.String.{String}
@@ -50,7 +51,8 @@ module _ (s : List ℕ) where
   osc-at at line e x f = sym (f ∙ ap oscIn e)
 
   module _ (key : String) (k : Control → List ℕ → Reading) where
-    input-at : (at : ℕ) (x : ControlLine) → onControl x (λ (c : Control). k c (afterLine (drop at s))) ≡ from s (takenOf x (nextOf s at) .place) (k (takenOf x (nextOf s at) .control))
+    input-at : (at : ℕ) (x : ControlLine) → onControl x (λ (c : Control). k c (afterLine (drop at s))) ≡ from s (takenOf x (nextOf s at) .place)
+        (k (takenOf x (nextOf s at) .control))
     unfolding from
     input-at at (CL.Read c) = ap (k c) (after-line s at (nextOf s at) refl)
     input-at at (CL.Refused n) = refl

@@ -31,11 +31,22 @@ enum-known-n c = search needs
 
 returns-2 : tie.Need-returns-2
 unfolding scoreOf linesOf osc
-returns-2 c = simp (le-ltb _ _ (c .before .before .before .before .before .before .before .if1 .left), osc-at _ 0 _ (c .before .before .before .before .before .line-at .ensures) _ (c .before .before .before .before .osc-in .ensures) ∙ c .before .before .osc .given .1, text-after _ 0 _ _ (c .before .before .before .before .before .line-at .ensures), c .read-hz .ensures)
+returns-2 c = simp (
+  le-ltb _ _ (c .before .before .before .before .before .before .before .if1 .left),
+  osc-at _ 0 _
+      (c .before .before .before .before .before .line-at .ensures) _ (c .before .before .before .before .osc-in .ensures)
+      ∙ c .before .before .osc .given .1,
+  text-after _ 0 _ _ (c .before .before .before .before .before .line-at .ensures),
+  c .read-hz .ensures,
+)
 
 returns-3 : tie.Need-returns-3
 unfolding scoreOf linesOf osc
-returns-3 c = simp (le-ltb _ _ (c .before .before .before .before .before .before .if1 .left), osc-at _ 0 _ (c .before .before .before .before .line-at .ensures) _ (c .before .before .before .osc-in .ensures) ∙ c .before .n .given .1)
+returns-3 c = simp (
+  le-ltb _ _ (c .before .before .before .before .before .before .if1 .left),
+  osc-at _ 0 _
+      (c .before .before .before .before .line-at .ensures) _ (c .before .before .before .osc-in .ensures) ∙ c .before .n .given .1,
+)
 
 pub read-spec : {M : Type 1} → statement M
 read-spec =

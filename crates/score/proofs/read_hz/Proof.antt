@@ -26,11 +26,18 @@ enum-known-n c = search needs
 
 returns : tie.Need-returns
 unfolding hzOf whole
-returns c = simp (whole-at _ _ _ _ (c .before .before .before .before .before .line-at .ensures) _ _ _ (c .before .before .before .before .whole-in .ensures) ∙ c .before .before .hz .given .1, text-after _ _ _ _ (c .before .before .before .before .before .line-at .ensures), c .read-frames .ensures)
+returns c = simp (
+  whole-at _ _ _ _ (c .before .before .before .before .before .line-at .ensures) _ _ _
+      (c .before .before .before .before .whole-in .ensures) ∙ c .before .before .hz .given .1,
+  text-after _ _ _ _
+      (c .before .before .before .before .before .line-at .ensures),
+  c .read-frames .ensures,
+)
 
 returns-2 : tie.Need-returns-2
 unfolding hzOf whole
-returns-2 c = simp (whole-at _ _ _ _ (c .before .before .before .before .line-at .ensures) _ _ _ (c .before .before .before .whole-in .ensures) ∙ c .before .n .given .1)
+returns-2 c = simp (whole-at _ _ _ _ (c .before .before .before .before .line-at .ensures) _ _ _ (c .before .before .before .whole-in .ensures)
+    ∙ c .before .n .given .1)
 
 pub read-hz-spec : {M : Type 1} → statement M
 read-hz-spec =

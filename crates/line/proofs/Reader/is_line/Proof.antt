@@ -1,5 +1,7 @@
--- `line::Reader::is_line` meets its contract: a walk of its MIR, by hand. The struct is taken apart, and the function `is_line` is called on the text, the place and the key. All that the proof knows of that is that it meets its contract.
--- Struct and key are Copy: one copy of what each owns is kept for the exit, and of the others what text and key own goes to the callee, beside the lifetimes' tokens, which come back.
+-- `line::Reader::is_line` meets its contract: a walk of its MIR, by hand. The struct is taken apart, and the function `is_line` is called on the text, the
+-- place and the key. All that the proof knows of that is that it meets its contract.
+-- Struct and key are Copy: one copy of what each owns is kept for the exit, and of the others what text and key own goes to the callee, beside the lifetimes'
+-- tokens, which come back.
 -- Assumes nothing.
 use mathlib.Core.Path.{_≡_, refl}
 use Prim.Native.Nat.{ℕ, _<_, _^_}
@@ -21,9 +23,10 @@ use contract.Monad.{Fun, fact}
 use contract.Running.{givenOf, tables, tablesOf}
 use types.Kit.{Given, ‵, raw, _⊛_, ⋆, some, later, _$_, _∵_, !, qed, by, move, drop, use1, use2, split, join, pick, fsplit, fjoin, suffices, frame, await, done}
 use types.Part.{whole, sub, look-in}
-use types.Run.{look, init, forget, stop, fld, from, load, of-opd, and-then, no-more, assigns, land, returns, enter, alloc1, alloc0, params1, pass1, pass0, free1, free0}
+use types.Run.{look, init, forget, stop, fld, from, load, of-opd, and-then, no-more, assigns, land}
+use types.Run.{returns, enter, alloc1, alloc0, params1, pass1, pass0, free1, free0}
 use sound.WpLaws.{FmC, fmOf, WpFn-mono}
-use denote.RattleType.{RattleType, owns}
+use denote.RattleType.{owns}
 use denote.Laws.{Is, shows}
 use denote.Plain.{uint-makes, bool-lawful}
 use denote.Builtin.{u8, usize, bool}
@@ -65,7 +68,8 @@ module _ {M : Type 1} (𝓤 : URA M) (H : Heap 𝓤) (A : Atoms 𝓤) (mem : Mem
   abbrev Callee : Contract 𝓤
   Callee = tripleOf 𝓤 H A callee.signature (callee.spec 𝓤 H A mem run)
 
-module _ {M : Type 1} (𝓤 : URA M) (H : Heap 𝓤) (A : Atoms 𝓤) (W : Given 𝓤 H A) (mem : Memory → SProp 𝓤) (run : Routine → Fun 𝓤) (κ κ′ : Lft) (q q′ : Share) (d : Reader) (k : RefT (List ℕ)) where
+module _ {M : Type 1} (𝓤 : URA M) (H : Heap 𝓤) (A : Atoms 𝓤) (W : Given 𝓤 H A) (mem : Memory → SProp 𝓤)
+    (run : Routine → Fun 𝓤) (κ κ′ : Lft) (q q′ : Share) (d : Reader) (k : RefT (List ℕ)) where
   abbrev κs : Lfts 2
   κs = (κ, (κ′, tt))
 
@@ -92,26 +96,31 @@ module _ {M : Type 1} (𝓤 : URA M) (H : Heap 𝓤) (A : Atoms 𝓤) (W : Given
   to = ((κs, (q, (q′, tt)), tt, (d .text, (d .at, (k, tt))), passed), tt)
 
   asked : ent 𝓤 (onEntry 𝓤 H A callee.signature κs (q, (q′, tt)) (d .text, (d .at, (k, tt))) passed) (Callee 𝓤 H A mem run .pre to)
-  asked = qed W ((‵ (flft κ q) ⊛ ‵ (flft κ′ q′) ⊛ ‵ ftrue) ∷ ‵ (owns (ShrSlice (named 0) κ u8 ∷ usize ∷ ShrSlice (named 1) κ′ u8 ∷ []) (d .text, (d .at, (k, tt))) passed) ∷ []) ∵ join ! $ frame ! $ done !
+  asked = qed W ((‵ (flft κ q) ⊛ ‵ (flft κ′ q′) ⊛ ‵ ftrue)
+      ∷ ‵ (owns (ShrSlice (named 0) κ u8 ∷ usize ∷ ShrSlice (named 1) κ′ u8 ∷ []) (d .text, (d .at, (k, tt))) passed) ∷ []) ∵ join ! $ frame ! $ done !
 
   -- what struct and key own gives what the callee asks, and is kept
-  parted : d .at < 2 ^ 64 → ent 𝓤 (onEntry 𝓤 H A here.signature κs (q, (q′, tt)) (d, (k, tt)) entry) (sep 𝓤 (Callee 𝓤 H A mem run .pre to) (sep 𝓤 (sem 𝓤 H A (Own κ d)) (sem 𝓤 H A OwnKey)))
+  parted : d .at < 2 ^ 64 → ent 𝓤 (onEntry 𝓤 H A here.signature κs (q, (q′, tt)) (d, (k, tt)) entry)
+      (sep 𝓤 (Callee 𝓤 H A mem run .pre to) (sep 𝓤 (sem 𝓤 H A (Own κ d)) (sem 𝓤 H A OwnKey)))
   parted fits =
       qed W ((‵ (flft κ q) ⊛ ‵ (flft κ′ q′) ⊛ ‵ ftrue) ∷ ‵ (owns (B (κ, tt) ∷ ShrSlice (named 1) κ′ u8 ∷ []) (d, (k, tt)) entry) ∷ []) ∵
-      move ! (1 ∷ []) $ fsplit ! $ move ! (1 ∷ []) $ fsplit ! $ move ! (1 ∷ []) $ drop ! $ use1 W (‵ OwnKey ⊛ ‵ OwnKey) (shr-slice-copy 𝓤 H A W (named 1) κ′ u8 .twice k (slice k ∷ [])) $ split ! $
+      move ! (1 ∷ []) $ fsplit ! $ move ! (1 ∷ []) $ fsplit ! $ move ! (1 ∷ []) $ drop ! $
+      use1 W (‵ OwnKey ⊛ ‵ OwnKey) (shr-slice-copy 𝓤 H A W (named 1) κ′ u8 .twice k (slice k ∷ [])) $ split ! $
       move ! (2 ∷ []) $ use1 W (‵ (OwnText κ (d .text)) ⊛ ‵ (Own κ d)) (text-out 𝓤 H A W κ d) $ split ! $
       -- [what text owns; what the struct owns; what key owns, twice; the tokens]
-      nothing ! $ move ! (3 ∷ 0 ∷ []) $ fjoin ! $ owned ! usize (Is usize) (uint-makes 𝓤 H A W w64) (d .at) _ (refl, fits) $ fjoin ! $ move ! (1 ∷ 0 ∷ []) $ fjoin ! $
-      move ! (3 ∷ 0 ∷ []) $ use2 W (raw (Callee 𝓤 H A mem run .pre to)) asked $ frame ! $ frame ! $ done !
+      nothing ! $ move ! (3 ∷ 0 ∷ []) $ fjoin ! $ owned ! usize (Is usize) (uint-makes 𝓤 H A W w64) (d .at) _ (refl, fits) $ fjoin ! $
+      move ! (1 ∷ 0 ∷ []) $ fjoin ! $ move ! (3 ∷ 0 ∷ []) $ use2 W (raw (Callee 𝓤 H A mem run .pre to)) asked $ frame ! $ frame ! $ done !
 
   -- of the callee's `ensured`, the clause alone: it has no `&mut`, so what is said of last values is dropped
   said : (b : Bool) → ent 𝓤 (ensured 𝓤 H A callee.ended (callee.clauses 𝓤 H A mem run) κs (d .text, (d .at, (k, tt))) tt b) (fact 𝓤 (b ≡ found))
   said b = exE 𝓤 _ (λ ws. snd∗ 𝓤 (sem 𝓤 H A (lasts callee.ended κs (d .text, (d .at, (k, tt))) ws)) (fact 𝓤 (b ≡ found)))
 
-  exits : (b : Bool) (u : Val) → b ≡ found → ent 𝓤 (⋆ 𝓤 H A (‵ (bool .own b (u ∷ [])) ∷ (‵ (flft κ q) ⊛ ‵ (flft κ′ q′) ⊛ ‵ ftrue) ∷ ‵ (Own κ d) ∷ ‵ OwnKey ∷ [])) (Post u)
+  exits : (b : Bool) (u : Val) → b ≡ found → ent 𝓤
+      (⋆ 𝓤 H A (‵ (bool .own b (u ∷ [])) ∷ (‵ (flft κ q) ⊛ ‵ (flft κ′ q′) ⊛ ‵ ftrue) ∷ ‵ (Own κ d) ∷ ‵ OwnKey ∷ [])) (Post u)
   exits b u e =
       qed W (‵ (bool .own b (u ∷ [])) ∷ (‵ (flft κ q) ⊛ ‵ (flft κ′ q′) ⊛ ‵ ftrue) ∷ ‵ (Own κ d) ∷ ‵ OwnKey ∷ []) ∵
-      suffices ! _ (ends-at 𝓤 H A here.ended stayed (here.clauses 𝓤 H A mem run) W ((κs, (q, (q′, tt)), tt, (d, (k, tt)), entry), tt) u b (tt, (tt, tt)) (tt, (tt, tt))) $ says ! e $
+      suffices ! _ (ends-at 𝓤 H A here.ended stayed (here.clauses 𝓤 H A mem run) W ((κs, (q, (q′, tt)), tt, (d, (k, tt)), entry), tt) u b (tt, (tt, tt))
+      (tt, (tt, tt))) $ says ! e $
       move ! (1 ∷ []) $ frame ! $ nothing ! $ move ! (3 ∷ 0 ∷ []) $ fjoin ! $ move ! (2 ∷ 0 ∷ []) $ fjoin ! $ frame ! $ done !
 
   module _ (C : Calls 𝓤 H) (Λ : Loops 𝓤 H) (fm : FmC 𝓤 H (W .laws) C) (known : Triple 𝓤 (C #line·is-line) (Callee 𝓤 H A mem run)) where
@@ -119,29 +128,42 @@ module _ {M : Type 1} (𝓤 : URA M) (H : Heap 𝓤) (A : Atoms 𝓤) (W : Given
         → ent 𝓤 (onEntry 𝓤 H A here.signature κs (q, (q′, tt)) (d, (k, tt)) entry) (WpFn 𝓤 H C Λ code.function (mach ∷ slice k ∷ []) Post)
     walk wt p =
         qed W (raw (onEntry 𝓤 H A here.signature κs (q, (q′, tt)) (d, (k, tt)) entry) ∷ []) ∵ enter ! C Λ code.function (mach ∷ slice k ∷ []) _ $
-        alloc1 ! (λ l₀. alloc1 ! (λ l₁. alloc1 ! (λ l₂. alloc1 ! (λ l₃. alloc1 ! (λ l₄. alloc0 ! $ params1 ! $ pass1 ! (init ! 6 refl wt) $ pass1 ! (init ! 4 refl (shr-slice-lawful 𝓤 H A W (named 1) κ′ u8 .typed k (slice k ∷ []) p .0)) $ pass0 ! $
+        alloc1 ! (λ l₀. alloc1 ! (λ l₁. alloc1 ! (λ l₂. alloc1 ! (λ l₃. alloc1 ! (λ l₄. alloc0 ! $ params1 ! $ pass1 ! (init ! 6 refl wt) $
+        pass1 ! (init ! 4 refl (shr-slice-lawful 𝓤 H A W (named 1) κ′ u8 .typed k (slice k ∷ []) p .0)) $ pass0 ! $
         assigns ! (of-opd ! (load ! (from ! (fld ! refl (stop !))) (look-in ! 6 (sub ! 0 refl (whole !))))) (from ! (stop !)) (init ! 2 refl (tt, wt .1 .0)) $
-        assigns ! (of-opd ! (load ! (from ! (fld ! refl (stop !))) (look-in ! 6 (sub ! 1 refl (whole !))))) (from ! (stop !)) (init ! 0 refl (tt, wt .1 .1 .0)) $
-        move ! (10 ∷ []) $ use1 W (raw (Callee 𝓤 H A mem run .pre to) ⊛ ‵ (Own κ d) ⊛ ‵ OwnKey) (parted (wt .1 .1 .0 .fits)) $ split ! $ move ! (1 ∷ []) $ split ! $ move ! (2 ∷ []) $
-        calls-at ! fm (Callee 𝓤 H A mem run) known to (and-then ! (load ! (from ! (stop !)) (look ! 5 refl)) (and-then ! (load ! (from ! (stop !)) (look ! 3 refl)) (and-then ! (load ! (from ! (stop !)) (look ! 7 refl)) (no-more !)))) (λ u.
-        use1 W (later (some (λ (b : Bool). ((‵ (flft κ q) ⊛ ‵ (flft κ′ q′) ⊛ ‵ ftrue) ⊛ ‵ (bool .own b (u ∷ []))) ⊛ raw (ensured 𝓤 H A callee.ended (callee.clauses 𝓤 H A mem run) κs (d .text, (d .at, (k, tt))) tt b)))) (id⊢ 𝓤 _) $ await ! tt $ pick ! (λ b.
+        assigns ! (of-opd ! (load ! (from ! (fld ! refl (stop !))) (look-in ! 6 (sub ! 1 refl (whole !))))) (from ! (stop !))
+        (init ! 0 refl (tt, wt .1 .1 .0)) $
+        move ! (10 ∷ []) $ use1 W (raw (Callee 𝓤 H A mem run .pre to) ⊛ ‵ (Own κ d) ⊛ ‵ OwnKey) (parted (wt .1 .1 .0 .fits)) $ split ! $ move ! (1 ∷ []) $
+        split ! $ move ! (2 ∷ []) $
+        calls-at ! fm (Callee 𝓤 H A mem run) known to
+        (and-then ! (load ! (from ! (stop !)) (look ! 5 refl))
+        (and-then ! (load ! (from ! (stop !)) (look ! 3 refl)) (and-then ! (load ! (from ! (stop !)) (look ! 7 refl)) (no-more !)))) (λ u.
+        use1 W (later (some (λ (b : Bool). ((‵ (flft κ q) ⊛ ‵ (flft κ′ q′) ⊛ ‵ ftrue) ⊛ ‵ (bool .own b (u ∷ []))) ⊛ raw
+        (ensured 𝓤 H A callee.ended (callee.clauses 𝓤 H A mem run) κs (d .text, (d .at, (k, tt))) tt b)))) (id⊢ 𝓤 _) $ await ! tt $ pick ! (λ b.
         split ! $ move ! (1 ∷ []) $ use1 W (raw (fact 𝓤 (b ≡ found))) (said b) $ heard ! (b ≡ found) (λ e. split ! $ move ! (1 ∷ []) $
         -- [the result; the tokens; what the struct owns; what key owns; _4; …; _3; …; _2; …; _1; …; room for _0; …]
         peeks ! bool (Is bool) (shows 𝓤 H A bool) b (u ∷ []) (λ is.
         land ! (from ! (stop !)) (init ! 12 refl (bool-lawful 𝓤 H A W .typed b _ is .0)) $
         returns ! (look ! 12 refl) $ forget ! 4 refl $ forget ! 6 refl $ forget ! 8 refl $ forget ! 10 refl $ forget ! 12 refl $
-        move ! (12 ∷ 13 ∷ []) $ free1 ! $ move ! (10 ∷ 11 ∷ []) $ free1 ! $ move ! (8 ∷ 9 ∷ []) $ free1 ! $ move ! (6 ∷ 7 ∷ []) $ free1 ! $ move ! (4 ∷ 5 ∷ []) $ free1 ! $ free0 ! $ by ! (exits b u e))))))))))
+        move ! (12 ∷ 13 ∷ []) $ free1 ! $ move ! (10 ∷ 11 ∷ []) $ free1 ! $ move ! (8 ∷ 9 ∷ []) $ free1 ! $ move ! (6 ∷ 7 ∷ []) $ free1 ! $
+        move ! (4 ∷ 5 ∷ []) $ free1 ! $ free0 ! $ by ! (exits b u e))))))))))
 
 module _ {M : Type 1} (𝓤 : URA M) (H : Heap 𝓤) (A : Atoms 𝓤) (W : Given 𝓤 H A) (mem : Memory → SProp 𝓤) (run : Routine → Fun 𝓤) where
   is-line-walks : (C : Calls 𝓤 H) (Λ : Loops 𝓤 H) → FmC 𝓤 H (W .laws) C → Triple 𝓤 (C #line·is-line) (Callee 𝓤 H A mem run)
       → Walks 𝓤 H A here.ended stayed (WpFn 𝓤 H C Λ code.function) (here.clauses 𝓤 H A mem run)
-  is-line-walks C Λ fm known = walked 𝓤 H A here.ended stayed (here.clauses 𝓤 H A mem run) (WpFn 𝓤 H C Λ code.function) (λ κs. (LL.vals (D (first κs)) (L (first κs)), (slice-vals, tt))) (λ κs. (LL.tells (D (first κs)) (L (first κs)), (shr-slice-tells (named 1) (κs .1 .0) u8, tt)))
-      (λ κs qs bounds a g are. via 𝓤 _ (fst∗ 𝓤 _ (emp 𝓤)) (walk 𝓤 H A W mem run (κs .0) (κs .1 .0) (qs .0) (qs .1 .0) (a .0) (a .1 .0) C Λ fm known (LL.lawful (D (first κs)) (L (first κs)) 𝓤 H A W .typed (a .0) _ (are .0) .0) (are .1 .0)))
+  is-line-walks C Λ fm known = walked 𝓤 H A here.ended stayed (here.clauses 𝓤 H A mem run) (WpFn 𝓤 H C Λ code.function)
+      (λ κs. (LL.vals (D (first κs)) (L (first κs)), (slice-vals, tt)))
+      (λ κs. (LL.tells (D (first κs)) (L (first κs)), (shr-slice-tells (named 1) (κs .1 .0) u8, tt)))
+      (λ κs qs bounds a g are. via 𝓤 _ (fst∗ 𝓤 _ (emp 𝓤))
+      (walk 𝓤 H A W mem run (κs .0) (κs .1 .0) (qs .0) (qs .1 .0) (a .0) (a .1 .0) C Λ fm known
+      (LL.lawful (D (first κs)) (L (first κs)) 𝓤 H A W .typed (a .0) _ (are .0) .0) (are .1 .0)))
 
 is-line-meets : {M : Type 1} (𝓤 : URA M) (H : Heap 𝓤) (A : Atoms 𝓤) (W : Given 𝓤 H A) (mem : Memory → SProp 𝓤) (run : Routine → Fun 𝓤) (𝓣 : Tables 𝓤 H)
     → Triple 𝓤 (𝓣 .C #line·is-line) (Callee 𝓤 H A mem run)
     → Meets 𝓤 H A here.signature (WpFn 𝓤 H (𝓣 .C) (𝓣 .Λ) code.function) (here.spec 𝓤 H A mem run)
-is-line-meets 𝓤 H A W mem run 𝓣 known = walk-meets 𝓤 H A here.ended stayed W (goes-none 𝓤 H A W 2 (λ κs. B (first κs)) yes (λ κs x f. refl), (goes-none-slice 𝓤 H A W 2 (1 ∷ []) tt (plain (λ _. u8)) yes, tt)) (here.clauses 𝓤 H A mem run) (WpFn 𝓤 H (𝓣 .C) (𝓣 .Λ) code.function) (WpFn-mono 𝓤 H (W .laws) 𝓣 code.function)
+is-line-meets 𝓤 H A W mem run 𝓣 known = walk-meets 𝓤 H A here.ended stayed W
+    (goes-none 𝓤 H A W 2 (λ κs. B (first κs)) yes (λ κs x f. refl), (goes-none-slice 𝓤 H A W 2 (1 ∷ []) tt (plain (λ _. u8)) yes, tt))
+    (here.clauses 𝓤 H A mem run) (WpFn 𝓤 H (𝓣 .C) (𝓣 .Λ) code.function) (WpFn-mono 𝓤 H (W .laws) 𝓣 code.function)
     (is-line-walks 𝓤 H A W mem run (𝓣 .C) (𝓣 .Λ) (fmOf 𝓤 H (W .laws) 𝓣) known)
 
 pub is-line-spec : {M : Type 1} → stated.statement M
