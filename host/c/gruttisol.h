@@ -150,12 +150,15 @@ uint32_t gruttisol_formant_osc_reset(double *floats, size_t floats_len, uint64_t
 uint32_t gruttisol_formant_osc_set_sample_rate(double sample_rate, double *floats, size_t floats_len,
                                                uint64_t *wholes, size_t wholes_len);
 
-/* ---- KarplusStrong: a sample out. Each call is lent the line as the last call left it, of sample_rate / 20 truncated and 12 cells
- *      at least; a rate change one that is enough for the new rate. A tick that takes its trigger reads as many draws as
- *      the string gets cells, each below 2^53. */
+/* ---- KarplusStrong: a sample out. Each call is lent the line as the last call left it, of gruttisol_karplus_strong_cells at least;
+ *      a rate change one that is enough for the new rate. Another line will do if the string's cells, the first wholes[0] of
+ *      them, are copied to it. A tick that takes its trigger reads as many draws as the string gets cells, each below 2^53. */
 #define GRUTTISOL_KARPLUS_STRONG_FLOATS 6
 #define GRUTTISOL_KARPLUS_STRONG_WHOLES 4
 #define GRUTTISOL_KARPLUS_STRONG_SAMPLES 1
+
+/* The cells that a line needs at a sample rate: sample_rate / 20 truncated, and 12. Of a rate that is refused by 1 it is 0. */
+uint64_t gruttisol_karplus_strong_cells(double sample_rate);
 
 uint32_t gruttisol_karplus_strong_new(double sample_rate, double *floats, size_t floats_len,
                                       uint64_t *wholes, size_t wholes_len, double *line, size_t line_len);

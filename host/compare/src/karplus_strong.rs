@@ -134,7 +134,7 @@ impl Pair for KarplusStrong {
         let rate = draw.state_rate();
         let [key] = draw.keys([controls[0]]);
         let floats = [rate, draw.level(), draw.level(), draw.level(), draw.previous(), draw.hertz()];
-        let most = ours::KarplusStrong::cells(rate.clamp(1000.0, 192000.0)) as u64 - 1;
+        let most = ours::KarplusStrong::cells(if bad_rate(rate) { 48000.0 } else { rate }) as u64 - 1;
         let len = match draw.below(8) {
             0 => draw.of(&[4, 5, most, most - 1]),
             1 => draw.of(&[0, 1, 3, most + 1, most + 2, u64::MAX]),
@@ -170,10 +170,10 @@ impl Pair for KarplusStrong {
     }
 
     fn refusal(floats: &[f64; 6], &[len, write_pos, ..]: &[u64; 4]) -> u32 {
-        let most = ours::KarplusStrong::cells(floats[0]) as u64 - 1;
+        let cells = ours::KarplusStrong::cells(floats[0]) as u64;
         if bad_rate(floats[0]) {
             1
-        } else if !(4..=most).contains(&len) || write_pos >= len || floats[5].is_nan() {
+        } else if !(4..cells).contains(&len) || write_pos >= len || floats[5].is_nan() {
             2
         } else {
             0
