@@ -15,15 +15,16 @@ use Rattle.laws.proofs.Tests.{eqb-iff}
 use Rattle.laws.specs.Lists.{tab, over}
 use Rattle.laws.proofs.Slices.{stored, sets-append}
 use Rattle.laws.proofs.Over.{getD-tab, length-tab, tab-ext, over-more, over-done}
-use Rattle.answer.specs.Answer.{markNumber, voltsOf, accepted, answerOf}
+use Rattle.answer.specs.Answer.{markNumber, hostNumber, refusalOf, voltsOf, accepted, answerOf}
 use Rattle.answer.specs.Block.{manyTo, countedTo, cellsOf, roomFor, marksTaken, joined, afterTicks, answerAt, markAt, frameAt, portsOf, block, blockRefusalOf, ticksOf, blockOf, grownBy}
-use Rattle.answer.specs.Tally.{addsUp, oneIf, sumOf, counted, tallyOf}
+use Rattle.answer.specs.Tally.{addsUp, oneIf, sumOf, counted, tallyOf, tallyOr}
 use Rattle.answer.specs.declared.Volts.{Volts}
 use Rattle.answer.specs.declared.Answer.{Answer}
 use Rattle.answer.specs.declared.Answer.the-variants as answer
 use Rattle.answer.specs.declared.Tally.{Tally}
 use Rattle.answer.specs.declared.Tallied.the-variants as tallied
 use Rattle.answer.specs.Promises.{Block-counts, AllAccepted, AllTaken}
+use Rattle.answer.proofs.Laws.{takes}
 
 -- ---- room
 pub room-test : (b n : ℕ) → b ≤ 4294967295 → leb n (4294967295 - b) ≡ leb (b + n) 4294967295
@@ -43,11 +44,11 @@ room-says t n h = go (eqb (t .begun) (sumOf t)) (leb (t .begun + n) 4294967295) 
     go false b e q z = absurd (false≢true z)
 
 -- ---- how many
-one-of : (n : ℕ) → oneIf n 4 + oneIf n 1 + oneIf n 2 + oneIf n 3 ≤ 1
+one-of : (n : ℕ) → oneIf n 14 + oneIf n 11 + oneIf n 12 + oneIf n 13 ≤ 1
 unfolding oneIf
-one-of n = go (eqb n 4) (eqb n 1) (eqb n 2) (eqb n 3) (eqb-true n 4) (eqb-true n 1) (eqb-true n 2) (eqb-true n 3)
+one-of n = go (eqb n 14) (eqb n 11) (eqb n 12) (eqb n 13) (eqb-true n 14) (eqb-true n 11) (eqb-true n 12) (eqb-true n 13)
   where
-    go : (a b c d : Bool) → (a ≡ true → n ≡ 4) → (b ≡ true → n ≡ 1) → (c ≡ true → n ≡ 2) → (d ≡ true → n ≡ 3) → cond a 1 0 + cond b 1 0 + cond c 1 0 + cond d 1 0 ≤ 1
+    go : (a b c d : Bool) → (a ≡ true → n ≡ 14) → (b ≡ true → n ≡ 11) → (c ≡ true → n ≡ 12) → (d ≡ true → n ≡ 13) → cond a 1 0 + cond b 1 0 + cond c 1 0 + cond d 1 0 ≤ 1
     go true true c d p q r s = let x = p refl in let y = q refl in absurd (omega arith)
     go true false true d p q r s = let x = p refl in let y = r refl in absurd (omega arith)
     go true false false true p q r s = let x = p refl in let y = s refl in absurd (omega arith)
@@ -61,7 +62,7 @@ one-of n = go (eqb n 4) (eqb n 1) (eqb n 2) (eqb n 3) (eqb-true n 4) (eqb-true n
     go false false false false p q r s = lit≤ tt
 
 -- the four counts of n marks together
-pub many-most : (f : ℕ → ℕ) (n : ℕ) → manyTo 4 f n + manyTo 1 f n + manyTo 2 f n + manyTo 3 f n ≤ n
+pub many-most : (f : ℕ → ℕ) (n : ℕ) → manyTo 14 f n + manyTo 11 f n + manyTo 12 f n + manyTo 13 f n ≤ n
 unfolding manyTo
 many-most f zero = lit≤ tt
 many-most f (suc n) = let a = many-most f n in let b = one-of (f n) in omega arith
@@ -75,15 +76,15 @@ many-ext k f g (suc n) h =
     cc
 
 -- what the marks of a block add to a tally with room for them
-pub counted-tab : (t : Tally) (f : ℕ → ℕ) (n : ℕ) → roomFor t n ≡ true → marksTaken t (tab f n) ≡ countedTo t f n
-unfolding marksTaken countedTo
+pub counted-tab : (t : Tally) (f : ℕ → ℕ) (n : ℕ) → roomFor t n ≡ true → tallyOr t (marksTaken t (tab f n)) ≡ countedTo t f n
+unfolding marksTaken countedTo tallyOr
 counted-tab t f n h = go (length-tab f n)
   where
     same : (k : ℕ) → manyTo k (cellsOf (tab f n)) n ≡ manyTo k f n
     same k = many-ext k (cellsOf (tab f n)) f n (λ i l. getD-tab 0 f n i l)
 
-    go : length (tab f n) ≡ n → cond (roomFor t (length (tab f n))) (countedTo t (cellsOf (tab f n)) (length (tab f n))) t ≡ countedTo t f n
-    go e = simp (e, h, same 1, same 2, same 3, same 4)
+    go : length (tab f n) ≡ n → tallyOr t (cond (roomFor t (length (tab f n))) (tallied.Taken (countedTo t (cellsOf (tab f n)) (length (tab f n)))) (tallied.Refused 7)) ≡ countedTo t f n
+    go e = simp (e, h, same 11, same 12, same 13, same 14)
 
 -- ---- frames
 pub joined-length : {A : Type 0} (f : ℕ → List A) (k n : ℕ) → ((i : ℕ) → length (f i) ≡ k) → length (joined f n) ≡ k * n
@@ -149,11 +150,17 @@ module _ {S : Type 0} (ports : ℕ) (whole : (v : Volts) → length (portsOf por
       e ∙ ap (λ (j : ℕ). sets l 0 (joined (frameAt ports answer next s) j)) h ∙ joined-all (frameAt ports answer next s) n l (k ∙ sym (frames-length n))
 
   pub marks-more : (i : ℕ) (l m : List ℕ) (a : Answer) → i < length l → m ≡ over (markAt answer next s) i l → a ≡ answerAt answer next s i
-      → set m i (markNumber a) ≡ over (markAt answer next s) (i + 1) l
-  marks-more i l m a h e q = over-more (markAt answer next s) i l m (markNumber a) h e (ap markNumber q)
+      → set m i (hostNumber a) ≡ over (markAt answer next s) (i + 1) l
+  marks-more i l m a h e q = over-more (markAt answer next s) i l m (hostNumber a) h e (ap hostNumber q)
 
   pub marks-done : (i n : ℕ) (l m : List ℕ) → i ≡ n → length l ≡ n → m ≡ over (markAt answer next s) i l → m ≡ tab (markAt answer next s) n
   marks-done i n l m h k e = over-done (markAt answer next s) i n l m h k e
+
+-- ---- what each tick keeps
+pub ticks-keep : {S : Type 0} (P : S → Type 0) (next : S → S) → ((s : S) → P s → P (next s)) → (s : S) → P s → (n : ℕ) → P (afterTicks next n s)
+unfolding afterTicks
+ticks-keep P next k s h zero = h
+ticks-keep P next k s h (suc n) = k (afterTicks next n s) (ticks-keep P next k s h n)
 
 -- ---- held controls: a machine with less state goes through the same ticks. `embed` is the whole state that a small one stands for,
 -- from the second tick on; before the first the whole state may still be another.
@@ -165,14 +172,9 @@ pub record Holds {S H : Type 0} (answer : S → Answer) (next : S → S) (told :
   pub answers : (g : H) → Good g → answer (embed g) ≡ told g
   pub moves : (g : H) → Good g → next (embed g) ≡ embed (step g)
 
-good-after : {H : Type 0} (step : H → H) (Good : H → Type 0) (h : H) → Good h → ((g : H) → Good g → Good (step g)) → (n : ℕ) → Good (afterTicks step n h)
-unfolding afterTicks
-good-after step Good h z k zero = z
-good-after step Good h z k (suc n) = k (afterTicks step n h) (good-after step Good h z k n)
-
 module _ {S H : Type 0} (answer : S → Answer) (next : S → S) (told : H → Answer) (step : H → H) (embed : H → S) (Good : H → Type 0) (s : S) (h : H) (w : Holds answer next told step embed Good s h) where
   good-at : (n : ℕ) → Good (afterTicks step n h)
-  good-at n = good-after step Good h (w .good) (w .stays) n
+  good-at n = ticks-keep Good step (w .stays) h (w .good) n
 
   held-state : (n : ℕ) → afterTicks next (suc n) s ≡ embed (afterTicks step (suc n) h)
   unfolding afterTicks
@@ -192,7 +194,7 @@ module _ {S H : Type 0} (answer : S → Answer) (next : S → S) (told : H → A
   held-accepted k i = ap accepted (held-answer i) ∙ (unfold answerAt in k (afterTicks step i h))
 
   pub held-marks : (n : ℕ) → tab (markAt answer next s) n ≡ tab (markAt told step h) n
-  held-marks n = tab-ext (markAt answer next s) (markAt told step h) n (λ i l. ap markNumber (held-answer i))
+  held-marks n = tab-ext (markAt answer next s) (markAt told step h) n (λ i l. ap hostNumber (held-answer i))
 
   pub held-frames : (ports n : ℕ) → joined (frameAt ports answer next s) n ≡ joined (frameAt ports told step h) n
   held-frames ports n = joined-ext (frameAt ports answer next s) (frameAt ports told step h) n (λ i. ap (λ (a : Answer). portsOf ports (voltsOf a)) (held-answer i))
@@ -240,13 +242,84 @@ module _ {S : Type 0} (ports number : ℕ) (answer : S → Answer) (next : S →
       (λ i. block 0 s t (p i) (q i)) ∙ sym no-ticks ∙ ap (λ (k : ℕ). ticksOf ports answer next k s t) (sym z) ∙ sym (accepted-block h)
 
   pub block-done : n ≡ 0 → (u : Tally) (r : S) (p : List Float) (l : List ℕ) → r ≡ afterTicks next (length m) s → p ≡ joined (frameAt ports answer next s) (length m)
-      → l ≡ tab (markAt answer next s) (length m) → u ≡ marksTaken t l → block 0 r u p l ≡ blockOf ports number answer next s t o m
+      → l ≡ tab (markAt answer next s) (length m) → u ≡ tallyOr t (marksTaken t l) → block 0 r u p l ≡ blockOf ports number answer next s t o m
   unfolding ticksOf
   block-done h u r p l a b d g = simp (accepted-block h, a, b, g, d, counted-tab t (markAt answer next s) (length m) (block-fits ports number t o m n e h .2))
 
+-- ---- a block as a call on a state
+module _ {S : Type 0} (ports number : ℕ) (answer : S → Answer) (next : S → S) where
+  -- it keeps what each tick keeps
+  pub block-keeps : (P : S → Type 0) → ((s : S) → P s → P (next s)) → (s : S) → P s → (t : Tally) (o : List Float) (m : List ℕ)
+      → P (blockOf ports number answer next s t o m .state)
+  unfolding blockOf
+  block-keeps P k s h t o m = go (eqb n 0)
+    where
+      n : ℕ
+      n = blockRefusalOf (eqb (length o) (ports * length m)) number t (length m)
+
+      go : (b : Bool) → P (cond b (ticksOf ports answer next (length m) s t) (block n s t o m) .state)
+      go true = unfold ticksOf in ticks-keep P next k s h (length m)
+      go false = h
+
+  -- it is refused for its buffers, for what refuses its first tick or for its tally
+  pub block-refusal : (s : S) (t : Tally) (o : List Float) (m : List ℕ)
+      → blockOf ports number answer next s t o m .refused ≡ blockRefusalOf (eqb (length o) (ports * length m)) number t (length m)
+  unfolding blockOf
+  block-refusal s t o m = go (eqb n 0) refl
+    where
+      n : ℕ
+      n = blockRefusalOf (eqb (length o) (ports * length m)) number t (length m)
+
+      go : (b : Bool) → eqb n 0 ≡ b → cond b (ticksOf ports answer next (length m) s t) (block n s t o m) .refused ≡ n
+      go true e = unfold ticksOf in sym (eqb-true n 0 e)
+      go false e = refl
+
+-- ---- two states that one tick leaves alike
+module _ {S : Type 0} (next : S → S) (s r : S) (e : next s ≡ next r) where
+  meet : (n : ℕ) → afterTicks next (suc n) s ≡ afterTicks next (suc n) r
+  unfolding afterTicks
+  meet zero = e
+  meet (suc n) = ap next (meet n)
+
+  ticks-meet : (n : ℕ) → 0 < n → afterTicks next n s ≡ afterTicks next n r
+  ticks-meet zero z = absurd (omega arith)
+  ticks-meet (suc n) z = meet n
+
+  module _ (ports number : ℕ) (answer : S → Answer) (t : Tally) (o : List Float) (m : List ℕ) where
+    abbrev Taken : Type 0
+    Taken = (blockRefusalOf (eqb (length o) (ports * length m)) number t (length m) ≡ 0) × (0 < length m)
+
+    -- so does a block that is taken and has a tick
+    pub block-meets : Taken → blockOf ports number answer next s t o m .state ≡ blockOf ports number answer next r t o m .state
+    unfolding blockOf ticksOf
+    block-meets h = simp (h .0, ticks-meet (length m) (h .1))
+
+    module _ (q : answer s ≡ answer r) where
+      same-answers : (i : ℕ) → answerAt answer next s i ≡ answerAt answer next r i
+      unfolding answerAt afterTicks
+      same-answers zero = q
+      same-answers (suc i) = ap answer (meet i)
+
+      same-marks : (i : ℕ) → markAt answer next s i ≡ markAt answer next r i
+      same-marks i = simp (same-answers i)
+
+      same-frames : (i : ℕ) → frameAt ports answer next s i ≡ frameAt ports answer next r i
+      same-frames i = simp (same-answers i)
+
+      same-many : (k : ℕ) → manyTo k (markAt answer next s) (length m) ≡ manyTo k (markAt answer next r) (length m)
+      same-many k = many-ext k (markAt answer next s) (markAt answer next r) (length m) (λ i l. same-marks i)
+
+      -- and if the tick answers the same, so does the block
+      pub block-same : Taken → blockOf ports number answer next s t o m ≡ blockOf ports number answer next r t o m
+      unfolding blockOf ticksOf countedTo
+      block-same h =
+          let frames = joined-ext (frameAt ports answer next s) (frameAt ports answer next r) (length m) same-frames in
+          let marks = tab-ext (markAt answer next s) (markAt answer next r) (length m) (λ i l. same-marks i) in
+          simp (h .0, ticks-meet (length m) (h .1), same-many 11, same-many 12, same-many 13, same-many 14, frames, marks)
+
 -- ---- a tick as a block of one
-pub answer-back : (a : Answer) → accepted a ≡ true → answerOf (markNumber a) (voltsOf a) ≡ a
-unfolding answerOf markNumber voltsOf accepted
+pub answer-back : (a : Answer) → accepted a ≡ true → answerOf (hostNumber a) (voltsOf a) ≡ a
+unfolding answerOf hostNumber markNumber voltsOf accepted
 answer-back (answer.Clean v) h = refl
 answer-back (answer.Cleared v) h = refl
 answer-back (answer.NotFinite v) h = refl
@@ -254,22 +327,32 @@ answer-back (answer.Lost v) h = refl
 answer-back (answer.Refused n) h = absurd (false≢true h)
 
 -- ---- the tally of a block is the one that is given each answer
-mark-one : (a : Answer) → accepted a ≡ true → (oneIf (markNumber a) 4 + oneIf (markNumber a) 1 + oneIf (markNumber a) 2 + oneIf (markNumber a) 3 ≡ 1) × (eqb (markNumber a) 0 ≡ false)
-unfolding markNumber oneIf accepted
-mark-one (answer.Clean v) h = (refl, refl)
-mark-one (answer.Cleared v) h = (refl, refl)
-mark-one (answer.NotFinite v) h = (refl, refl)
-mark-one (answer.Lost v) h = (refl, refl)
+-- one more answer that a host was told by the number n
+abbrev counted-by : Tally → ℕ → Tally
+counted-by t n = record { begun = t .begun + 1; finished = t .finished + oneIf n 14; cleared = t .cleared + oneIf n 11; notfinite = t .notfinite + oneIf n 12; lost = t .lost + oneIf n 13 }
+
+-- one of the four counts grows, and it is the one that the tick's mark has
+record Marks-one (a : Answer) : Type 0 where
+  pub one : oneIf (hostNumber a) 14 + oneIf (hostNumber a) 11 + oneIf (hostNumber a) 12 + oneIf (hostNumber a) 13 ≡ 1
+  pub marked : eqb (markNumber a) 0 ≡ false
+  pub same : (t : Tally) → counted t (markNumber a) ≡ counted-by t (hostNumber a)
+
+mark-one : (a : Answer) → accepted a ≡ true → Marks-one a
+unfolding hostNumber markNumber oneIf accepted counted
+mark-one (answer.Clean v) h = record { one = refl; marked = refl; same = λ t. refl }
+mark-one (answer.Cleared v) h = record { one = refl; marked = refl; same = λ t. refl }
+mark-one (answer.NotFinite v) h = record { one = refl; marked = refl; same = λ t. refl }
+mark-one (answer.Lost v) h = record { one = refl; marked = refl; same = λ t. refl }
 mark-one (answer.Refused n) h = absurd (false≢true h)
 
 module _ (t : Tally) (a : ℕ → Answer) (h : (i : ℕ) → accepted (a i) ≡ true) where
   abbrev marks : ℕ → ℕ
-  marks j = markNumber (a j)
+  marks j = hostNumber (a j)
 
-  many-all : (n : ℕ) → manyTo 4 marks n + manyTo 1 marks n + manyTo 2 marks n + manyTo 3 marks n ≡ n
+  many-all : (n : ℕ) → manyTo 14 marks n + manyTo 11 marks n + manyTo 12 marks n + manyTo 13 marks n ≡ n
   unfolding manyTo
   many-all zero = refl
-  many-all (suc n) = let p = many-all n in let q = mark-one (a n) (h n) .0 in omega arith
+  many-all (suc n) = let p = many-all n in let q = mark-one (a n) (h n) .one in omega arith
 
   sums : (i : ℕ) → t .begun ≡ sumOf t → countedTo t marks i .begun ≡ sumOf (countedTo t marks i)
   unfolding countedTo grownBy
@@ -279,15 +362,15 @@ module _ (t : Tally) (a : ℕ → Answer) (h : (i : ℕ) → accepted (a i) ≡ 
   unfolding countedTo grownBy
   begun-at i = ap (λ (k : ℕ). t .begun + k) (many-all i)
 
-  one-more : (i : ℕ) → counted (countedTo t marks i) (marks i) ≡ countedTo t marks (suc i)
-  unfolding counted countedTo grownBy manyTo
+  one-more : (i : ℕ) → counted-by (countedTo t marks i) (marks i) ≡ countedTo t marks (suc i)
+  unfolding countedTo grownBy manyTo
   one-more i =
-      let q = mark-one (a i) (h i) .0 in
-      let b : t .begun + (manyTo 4 marks i + manyTo 1 marks i + manyTo 2 marks i + manyTo 3 marks i) + 1 ≡ t .begun + (manyTo 4 marks i + oneIf (marks i) 4 + (manyTo 1 marks i + oneIf (marks i) 1) + (manyTo 2 marks i + oneIf (marks i) 2) + (manyTo 3 marks i + oneIf (marks i) 3)) = omega arith in
-      let f : t .finished + manyTo 4 marks i + oneIf (marks i) 4 ≡ t .finished + (manyTo 4 marks i + oneIf (marks i) 4) = omega arith in
-      let c : t .cleared + manyTo 1 marks i + oneIf (marks i) 1 ≡ t .cleared + (manyTo 1 marks i + oneIf (marks i) 1) = omega arith in
-      let n : t .notfinite + manyTo 2 marks i + oneIf (marks i) 2 ≡ t .notfinite + (manyTo 2 marks i + oneIf (marks i) 2) = omega arith in
-      let l : t .lost + manyTo 3 marks i + oneIf (marks i) 3 ≡ t .lost + (manyTo 3 marks i + oneIf (marks i) 3) = omega arith in
+      let q = mark-one (a i) (h i) .one in
+      let b : t .begun + (manyTo 14 marks i + manyTo 11 marks i + manyTo 12 marks i + manyTo 13 marks i) + 1 ≡ t .begun + (manyTo 14 marks i + oneIf (marks i) 14 + (manyTo 11 marks i + oneIf (marks i) 11) + (manyTo 12 marks i + oneIf (marks i) 12) + (manyTo 13 marks i + oneIf (marks i) 13)) = omega arith in
+      let f : t .finished + manyTo 14 marks i + oneIf (marks i) 14 ≡ t .finished + (manyTo 14 marks i + oneIf (marks i) 14) = omega arith in
+      let c : t .cleared + manyTo 11 marks i + oneIf (marks i) 11 ≡ t .cleared + (manyTo 11 marks i + oneIf (marks i) 11) = omega arith in
+      let n : t .notfinite + manyTo 12 marks i + oneIf (marks i) 12 ≡ t .notfinite + (manyTo 12 marks i + oneIf (marks i) 12) = omega arith in
+      let l : t .lost + manyTo 13 marks i + oneIf (marks i) 13 ≡ t .lost + (manyTo 13 marks i + oneIf (marks i) 13) = omega arith in
       (λ j. record { begun = b j; finished = f j; cleared = c j; notfinite = n j; lost = l j })
 
   taken-at : (i n : ℕ) → roomFor t n ≡ true → i < n → tallyOf (countedTo t marks i) (a i) ≡ tallied.Taken (countedTo t marks (suc i))
@@ -295,10 +378,10 @@ module _ (t : Tally) (a : ℕ → Answer) (h : (i : ℕ) → accepted (a i) ≡ 
   taken-at i n r l =
       let w = room-says t n r in
       let b = begun-at i in
-      simp (eq-eqb (countedTo t marks i .begun) (sumOf (countedTo t marks i)) (sums i (w .0)), mark-one (a i) (h i) .1, ne-eqb (countedTo t marks i .begun) 4294967295 (λ z. omega arith), one-more i)
+      simp (eq-eqb (countedTo t marks i .begun) (sumOf (countedTo t marks i)) (sums i (w .0)), mark-one (a i) (h i) .marked, ne-eqb (countedTo t marks i .begun) 4294967295 (λ z. omega arith), mark-one (a i) (h i) .same, one-more i)
 
 pub block-counts : Block-counts
-block-counts t a n h r i l = rw add-one (taken-at t a h i n r l)
+block-counts t a n h r i l = takes _ (a i) _ (rw add-one (taken-at t a h i n r l))
 
 pub all-taken : {S : Type 0} (answer : S → Answer) (next : S → S) (s : S) → AllAccepted answer next s → AllTaken answer next s
 all-taken answer next s h t n r i l = block-counts t (answerAt answer next s) n h r i l

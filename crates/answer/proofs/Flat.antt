@@ -1,15 +1,21 @@
 -- Lengths that nothing refuses; which marks are of an accepted tick; and a bool that is read back from a whole number.
 use mathlib.Core.Bool.{Bool, true, false, cond, true≢false, not}
-use mathlib.Core.Path.{_≡_, refl, sym, _∙_}
+use mathlib.Core.List.{List}
+use mathlib.Core.Path.{_≡_, refl, sym, ap, _∙_}
 use Prim.Native.Nat.{ℕ}
 use native.Mathlib.Omega.{arith}
 use lib.Dec.{eqb}
+use lib.ListN.{length}
 use borrow.Author.Tests.{eqb-true}
 use Rattle.laws.proofs.Tests.{eqb-yes}
 use Rattle.answer.specs.Answer.{markNumber, accepted}
-use Rattle.answer.specs.Flat.{sizesOf, tickSizesOf, blockSizesOf}
+use Rattle.answer.specs.Flat.{sizesOf, tickSizesOf, tallyFrom}
+use Rattle.answer.specs.Tally.{talliedNumber}
 use Rattle.answer.specs.declared.Answer.{Answer}
 use Rattle.answer.specs.declared.Answer.the-variants as answer
+use Rattle.answer.specs.declared.Tally.{Tally}
+use Rattle.answer.specs.declared.Tallied.{Tallied}
+use Rattle.answer.specs.declared.Tallied.the-variants as tallied
 
 pub sized : (nf nw f w n : ℕ) → n ≡ sizesOf nf nw f w → n ≡ 0 → (f ≡ nf) × (w ≡ nw)
 unfolding sizesOf
@@ -36,12 +42,14 @@ tick-sized nf nw ns f w o n e z =
     let s = sized nf nw f w _ refl (a .0) in
     (s .0, s .1, a .1)
 
-pub block-sized : (nf nw f w k n : ℕ) → n ≡ blockSizesOf nf nw f w k → n ≡ 0 → (f ≡ nf) × (w ≡ nw) × (k ≡ 5)
-unfolding blockSizesOf
-block-sized nf nw f w k n e z =
-    let a = after (sizesOf nf nw f w) 53 k 5 (λ h. omega arith) (sym e ∙ z) in
-    let s = sized nf nw f w _ refl (a .0) in
-    (s .0, s .1, a .1)
+-- counts that are a tally's
+pub five-counts : (l : List ℕ) (x : Tallied) (t : Tally) → x ≡ tallyFrom l → x ≡ tallied.Taken t → length l ≡ 5
+unfolding tallyFrom talliedNumber
+five-counts l x t e g = go _ (eqb (length l) 5) refl (ap talliedNumber (sym e ∙ g))
+  where
+    go : (u : Tally) (b : Bool) → eqb (length l) 5 ≡ b → talliedNumber (cond b (tallied.Taken u) (tallied.Refused 53)) ≡ 0 → length l ≡ 5
+    go u true p h = eqb-true (length l) 5 p
+    go u false p h = absurd (omega arith)
 
 -- a refused tick's mark has the number 0
 pub mark-accepted : (a : Answer) → not (eqb (markNumber a) 0) ≡ accepted a

@@ -12,8 +12,8 @@ use borrow.Author.Tests.{eqb-true, eq-eqb, eqb-false}
 use Rattle.laws.specs.Machine.{begun}
 use Rattle.answer.specs.Answer.{markNumber, voltsOf, accepted, answerOf}
 use Rattle.answer.specs.Mark.{allFinite, ruleOf, markOf}
-use Rattle.answer.specs.Promises.{Mark-says, Counts, Tally-counts, Refused-nowhere}
-use Rattle.answer.specs.Tally.{sumOf, addsUp, oneIf, counted, tallyOf, Run, settle, run, newRun, many}
+use Rattle.answer.specs.Promises.{Mark-says, Counts, Tally-counts, Takes, Refused-nowhere}
+use Rattle.answer.specs.Tally.{sumOf, addsUp, oneIf, counted, talliedNumber, tallyOr, tallyOf, Run, settle, run, newRun, many}
 use Rattle.answer.specs.declared.Volts.{Volts}
 use Rattle.answer.specs.declared.Answer.{Answer}
 use Rattle.answer.specs.declared.Answer.the-variants as answer
@@ -37,7 +37,7 @@ pub at-most-one : (r n k : ℕ) → r ≡ oneIf n k → r ≤ 1
 at-most-one r n k e = subst (λ (z : ℕ). z ≤ 1) (sym e) (one-most n k)
 
 -- ---- marks
-rule-says : (v : Volts) (a b c : Bool) → (accepted (answerOf (ruleOf a b c) v) ≡ true) × (voltsOf (answerOf (ruleOf a b c) v) ≡ v) × (markNumber (answerOf (ruleOf a b c) v) ≡ ruleOf a b c)
+rule-says : (v : Volts) (a b c : Bool) → (accepted (answerOf (10 + ruleOf a b c) v) ≡ true) × (voltsOf (answerOf (10 + ruleOf a b c) v) ≡ v) × (markNumber (answerOf (10 + ruleOf a b c) v) ≡ ruleOf a b c)
 unfolding ruleOf answerOf accepted voltsOf markNumber
 rule-says v true b c = (refl, refl, refl)
 rule-says v false true true = (refl, refl, refl)
@@ -93,7 +93,7 @@ counts-more r a n t h =
     room b h n = subst (λ (z : ℕ). z ≤ 4294967295) (sym (add-one b)) (lt-of-le-ne h n)
 
 counts-step : (r : Run) (a : Answer) → Counts r → Counts (settle r a (tallyOf (r .tally) a))
-unfolding tallyOf settle
+unfolding tallyOf settle talliedNumber tallyOr
 counts-step r a h = go (addsUp (r .tally)) (eqb (markNumber a) 0) (eqb (r .tally .begun) 4294967295) (eqb-true (markNumber a) 0) (eqb-false (markNumber a) 0) (eqb-false (r .tally .begun) 4294967295) refl refl
   where
     go : (b c d : Bool) → (eqb (markNumber a) 0 ≡ true → markNumber a ≡ 0) → (eqb (markNumber a) 0 ≡ false → markNumber a ≡ 0 → ⊥) → (eqb (r .tally .begun) 4294967295 ≡ false → r .tally .begun ≡ 4294967295 → ⊥) → eqb (markNumber a) 0 ≡ c → eqb (r .tally .begun) 4294967295 ≡ d
@@ -112,10 +112,14 @@ pub tally-counts : Tally-counts
 unfolding many
 tally-counts xs = counts-run newRun xs (record { cleared = refl; notfinite = refl; lost = refl; finished = refl; begun = refl; top = lit≤ tt })
 
+pub takes : (t : Tally) (a : Answer) (u : Tally) → tallyOf t a ≡ tallied.Taken u → Takes t a u
+unfolding talliedNumber tallyOr
+takes t a u e = (ap talliedNumber e, ap (tallyOr t) e)
+
 pub refused-nowhere : Refused-nowhere
 unfolding tallyOf addsUp markNumber accepted
 refused-nowhere t (answer.Clean v) r h = absurd (true≢false r)
 refused-nowhere t (answer.Cleared v) r h = absurd (true≢false r)
 refused-nowhere t (answer.NotFinite v) r h = absurd (true≢false r)
 refused-nowhere t (answer.Lost v) r h = absurd (true≢false r)
-refused-nowhere t (answer.Refused n) r h = simp (eq-eqb (t .begun) (sumOf t) h)
+refused-nowhere t (answer.Refused n) r h = takes t (answer.Refused n) t (simp (eq-eqb (t .begun) (sumOf t) h))

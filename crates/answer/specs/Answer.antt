@@ -1,11 +1,13 @@
--- What a tick's answer stands for: document 01's number of each case, and its values.
+-- What an answer stands for: document 01's number of each case, and its values.
 use mathlib.Core.Bool.{Bool, true, false, cond}
-use Prim.Native.Nat.{ℕ}
+use Prim.Native.Nat.{ℕ, _+_}
 use lib.Dec.{eqb}
 use Rattle.laws.specs.Float.{zer}
 use Rattle.answer.specs.declared.Volts.{Volts}
 use Rattle.answer.specs.declared.Answer.{Answer}
 use Rattle.answer.specs.declared.Answer.the-variants as answer
+use Rattle.answer.specs.declared.Outcome.{Outcome}
+use Rattle.answer.specs.declared.Outcome.the-variants as outcome
 
 -- 1 cleared, 2 notfinite, 3 lost, 4 clean, as document 01 numbers its rules; 0 of a refused tick
 unfoldable pub markNumber : Answer → ℕ
@@ -38,6 +40,20 @@ accepted (answer.NotFinite v) = true
 accepted (answer.Lost v) = true
 accepted (answer.Refused n) = false
 
--- the accepted answer with a mark's number and these volts
+-- what a host is told, by a tick and in the marks of a block: 10 and the mark's number, or what refused it
+unfoldable pub hostNumber : Answer → ℕ
+hostNumber a = cond (accepted a) (10 + markNumber a) (refusalOf a)
+
+-- and back: the answer of that number with these volts. A number that is no mark's refuses.
 unfoldable pub answerOf : ℕ → Volts → Answer
-answerOf n v = cond (eqb n 1) (answer.Cleared v) (cond (eqb n 2) (answer.NotFinite v) (cond (eqb n 3) (answer.Lost v) (answer.Clean v)))
+answerOf n v =
+    cond (eqb n 11) (answer.Cleared v)
+    (cond (eqb n 12) (answer.NotFinite v)
+    (cond (eqb n 13) (answer.Lost v)
+    (cond (eqb n 14) (answer.Clean v)
+    (answer.Refused n))))
+
+-- of a call without samples: 0 where it is done, or what refused it
+unfoldable pub outcomeNumber : Outcome → ℕ
+outcomeNumber outcome.Done = 0
+outcomeNumber (outcome.Refused n) = n

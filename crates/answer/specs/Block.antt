@@ -6,13 +6,15 @@ use lib.Dec.{eqb, leb}
 use lib.Ieee.{Float}
 use lib.ListN.{length, getD, take}
 use Rattle.laws.specs.Lists.{tab}
-use Rattle.answer.specs.Answer.{markNumber, voltsOf}
+use Rattle.answer.specs.Answer.{hostNumber, voltsOf}
 use Rattle.answer.specs.Tally.{addsUp, oneIf}
 use Rattle.answer.specs.declared.Volts.{Volts}
 use Rattle.answer.specs.declared.Answer.{Answer}
 use Rattle.answer.specs.declared.Tally.{Tally}
+use Rattle.answer.specs.declared.Tallied.{Tallied}
+use Rattle.answer.specs.declared.Tallied.the-variants as tallied
 
--- ---- the tally of many marks
+-- ---- the tally of many marks, by the numbers that a host is told: 11 cleared, 12 notfinite, 13 lost, 14 clean
 -- how many of f 0, .., f (n - 1) are k
 unfoldable pub manyTo : ℕ → (ℕ → ℕ) → ℕ → ℕ
 manyTo k f zero = 0
@@ -31,7 +33,7 @@ grownBy t clean cleared notfinite lost =
 
 -- each count grows by the number of its marks among f 0, .., f (n - 1)
 unfoldable pub countedTo : Tally → (ℕ → ℕ) → ℕ → Tally
-countedTo t f n = grownBy t (manyTo 4 f n) (manyTo 1 f n) (manyTo 2 f n) (manyTo 3 f n)
+countedTo t f n = grownBy t (manyTo 14 f n) (manyTo 11 f n) (manyTo 12 f n) (manyTo 13 f n)
 
 -- n more answers can be taken: neither reason for 7 comes
 unfoldable pub roomFor : Tally → ℕ → Bool
@@ -40,9 +42,9 @@ roomFor t n = addsUp t && leb (t .begun + n) 4294967295
 abbrev pub cellsOf : List ℕ → ℕ → ℕ
 cellsOf l i = getD l i 0
 
--- the marks of a buffer, if there is room for all
-unfoldable pub marksTaken : Tally → List ℕ → Tally
-marksTaken t m = cond (roomFor t (length m)) (countedTo t (cellsOf m) (length m)) t
+-- the marks of a buffer, or 7 where there isn't room for all; a number that is no mark's counts nowhere, as a refused tick
+unfoldable pub marksTaken : Tally → List ℕ → Tallied
+marksTaken t m = cond (roomFor t (length m)) (tallied.Taken (countedTo t (cellsOf m) (length m))) (tallied.Refused 7)
 
 -- ---- ticks one after another; `next` is the state after a tick
 unfoldable pub afterTicks : {S : Type 0} → (S → S) → ℕ → S → S
@@ -73,12 +75,12 @@ block n s t o m = record { refused = n; state = s; tally = t; samples = o; marks
 unfoldable pub blockRefusalOf : Bool → ℕ → Tally → ℕ → ℕ
 blockRefusalOf fits number t n = cond fits (cond (eqb number 0) (cond (roomFor t n) 0 7) number) 52
 
--- what tick i answers: `answer` of the state that those before it leave; its mark's number and its samples
+-- what tick i answers: `answer` of the state that those before it leave; the number that a host is told of it, and its samples
 unfoldable pub answerAt : {S : Type 0} → (S → Answer) → (S → S) → S → ℕ → Answer
 answerAt answer next s i = answer (afterTicks next i s)
 
 abbrev pub markAt : {S : Type 0} → (S → Answer) → (S → S) → S → ℕ → ℕ
-markAt answer next s i = markNumber (answerAt answer next s i)
+markAt answer next s i = hostNumber (answerAt answer next s i)
 
 abbrev pub frameAt : {S : Type 0} → ℕ → (S → Answer) → (S → S) → S → ℕ → List Float
 frameAt ports answer next s i = portsOf ports (voltsOf (answerAt answer next s i))

@@ -2,18 +2,19 @@
 -- floats and the whole numbers of an oscillator's state, nf and nw how many it has; `samplesOf` are its samples, ns how many.
 use mathlib.Core.Bool.{cond}
 use mathlib.Core.List.{List, [], _∷_}
-use Prim.Native.Nat.{ℕ, _+_}
+use Prim.Native.Nat.{ℕ}
 use lib.Dec.{eqb}
 use lib.Ieee.{Float}
 use lib.ListN.{length, getD}
-use Rattle.answer.specs.Answer.{markNumber, voltsOf, refusalOf, accepted}
+use Rattle.answer.specs.Answer.{hostNumber, voltsOf, accepted}
 use Rattle.answer.specs.Block.{Block}
-use Rattle.answer.specs.Tally.{newTally}
 use Rattle.answer.specs.declared.Volts.{Volts}
 use Rattle.answer.specs.declared.Answer.{Answer}
 use Rattle.answer.specs.declared.Outcome.{Outcome}
 use Rattle.answer.specs.declared.Outcome.the-variants as outcome
 use Rattle.answer.specs.declared.Tally.{Tally}
+use Rattle.answer.specs.declared.Tallied.{Tallied}
+use Rattle.answer.specs.declared.Tallied.the-variants as tallied
 
 -- ---- lengths
 -- 0, or what refuses the lengths of floats and wholes
@@ -23,10 +24,6 @@ sizesOf nf nw f w = cond (eqb f nf) (cond (eqb w nw) 0 51) 50
 -- and that of samples after them
 unfoldable pub tickSizesOf : ℕ → ℕ → ℕ → ℕ → ℕ → ℕ → ℕ
 tickSizesOf nf nw ns f w o = let n = sizesOf nf nw f w in cond (eqb n 0) (cond (eqb o ns) 0 52) n
-
--- or that of counts
-unfoldable pub blockSizesOf : ℕ → ℕ → ℕ → ℕ → ℕ → ℕ
-blockSizesOf nf nw f w k = let n = sizesOf nf nw f w in cond (eqb n 0) (cond (eqb k 5) 0 53) n
 
 -- ---- a call without samples
 pub record Kept : Type 0 where
@@ -56,11 +53,7 @@ pub record Heard : Type 0 where
 abbrev pub heard : ℕ → List Float → List ℕ → List Float → Heard
 heard n f w o = record { code = n; floats = f; wholes = w; samples = o }
 
--- the number of an answer: 10 and its mark's, or what refused it
-unfoldable pub hostNumber : Answer → ℕ
-hostNumber a = cond (accepted a) (10 + markNumber a) (refusalOf a)
-
--- that number; the state and the samples only of an accepted tick
+-- the number of its answer; the state and the samples only of an accepted tick
 unfoldable pub heardOf : {S : Type 0} → (S → List Float) → (S → List ℕ) → (Volts → List Float) → Answer → S → List Float → List ℕ → List Float → Heard
 heardOf floatsOf wholesOf samplesOf a s f w o =
     cond (accepted a) (heard (hostNumber a) (floatsOf s) (wholesOf s) (samplesOf (voltsOf a))) (heard (hostNumber a) f w o)
@@ -68,13 +61,18 @@ heardOf floatsOf wholesOf samplesOf a s f w o =
 unfoldable pub heardSized : ℕ → ℕ → ℕ → Heard → List Float → List ℕ → List Float → Heard
 heardSized nf nw ns h f w o = let n = tickSizesOf nf nw ns (length f) (length w) (length o) in cond (eqb n 0) h (heard n f w o)
 
--- ---- a tally as five counts: begun, finished, cleared, notfinite, lost
-unfoldable pub tallyFrom : List ℕ → Tally
+-- ---- a tally as five counts: begun, finished, cleared, notfinite, lost. Any other number of counts is refused by 53.
+unfoldable pub tallyFrom : List ℕ → Tallied
 tallyFrom l =
-    cond (eqb (length l) 5) (record { begun = getD l 0 0; finished = getD l 1 0; cleared = getD l 2 0; notfinite = getD l 3 0; lost = getD l 4 0 }) newTally
+    let t : Tally = record { begun = getD l 0 0; finished = getD l 1 0; cleared = getD l 2 0; notfinite = getD l 3 0; lost = getD l 4 0 } in
+    cond (eqb (length l) 5) (tallied.Taken t) (tallied.Refused 53)
 
 unfoldable pub countsOf : Tally → List ℕ
 countsOf t = t .begun ∷ t .finished ∷ t .cleared ∷ t .notfinite ∷ t .lost ∷ []
+
+-- what putting them says of itself, and what it leaves
+unfoldable pub countsOutcome : List ℕ → Outcome
+countsOutcome l = cond (eqb (length l) 5) outcome.Done (outcome.Refused 53)
 
 unfoldable pub countsPut : Tally → List ℕ → List ℕ
 countsPut t l = cond (eqb (length l) 5) (countsOf t) l
@@ -96,5 +94,13 @@ unfoldable pub playedOf : {S : Type 0} → (S → List Float) → (S → List �
 playedOf floatsOf wholesOf b f w k =
     cond (eqb (b .refused) 0) (played 0 (floatsOf (b .state)) (wholesOf (b .state)) (countsOf (b .tally)) (b .samples) (b .marks)) (played (b .refused) f w k (b .samples) (b .marks))
 
-unfoldable pub playedSized : ℕ → ℕ → Played → List Float → List ℕ → List ℕ → List Float → List ℕ → Played
-playedSized nf nw p f w k o m = let n = blockSizesOf nf nw (length f) (length w) (length k) in cond (eqb n 0) p (played n f w k o m)
+-- p of the tally that the counts are, unless their number refuses
+unfoldable pub playedFrom : Tallied → (Tally → Played) → List Float → List ℕ → List ℕ → List Float → List ℕ → Played
+playedFrom (tallied.Taken t) p f w k o m = p t
+playedFrom (tallied.Refused n) p f w k o m = played n f w k o m
+
+-- after the lengths of floats and wholes
+unfoldable pub playedSized : ℕ → ℕ → (Tally → Played) → List Float → List ℕ → List ℕ → List Float → List ℕ → Played
+playedSized nf nw p f w k o m =
+    let n = sizesOf nf nw (length f) (length w) in
+    cond (eqb n 0) (playedFrom (tallyFrom k) p f w k o m) (played n f w k o m)

@@ -1,6 +1,6 @@
 -- The mark of an accepted tick: document 01, "Marks and tally".
 use mathlib.Core.Bool.{Bool, true, false, cond, _&&_}
-use Prim.Native.Nat.{ℕ}
+use Prim.Native.Nat.{ℕ, _+_}
 use Rattle.laws.specs.Float.{isFin}
 use Rattle.answer.specs.Answer.{answerOf}
 use Rattle.answer.specs.declared.Volts.{Volts}
@@ -16,4 +16,4 @@ ruleOf cleared finite phases = cond cleared 1 (cond finite (cond phases 4 3) 2)
 
 -- `sums` says that what stands before an output's clamp is finite, `phases` that each phase plus its increment is
 unfoldable pub markOf : Volts → Bool → Bool → Bool → Answer
-markOf v cleared sums phases = answerOf (ruleOf cleared (sums && allFinite v) phases) v
+markOf v cleared sums phases = answerOf (10 + ruleOf cleared (sums && allFinite v) phases) v

@@ -3,14 +3,13 @@ use mathlib.Core.Path.{_≡_}
 use mathlib.Core.Bool.{Bool, true, false, _&&_}
 use mathlib.Core.List.{List}
 use Prim.Native.Nat.{ℕ, _+_, _≤_, _<_}
-use Rattle.answer.specs.Answer.{markNumber, voltsOf, accepted}
+use Rattle.answer.specs.Answer.{markNumber, hostNumber, voltsOf, accepted}
 use Rattle.answer.specs.Block.{roomFor, countedTo, answerAt, markAt}
 use Rattle.answer.specs.Mark.{allFinite, markOf, ruleOf}
-use Rattle.answer.specs.Tally.{Run, run, newRun, sumOf, many, tallyOf}
+use Rattle.answer.specs.Tally.{Run, run, newRun, sumOf, many, talliedNumber, tallyOr, tallyOf}
 use Rattle.answer.specs.declared.Volts.{Volts}
 use Rattle.answer.specs.declared.Answer.{Answer}
 use Rattle.answer.specs.declared.Tally.{Tally}
-use Rattle.answer.specs.declared.Tallied.the-variants as tallied
 
 -- a marked tick is an accepted one, keeps its volts, and has the number of the first rule that applies
 pub record Marked (v : Volts) (cleared sums phases : Bool) : Type 0 where
@@ -34,14 +33,18 @@ pub record Counts (r : Run) : Type 0 where
 abbrev pub Tally-counts : Type 0
 Tally-counts = (xs : List Answer) → Counts (run newRun xs)
 
+-- the tally t takes the answer a, and is then u
+abbrev pub Takes : Tally → Answer → Tally → Type 0
+Takes t a u = (talliedNumber (tallyOf t a) ≡ 0) × (tallyOr t (tallyOf t a) ≡ u)
+
 -- a refused tick leaves a tally that adds up as it stood
 abbrev pub Refused-nowhere : Type 0
-Refused-nowhere = (t : Tally) (a : Answer) → accepted a ≡ false → t .begun ≡ sumOf t → tallyOf t a ≡ tallied.Taken t
+Refused-nowhere = (t : Tally) (a : Answer) → accepted a ≡ false → t .begun ≡ sumOf t → Takes t a t
 
 -- a tally with room for n answers takes each of n that are accepted, in order, and is then the one that a block leaves
 abbrev pub Block-counts : Type 0
 Block-counts = (t : Tally) (a : ℕ → Answer) (n : ℕ) → ((i : ℕ) → accepted (a i) ≡ true) → roomFor t n ≡ true
-    → (i : ℕ) → i < n → tallyOf (countedTo t (λ j. markNumber (a j)) i) (a i) ≡ tallied.Taken (countedTo t (λ j. markNumber (a j)) (i + 1))
+    → (i : ℕ) → i < n → Takes (countedTo t (λ j. hostNumber (a j)) i) (a i) (countedTo t (λ j. hostNumber (a j)) (i + 1))
 
 -- the same of an oscillator's ticks: each is accepted, whatever their number
 abbrev pub AllAccepted : {S : Type 0} → (S → Answer) → (S → S) → S → Type 0
@@ -50,4 +53,4 @@ AllAccepted answer next s = (i : ℕ) → accepted (answerAt answer next s i) �
 -- and a tally takes their answers one by one
 abbrev pub AllTaken : {S : Type 0} → (S → Answer) → (S → S) → S → Type 0
 AllTaken answer next s = (t : Tally) (n : ℕ) → roomFor t n ≡ true
-    → (i : ℕ) → i < n → tallyOf (countedTo t (markAt answer next s) i) (answerAt answer next s i) ≡ tallied.Taken (countedTo t (markAt answer next s) (i + 1))
+    → (i : ℕ) → i < n → Takes (countedTo t (markAt answer next s) i) (answerAt answer next s i) (countedTo t (markAt answer next s) (i + 1))

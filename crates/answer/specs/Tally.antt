@@ -26,6 +26,15 @@ oneIf n k = cond (eqb n k) 1 0
 unfoldable pub counted : Tally → ℕ → Tally
 counted t n = record { begun = t .begun + 1; finished = t .finished + oneIf n 4; cleared = t .cleared + oneIf n 1; notfinite = t .notfinite + oneIf n 2; lost = t .lost + oneIf n 3 }
 
+-- document 01's number of each case: 0 taken, or what refused; and its tally, of a refusal the one that stays
+unfoldable pub talliedNumber : Tallied → ℕ
+talliedNumber (tallied.Taken t) = 0
+talliedNumber (tallied.Refused n) = n
+
+unfoldable pub tallyOr : Tally → Tallied → Tally
+tallyOr kept (tallied.Taken t) = t
+tallyOr kept (tallied.Refused n) = kept
+
 -- 7 where begun isn't the sum; a refused tick counts nowhere; 7 where an accepted one comes and begun is 4294967295
 unfoldable pub tallyOf : Tally → Answer → Tallied
 tallyOf t a =
@@ -40,8 +49,7 @@ pub record Run : Type 0 where
   pub took : List Answer
 
 unfoldable pub settle : Run → Answer → Tallied → Run
-settle r a (tallied.Taken t) = record { tally = t; took = a ∷ r .took }
-settle r a (tallied.Refused n) = r
+settle r a x = cond (eqb (talliedNumber x) 0) (record { tally = tallyOr (r .tally) x; took = a ∷ r .took }) r
 
 -- each answer given to the tally, in order
 unfoldable pub run : Run → List Answer → Run

@@ -2,10 +2,10 @@
 ghost use mathlib.Core.Path.{_≡_};
 ghost use Prim.Native.Nat.{_<_, _≤_, _+_};
 ghost use lib.ListN.{length};
-ghost use Rattle.answer.specs.Answer.{markNumber, voltsOf, accepted, answerOf};
+ghost use Rattle.answer.specs.Answer.{markNumber, hostNumber, voltsOf, accepted, answerOf};
 ghost use Rattle.answer.specs.Mark.{allFinite, markOf};
-ghost use Rattle.answer.specs.Tally.{newTally, sumOf, addsUp, oneIf, counted, tallyOf};
-ghost use Rattle.answer.specs.Flat.{sizesOf, tickSizesOf, blockSizesOf, hostNumber, tallyFrom, countsPut};
+ghost use Rattle.answer.specs.Tally.{newTally, sumOf, addsUp, oneIf, counted, tallyOr, tallyOf};
+ghost use Rattle.answer.specs.Flat.{sizesOf, tickSizesOf, tallyFrom, countsOutcome, countsPut};
 ghost use Rattle.answer.specs.Block.{manyTo, cellsOf, roomFor, grownBy, marksTaken, blockRefusalOf};
 
 // Sample volts: a field for each output port number of the Rust. An output that an oscillator doesn't have, or that isn't
@@ -52,7 +52,8 @@ pub fn is_accepted(a: Answer) -> bool
     mark_number(a) != 0
 }
 
-// What a host is told of an answer: 11 cleared, 12 notfinite, 13 lost, 14 clean, or the number that refused the tick.
+// What a host is told of an answer, by a tick and in the marks of a block: 11 cleared, 12 notfinite, 13 lost, 14 clean, or
+// the number that refused the tick.
 pub fn host_number(a: Answer) -> u32
     ensures { λ r. ⌜ r ≡ hostNumber a ⌝ }
 {
@@ -84,18 +85,20 @@ pub fn samples(a: Answer) -> Volts
     }
 }
 
-// The accepted answer with a mark's number; any other number than 1 to 3 is a clean one's.
-pub fn answer_of(mark: u32, v: Volts) -> Answer
-    ensures { λ r. ⌜ r ≡ answerOf mark v ⌝ }
+// And back: the answer that a host was told by this number, with its volts. A number that is no mark's refuses.
+pub fn answer_of(number: u32, v: Volts) -> Answer
+    ensures { λ r. ⌜ r ≡ answerOf number v ⌝ }
 {
-    if mark == 1 {
+    if number == 11 {
         Answer::Cleared(v)
-    } else if mark == 2 {
+    } else if number == 12 {
         Answer::NotFinite(v)
-    } else if mark == 3 {
+    } else if number == 13 {
         Answer::Lost(v)
-    } else {
+    } else if number == 14 {
         Answer::Clean(v)
+    } else {
+        Answer::Refused(number)
     }
 }
 
@@ -152,10 +155,22 @@ pub struct Tally {
     pub lost: u32,
 }
 
-// The tally after an answer, or the number that refused it.
+// The tally after what it was given, or the number that refused that.
 pub enum Tallied {
     Taken(Tally),
     Refused(u32),
+}
+
+impl Tallied {
+    // That tally; after a refusal the one that stays.
+    pub fn or(self, kept: Tally) -> Tally
+        ensures { λ r. ⌜ r ≡ tallyOr kept self ⌝ }
+    {
+        match self {
+            Tallied::Taken(t) => t,
+            Tallied::Refused(_) => kept,
+        }
+    }
 }
 
 fn one_if(n: u32, k: u32) -> u32
@@ -191,26 +206,26 @@ impl Tally {
         }
     }
 
-    // The tally that five counts stand for, in the order of the fields; a new one where there aren't five.
-    pub fn from_counts(counts: &[u32]) -> Self
+    // The tally that five counts stand for, in the order of the fields; 53 where there aren't five.
+    pub fn from_counts(counts: &[u32]) -> Tallied
         ensures { λ r. ⌜ r ≡ tallyFrom (now (counts .entry)) ⌝ }
     {
         if counts.len() == 5 {
-            Tally {
+            Tallied::Taken(Tally {
                 begun: counts[0],
                 finished: counts[1],
                 cleared: counts[2],
                 notfinite: counts[3],
                 lost: counts[4],
-            }
+            })
         } else {
-            Tally::new()
+            Tallied::Refused(53)
         }
     }
 
-    // Its five counts into a slice for five; another is left.
-    pub fn put_counts(self, counts: &mut [u32])
-        ensures { λ _. ⌜ now (counts .exit) ≡ countsPut self (now (counts .entry)) ⌝ }
+    // Its five counts into a slice for five; another is refused by 53, and left.
+    pub fn put_counts(self, counts: &mut [u32]) -> Outcome
+        ensures { λ r. ⌜ (r ≡ countsOutcome (now (counts .entry))) × (now (counts .exit) ≡ countsPut self (now (counts .entry))) ⌝ }
     {
         if counts.len() == 5 {
             counts[0] = self.begun;
@@ -218,6 +233,9 @@ impl Tally {
             counts[2] = self.cleared;
             counts[3] = self.notfinite;
             counts[4] = self.lost;
+            Outcome::Done
+        } else {
+            Outcome::Refused(53)
         }
     }
 
@@ -289,19 +307,20 @@ impl Tally {
         }
     }
 
-    // The tally given the marks of a block, by their numbers. Without room for all of them it stays.
-    pub fn take_marks(self, marks: &[u32]) -> Self
+    // The tally given the marks of a block, by the numbers that a host is told; 7 without room for all of them. A number that is no
+    // mark's counts nowhere.
+    pub fn take_marks(self, marks: &[u32]) -> Tallied
         ensures { λ r. ⌜ r ≡ marksTaken self (now (marks .entry)) ⌝ }
     {
         if self.has_room(marks.len()) {
-            self.grown(
-                count_of(marks, 4),
-                count_of(marks, 1),
-                count_of(marks, 2),
-                count_of(marks, 3),
-            )
+            Tallied::Taken(self.grown(
+                count_of(marks, 14),
+                count_of(marks, 11),
+                count_of(marks, 12),
+                count_of(marks, 13),
+            ))
         } else {
-            self
+            Tallied::Refused(7)
         }
     }
 }
@@ -347,18 +366,6 @@ pub fn tick_sizes(
     let refused = sizes(nf, nw, floats, wholes);
     if refused == 0 {
         if samples.len() == ns { 0 } else { 52 }
-    } else {
-        refused
-    }
-}
-
-// Or for a block, with the tally's five counts: 53.
-pub fn block_sizes(nf: usize, nw: usize, floats: &[f64], wholes: &[u64], counts: &[u32]) -> u32
-    ensures { λ r. ⌜ r ≡ blockSizesOf nf nw (length (now (floats .entry))) (length (now (wholes .entry))) (length (now (counts .entry))) ⌝ }
-{
-    let refused = sizes(nf, nw, floats, wholes);
-    if refused == 0 {
-        if counts.len() == 5 { 0 } else { 53 }
     } else {
         refused
     }

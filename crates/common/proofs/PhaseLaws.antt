@@ -12,9 +12,10 @@ use Rattle.laws.specs.Float.{zer, one, two, F64, isFin}
 use Rattle.numeric.proofs.FloorLaws.{floor-rest}
 use Rattle.numeric.proofs.SmallFloor.{floor-zero, floor-one, floor-minus, pos-sub-zer, rest-below}
 use Rattle.numeric.specs.Floor.{floorOf}
-use Rattle.common.specs.Phase.{turns, wrapOf}
+use Rattle.common.specs.Phase.{turns, wrapOf, restartOf}
 use Rattle.common.specs.Promises.{Wrap-in}
 use Rattle.common.specs.Tests.{phaseOk}
+use Rattle.common.specs.declared.Turns.{Turns}
 
 finite-below : (x : Float) → lt x zer ≡ true → lt (neg one) x ≡ true → isFin x ≡ true
 unfolding lt ofBits neg
@@ -46,9 +47,16 @@ wrap-minus x h k = simp (finite-below x h k, floor-minus x h k, minus-minus x)
 below-one : (w : Float) → T (le w one) → le one w ≡ false → T (lt w one)
 below-one w h k = lt-of-le-not-ge w one h (of-false (le one w) k)
 
+-- 0 is a phase
 pub zero-in : phaseOk (turns zer) ≡ true
 unfolding phaseOk le lt eq ofBits
 zero-in = refl
+
+-- and so is a phase that an edge may put to 0
+pub restart-in : (p : Turns) (rising : Bool) → phaseOk p ≡ true → phaseOk (restartOf p rising) ≡ true
+unfolding restartOf
+restart-in p true h = zero-in
+restart-in p false h = h
 
 -- the wrap of any f64 is a phase
 pub wrap-in : Wrap-in

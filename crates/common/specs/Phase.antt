@@ -1,9 +1,10 @@
--- wrap_phase, polyblep and polyblamp, written from common.rs.
+-- wrap_phase, polyblep and polyblamp, written from common.rs; and two lines that the oscillators share.
 use mathlib.Core.Bool.{Bool, true, false, cond}
 use lib.Ieee.{Float, binary64, add, sub, mul, div, neg, lt, le}
 use Rattle.laws.specs.Float.{zer, one, two, isFin}
 use Rattle.numeric.specs.Floor.{floorOf}
 use Rattle.common.specs.Consts.{three}
+use Rattle.common.specs.declared.Hertz.{Hertz}
 use Rattle.common.specs.declared.Turns.{Turns}
 
 abbrev pub turns : Float → Turns
@@ -32,3 +33,11 @@ polyblampOf t dt =
     cond (lt t dt) (mul binary64 (mul binary64 (mul binary64 (div binary64 (neg one) three) u) u) u)
     (cond (lt (sub binary64 one dt) t) (mul binary64 (mul binary64 (mul binary64 (div binary64 one three) v) v) v)
     zer)
+
+-- freq / self.sample_rate: what a phase grows by in a tick
+unfoldable pub incrementOf : Hertz → Hertz → Turns
+incrementOf freq rate = turns (div binary64 (freq .0) (rate .0))
+
+-- if rising { self.phase = 0.0 }: the phase that a tick uses
+unfoldable pub restartOf : Turns → Bool → Turns
+restartOf phase rising = cond rising (turns zer) phase

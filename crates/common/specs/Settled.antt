@@ -4,7 +4,7 @@ use mathlib.Core.Bool.{Bool}
 use lib.Ieee.{Float}
 use Rattle.laws.specs.Machine.{Settles}
 use Rattle.common.specs.Pitch.{voctToHz}
-use Rattle.common.specs.Phase.{turns, wrapOf, polyblepOf, polyblampOf}
+use Rattle.common.specs.Phase.{turns, wrapOf, polyblepOf, polyblampOf, incrementOf, restartOf}
 use Rattle.common.specs.Memo.{newMemo1, hits1, filled1, recall1, voctToHzAt, newMemo3, hits3, filled3}
 use Rattle.common.specs.Edge.{newEdge, risingAboveOf, risingOf, crossedAboveOf, crossedOf}
 use Rattle.common.specs.Tests.{rateOk, phaseOk}
@@ -22,6 +22,8 @@ pub record Settled : Type 0 where
   pub wrap-phase : (x : Turns) → Settles (λ (r : Turns). r ≡ turns (wrapOf (x .0)))
   pub polyblep : (t dt : Turns) → Settles (λ (r : Float). r ≡ polyblepOf (t .0) (dt .0))
   pub polyblamp : (t dt : Turns) → Settles (λ (r : Float). r ≡ polyblampOf (t .0) (dt .0))
+  pub increment : (freq rate : Hertz) → Settles (λ (r : Turns). r ≡ incrementOf freq rate)
+  pub restart : (phase : Turns) (rising : Bool) → Settles (λ (r : Turns). r ≡ restartOf phase rising)
   pub memo1-new : Settles (λ (r : Memo1). r ≡ newMemo1)
   pub memo1-hits : (m : Memo1) (x : Float) → Settles (λ (r : Bool). r ≡ hits1 m x)
   pub memo1-filled : (x : Float) (v : Hertz) → Settles (λ (r : Memo1). r ≡ filled1 x v)

@@ -2,7 +2,7 @@
 // Volts per octave, hertz and turns are three kinds of quantity; each helper takes only its own.
 ghost use mathlib.Core.Path.{_≡_};
 ghost use Rattle.common.specs.Pitch.{voctToHz};
-ghost use Rattle.common.specs.Phase.{turns, wrapOf, polyblepOf, polyblampOf};
+ghost use Rattle.common.specs.Phase.{turns, wrapOf, polyblepOf, polyblampOf, incrementOf, restartOf};
 ghost use Rattle.common.specs.Memo.{newMemo1, hits1, filled1, newMemo3, hits3, filled3, recall1, voctToHzAt};
 ghost use Rattle.common.specs.Edge.{newEdge, risingAboveOf, risingOf, crossedAboveOf, crossedOf};
 ghost use Rattle.common.specs.Tests.{rateOk, phaseOk};
@@ -117,6 +117,20 @@ pub fn polyblamp(t: Turns, dt: Turns) -> f64
     ensures { λ r. ⌜ r ≡ polyblampOf (t .0) (dt .0) ⌝ }
 {
     blamp(t.0, dt.0)
+}
+
+// What a phase grows by in a tick: the one place where turns are made of hertz.
+pub fn increment(freq: Hertz, sample_rate: Hertz) -> Turns
+    ensures { λ r. ⌜ r ≡ incrementOf freq «sample_rate» ⌝ }
+{
+    Turns(freq.0 / sample_rate.0)
+}
+
+// The phase that a tick uses: 0 where it takes its edge.
+pub fn restart(phase: Turns, rising: bool) -> Turns
+    ensures { λ r. ⌜ r ≡ restartOf phase rising ⌝ }
+{
+    if rising { Turns(0.0) } else { phase }
 }
 
 // The Rust's Memo<1, f64> of a frequency. The key is kept as bits, so 0.0 and -0.0 differ.

@@ -1,5 +1,4 @@
 -- Each contract, being equations, settles what it speaks of.
-use mathlib.Core.Path.{sym, _∙_}
 use Rattle.laws.proofs.Settled as laws
 use Rattle.exports.specs.Settled.{Settled}
 
@@ -26,5 +25,5 @@ exports-settled =
       «wrap_phase» = λ x. laws.settled _;
       polyblep = λ t dt. laws.settled _;
       polyblamp = λ t dt. laws.settled _;
-      «tally_take» = λ code counts j k p q i. record { code = (p .0 ∙ sym (q .0)) i; counts = (p .1 ∙ sym (q .1)) i };
+      «tally_take» = λ code counts. laws.settled _;
     }

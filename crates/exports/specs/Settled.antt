@@ -37,4 +37,4 @@ pub record Settled : Type 0 where
   pub «wrap_phase» : (x : Float) → Settles (λ (r : Float). r ≡ wrapOf x)
   pub polyblep : (t dt : Float) → Settles (λ (r : Float). r ≡ polyblepOf t dt)
   pub polyblamp : (t dt : Float) → Settles (λ (r : Float). r ≡ polyblampOf t dt)
-  pub «tally_take» : (code : ℕ) (counts : List ℕ) → Settles (λ (k : Kept). (k .code ≡ tallyAt code counts .code) × (k .counts ≡ tallyAt code counts .counts))
+  pub «tally_take» : (code : ℕ) (counts : List ℕ) → Settles (λ (k : Kept). k ≡ tallyAt code counts)

@@ -1,53 +1,41 @@
-// The tally for hosts: its five counts in a lent slice, and an answer as the code that a tick gave.
-use answer::Answer;
+// The tally for hosts: its five counts in a lent slice, and an answer as the number that a tick gave.
 use answer::Tallied;
 use answer::Tally;
 use answer::Volts;
 ghost use mathlib.Core.Path.{_≡_};
-ghost use Rattle.exports.specs.Counts.{answerAt, tallyAt};
+ghost use Rattle.exports.specs.Counts.{silence, kept, tallyAt};
 
-// The answer that a tick's code stands for, its volts aside: 11 to 14 an accepted one, any other a refused one.
-fn answer_at(code: u32) -> Answer
-    ensures { λ r. ⌜ r ≡ answerAt code ⌝ }
+// An answer's volts count nowhere.
+fn silent() -> Volts
+    ensures { λ r. ⌜ r ≡ silence ⌝ }
 {
-    let v = Volts {
+    Volts {
         p10: 0.0,
         p11: 0.0,
         p12: 0.0,
         p13: 0.0,
         p14: 0.0,
-    };
-    if code == 11 {
-        Answer::Cleared(v)
-    } else if code == 12 {
-        Answer::NotFinite(v)
-    } else if code == 13 {
-        Answer::Lost(v)
-    } else if code == 14 {
-        Answer::Clean(v)
-    } else {
-        Answer::Refused(code)
     }
 }
 
 // 0 where the tally took the answer, 7 where it refused it, 53 where `counts` isn't five numbers: begun, finished,
-// cleared, notfinite, lost. A new tally is five zeros.
+// cleared, notfinite, lost. A new tally is five zeros. A number that is no mark's (11 to 14) is a refused tick's.
 #[no_mangle]
 pub extern "C" fn gruttisol_tally_take(code: u32, counts: &mut [u32]) -> u32
-    ensures { λ r. ⌜ (r ≡ tallyAt code (now (counts .entry)) .code) × (now (counts .exit) ≡ tallyAt code (now (counts .entry)) .counts) ⌝ }
+    ensures { λ r. ⌜ kept r (now (counts .exit)) ≡ tallyAt code (now (counts .entry)) ⌝ }
 {
-    if counts.len() == 5 {
-        let t = Tally::from_counts(counts);
-        let a = answer_at(code);
-        let taken = t.take(a);
-        match taken {
-            Tallied::Taken(next) => {
-                next.put_counts(counts);
-                0
+    let given = Tally::from_counts(counts);
+    match given {
+        Tallied::Taken(t) => {
+            let taken = t.take(answer::answer_of(code, silent()));
+            match taken {
+                Tallied::Taken(next) => {
+                    next.put_counts(counts);
+                    0
+                }
+                Tallied::Refused(n) => n,
             }
-            Tallied::Refused(n) => n,
         }
-    } else {
-        53
+        Tallied::Refused(n) => n,
     }
 }

@@ -3,7 +3,7 @@
 use mathlib.Core.List.{List}
 use Prim.Native.Nat.{ℕ}
 use lib.Ieee.{Float}
-use Rattle.answer.specs.Flat.{Kept, keptBy, keptSized, Heard, heardOf, heardSized, Played, playedOf, playedSized, tallyFrom}
+use Rattle.answer.specs.Flat.{Kept, keptBy, keptSized, Heard, heardOf, heardSized, Played, playedOf, playedSized}
 use Rattle.exports_formant_osc.specs.State.{stateOf, floatsOf, wholesOf, samplesOf}
 use Rattle.formant_osc.specs.FormantOsc.{formantNewOf, formantTickOf, formantBlockOf, formantResetOf, formantSetSampleRateOf}
 use Rattle.formant_osc.specs.declared.FormantControls.{FormantControls}
@@ -32,5 +32,4 @@ formantTickAt vOct vowel shift vibrato f w o =
 -- a block: 0, the state, the counts, the samples and the marks after it, or what refused it
 unfoldable pub formantBlockAt : Float → Float → Float → Float → List Float → List ℕ → List ℕ → List Float → List ℕ → Played
 formantBlockAt vOct vowel shift vibrato f w k o m =
-    let b = formantBlockOf (stateOf f w) (controlsOf vOct vowel shift vibrato) (tallyFrom k) o m in
-    playedSized 29 6 (playedOf floatsOf wholesOf b f w k) f w k o m
+    playedSized 29 6 (λ t. playedOf floatsOf wholesOf (formantBlockOf (stateOf f w) (controlsOf vOct vowel shift vibrato) t o m) f w k) f w k o m

@@ -6,11 +6,15 @@ use Prim.Native.Nat.{ℕ}
 use lib.Dec.{eqb}
 use lib.Ieee.{Float}
 use lib.ListN.{length}
-use Rattle.answer.specs.Flat.{sizesOf, tickSizesOf, blockSizesOf, Kept, kept, Heard, heard, heardOf, Played, played, playedOf, tallyFrom}
+use Rattle.answer.specs.Block.{Block}
+use Rattle.answer.specs.Flat.{sizesOf, tickSizesOf, Kept, kept, Heard, heard, heardOf, Played, played, playedOf, tallyFrom}
 use Rattle.karplus_strong.specs.Step.{Ticking}
 use Rattle.karplus_strong.specs.KarplusStrong.{Making, karplusStrongNewOf, karplusStrongTickOf, karplusStrongResetOf, karplusStrongSetSampleRateOf}
 use Rattle.karplus_strong.specs.Calls.{Strung, strung}
 use Rattle.karplus_strong.specs.Blocks.{karplusStrongBlockOf}
+use Rattle.answer.specs.declared.Tally.{Tally}
+use Rattle.answer.specs.declared.Tallied.{Tallied}
+use Rattle.answer.specs.declared.Tallied.the-variants as tallied
 use Rattle.exports_karplus_strong.specs.State.{stateOf, floatsOf, wholesOf, samplesOf}
 use Rattle.karplus_strong.specs.declared.KarplusStrongControls.{KarplusStrongControls}
 use Rattle.karplus_strong.specs.declared.KarplusStrongMade.{KarplusStrongMade}
@@ -60,8 +64,8 @@ soundedSized t f w o l =
 abbrev pub controlsOf : Float → Float → Float → Float → Float → KarplusStrongControls
 controlsOf voct trigger damping brightness stretch = record { voct = record { 0 = voct }; trigger = trigger; damping = damping; brightness = brightness; stretch = stretch }
 
-unfoldable pub karplusStrongTickAt : Float → Float → Float → Float → Float → List Float → List ℕ → List Float → List Float → List ℕ → Sounded
-karplusStrongTickAt voct trigger damping brightness stretch f w o l draws =
+unfoldable pub karplusStrongTickAt : Float → Float → Float → Float → Float → List Float → List ℕ → List Float → List ℕ → List Float → Sounded
+karplusStrongTickAt voct trigger damping brightness stretch f w l draws o =
     soundedSized (karplusStrongTickOf (stateOf f w) (controlsOf voct trigger damping brightness stretch) draws l) f w o l
 
 -- a block: 0, the state, the counts, the samples and the marks after it, or what refused it
@@ -78,8 +82,13 @@ strungFloats x = floatsOf (x .string)
 abbrev pub strungWholes : Strung → List ℕ
 strungWholes x = wholesOf (x .string)
 
+-- of the tally that the counts are, unless their number refuses
+unfoldable pub rungFrom : Tallied → (Tally → Block Strung) → List Float → List ℕ → List Float → List ℕ → List Float → List ℕ → Rung
+rungFrom (tallied.Taken t) b f w l k o m = rung (playedOf strungFloats strungWholes (b t) f w k) (b t .state .line)
+rungFrom (tallied.Refused n) b f w l k o m = rung (played n f w k o m) l
+
 unfoldable pub karplusStrongBlockAt : Float → Float → Float → Float → Float → List Float → List ℕ → List Float → List ℕ → List ℕ → List Float → List ℕ → Rung
 karplusStrongBlockAt voct trigger damping brightness stretch f w l draws k o m =
-    let n = blockSizesOf 6 4 (length f) (length w) (length k) in
-    let b = karplusStrongBlockOf (strung (stateOf f w) l) (controlsOf voct trigger damping brightness stretch) draws (tallyFrom k) o m in
-    cond (eqb n 0) (rung (playedOf strungFloats strungWholes b f w k) (b .state .line)) (rung (played n f w k o m) l)
+    let n = sizesOf 6 4 (length f) (length w) in
+    let b : Tally → Block Strung = λ t. karplusStrongBlockOf (strung (stateOf f w) l) (controlsOf voct trigger damping brightness stretch) draws t o m in
+    cond (eqb n 0) (rungFrom (tallyFrom k) b f w l k o m) (rung (played n f w k o m) l)

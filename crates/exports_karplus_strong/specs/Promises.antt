@@ -15,7 +15,8 @@ Read-back = (s : KarplusStrong) → stateOf (floatsOf s) (wholesOf s) ≡ s
 -- each contract settles the number and every lent slice at exit
 pub record Settled : Type 0 where
   pub new : (rate : Float) (f : List Float) (w : List ℕ) (l : List Float) → Settles (λ (k : Left). k ≡ karplusStrongNewAt rate f w l)
-  pub tick : (voct trigger damping brightness stretch : Float) (f : List Float) (w : List ℕ) (o l : List Float) (draws : List ℕ) → Settles (λ (h : Sounded). h ≡ karplusStrongTickAt voct trigger damping brightness stretch f w o l draws)
+  pub tick : (voct trigger damping brightness stretch : Float) (f : List Float) (w : List ℕ) (l : List Float) (draws : List ℕ) (o : List Float)
+      → Settles (λ (h : Sounded). h ≡ karplusStrongTickAt voct trigger damping brightness stretch f w l draws o)
   pub block : (voct trigger damping brightness stretch : Float) (f : List Float) (w : List ℕ) (l : List Float) (draws k : List ℕ) (o : List Float) (m : List ℕ) → Settles (λ (r : Rung). r ≡ karplusStrongBlockAt voct trigger damping brightness stretch f w l draws k o m)
   pub reset : (f : List Float) (w : List ℕ) (l : List Float) → Settles (λ (k : Left). k ≡ karplusStrongResetAt f w l)
   pub «set_sample_rate» : (rate : Float) (f : List Float) (w : List ℕ) (l : List Float) → Settles (λ (k : Left). k ≡ karplusStrongSetSampleRateAt rate f w l)

@@ -2,8 +2,9 @@
 // freq_memo.val] and wholes [len, write_pos, freq_memo.key, freq_memo.valid], the last 0 or not; samples are [out].
 // Each call answers a number: 0 done; of an accepted tick 11 cleared, 14 clean (12 and 13 are other oscillators'); of a refused call
 // 1 to 7 as document 01 has them, or 50, 51, 52, 53 where floats, wholes, samples or counts have another length. A refused
-// call writes nothing. A block answers 0, with the ticks' samples one after another, their marks as 1 cleared, 4 clean, and the
+// call writes nothing. A block answers 0, with the ticks' samples one after another, their marks by the same numbers, and the
 // tally's five counts: begun, finished, cleared, notfinite, lost.
+use answer::Tallied;
 use answer::Tally;
 use common::EdgeDetector;
 use common::Hertz;
@@ -138,11 +139,11 @@ pub extern "C" fn gruttisol_karplus_strong_tick(
     stretch: f64,
     floats: &mut [f64],
     wholes: &mut [u64],
-    samples: &mut [f64],
     line: &mut [f64],
     draws: &[u64],
+    samples: &mut [f64],
 ) -> u32
-    ensures { λ r. ⌜ sounded (heard r (now (floats .exit)) (now (wholes .exit)) (now (samples .exit))) (now (line .exit)) ≡ karplusStrongTickAt voct trigger damping brightness stretch (now (floats .entry)) (now (wholes .entry)) (now (samples .entry)) (now (line .entry)) (now (draws .entry)) ⌝ }
+    ensures { λ r. ⌜ sounded (heard r (now (floats .exit)) (now (wholes .exit)) (now (samples .exit))) (now (line .exit)) ≡ karplusStrongTickAt voct trigger damping brightness stretch (now (floats .entry)) (now (wholes .entry)) (now (line .entry)) (now (draws .entry)) (now (samples .entry)) ⌝ }
 {
     let n = answer::tick_sizes(6, 4, 1, floats, wholes, samples);
     if n == 0 {
@@ -203,18 +204,23 @@ pub extern "C" fn gruttisol_karplus_strong_block(
 ) -> u32
     ensures { λ r. ⌜ rung (played r (now (floats .exit)) (now (wholes .exit)) (now (counts .exit)) (now (samples .exit)) (now (marks .exit))) (now (line .exit)) ≡ karplusStrongBlockAt voct trigger damping brightness stretch (now (floats .entry)) (now (wholes .entry)) (now (line .entry)) (now (draws .entry)) (now (counts .entry)) (now (samples .entry)) (now (marks .entry)) ⌝ }
 {
-    let n = answer::block_sizes(6, 4, floats, wholes, counts);
+    let n = answer::sizes(6, 4, floats, wholes);
     if n == 0 {
-        let c = KarplusStrongControls {
-            voct: VoltsPerOctave(voct),
-            trigger,
-            damping,
-            brightness,
-            stretch,
-        };
-        let tally = Tally::from_counts(counts);
-        let b = state(floats, wholes).block(c, draws, tally, line, samples, marks);
-        put_block(b, floats, wholes, counts)
+        let given = Tally::from_counts(counts);
+        match given {
+            Tallied::Taken(tally) => {
+                let c = KarplusStrongControls {
+                    voct: VoltsPerOctave(voct),
+                    trigger,
+                    damping,
+                    brightness,
+                    stretch,
+                };
+                let b = state(floats, wholes).block(c, draws, tally, line, samples, marks);
+                put_block(b, floats, wholes, counts)
+            }
+            Tallied::Refused(refused) => refused,
+        }
     } else {
         n
     }

@@ -3,7 +3,7 @@
 use mathlib.Core.List.{List}
 use Prim.Native.Nat.{ℕ}
 use lib.Ieee.{Float}
-use Rattle.answer.specs.Flat.{Kept, kept, keptSized, Heard, heardOf, heardSized, Played, playedOf, playedSized, tallyFrom}
+use Rattle.answer.specs.Flat.{Kept, kept, keptSized, Heard, heardOf, heardSized, Played, playedOf, playedSized}
 use Rattle.lfo.specs.Lfo.{lfoNewOf, lfoTickOf, lfoBlockOf, lfoResetOf, lfoSetSampleRateOf}
 use Rattle.exports_lfo.specs.State.{stateOf, floatsOf, wholesOf, samplesOf}
 use Rattle.lfo.specs.declared.LfoMade.{LfoMade}
@@ -31,5 +31,4 @@ lfoTickAt rate depth reset wanted f w o =
 -- a block: 0, the state, the counts, the samples and the marks after it, or what refused it
 unfoldable pub lfoBlockAt : Float → Float → Float → ℕ → List Float → List ℕ → List ℕ → List Float → List ℕ → Played
 lfoBlockAt rate depth reset wanted f w k o m =
-    let b = lfoBlockOf (stateOf f w) (record { rate = rate; depth = depth; reset = reset }) wanted (tallyFrom k) o m in
-    playedSized 4 2 (playedOf floatsOf wholesOf b f w k) f w k o m
+    playedSized 4 2 (λ t. playedOf floatsOf wholesOf (lfoBlockOf (stateOf f w) (record { rate = rate; depth = depth; reset = reset }) wanted t o m) f w k) f w k o m

@@ -3,7 +3,7 @@
 use mathlib.Core.List.{List}
 use Prim.Native.Nat.{ℕ}
 use lib.Ieee.{Float}
-use Rattle.answer.specs.Flat.{Kept, keptBy, keptSized, Heard, heardOf, heardSized, Played, playedOf, playedSized, tallyFrom}
+use Rattle.answer.specs.Flat.{Kept, keptBy, keptSized, Heard, heardOf, heardSized, Played, playedOf, playedSized}
 use Rattle.supersaw.specs.Supersaw.{supersawNewOf, supersawTickOf, supersawBlockOf, supersawResetOf, supersawSetSampleRateOf}
 use Rattle.exports_supersaw.specs.State.{stateOf, floatsOf, wholesOf, samplesOf}
 use Rattle.supersaw.specs.declared.SupersawMade.{SupersawMade}
@@ -28,5 +28,4 @@ supersawTickAt voct detune mix f w o =
 -- a block: 0, the state, the counts, the samples and the marks after it, or what refused it
 unfoldable pub supersawBlockAt : Float → Float → Float → List Float → List ℕ → List ℕ → List Float → List ℕ → Played
 supersawBlockAt voct detune mix f w k o m =
-    let b = supersawBlockOf (stateOf f w) (record { voct = record { 0 = voct }; detune = detune; mix = mix }) (tallyFrom k) o m in
-    playedSized 10 2 (playedOf floatsOf wholesOf b f w k) f w k o m
+    playedSized 10 2 (λ t. playedOf floatsOf wholesOf (supersawBlockOf (stateOf f w) (record { voct = record { 0 = voct }; detune = detune; mix = mix }) t o m) f w k) f w k o m

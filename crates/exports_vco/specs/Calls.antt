@@ -3,7 +3,7 @@
 use mathlib.Core.List.{List}
 use Prim.Native.Nat.{ℕ}
 use lib.Ieee.{Float}
-use Rattle.answer.specs.Flat.{Kept, kept, keptSized, Heard, heardOf, heardSized, Played, playedOf, playedSized, tallyFrom}
+use Rattle.answer.specs.Flat.{Kept, kept, keptSized, Heard, heardOf, heardSized, Played, playedOf, playedSized}
 use Rattle.vco.specs.Vco.{vcoNewOf, vcoTickOf, vcoBlockOf, vcoResetOf, vcoSetSampleRateOf}
 use Rattle.exports_vco.specs.State.{stateOf, floatsOf, wholesOf, samplesOf}
 use Rattle.vco.specs.declared.VcoControls.{VcoControls}
@@ -35,5 +35,4 @@ vcoTickAt c wanted f w o =
 -- a block: 0, the state, the counts, the samples and the marks after it, or what refused it
 unfoldable pub vcoBlockAt : VcoControls → ℕ → List Float → List ℕ → List ℕ → List Float → List ℕ → Played
 vcoBlockAt c wanted f w k o m =
-    let b = vcoBlockOf (stateOf f w) c wanted (tallyFrom k) o m in
-    playedSized 4 4 (playedOf floatsOf wholesOf b f w k) f w k o m
+    playedSized 4 4 (λ t. playedOf floatsOf wholesOf (vcoBlockOf (stateOf f w) c wanted t o m) f w k) f w k o m

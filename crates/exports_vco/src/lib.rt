@@ -2,8 +2,9 @@
 // wholes [key0, key1, key2, valid]; samples are [sin, tri, saw, sqr]. A call answers 0 (done), 10 and the number of the
 // mark of an accepted tick (11 cleared, 12 notfinite, 13 lost, 14 clean), or what refused it: document 01's number, or
 // 50, 51, 52, 53 for floats, wholes, samples, counts of another length. A refused call leaves every slice as it stood.
-// A block answers 0; its samples come tick by tick, its marks are 1 cleared, 2 notfinite, 3 lost, 4 clean, and counts are
+// A block answers 0; its samples come tick by tick, its marks by the same numbers, and counts are
 // the tally's [begun, finished, cleared, notfinite, lost].
+use answer::Tallied;
 use answer::Tally;
 use common::EdgeDetector;
 use common::Hertz;
@@ -178,18 +179,23 @@ pub extern "C" fn gruttisol_vco_block(
 ) -> u32
     ensures { λ r. ⌜ played r (now (floats .exit)) (now (wholes .exit)) (now (counts .exit)) (now (samples .exit)) (now (marks .exit)) ≡ vcoBlockAt (controlsOf voct fm pw sync «fm_lin») wanted (now (floats .entry)) (now (wholes .entry)) (now (counts .entry)) (now (samples .entry)) (now (marks .entry)) ⌝ }
 {
-    let n = answer::block_sizes(4, 4, floats, wholes, counts);
+    let n = answer::sizes(4, 4, floats, wholes);
     if n == 0 {
-        let c = VcoControls {
-            voct: VoltsPerOctave(voct),
-            fm: VoltsPerOctave(fm),
-            pw,
-            sync,
-            fm_lin,
-        };
-        let tally = Tally::from_counts(counts);
-        let b = state(floats, wholes).block(c, wanted, tally, samples, marks);
-        put_block(b, floats, wholes, counts)
+        let given = Tally::from_counts(counts);
+        match given {
+            Tallied::Taken(tally) => {
+                let c = VcoControls {
+                    voct: VoltsPerOctave(voct),
+                    fm: VoltsPerOctave(fm),
+                    pw,
+                    sync,
+                    fm_lin,
+                };
+                let b = state(floats, wholes).block(c, wanted, tally, samples, marks);
+                put_block(b, floats, wholes, counts)
+            }
+            Tallied::Refused(refused) => refused,
+        }
     } else {
         n
     }

@@ -3,7 +3,7 @@
 use mathlib.Core.List.{List}
 use Prim.Native.Nat.{ℕ}
 use lib.Ieee.{Float}
-use Rattle.answer.specs.Flat.{Kept, kept, keptSized, Heard, heardOf, heardSized, Played, playedOf, playedSized, tallyFrom}
+use Rattle.answer.specs.Flat.{Kept, kept, keptSized, Heard, heardOf, heardSized, Played, playedOf, playedSized}
 use Rattle.wavetable.specs.Bank.{Filled, fillBankOf, fillTableOf}
 use Rattle.wavetable.specs.Wavetable.{wavetableNewOf, wavetableTickOf, wavetableBlockOf, wavetableResetOf, wavetableSetSampleRateOf}
 use Rattle.exports_wavetable.specs.State.{stateOf, floatsOf, wholesOf, samplesOf}
@@ -34,8 +34,7 @@ wavetableTickAt v table morph sync l f w o =
 -- a block: 0, the state, the counts, the samples and the marks after it, or what refused it
 unfoldable pub wavetableBlockAt : Float → Float → Float → Float → List Float → List Float → List ℕ → List ℕ → List Float → List ℕ → Played
 wavetableBlockAt v table morph sync l f w k o m =
-    let b = wavetableBlockOf (stateOf f w) (record { «v_oct» = record { 0 = v }; table = table; morph = morph; sync = sync }) (tallyFrom k) l o m in
-    playedSized 4 2 (playedOf floatsOf wholesOf b f w k) f w k o m
+    playedSized 4 2 (λ t. playedOf floatsOf wholesOf (wavetableBlockOf (stateOf f w) (record { «v_oct» = record { 0 = v }; table = table; morph = morph; sync = sync }) t l o m) f w k) f w k o m
 
 -- the number of a fill, and the slice after it
 pub record FilledWith : Type 0 where

@@ -2,9 +2,10 @@
 // wholes [freq_memo.key, freq_memo.valid], the last 0 or not; samples are [out]. The bank is 16,384 numbers.
 // Each call answers a number: 0 done; of an accepted tick 11 cleared, 12 notfinite, 13 lost, 14 clean; of a refused call
 // 1 to 7 as document 01 has them, or 50, 51, 52, 53 where floats, wholes, samples or counts have another length. A refused
-// call writes nothing. A block answers 0, with the ticks' samples one after another, their marks as 1 cleared, 2 notfinite,
-// 3 lost, 4 clean, and the tally's five counts: begun, finished, cleared, notfinite, lost.
+// call writes nothing. A block answers 0, with the ticks' samples one after another, their marks by the same numbers, and
+// the tally's five counts: begun, finished, cleared, notfinite, lost.
 use answer::Outcome;
+use answer::Tallied;
 use answer::Tally;
 use common::Hertz;
 use common::Memo1;
@@ -119,8 +120,8 @@ pub extern "C" fn gruttisol_wavetable_tick(
     sync: f64,
     floats: &mut [f64],
     wholes: &mut [u64],
-    samples: &mut [f64],
     bank: &[f64],
+    samples: &mut [f64],
 ) -> u32
     ensures { λ r. ⌜ heard r (now (floats .exit)) (now (wholes .exit)) (now (samples .exit)) ≡ wavetableTickAt «v_oct» table morph sync (now (bank .entry)) (now (floats .entry)) (now (wholes .entry)) (now (samples .entry)) ⌝ }
 {
@@ -170,17 +171,22 @@ pub extern "C" fn gruttisol_wavetable_block(
 ) -> u32
     ensures { λ r. ⌜ played r (now (floats .exit)) (now (wholes .exit)) (now (counts .exit)) (now (samples .exit)) (now (marks .exit)) ≡ wavetableBlockAt «v_oct» table morph sync (now (bank .entry)) (now (floats .entry)) (now (wholes .entry)) (now (counts .entry)) (now (samples .entry)) (now (marks .entry)) ⌝ }
 {
-    let n = answer::block_sizes(4, 2, floats, wholes, counts);
+    let n = answer::sizes(4, 2, floats, wholes);
     if n == 0 {
-        let c = WavetableControls {
-            v_oct: VoltsPerOctave(v_oct),
-            table,
-            morph,
-            sync,
-        };
-        let tally = Tally::from_counts(counts);
-        let b = state(floats, wholes).block(c, tally, bank, samples, marks);
-        put_block(b, floats, wholes, counts)
+        let given = Tally::from_counts(counts);
+        match given {
+            Tallied::Taken(tally) => {
+                let c = WavetableControls {
+                    v_oct: VoltsPerOctave(v_oct),
+                    table,
+                    morph,
+                    sync,
+                };
+                let b = state(floats, wholes).block(c, tally, bank, samples, marks);
+                put_block(b, floats, wholes, counts)
+            }
+            Tallied::Refused(refused) => refused,
+        }
     } else {
         n
     }

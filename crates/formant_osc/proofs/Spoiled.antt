@@ -6,13 +6,14 @@ use Prim.Native.Nat.{ℕ, zero, suc, _<_, _*_}
 use native.Mathlib.Omega.{arith}
 use lib.Ieee.{Float, nan, binary64, mul, neg}
 use lib.ListN.{getD}
+use Rattle.answer.proofs.Blocks.{block-keeps}
 use Rattle.answer.proofs.Laws.{mark-says}
 use Rattle.answer.specs.Answer.{markNumber, accepted}
 use Rattle.answer.specs.Mark.{allFinite, ruleOf, markOf}
 use Rattle.answer.specs.declared.Volts.{Volts}
 use Rattle.formant_osc.proofs.Either.{tick-either, unless-either}
-use Rattle.formant_osc.specs.Calls.{Call, Tick, Reset, SetSampleRate, after, NoReset, Later}
-use Rattle.formant_osc.specs.FormantOsc.{coefMemoOf, formantRung, formantSoundOf, rated, formantSetSampleRateOf}
+use Rattle.formant_osc.specs.Calls.{Call, Tick, Play, Reset, SetSampleRate, after, NoReset, Later}
+use Rattle.formant_osc.specs.FormantOsc.{coefMemoOf, formantRung, formantSoundOf, formantTickOf, formantBlockOf, rated, formantSetSampleRateOf}
 use Rattle.formant_osc.specs.Promises.{Sum-marks, Clean-finite, Spoiled, Stays-spoiled}
 use Rattle.formant_osc.specs.Sound.{glottalPulse, resonateOf, plus, rungOf}
 use Rattle.formant_osc.specs.declared.FormantControls.{FormantControls}
@@ -89,9 +90,13 @@ spoiled-sound : (s : FormantOsc) (c : FormantControls) → Spoiled s → Spoiled
 unfolding formantSoundOf formantRung
 spoiled-sound s c p = (p .0, p .1, rung-cell (coefMemoOf s c .val) (s .«resonator_state») (glottalPulse (s .phase .0)) (p .0) (p .1) (p .2))
 
+spoiled-tick : (c : FormantControls) (s : FormantOsc) → Spoiled s → Spoiled (formantTickOf s c .formant)
+spoiled-tick c s p = tick-either (λ (t : FormantTicked). Spoiled (t .formant)) s c (spoiled-sound s c p) (λ n. p)
+
 spoiled-after : (s : FormantOsc) (c : Call) → Spoiled s → NoReset c → Spoiled (after s c)
 unfolding after
-spoiled-after s (Tick c) p n = tick-either (λ (t : FormantTicked). Spoiled (t .formant)) s c (spoiled-sound s c p) (λ n. p)
+spoiled-after s (Tick c) p n = spoiled-tick c s p
+spoiled-after s (Play c t o m) p n = unfold formantBlockOf in block-keeps 1 _ _ _ Spoiled (spoiled-tick c) s p t o m
 spoiled-after s Reset p n = absurd n
 spoiled-after s (SetSampleRate r) p n = unfold formantSetSampleRateOf in unless-either Spoiled _ (rated s r) s p p
 

@@ -4,17 +4,17 @@ use mathlib.Core.List.{List}
 use mathlib.Core.Logic.{_⊎_}
 use mathlib.Core.Path.{_≡_}
 use Prim.Native.Nat.{ℕ, _<_, _*_}
+use lib.Dec.{eqb}
 use lib.Ieee.{Float, nan, binary64, div}
-use lib.ListN.{getD}
+use lib.ListN.{length, getD}
 use Rattle.answer.specs.Answer.{markNumber, accepted}
-use Rattle.answer.specs.Block.{Block}
+use Rattle.answer.specs.Block.{Block, blockRefusalOf}
 use Rattle.answer.specs.Promises.{AllAccepted, AllTaken}
-use Rattle.answer.specs.declared.Outcome.the-variants as outcome
 use Rattle.answer.specs.declared.Tally.{Tally}
 use Rattle.common.specs.Consts.{five}
 use Rattle.common.specs.Tests.{rateOk, phaseOk}
 use Rattle.common.specs.declared.Hertz.{Hertz}
-use Rattle.formant_osc.specs.Calls.{FitCall, ReachedFormant, Later, Tick}
+use Rattle.formant_osc.specs.Calls.{reply, FitCall, ReachedFormant, Later, Tick, Reset, SetSampleRate, Told}
 use Rattle.formant_osc.specs.FormantOsc.{formantNewOf, formantRung, formantTickOf, formantBlockOf, formantResetOf, formantSetSampleRateOf, formantRefusalOf, formantAnswerOf, formantNextOf}
 use Rattle.formant_osc.specs.declared.FormantControls.{FormantControls}
 use Rattle.formant_osc.specs.declared.FormantMade.{FormantMade}
@@ -24,13 +24,15 @@ use Rattle.laws.specs.Float.{zer, isFin}
 use Rattle.laws.specs.Machine.{Settles}
 use Rattle.numeric.specs.Power.{exp2Of}
 
--- ---- a reached state refuses no call but for the call's own input
+-- ---- a reached state refuses no call but for the call's own input: a block for samples that don't fit its marks, or for a tally
+-- without room
 pub record Accepting (s : FormantOsc) : Type 0 where
   pub phase : phaseOk (s .phase) ≡ true
   pub «vibrato_phase» : phaseOk (s .«vibrato_phase») ≡ true
   pub ticks : (c : FormantControls) → accepted (formantTickOf s c .answer) ≡ true
-  pub resets : formantResetOf s .outcome ≡ outcome.Done
-  pub rates : (r : Hertz) → formantSetSampleRateOf s r .outcome ≡ cond (rateOk r) outcome.Done (outcome.Refused 1)
+  pub plays : (c : FormantControls) (t : Tally) (o : List Float) (m : List ℕ) → formantBlockOf s c t o m .refused ≡ blockRefusalOf (eqb (length o) (1 * length m)) 0 t (length m)
+  pub resets : reply s Reset ≡ Told 0
+  pub rates : (r : Hertz) → reply s (SetSampleRate r) ≡ Told (cond (rateOk r) 0 1)
 
 abbrev pub Never-refused : Type 0
 Never-refused = (s : FormantOsc) → ReachedFormant s → Accepting s

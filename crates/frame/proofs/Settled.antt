@@ -1,14 +1,13 @@
 -- Each contract, being equations, settles what it speaks of.
 use Rattle.laws.proofs.Settled as laws
-use Rattle.text.proofs.Settled.{both}
 use Rattle.frame.specs.End.{claimedOf}
 use Rattle.frame.specs.Promises.{Settled}
 
 pub settled : Settled
 settled =
     record {
-      «put_frame» = λ out at o n a. both _ _;
-      «put_end» = λ out at frames t. both _ _;
-      «put_refused» = λ out at n. both _ _;
+      «put_frame» = λ out at o n a. laws.both _ _;
+      «put_end» = λ out at frames t. laws.both _ _;
+      «put_refused» = λ out at n. laws.both _ _;
       claimed = λ frames t. laws.settled (claimedOf frames t);
     }

@@ -3,20 +3,20 @@ use mathlib.Core.Bool.{Bool, true, false, cond, false≢true}
 use mathlib.Core.Path.{_≡_, refl, sym, ap, _∙_}
 use Prim.Native.Nat.{ℕ}
 use lib.Dec.{eqb}
-use lib.Ieee.{Float, binary64, lt, le, ofBits, div, eq}
+use lib.Ieee.{Float, binary64, div}
 use borrow.Author.Tests.{eqb-true}
-use Rattle.common.proofs.PhaseLaws.{accepted-state}
+use Rattle.common.proofs.PhaseLaws.{accepted-state, restart-in}
 use Rattle.answer.proofs.Laws.{mark-says}
 use Rattle.answer.specs.Answer.{voltsOf, accepted}
 use Rattle.answer.specs.Mark.{allFinite}
 use Rattle.common.specs.Edge.{risingOf}
+use Rattle.common.specs.Phase.{restartOf}
 use Rattle.common.specs.Tests.{rateOk, phaseOk}
 use Rattle.lfo.proofs.Small.{outputs-finite}
 use Rattle.lfo.specs.Consts.{ten}
 use Rattle.lfo.specs.Lfo.{lfoRefusalOf, lfoOutputsOf, lfoSoundOf, lfoTickOf}
 use Rattle.lfo.specs.Promises.{Small-finite}
 use Rattle.lfo.specs.Small.{isSmall}
-use Rattle.lfo.specs.Waves.{restartOf}
 use Rattle.common.specs.declared.Turns.{Turns}
 use Rattle.answer.specs.declared.Answer.the-variants as answer
 use Rattle.answer.specs.declared.Volts.{Volts}
@@ -28,23 +28,17 @@ pub accepts : (s : Lfo) → lfoRefusalOf s ≡ 0 → (rateOk (s .«sample_rate»
 unfolding lfoRefusalOf
 accepts s h = accepted-state (rateOk (s .«sample_rate»)) (phaseOk (s .phase)) h
 
--- the phase that the waveforms see is good too
-pub restart-ok : (p : Turns) (edge : Bool) → phaseOk p ≡ true → phaseOk (restartOf p edge) ≡ true
-unfolding restartOf phaseOk lt le eq ofBits
-restart-ok p true h = refl
-restart-ok p false h = h
-
 -- a small depth in an accepted tick: every output is finite
 pub sound-finite : (s : Lfo) (edge small : Bool) (p : Turns) (wanted : ℕ) (depth : Float) (v : Volts) → lfoRefusalOf s ≡ 0
     → p ≡ restartOf (s .phase) edge → v ≡ lfoOutputsOf wanted (p .0) depth → small ≡ isSmall depth → small ≡ true → allFinite v ≡ true
-sound-finite s edge small p wanted depth v h e q b t = rw (q, e) (outputs-finite wanted (restartOf (s .phase) edge .0) depth (restart-ok (s .phase) edge (accepts s h .1)) (sym b ∙ t))
+sound-finite s edge small p wanted depth v h e q b t = rw (q, e) (outputs-finite wanted (restartOf (s .phase) edge .0) depth (restart-in (s .phase) edge (accepts s h .1)) (sym b ∙ t))
 
 -- ---- the promise
 sound-small : (s : Lfo) (c : LfoControls) (wanted : ℕ) → isSmall (div binary64 (c .depth) ten) ≡ true → lfoRefusalOf s ≡ 0 → allFinite (voltsOf (lfoSoundOf s c wanted .answer)) ≡ true
 unfolding lfoSoundOf
 sound-small s c wanted k h =
     let edge = risingOf (s .«reset_edge») (c .reset) .rising in
-    ap allFinite (mark-says _ _ _ _ .volts) ∙ outputs-finite wanted (restartOf (s .phase) edge .0) (div binary64 (c .depth) ten) (restart-ok (s .phase) edge (accepts s h .1)) k
+    ap allFinite (mark-says _ _ _ _ .volts) ∙ outputs-finite wanted (restartOf (s .phase) edge .0) (div binary64 (c .depth) ten) (restart-in (s .phase) edge (accepts s h .1)) k
 
 pub small-finite : Small-finite
 unfolding lfoTickOf accepted

@@ -11,20 +11,20 @@ use Rattle.answer.proofs.Laws.{mark-says}
 use Rattle.answer.specs.Mark.{markOf}
 use Rattle.answer.specs.declared.Answer.{Answer}
 use Rattle.answer.specs.declared.Volts.{Volts}
-use Rattle.common.specs.Phase.{turns, wrapOf}
+use Rattle.common.specs.Phase.{turns, wrapOf, incrementOf, restartOf}
 use Rattle.common.specs.Edge.{risingOf, risingAboveOf}
 use Rattle.common.specs.Memo.{recall1}
 use Rattle.common.specs.Tests.{phaseOk}
 use Rattle.common.proofs.EdgeLaws.{rises-once}
 use Rattle.common.proofs.MemoLaws.{recall1-again}
-use Rattle.common.proofs.PhaseLaws.{wrap-in}
+use Rattle.common.proofs.PhaseLaws.{wrap-in, restart-in}
 use Rattle.common.specs.declared.Turns.{Turns}
 use Rattle.laws.specs.Float.{isFin}
 use Rattle.lfo.specs.Held.{heldAnswer, heldNext}
-use Rattle.lfo.proofs.Accepted.{accepts, restart-ok}
+use Rattle.lfo.proofs.Accepted.{accepts}
 use Rattle.lfo.specs.Consts.{ten}
 use Rattle.lfo.specs.Lfo.{lfoRefusalOf, lfoOutputsOf, lfoSoundOf, lfoTickOf, lfoAnswerOf, lfoNextOf}
-use Rattle.lfo.specs.Waves.{rateToHz, restartOf}
+use Rattle.lfo.specs.Waves.{rateToHz}
 use Rattle.lfo.specs.Promises.{Block-accepts, Block-tallies}
 use Rattle.lfo.specs.declared.Lfo.{Lfo}
 use Rattle.lfo.specs.declared.LfoControls.{LfoControls}
@@ -50,7 +50,7 @@ abbrev pub startOf : Lfo → LfoControls → Turns
 startOf s c = restartOf (s .phase) (risingOf (s .«reset_edge») (c .reset) .rising)
 
 abbrev pub stepOf : Lfo → LfoControls → Turns
-stepOf s c = turns (div binary64 (heldMemo s c .val .0) (s .«sample_rate» .0))
+stepOf s c = incrementOf (heldMemo s c .val) (s .«sample_rate»)
 
 -- the state in a block whose phase is p, from the second tick on
 abbrev pub stateOf : Lfo → LfoControls → Turns → Lfo
@@ -74,7 +74,7 @@ pub holds : (s : Lfo) (c : LfoControls) (wanted : ℕ) → lfoRefusalOf s ≡ 0
     → Holds (lfoAnswerOf c wanted) (lfoNextOf c wanted) (heldAnswer wanted (div binary64 (c .depth) ten) (stepOf s c)) (heldNext (stepOf s c)) (stateOf s c) (λ p. phaseOk p ≡ true) s (startOf s c)
 holds s c wanted h =
     record {
-      good = restart-ok (s .phase) (risingOf (s .«reset_edge») (c .reset) .rising) (accepts s h .1);
+      good = restart-in (s .phase) (risingOf (s .«reset_edge») (c .reset) .rising) (accepts s h .1);
       first = unfold lfoSoundOf heldAnswer in ap (λ (t : LfoTicked). t .answer) (tick-sounds s c wanted h);
       second = unfold lfoSoundOf heldNext in ap (λ (t : LfoTicked). t .lfo) (tick-sounds s c wanted h);
       stays = λ p k. unfold heldNext in wrap-in _ (add-fits binary64 _ _);

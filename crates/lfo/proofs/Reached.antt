@@ -1,21 +1,26 @@
 -- What every reached Lfo has: a good rate, a phase in [0, 1), and a memo that holds what it would compute. So no call refuses it.
 use mathlib.Core.Bool.{Bool, true, false, cond}
 use mathlib.Core.Logic.{inl}
-use mathlib.Core.Path.{_≡_, refl, sym, subst}
-use Prim.Native.Nat.{ℕ}
+use mathlib.Core.Path.{_≡_, refl, sym, ap, _∙_, subst}
+use Prim.Native.Nat.{ℕ, _*_}
 use native.Mathlib.Omega.{arith}
+use lib.Dec.{eqb}
 use lib.Ieee.{binary64}
 use lib.Ieee.Fits.{add-fits}
+use lib.ListN.{length}
+use Rattle.answer.proofs.Blocks.{block-keeps, block-refusal}
 use Rattle.answer.proofs.Laws.{mark-says}
 use Rattle.answer.specs.Answer.{accepted}
+use Rattle.answer.specs.Block.{blockRefusalOf}
 use Rattle.common.proofs.MemoLaws.{recalled1}
 use Rattle.common.proofs.PhaseLaws.{wrap-in, zero-in}
 use Rattle.common.specs.Promises.{Coherent1}
 use Rattle.common.specs.Tests.{rateOk, phaseOk}
 use Rattle.laws.proofs.Always.{always}
 use Rattle.laws.specs.Float.{F64}
-use Rattle.lfo.specs.Calls.{Call, keptOr, toldOf, after, reply, FitCall, First, ReachedLfo, Tick, Reset, SetSampleRate, Done, Refused}
-use Rattle.lfo.specs.Lfo.{newLfo, lfoRefusalOf, lfoNewOf, lfoSoundOf, lfoTickOf, madeUnless, lfoResetOf, rated, lfoSetSampleRateOf}
+use Rattle.lfo.specs.Calls.{Call, after, reply, FitCall, First, ReachedLfo, Tick, Play, Reset, SetSampleRate, Told}
+use Rattle.lfo.specs.Lfo.{newLfo, lfoRefusalOf, lfoNewOf, lfoSoundOf, lfoTickOf, lfoBlockOf, madeNumber, madeOr, madeUnless, lfoResetOf}
+use Rattle.lfo.specs.Lfo.{rated, lfoSetSampleRateOf}
 use Rattle.lfo.specs.Promises.{Never-refused}
 use Rattle.lfo.specs.Waves.{rateToHz}
 use Rattle.common.specs.declared.Hertz.{Hertz}
@@ -30,7 +35,7 @@ pub record Good (s : Lfo) : Type 0 where
   pub memo : Coherent1 rateToHz (s .«freq_memo»)
 
 -- ---- a good state is refused by nothing
-unrefused : (s : Lfo) → Good s → lfoRefusalOf s ≡ 0
+pub unrefused : (s : Lfo) → Good s → lfoRefusalOf s ≡ 0
 unfolding lfoRefusalOf
 unrefused s g = simp (g .rate, g .phase)
 
@@ -59,13 +64,17 @@ sound-good : (s : Lfo) (c : LfoControls) (w : ℕ) → Good s → F64 (c .rate) 
 unfolding lfoSoundOf
 sound-good s c w g f = record { rate = g .rate; phase = wrap-in _ (add-fits binary64 _ _); memo = recalled1 rateToHz (s .«freq_memo») (g .memo) (c .rate) f }
 
+tick-good : (s : Lfo) (c : LfoControls) (w : ℕ) → Good s → F64 (c .rate) → Good (lfoTickOf s c w .lfo)
+tick-good s c w g f = subst (λ (t : LfoTicked). Good (t .lfo)) (sym (tick-sounds s c w g)) (sound-good s c w g f)
+
 after-good : (s : Lfo) (c : Call) → Good s → FitCall c → Good (after s c)
-unfolding after
-after-good s (Tick c w) g f = subst (λ (t : LfoTicked). Good (t .lfo)) (sym (tick-sounds s c w g)) (sound-good s c w g f)
+unfolding after madeOr
+after-good s (Tick c w) g f = tick-good s c w g f
+after-good s (Play c w t o m) g f = unfold lfoBlockOf in block-keeps 5 _ _ _ Good (λ r h. tick-good r c w h f) s g t o m
 after-good s Reset g f = unfold lfoResetOf madeUnless in simp (unrefused s g) (record { rate = g .rate; phase = zero-in; memo = g .memo })
 after-good s (SetSampleRate r) g f = unfold lfoSetSampleRateOf madeUnless in go (rateOk r) refl
   where
-    go : (b : Bool) → rateOk r ≡ b → Good (keptOr s (cond b (madeUnless (lfoRefusalOf s) (rated s r)) (made.Refused 1)))
+    go : (b : Bool) → rateOk r ≡ b → Good (madeOr s (cond b (madeUnless (lfoRefusalOf s) (rated s r)) (made.Refused 1)))
     go true e = unfold madeUnless in simp (unrefused s g) (record { rate = e; phase = g .phase; memo = g .memo })
     go false e = g
 
@@ -74,16 +83,18 @@ good = always Good first-good after-good
 
 -- ---- the promise
 pub never-refused : Never-refused
-unfolding reply
+unfolding reply madeNumber
 never-refused s h =
     let g = good h in
     record {
       phase = g .phase;
       ticks = λ c w. rw (tick-sounds s c w g) (sound-accepted s c w);
+      plays = λ c w t o m. unfold lfoBlockOf in
+          block-refusal 5 _ _ _ s t o m ∙ ap (λ (n : ℕ). blockRefusalOf (eqb (length o) (5 * length m)) n t (length m)) (unrefused s g);
       resets = unfold lfoResetOf madeUnless in simp (unrefused s g);
       rates = λ r. unfold lfoSetSampleRateOf madeUnless in rates r (rateOk r);
     }
   where
-    rates : (r : Hertz) (b : Bool) → toldOf (cond b (madeUnless (lfoRefusalOf s) (rated s r)) (made.Refused 1)) ≡ cond b Done (Refused 1)
+    rates : (r : Hertz) (b : Bool) → Told (madeNumber (cond b (madeUnless (lfoRefusalOf s) (rated s r)) (made.Refused 1))) ≡ Told (cond b 0 1)
     rates r true = unfold madeUnless in simp (unrefused s (good h))
     rates r false = refl

@@ -1,48 +1,48 @@
--- Calls on an Lfo, one after another, and what they answer.
+-- Calls on an Lfo, one after another, and what they answer. A block is one of them.
+use mathlib.Core.List.{List}
 use mathlib.Core.Path.{_≡_}
 use Prim.Native.Nat.{ℕ}
+use lib.Ieee.{Float}
 use Rattle.laws.specs.Float.{F64}
 use Rattle.laws.specs.Machine.{Reached}
-use Rattle.lfo.specs.Lfo.{lfoNewOf, lfoTickOf, lfoResetOf, lfoSetSampleRateOf}
+use Rattle.lfo.specs.Lfo.{lfoNewOf, lfoTickOf, lfoBlockOf, lfoResetOf, lfoSetSampleRateOf, madeNumber, madeOr}
 use Rattle.common.specs.declared.Hertz.{Hertz}
+use Rattle.answer.specs.Block.{Block}
 use Rattle.answer.specs.declared.Answer.{Answer}
+use Rattle.answer.specs.declared.Tally.{Tally}
 use Rattle.lfo.specs.declared.Lfo.{Lfo}
 use Rattle.lfo.specs.declared.LfoControls.{LfoControls}
-use Rattle.lfo.specs.declared.LfoMade.{LfoMade}
 use Rattle.lfo.specs.declared.LfoMade.the-variants as made
 
+-- a block is given a tally, and buffers of samples and marks
 pub data Call : Type 0 where
   Tick : LfoControls → ℕ → Call
+  Play : LfoControls → ℕ → Tally → List Float → List ℕ → Call
   Reset : Call
   SetSampleRate : Hertz → Call
 
+-- a call without samples tells 0, or the number that refused it
 pub data Reply : Type 0 where
   Ticked : Answer → Reply
-  Done : Reply
-  Refused : ℕ → Reply
-
--- the state and the reply of a call without samples; a refusal leaves the state
-abbrev pub keptOr : Lfo → LfoMade → Lfo
-keptOr s (made.Made t) = t
-keptOr s (made.Refused n) = s
-
-abbrev pub toldOf : LfoMade → Reply
-toldOf (made.Made t) = Done
-toldOf (made.Refused n) = Refused n
+  Played : Block Lfo → Reply
+  Told : ℕ → Reply
 
 unfoldable pub after : Lfo → Call → Lfo
 after s (Tick c wanted) = lfoTickOf s c wanted .lfo
-after s Reset = keptOr s (lfoResetOf s)
-after s (SetSampleRate r) = keptOr s (lfoSetSampleRateOf s r)
+after s (Play c wanted t o m) = lfoBlockOf s c wanted t o m .state
+after s Reset = madeOr s (lfoResetOf s)
+after s (SetSampleRate r) = madeOr s (lfoSetSampleRateOf s r)
 
 unfoldable pub reply : Lfo → Call → Reply
 reply s (Tick c wanted) = Ticked (lfoTickOf s c wanted .answer)
-reply s Reset = toldOf (lfoResetOf s)
-reply s (SetSampleRate r) = toldOf (lfoSetSampleRateOf s r)
+reply s (Play c wanted t o m) = Played (lfoBlockOf s c wanted t o m)
+reply s Reset = Told (madeNumber (lfoResetOf s))
+reply s (SetSampleRate r) = Told (madeNumber (lfoSetSampleRateOf s r))
 
 -- the rate control is an f64, as every control is
 abbrev pub FitCall : Call → Type 0
 FitCall (Tick c wanted) = F64 (c .rate)
+FitCall (Play c wanted t o m) = F64 (c .rate)
 FitCall Reset = Unit {0}
 FitCall (SetSampleRate r) = Unit {0}
 

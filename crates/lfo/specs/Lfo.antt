@@ -9,11 +9,11 @@ use Rattle.answer.specs.Mark.{markOf}
 use Rattle.common.specs.Consts.{five}
 use Rattle.common.specs.Edge.{newEdge, risingOf}
 use Rattle.common.specs.Memo.{newMemo1, recall1}
-use Rattle.common.specs.Phase.{turns, wrapOf}
+use Rattle.common.specs.Phase.{turns, wrapOf, incrementOf, restartOf}
 use Rattle.common.specs.Tests.{rateOk, phaseOk}
 use Rattle.laws.specs.Float.{zer, isFin}
 use Rattle.lfo.specs.Consts.{ten}
-use Rattle.lfo.specs.Waves.{rateToHz, restartOf, wants, sineOf, sinWave, triWave, sawWave, sqrWave, sinUniWave}
+use Rattle.lfo.specs.Waves.{rateToHz, wants, sineOf, sinWave, triWave, sawWave, sqrWave, sinUniWave}
 use Rattle.common.specs.declared.Hertz.{Hertz}
 use Rattle.answer.specs.declared.Volts.{Volts}
 use Rattle.answer.specs.declared.Answer.{Answer}
@@ -56,7 +56,7 @@ lfoSoundOf s c wanted =
     let memo = recall1 rateToHz (s .«freq_memo») (c .rate) in
     let risen = risingOf (s .«reset_edge») (c .reset) in
     let phase = restartOf (s .phase) (risen .rising) .0 in
-    let next = add binary64 phase (div binary64 (memo .val .0) (s .«sample_rate» .0)) in
+    let next = add binary64 phase (incrementOf (memo .val) (s .«sample_rate») .0) in
     record {
       answer = markOf (lfoOutputsOf wanted phase depth) false true (isFin next);
       lfo = record { phase = turns (wrapOf next); «sample_rate» = s .«sample_rate»; «reset_edge» = risen .edge; «freq_memo» = memo };
@@ -77,6 +77,15 @@ lfoNextOf c wanted s = lfoTickOf s c wanted .lfo
 
 unfoldable pub lfoBlockOf : Lfo → LfoControls → ℕ → Tally → List Float → List ℕ → Block Lfo
 lfoBlockOf s c wanted t o m = blockOf 5 (lfoRefusalOf s) (lfoAnswerOf c wanted) (lfoNextOf c wanted) s t o m
+
+-- document 01's number of what a call made, 0 unless it was refused, and the state then: a refusal leaves the old one
+unfoldable pub madeNumber : LfoMade → ℕ
+madeNumber (made.Made t) = 0
+madeNumber (made.Refused n) = n
+
+unfoldable pub madeOr : Lfo → LfoMade → Lfo
+madeOr s (made.Made t) = t
+madeOr s (made.Refused n) = s
 
 -- s, unless n refuses
 unfoldable pub madeUnless : ℕ → Lfo → LfoMade

@@ -11,15 +11,10 @@ use Rattle.numeric.specs.Power.{pow3000Of}
 use Rattle.numeric.specs.Trig.{sinOf}
 use Rattle.lfo.specs.Consts.{ten, lowest}
 use Rattle.common.specs.declared.Hertz.{Hertz}
-use Rattle.common.specs.declared.Turns.{Turns}
 
 -- the closure || 0.01 * pow(3000.0, rate_cv.clamp(0.0, 1.0))
 unfoldable pub rateToHz : Float → Hertz
 rateToHz rate = record { 0 = mul binary64 lowest (pow3000Of (clampOf rate zer one)) }
-
--- if rising { phase = 0.0 }
-unfoldable pub restartOf : Turns → Bool → Turns
-restartOf phase edge = cond edge (record { 0 = zer }) phase
 
 -- wanted & bit != 0
 abbrev pub wants : ℕ → ℕ → Bool

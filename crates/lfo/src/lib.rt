@@ -8,21 +8,18 @@ use common::Hertz;
 use common::Memo1;
 use common::Turns;
 ghost use mathlib.Core.Path.{_≡_};
-ghost use mathlib.Core.Bool.{true, false, cond, _||_};
+ghost use mathlib.Core.Bool.{true, false, _||_};
 ghost use Prim.Native.Nat.{_<_, _*_};
 ghost use lib.Dec.{eqb};
-ghost use lib.Ieee.{binary64, div};
 ghost use lib.ListN.{length, set};
 ghost use lib.Seq.{sets};
 ghost use Rattle.laws.specs.Lists.{tab};
-ghost use Rattle.laws.specs.Float.{zer};
-ghost use Rattle.common.specs.Phase.{turns};
 ghost use Rattle.common.specs.Memo.{recall1};
 ghost use Rattle.common.specs.Tests.{phaseOk};
-ghost use Rattle.answer.specs.Answer.{markNumber, voltsOf};
+ghost use Rattle.answer.specs.Answer.{hostNumber, voltsOf};
 ghost use Rattle.answer.specs.Mark.{allFinite, markOf};
 ghost use Rattle.answer.specs.Block.{afterTicks, portsOf, joined, block, markAt, frameAt};
-ghost use Rattle.lfo.specs.Waves.{rateToHz, restartOf, sharedSine, sinWave, triWave, sawWave, sqrWave, sinUniWave};
+ghost use Rattle.lfo.specs.Waves.{rateToHz, sharedSine, sinWave, triWave, sawWave, sqrWave, sinUniWave};
 ghost use Rattle.lfo.specs.Small.{isSmall};
 ghost use Rattle.lfo.specs.Held.{heldAnswer, heldNext};
 ghost use Rattle.lfo.specs.Lfo.{lfoRefusalOf, lfoNewOf, lfoOutputsOf, lfoSoundOf, lfoTickOf, lfoAnswerOf, lfoNextOf, lfoBlockOf, lfoResetOf, lfoSetSampleRateOf};
@@ -78,13 +75,6 @@ fn recall(memo: Memo1, rate: f64) -> Memo1
         let val = rate_to_hz(rate);
         Memo1::filled(rate, val)
     }
-}
-
-// The phase that the waveforms see: 0 where the reset edge is taken.
-fn restart(phase: Turns, edge: bool) -> Turns
-    ensures { λ r. ⌜ r ≡ restartOf phase edge ⌝ }
-{
-    if edge { Turns(0.0) } else { phase }
 }
 
 fn either(a: bool, b: bool) -> bool
@@ -158,13 +148,6 @@ fn mark(v: Volts, small: bool, phases: bool) -> Answer
     }
 }
 
-// What the phase grows by in a tick.
-fn increment(freq: Hertz, sample_rate: Hertz) -> Turns
-    ensures { λ r. ⌜ r ≡ turns (div binary64 (freq .0) («sample_rate» .0)) ⌝ }
-{
-    Turns(freq.0 / sample_rate.0)
-}
-
 // Whether a block has five samples for each of n marks. A product could be too large.
 fn fits(samples: usize, n: usize) -> bool
     ensures { λ r. ⌜ r ≡ eqb samples (5 * n) ⌝ }
@@ -179,7 +162,7 @@ fn fits(samples: usize, n: usize) -> bool
 // What tick i of a block answers.
 fn put(a: Answer, i: usize, samples: &mut [f64], marks: &mut [u32])
     requires { ⌜ (i < length (now marks)) × (length (now samples) ≡ 5 * length (now marks)) ⌝ }
-    ensures { λ _. ⌜ (now (samples .exit) ≡ sets (now (samples .entry)) (5 * i) (portsOf 5 (voltsOf a))) × (now (marks .exit) ≡ set (now (marks .entry)) i (markNumber a)) ⌝ }
+    ensures { λ _. ⌜ (now (samples .exit) ≡ sets (now (samples .entry)) (5 * i) (portsOf 5 (voltsOf a))) × (now (marks .exit) ≡ set (now (marks .entry)) i (hostNumber a)) ⌝ }
 {
     let v = answer::samples(a);
     let at = 5 * i;
@@ -188,7 +171,7 @@ fn put(a: Answer, i: usize, samples: &mut [f64], marks: &mut [u32])
     samples[at + 2] = v.p12;
     samples[at + 3] = v.p13;
     samples[at + 4] = v.p14;
-    marks[i] = answer::mark_number(a);
+    marks[i] = answer::host_number(a);
 }
 
 impl Lfo {
@@ -274,10 +257,10 @@ impl Lfo {
         let freq = freq_memo.val;
         let risen = edge.rising(c.reset);
         let reset_edge = risen.edge;
-        let phase = restart(old, risen.rising);
+        let phase = common::restart(old, risen.rising);
         let sine = Self::shared_sine(wanted, phase);
         let volts = Self::outputs(wanted, phase, sine, depth);
-        let next = Turns(phase.0 + increment(freq, sample_rate).0);
+        let next = Turns(phase.0 + common::increment(freq, sample_rate).0);
         LfoTicked {
             answer: mark(volts, is_small(depth), numeric::is_finite(next.0)),
             lfo: Lfo {
@@ -347,8 +330,8 @@ impl Lfo {
         let freq = freq_memo.val;
         let risen = edge.rising(c.reset);
         let reset_edge = risen.edge;
-        let start = restart(old, risen.rising);
-        let step = increment(freq, sample_rate);
+        let start = common::restart(old, risen.rising);
+        let step = common::increment(freq, sample_rate);
         Lfo {
             phase: Self::glide(start, step, c.depth / 10.0, wanted, samples, marks),
             sample_rate,
@@ -382,7 +365,7 @@ impl Lfo {
                 LfoBlock {
                     refused: 0,
                     lfo,
-                    tally: tally.take_marks(marks),
+                    tally: tally.take_marks(marks).or(tally),
                 }
             }
         } else {

@@ -153,11 +153,18 @@ pub fn floor(x: f64) -> f64
 
 // ---- the noise draw
 
-// k * 2^-53: exact for a k below 2^53.
+// 2^-53, the step between two draws.
+const STEP: f64 = 1.1102230246251565e-16;
+
+// k * 2^-53. Of a k below 2^53 the cast loses nothing, and no digit of the draw is rounded; any other k is rounded once.
 pub fn draw(k: u64) -> f64
     ensures { λ r. ⌜ r ≡ drawOf k ⌝ }
 {
-    of_u64(k) * 1.1102230246251565e-16
+    if k < 9007199254740992 {
+        (k as f64) * STEP
+    } else {
+        of_u64(k) * STEP
+    }
 }
 
 // Twice that less 1: exact too.

@@ -1,7 +1,6 @@
 -- What holds of a score that is read; and that each contract, being equations, settles what it speaks of.
 use native.Mathlib.Omega.{arith}
 use Rattle.laws.proofs.Settled as laws
-use Rattle.text.proofs.Settled.{both}
 use Rattle.player.specs.Play.{heardOf}
 use Rattle.player.specs.Player.{beginOf}
 use Rattle.player.specs.Promises.{Read-renders, Settled}
@@ -16,4 +15,4 @@ read-renders text s e =
     record { frames = n; accepts = frames-accepted s (r .rate); counts = tally-takes-all (heardOf s) (omega (arith, r .most)); claimed = claimed-clean s (omega (arith, r .most)) }
 
 pub settled : Settled
-settled = record { new = λ s. laws.settled (beginOf s); run = λ p out budget. both _ _; finish = λ p out. both _ _ }
+settled = record { new = λ s. laws.settled (beginOf s); run = λ p out budget. laws.both _ _; finish = λ p out. laws.both _ _ }

@@ -1,6 +1,5 @@
 -- Each contract, being one equation or two, settles what it speaks of.
-use Rattle.laws.proofs.Settled.{settled}
-use Rattle.text.proofs.Settled.{both}
+use Rattle.laws.proofs.Settled.{settled, both}
 use Rattle.replay.specs.Settled.{Settled}
 
 pub replay-settled : Settled

@@ -22,7 +22,7 @@ use Rattle.answer.specs.Answer.{accepted}
 use Rattle.laws.proofs.All.{all-at, all-of}
 use Rattle.supersaw.specs.Calls.{Call, Tick, Reset, SetSampleRate, Done, Refused, replyOf, after, reply, First, ReachedSupersaw}
 use Rattle.supersaw.specs.Promises.{Never-refused}
-use Rattle.supersaw.specs.Supersaw.{startPhases, newSupersaw, supersawRefusalOf, madeUnless, supersawNewOf, supersawSoundOf, supersawTickOf, restarted, supersawResetOf, rated, supersawSetSampleRateOf}
+use Rattle.supersaw.specs.Supersaw.{startPhases, phasesOk, newSupersaw, supersawRefusalOf, madeUnless, supersawNewOf, supersawSoundOf, supersawTickOf, restarted, supersawResetOf, rated, supersawSetSampleRateOf}
 use Rattle.supersaw.specs.Voices.{at, voiceOf, voicesOf}
 use Rattle.supersaw.specs.declared.Supersaw.{Supersaw}
 use Rattle.supersaw.specs.declared.SupersawControls.{SupersawControls}
@@ -68,7 +68,10 @@ good-new r h = record { rate = h; phases = start; low = zero-in }
 
 not-refused : (s : Supersaw) → Good s → supersawRefusalOf s ≡ 0
 unfolding supersawRefusalOf
-not-refused s h = simp (h .rate, all-of (λ (i : ℕ). phaseOk (turns (at (s .phases) i))) 7 (h .phases .ok), h .low)
+not-refused s h = simp (h .rate, seven, h .low)
+  where
+    seven : phasesOk (s .phases) ≡ true
+    seven = unfold phasesOk in all-of (λ (i : ℕ). phaseOk (turns (at (s .phases) i))) 7 (h .phases .ok)
 
 good-sound : (s : Supersaw) → Good s → (c : SupersawControls) → Good (supersawSoundOf s c .supersaw)
 unfolding supersawSoundOf

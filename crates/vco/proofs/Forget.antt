@@ -14,12 +14,13 @@ use Rattle.common.proofs.EdgeLaws.{rises-new, gate-above, rises-five}
 use Rattle.common.proofs.MemoLaws.{recall3-is}
 use Rattle.answer.specs.Answer.{voltsOf}
 use Rattle.answer.specs.Mark.{markOf}
+use Rattle.answer.proofs.Blocks.{block-meets}
 use Rattle.answer.proofs.Laws.{mark-says}
 use Rattle.answer.specs.declared.Volts.{Volts}
-use Rattle.vco.specs.Vco.{newVco, frequencyOf, restartOf, vcoVoltsOf, vcoAnswerOf, vcoSoundOf}
+use Rattle.vco.specs.Vco.{newVco, frequencyOf, restartOf, vcoVoltsOf, vcoAnswerOf, vcoSoundOf, vcoToldOf, vcoNextOf, vcoBlockOf}
 use Rattle.vco.specs.Calls.{Tick, Fit, after, reply}
-use Rattle.vco.specs.Promises.{taken, Forgets, Edge-comes}
-use Rattle.vco.proofs.Reached.{Good, good-new, after-tick, Remembers, reached, good-after, tick-sound, accepted-sound, good-accepts}
+use Rattle.vco.specs.Promises.{taken, Forgets, Block-forgets, Edge-comes}
+use Rattle.vco.proofs.Reached.{Good, good-unrefused, good-new, after-tick, Remembers, reached, good-tick, tick-sound, accepted-sound, good-accepts}
 use Rattle.vco.specs.declared.Vco.{Vco}
 use Rattle.vco.specs.declared.VcoControls.{VcoControls}
 
@@ -40,6 +41,11 @@ unfolding vcoSoundOf newVco crossedOf crossedAboveOf restartOf
 struck s h c wanted f e =
     let n : risesAbove gateThreshold zer (c .sync) ≡ true = edge-new s c e in
     simp (memo s h c f, fresh c f, e, n)
+
+struck-after : (s : Vco) → Good s → Remembers s → (c : VcoControls) (wanted : ℕ) → Fit c → taken s c ≡ true
+    → after s (Tick c wanted) ≡ after (newVco (s .«sample_rate»)) (Tick c wanted)
+struck-after s g h c wanted f e =
+    after-tick s g c wanted ∙ struck s h c wanted f e ∙ sym (after-tick (newVco (s .«sample_rate»)) (good-new (s .«sample_rate») (g .rate)) c wanted)
 
 -- and its sine and triangle are a new one's
 volts-mark : (v : Volts) (cleared sums phases : Bool) → voltsOf (markOf v cleared sums phases) ≡ v
@@ -67,8 +73,20 @@ forgets s h c wanted f a e =
       accepts = rw (tick-sound (newVco r) n c wanted) (accepted-sound (newVco r) c wanted);
       sin = rw (tick-sound s g c wanted, tick-sound (newVco r) n c wanted) (struck-sin s c wanted e);
       tri = rw (tick-sound s g c wanted, tick-sound (newVco r) n c wanted) (struck-tri s (k .1) c wanted f e);
-      later = λ cs. ap (λ (t : Vco). replies after reply t cs) (after-tick s g c wanted ∙ struck s (k .1) c wanted f e ∙ sym (after-tick (newVco r) n c wanted));
+      state = struck-after s g (k .1) c wanted f e;
+      later = λ cs. ap (λ (t : Vco). replies after reply t cs) (struck-after s g (k .1) c wanted f e);
     }
+
+pub block-forgets : Block-forgets
+unfolding vcoBlockOf after
+block-forgets s h c wanted t o m f a z e =
+    let k = reached s h in
+    let g = k .0 in
+    let new = newVco (s .«sample_rate») in
+    let next = struck-after s g (k .1) c wanted f e in
+    let taken = sym (good-accepts s g .play c wanted t o m) ∙ a in
+    simp (good-unrefused s g, good-unrefused new (good-new (s .«sample_rate») (g .rate)))
+    (block-meets (vcoNextOf c wanted) s new next 4 0 (vcoToldOf c wanted) t o m (taken, z))
 
 -- low, and then 5.0 V
 prev-is : (s : Vco) → Good s → (c : VcoControls) (wanted : ℕ) → after s (Tick c wanted) .«sync_edge» .prev ≡ c .sync
@@ -79,6 +97,6 @@ edge-comes s h c d wanted low high =
     let g = reached s h .0 in
     record {
       first = good-accepts s g .tick c wanted;
-      second = good-accepts (after s (Tick c wanted)) (good-after s g (Tick c wanted)) .tick d wanted;
+      second = good-accepts (after s (Tick c wanted)) (unfold after in good-tick s g c wanted) .tick d wanted;
       edge = rw (prev-is s g c wanted, high) (rises-five (c .sync) (is-true (le (c .sync) gateThreshold) low));
     }

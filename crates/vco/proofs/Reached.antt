@@ -1,11 +1,12 @@
 -- A Vco that is reached from new has a good rate, a phase in [0, 1) and a coherent memo: so no call refuses but for its own input.
 use mathlib.Core.Bool.{Bool, true, false, cond}
 use mathlib.Core.Logic.{inl}
-use mathlib.Core.Path.{_≡_, refl, sym, ap, subst}
-use Prim.Native.Nat.{ℕ}
+use mathlib.Core.Path.{_≡_, refl, sym, ap, _∙_, subst}
+use Prim.Native.Nat.{ℕ, _*_}
 use lib.Dec.{eqb}
 use lib.Ieee.{binary64}
 use lib.Ieee.Fits.{add-fits}
+use lib.ListN.{length}
 use Rattle.laws.proofs.Always.{always}
 use Rattle.common.specs.Promises.{Coherent3}
 use Rattle.common.specs.Tests.{rateOk, phaseOk}
@@ -13,9 +14,12 @@ use Rattle.common.proofs.PhaseLaws.{wrap-in, zero-in}
 use Rattle.common.proofs.MemoLaws.{recalled3}
 use Rattle.common.specs.declared.Hertz.{Hertz}
 use Rattle.answer.specs.Answer.{accepted}
+use Rattle.answer.specs.Block.{blockRefusalOf}
+use Rattle.answer.proofs.Blocks.{block-keeps, block-refusal}
 use Rattle.answer.proofs.Laws.{mark-says}
-use Rattle.vco.specs.Vco.{newVco, frequencyOf, vcoAnswerOf, vcoSoundOf, vcoRefusalOf, vcoRateRefusalOf, vcoTickOf, restarted, vcoResetOf, rated, vcoSetSampleRateOf}
-use Rattle.vco.specs.Calls.{Call, Tick, Reset, SetSampleRate, Done, Refused, FitCall, First, ReachedVco, keptBy, toldBy, after, reply}
+use Rattle.vco.specs.Vco.{newVco, frequencyOf, vcoAnswerOf, vcoSoundOf, vcoRefusalOf, vcoRateRefusalOf, vcoTickOf, vcoBlockOf}
+use Rattle.vco.specs.Vco.{madeNumber, madeOr, restarted, vcoResetOf, rated, vcoSetSampleRateOf}
+use Rattle.vco.specs.Calls.{Call, Tick, Play, Reset, SetSampleRate, Told, Fit, FitCall, First, ReachedVco, after, reply}
 use Rattle.vco.specs.Promises.{Accepts, Never-refused}
 use Rattle.vco.specs.declared.Vco.{Vco}
 use Rattle.vco.specs.declared.VcoControls.{VcoControls}
@@ -64,53 +68,60 @@ unfolding after
 after-tick s g c wanted = ap (λ (t : VcoTicked). t .vco) (tick-sound s g c wanted)
 
 after-reset : (s : Vco) → Good s → after s Reset ≡ restarted s
+unfolding after madeOr
+after-reset s g = ap (madeOr s) (reset-made s g)
+
+after-rate : (s : Vco) → Good s → (r : Hertz) → after s (SetSampleRate r) ≡ madeOr s (cond (rateOk r) (made.Made (rated s r)) (made.Refused 1))
 unfolding after
-after-reset s g = ap (keptBy s) (reset-made s g)
+after-rate s g r = ap (madeOr s) (rate-made s g r)
 
-after-rate : (s : Vco) → Good s → (r : Hertz) → after s (SetSampleRate r) ≡ keptBy s (cond (rateOk r) (made.Made (rated s r)) (made.Refused 1))
-unfolding after
-after-rate s g r = ap (keptBy s) (rate-made s g r)
+pub good-tick : (s : Vco) → Good s → (c : VcoControls) (wanted : ℕ) → Good (vcoTickOf s c wanted .vco)
+good-tick s g c wanted = rw (tick-sound s g c wanted) (good-sound s g c wanted)
 
-pub good-after : (s : Vco) → Good s → (c : Call) → Good (after s c)
-good-after s g (Tick c wanted) = rw (after-tick s g c wanted) (good-sound s g c wanted)
-good-after s g Reset = rw (after-reset s g) (unfold restarted in record { rate = g .rate; phase = zero-in })
-good-after s g (SetSampleRate r) = rw (after-rate s g r) (go (rateOk r) refl)
+remembers-tick : (s : Vco) → Good s → Remembers s → (c : VcoControls) (wanted : ℕ) → Fit c → Remembers (vcoTickOf s c wanted .vco)
+remembers-tick s g h c wanted f =
+    rw (tick-sound s g c wanted) (unfold vcoSoundOf in recalled3 frequencyOf (s .«freq_memo») h (c .voct .0) (c .fm .0) (c .«fm_lin») (f .0) (f .1) (f .2))
+
+abbrev Both : Vco → Type 0
+Both s = Good s × Remembers s
+
+both-tick : (c : VcoControls) (wanted : ℕ) → Fit c → (s : Vco) → Both s → Both (vcoTickOf s c wanted .vco)
+both-tick c wanted f s h = (good-tick s (h .0) c wanted, remembers-tick s (h .0) (h .1) c wanted f)
+
+both-after : (s : Vco) (c : Call) → Both s → FitCall c → Both (after s c)
+both-after s (Tick c wanted) h f = unfold after in both-tick c wanted f s h
+both-after s (Play c wanted t o m) h f = unfold after vcoBlockOf in block-keeps 4 _ _ _ Both (both-tick c wanted f) s h t o m
+both-after s Reset h f = rw (after-reset s (h .0)) (unfold restarted in (record { rate = h .0 .rate; phase = zero-in }, h .1))
+both-after s (SetSampleRate r) h f = rw (after-rate s (h .0) r) (go (rateOk r) refl)
   where
-    go : (b : Bool) → rateOk r ≡ b → Good (keptBy s (cond b (made.Made (rated s r)) (made.Refused 1)))
-    go true e = unfold rated in record { rate = e; phase = g .phase }
-    go false e = g
-
-remembers-after : (s : Vco) → Good s → Remembers s → (c : Call) → FitCall c → Remembers (after s c)
-remembers-after s g h (Tick c wanted) f = rw (after-tick s g c wanted) (unfold vcoSoundOf in recalled3 frequencyOf (s .«freq_memo») h (c .voct .0) (c .fm .0) (c .«fm_lin») (f .0) (f .1) (f .2))
-remembers-after s g h Reset f = rw (after-reset s g) (unfold restarted in h)
-remembers-after s g h (SetSampleRate r) f = rw (after-rate s g r) (go (rateOk r))
-  where
-    go : (b : Bool) → Remembers (keptBy s (cond b (made.Made (rated s r)) (made.Refused 1)))
-    go true = unfold rated in h
-    go false = h
+    go : (b : Bool) → rateOk r ≡ b → Both (madeOr s (cond b (made.Made (rated s r)) (made.Refused 1)))
+    go true e = unfold madeOr rated in (record { rate = e; phase = h .0 .phase }, h .1)
+    go false e = unfold madeOr in h
 
 -- ---- so every state that is reached has both
 pub reached : (s : Vco) → ReachedVco s → Good s × Remembers s
-reached s h = always (λ (s : Vco). Good s × Remembers s) first (λ s c k f. (good-after s (k .0) c, remembers-after s (k .0) (k .1) c f)) h
+reached s h = always Both first both-after h
   where
-    first : (s : Vco) → First s → Good s × Remembers s
-    first s f = subst (λ (t : Vco). Good t × Remembers t) (sym (f .2)) (good-new (f .0) (f .1), unfold newVco in inl refl)
+    first : (s : Vco) → First s → Both s
+    first s f = subst Both (sym (f .2)) (good-new (f .0) (f .1), unfold newVco in inl refl)
 
 pub accepted-sound : (s : Vco) (c : VcoControls) (wanted : ℕ) → accepted (vcoSoundOf s c wanted .answer) ≡ true
 unfolding vcoSoundOf vcoAnswerOf
 accepted-sound s c wanted = mark-says _ _ _ _ .is-accepted
 
 pub good-accepts : (s : Vco) → Good s → Accepts s
-unfolding reply
+unfolding reply madeNumber
 good-accepts s g =
     record {
       tick = λ c wanted. rw (tick-sound s g c wanted) (accepted-sound s c wanted);
+      play = λ c wanted t o m. unfold vcoBlockOf in
+          block-refusal 4 _ _ _ s t o m ∙ ap (λ (n : ℕ). blockRefusalOf (eqb (length o) (4 * length m)) n t (length m)) (good-unrefused s g);
       reset = rw (reset-made s g) refl;
       rate = λ r. rw (rate-made s g r) (go r (rateOk r));
       phase = g .phase;
     }
   where
-    go : (r : Hertz) (b : Bool) → toldBy (cond b (made.Made (rated s r)) (made.Refused 1)) ≡ cond b Done (Refused 1)
+    go : (r : Hertz) (b : Bool) → Told (madeNumber (cond b (made.Made (rated s r)) (made.Refused 1))) ≡ Told (cond b 0 1)
     go r true = refl
     go r false = refl
 

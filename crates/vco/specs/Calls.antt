@@ -1,27 +1,32 @@
--- Calls on a Vco, one after another, and what they answer.
+-- Calls on a Vco, one after another, and what they answer. A block is one of them.
 use mathlib.Core.Path.{_≡_}
 use mathlib.Core.Bool.{true}
+use mathlib.Core.List.{List}
 use Prim.Native.Nat.{ℕ}
+use lib.Ieee.{Float}
 use Rattle.laws.specs.Float.{F64}
 use Rattle.laws.specs.Machine.{Reached}
 use Rattle.common.specs.Tests.{rateOk}
 use Rattle.common.specs.declared.Hertz.{Hertz}
+use Rattle.answer.specs.Block.{Block}
 use Rattle.answer.specs.declared.Answer.{Answer}
-use Rattle.vco.specs.Vco.{newVco, vcoTickOf, vcoResetOf, vcoSetSampleRateOf}
+use Rattle.answer.specs.declared.Tally.{Tally}
+use Rattle.vco.specs.Vco.{newVco, vcoTickOf, vcoBlockOf, vcoResetOf, vcoSetSampleRateOf, madeNumber, madeOr}
 use Rattle.vco.specs.declared.Vco.{Vco}
 use Rattle.vco.specs.declared.VcoControls.{VcoControls}
-use Rattle.vco.specs.declared.VcoMade.{VcoMade}
-use Rattle.vco.specs.declared.VcoMade.the-variants as made
 
+-- a block is given a tally, and buffers of samples and marks
 pub data Call : Type 0 where
   Tick : VcoControls → ℕ → Call
+  Play : VcoControls → ℕ → Tally → List Float → List ℕ → Call
   Reset : Call
   SetSampleRate : Hertz → Call
 
+-- a call without samples tells 0, or the number that refused it
 pub data Reply : Type 0 where
   Ticked : Answer → Reply
-  Done : Reply
-  Refused : ℕ → Reply
+  Played : Block Vco → Reply
+  Told : ℕ → Reply
 
 -- the memo's keys are f64: so is every control in Rattle
 abbrev pub Fit : VcoControls → Type 0
@@ -29,27 +34,21 @@ Fit c = F64 (c .voct .0) × F64 (c .fm .0) × F64 (c .«fm_lin»)
 
 abbrev pub FitCall : Call → Type 0
 FitCall (Tick c wanted) = Fit c
+FitCall (Play c wanted t o m) = Fit c
 FitCall Reset = Unit {0}
 FitCall (SetSampleRate r) = Unit {0}
 
--- the state and the reply of a call without samples; a refused one leaves the state
-abbrev pub keptBy : Vco → VcoMade → Vco
-keptBy s (made.Made t) = t
-keptBy s (made.Refused n) = s
-
-abbrev pub toldBy : VcoMade → Reply
-toldBy (made.Made t) = Done
-toldBy (made.Refused n) = Refused n
-
 unfoldable pub after : Vco → Call → Vco
 after s (Tick c wanted) = vcoTickOf s c wanted .vco
-after s Reset = keptBy s (vcoResetOf s)
-after s (SetSampleRate r) = keptBy s (vcoSetSampleRateOf s r)
+after s (Play c wanted t o m) = vcoBlockOf s c wanted t o m .state
+after s Reset = madeOr s (vcoResetOf s)
+after s (SetSampleRate r) = madeOr s (vcoSetSampleRateOf s r)
 
 unfoldable pub reply : Vco → Call → Reply
 reply s (Tick c wanted) = Ticked (vcoTickOf s c wanted .answer)
-reply s Reset = toldBy (vcoResetOf s)
-reply s (SetSampleRate r) = toldBy (vcoSetSampleRateOf s r)
+reply s (Play c wanted t o m) = Played (vcoBlockOf s c wanted t o m)
+reply s Reset = Told (madeNumber (vcoResetOf s))
+reply s (SetSampleRate r) = Told (madeNumber (vcoSetSampleRateOf s r))
 
 -- an accepted new
 abbrev pub First : Vco → Type 0

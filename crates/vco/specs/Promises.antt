@@ -2,9 +2,10 @@
 use mathlib.Core.Path.{_≡_}
 use mathlib.Core.Bool.{Bool, true, cond}
 use mathlib.Core.List.{List}
-use Prim.Native.Nat.{ℕ}
-use lib.Dec.{T}
+use Prim.Native.Nat.{ℕ, _*_, _<_}
+use lib.Dec.{T, eqb}
 use lib.Ieee.{Float, binary64, le, neg, ofBits}
+use lib.ListN.{length}
 use Rattle.laws.specs.Float.{zer}
 use Rattle.laws.specs.Machine.{replies, Settles}
 use Rattle.common.specs.Consts.{gateThreshold, five, half}
@@ -12,12 +13,12 @@ use Rattle.common.specs.Edge.{risesAbove}
 use Rattle.common.specs.Tests.{rateOk, phaseOk}
 use Rattle.common.specs.declared.Hertz.{Hertz}
 use Rattle.answer.specs.Answer.{accepted, voltsOf}
-use Rattle.answer.specs.Block.{Block}
+use Rattle.answer.specs.Block.{Block, blockRefusalOf}
 use Rattle.answer.specs.Promises.{AllAccepted, AllTaken}
 use Rattle.answer.specs.declared.Answer.the-variants as answer
 use Rattle.answer.specs.declared.Tally.{Tally}
 use Rattle.vco.specs.Vco.{newVco, vcoNewOf, vcoTickOf, vcoBlockOf, vcoResetOf, vcoSetSampleRateOf, vcoRefusalOf, vcoToldOf, vcoNextOf}
-use Rattle.vco.specs.Calls.{Call, Tick, Reset, SetSampleRate, Done, Refused, Fit, after, reply, ReachedVco}
+use Rattle.vco.specs.Calls.{Call, Tick, Reset, SetSampleRate, Told, Fit, after, reply, ReachedVco}
 use Rattle.vco.specs.declared.Vco.{Vco}
 use Rattle.vco.specs.declared.VcoControls.{VcoControls}
 use Rattle.vco.specs.declared.VcoTicked.{VcoTicked}
@@ -26,8 +27,11 @@ use Rattle.vco.specs.declared.VcoMade.{VcoMade}
 -- ---- no call refuses but for its own input
 pub record Accepts (s : Vco) : Type 0 where
   pub tick : (c : VcoControls) (wanted : ℕ) → accepted (vcoTickOf s c wanted .answer) ≡ true
-  pub reset : reply s Reset ≡ Done
-  pub rate : (r : Hertz) → reply s (SetSampleRate r) ≡ cond (rateOk r) Done (Refused 1)
+  -- by its buffers' 52 and its tally's 7 alone
+  pub play : (c : VcoControls) (wanted : ℕ) (t : Tally) (o : List Float) (m : List ℕ)
+      → vcoBlockOf s c wanted t o m .refused ≡ blockRefusalOf (eqb (length o) (4 * length m)) 0 t (length m)
+  pub reset : reply s Reset ≡ Told 0
+  pub rate : (r : Hertz) → reply s (SetSampleRate r) ≡ Told (cond (rateOk r) 0 1)
   pub phase : phaseOk (s .phase) ≡ true
 
 abbrev pub Never-refused : Type 0
@@ -45,11 +49,19 @@ pub record Forgotten (s : Vco) (c : VcoControls) (wanted : ℕ) : Type 0 where
   -- in the edge tick: all but saw, square and mark
   pub sin : voltsOf (vcoTickOf s c wanted .answer) .p10 ≡ voltsOf (vcoTickOf (newVco (s .«sample_rate»)) c wanted .answer) .p10
   pub tri : voltsOf (vcoTickOf s c wanted .answer) .p11 ≡ voltsOf (vcoTickOf (newVco (s .«sample_rate»)) c wanted .answer) .p11
-  -- and every call after it
+  -- it leaves the same state
+  pub state : after s (Tick c wanted) ≡ after (newVco (s .«sample_rate»)) (Tick c wanted)
+  -- and answers the same to every call after it
   pub later : (cs : List Call) → replies after reply (after s (Tick c wanted)) cs ≡ replies after reply (after (newVco (s .«sample_rate»)) (Tick c wanted)) cs
 
 abbrev pub Forgets : Type 0
 Forgets = (s : Vco) → ReachedVco s → (c : VcoControls) (wanted : ℕ) → Fit c → accepted (vcoTickOf s c wanted .answer) ≡ true → taken s c ≡ true → Forgotten s c wanted
+
+-- a block that takes the edge in its first tick leaves what a new one's leaves
+abbrev pub Block-forgets : Type 0
+Block-forgets = (s : Vco) → ReachedVco s → (c : VcoControls) (wanted : ℕ) (t : Tally) (o : List Float) (m : List ℕ) → Fit c
+    → vcoBlockOf s c wanted t o m .refused ≡ 0 → 0 < length m → taken s c ≡ true
+    → vcoBlockOf s c wanted t o m .state ≡ vcoBlockOf (newVco (s .«sample_rate»)) c wanted t o m .state
 
 -- such a tick is there: one with the gate low, then one at 5.0 V
 pub record Comes (s : Vco) (c d : VcoControls) (wanted : ℕ) : Type 0 where

@@ -121,6 +121,15 @@ vcoNextOf c wanted s = vcoTickOf s c wanted .vco
 unfoldable pub vcoBlockOf : Vco → VcoControls → ℕ → Tally → List Float → List ℕ → Block Vco
 vcoBlockOf s c wanted t o m = blockOf 4 (vcoRefusalOf s) (vcoToldOf c wanted) (vcoNextOf c wanted) s t o m
 
+-- document 01's number of what a call made, 0 unless it was refused, and the state then: a refusal leaves the old one
+unfoldable pub madeNumber : VcoMade → ℕ
+madeNumber (made.Made t) = 0
+madeNumber (made.Refused n) = n
+
+unfoldable pub madeOr : Vco → VcoMade → Vco
+madeOr s (made.Made t) = t
+madeOr s (made.Refused n) = s
+
 -- phase = 0.0; sync_edge.reset()
 unfoldable pub restarted : Vco → Vco
 restarted s = record { phase = turns zer; «sample_rate» = s .«sample_rate»; «sync_edge» = newEdge; «freq_memo» = s .«freq_memo» }

@@ -1,5 +1,4 @@
-use Rattle.answer.specs.Answer.{markNumber, refusalOf, accepted}
-use Rattle.answer.specs.Flat.{hostNumber}
+use Rattle.answer.specs.Answer.{markNumber, hostNumber, refusalOf, accepted}
 use borrow.Author.Needs.{needs}
 use Rattle.answer.proofs.host_number.Statement.{statement}
 use Rattle.answer.proofs.host_number.Tie as tie

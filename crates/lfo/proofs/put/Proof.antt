@@ -55,8 +55,8 @@ mul-samples-5 c = search needs
 slice-write-samples-5 : tie.Need-slice-write-samples-5
 slice-write-samples-5 c = simp length-set (omega arith)
 
-mark-number-requires : tie.Need-mark-number-requires
-mark-number-requires c κs = search needs
+host-number-requires : tie.Need-host-number-requires
+host-number-requires c κs = search needs
 
 mul-marks : tie.Need-mul-marks
 mul-marks c = search needs
@@ -75,7 +75,7 @@ after n = (omega arith, omega arith, omega arith, omega arith)
 
 returns : tie.Need-returns
 unfolding portsOf
-returns c = let k = after (5 * c .before .before .before .before .args .i) in (simp (c .before .samples .ensures, k .0, k .1, k .2, k .3), simp (c .mark-number .ensures))
+returns c = let k = after (5 * c .before .before .before .before .args .i) in (simp (c .before .samples .ensures, k .0, k .1, k .2, k .3), simp (c .host-number .ensures))
 
 pub put-spec : {M : Type 1} → statement M
 put-spec =
@@ -97,7 +97,7 @@ put-spec =
     add-samples-4
     mul-samples-5
     slice-write-samples-5
-    mark-number-requires
+    host-number-requires
     mul-marks
     slice-write-marks
     same-length

@@ -19,16 +19,13 @@ shared-slice-read-t12 c = search needs
 shared-slice-read-t14 : tie.Need-shared-slice-read-t14
 shared-slice-read-t14 c = search needs
 
-new-requires : tie.Need-new-requires
-new-requires c κs = search needs
-
 returns : tie.Need-returns
 unfolding tallyFrom
 returns c = simp (eq-eqb _ _ (c .before .before .before .before .before .if1 .taken))
 
 returns-2 : tie.Need-returns-2
 unfolding tallyFrom
-returns-2 c = simp (c .new .ensures, ne-eqb _ _ (c .before .if1 .left))
+returns-2 c = simp (ne-eqb _ _ (c .if1 .left))
 
 pub from-counts-spec : {M : Type 1} → statement M
 from-counts-spec =
@@ -39,6 +36,5 @@ from-counts-spec =
     shared-slice-read-t10
     shared-slice-read-t12
     shared-slice-read-t14
-    new-requires
     returns
     returns-2)

@@ -2,7 +2,7 @@ use native.Mathlib.Omega.{arith}
 use lib.ListN.{length-set}
 use borrow.Author.Tests.{eq-eqb, ne-eqb}
 use Rattle.laws.proofs.Slices.{stored}
-use Rattle.answer.specs.Flat.{countsOf, countsPut}
+use Rattle.answer.specs.Flat.{countsOf, countsPut, countsOutcome}
 use borrow.Author.Needs.{needs}
 use Rattle.answer.proofs.Tally.put_counts.Statement.{statement}
 use Rattle.answer.proofs.Tally.put_counts.Tie as tie
@@ -26,12 +26,12 @@ same-length : tie.Need-same-length
 same-length c = search needs
 
 returns : tie.Need-returns
-unfolding countsPut countsOf
-returns c = simp (eq-eqb _ _ (c .if1 .taken)) (stored (c .before .args .counts .now) (countsOf (c .before .args .self)) (c .if1 .taken))
+unfolding countsOutcome countsPut countsOf
+returns c = (simp (eq-eqb _ _ (c .if1 .taken)), simp (eq-eqb _ _ (c .if1 .taken)) (stored (c .before .args .counts .now) (countsOf (c .before .args .self)) (c .if1 .taken)))
 
 returns-2 : tie.Need-returns-2
-unfolding countsPut
-returns-2 c = simp (ne-eqb _ _ (c .if1 .left))
+unfolding countsOutcome countsPut
+returns-2 c = (simp (ne-eqb _ _ (c .if1 .left)), simp (ne-eqb _ _ (c .if1 .left)))
 
 pub put-counts-spec : {M : Type 1} → statement M
 put-counts-spec =

@@ -1,14 +1,21 @@
-use mathlib.Core.Path.{_∙_}
-use Rattle.exports.proofs.Counts.{put-five, taken, refused, unsized}
 use borrow.Author.Needs.{needs}
+use mathlib.Core.Path.{ap, _∙_}
+use Rattle.answer.specs.Answer.{answerOf}
+use Rattle.exports.proofs.Counts.{not-counts, refused, taken}
 use Rattle.exports.proofs.answer_calls.gruttisol_tally_take.Statement.{statement}
 use Rattle.exports.proofs.answer_calls.gruttisol_tally_take.Tie as tie
 
 from-counts-requires : tie.Need-from-counts-requires
 from-counts-requires c κs = search needs
 
-answer-at-requires : tie.Need-answer-at-requires
-answer-at-requires c κs = search needs
+enum-known-given : tie.Need-enum-known-given
+enum-known-given c = search needs
+
+silent-requires : tie.Need-silent-requires
+silent-requires c κs = search needs
+
+answer-of-requires : tie.Need-answer-of-requires
+answer-of-requires c κs = search needs
 
 take-requires : tie.Need-take-requires
 take-requires c κs = search needs
@@ -22,33 +29,45 @@ put-counts-requires c κs = search needs
 enum-known-taken-2 : tie.Need-enum-known-taken-2
 enum-known-taken-2 c = search needs
 
+enum-known-given-2 : tie.Need-enum-known-given-2
+enum-known-given-2 c = search needs
+
 same-length : tie.Need-same-length
 same-length c = search needs
 
 returns : tie.Need-returns
-returns c = taken (c .before .before .before .before .before .before .before .before .before .before .before .before .before .args .code) (c .before .before .before .before .before .before .before .before .before .before .before .before .before .args .counts .now) _ _ _ _ _ (c .before .before .before .before .before .before .before .before .before .before .before .if1 .taken) (c .before .before .before .before .before .before .before .before .before .from-counts .ensures) (c .before .before .before .before .before .before .before .before .answer-at .ensures) (c .before .before .before .before .before .before .before .take .ensures) (c .before .before .before .before .before .taken .given .1) (c .before .before .put-counts .ensures ∙ put-five _ _ (c .before .before .before .before .before .before .before .before .before .before .before .if1 .taken))
+returns c =
+    taken _ _ _ (c .before .before .before .before .before .before .before .before .before .before .before .before .before .from-counts .ensures) _ (c .before .before .before .before .before .before .before .before .before .before .before .given .given .1) _ (c .before .before .before .before .before .before .before .before .answer-of .ensures ∙ ap (answerOf _) (c .before .before .before .before .before .before .before .before .before .silent .ensures)) _ (c .before .before .before .before .before .before .before .take .ensures) _ _ (c .before .before .before .before .before .taken .given .1) (c .before .before .put-counts .ensures .1)
 
 same-length-2 : tie.Need-same-length-2
 same-length-2 c = search needs
 
 returns-2 : tie.Need-returns-2
-returns-2 c = refused (c .before .before .before .before .before .before .before .before .before .args .code) (c .before .before .before .before .before .before .before .before .before .args .counts .now) _ _ _ _ (c .before .before .before .before .before .before .before .if1 .taken) (c .before .before .before .before .before .from-counts .ensures) (c .before .before .before .before .answer-at .ensures) (c .before .before .before .take .ensures) (c .before .taken2 .given .1)
+returns-2 c =
+    refused _ _ _ (c .before .before .before .before .before .before .before .before .before .from-counts .ensures) _ (c .before .before .before .before .before .before .before .given .given .1) _ (c .before .before .before .before .answer-of .ensures ∙ ap (answerOf _) (c .before .before .before .before .before .silent .ensures)) _ (c .before .before .before .take .ensures) _ (c .before .taken2 .given .1)
+
+same-length-3 : tie.Need-same-length-3
+same-length-3 c = search needs
 
 returns-3 : tie.Need-returns-3
-returns-3 c = unsized (c .before .before .args .code) (c .before .before .args .counts .now) (c .if1 .left)
+returns-3 c = not-counts _ _ _ (c .before .before .before .from-counts .ensures) _ (c .before .given2 .given .1)
 
 pub gruttisol-tally-take-spec : {M : Type 1} → statement M
 gruttisol-tally-take-spec =
     tie.close
     (tie.spec
     from-counts-requires
-    answer-at-requires
+    enum-known-given
+    silent-requires
+    answer-of-requires
     take-requires
     enum-known-taken
     put-counts-requires
     enum-known-taken-2
+    enum-known-given-2
     same-length
     returns
     same-length-2
     returns-2
+    same-length-3
     returns-3)

@@ -2,7 +2,8 @@ use mathlib.Core.Path.{sym, _∙_}
 use lib.ListN.{length}
 use borrow.Author.Needs.{needs}
 use Rattle.answer.proofs.Blocks.{held-after, held-marks, held-frames}
-use Rattle.lfo.proofs.Accepted.{accepts, restart-ok}
+use Rattle.common.proofs.PhaseLaws.{restart-in}
+use Rattle.lfo.proofs.Accepted.{accepts}
 use Rattle.lfo.proofs.Held.{holds}
 use Rattle.lfo.proofs.Lfo.run.Statement.{statement}
 use Rattle.lfo.proofs.Lfo.run.Tie as tie
@@ -20,7 +21,7 @@ increment-requires : tie.Need-increment-requires
 increment-requires c κs = search needs
 
 glide-requires : tie.Need-glide-requires
-glide-requires c κs = (rw (c .before .before .before .before .restart .ensures) (restart-ok _ _ (accepts _ (c .before .before .before .before .before .before .before .before .before .before .before .before .before .before .before .pre .0) .1)), c .before .before .before .before .before .before .before .before .before .before .before .before .before .before .before .pre .2)
+glide-requires c κs = (rw (c .before .before .before .before .restart .ensures) (restart-in _ _ (accepts _ (c .before .before .before .before .before .before .before .before .before .before .before .before .before .before .before .pre .0) .1)), c .before .before .before .before .before .before .before .before .before .before .before .before .before .before .before .pre .2)
 
 same-length : tie.Need-same-length
 same-length c = search needs

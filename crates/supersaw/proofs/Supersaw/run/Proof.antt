@@ -22,7 +22,7 @@ increments-requires : tie.Need-increments-requires
 increments-requires c κs = search needs
 
 glide-requires : tie.Need-glide-requires
-glide-requires c κs = (quiet-held (c .before .before .before .before .before .before .before .before .before .before .before .before .before .before .args .self) (c .before .before .before .before .before .before .before .before .before .before .before .before .before .before .args .c) _ _ _ _ (c .before .before .before .before .before .before .before .clamp .ensures) (c .before .before .increments .ensures), c .before .before .before .before .before .before .before .before .before .before .before .before .before .before .pre .2)
+glide-requires c κs = (quiet-held (c .before .before .before .before .before .before .before .before .before .before .before .before .before .before .args .self) (c .before .before .before .before .before .before .before .before .before .before .before .before .before .before .args .c) _ _ _ _ (c .before .before .before .before .before .before .before .before .before .before .before .before .before .before .pre .0) (c .before .before .before .before .before .before .before .clamp .ensures) (c .before .before .increments .ensures), c .before .before .before .before .before .before .before .before .before .before .before .before .before .before .pre .2)
 
 advanced-requires : tie.Need-advanced-requires
 advanced-requires c κs = search needs

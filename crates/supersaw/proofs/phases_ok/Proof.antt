@@ -8,15 +8,15 @@ use Rattle.laws.proofs.All.{all-more, all-stops, all-done}
 use Rattle.common.specs.Phase.{turns}
 use Rattle.common.specs.Tests.{phaseOk}
 use Rattle.supersaw.specs.Voices.{at}
-use Rattle.supersaw.specs.Lanes.{lanesOk}
-use Rattle.supersaw.proofs.all_ok.Statement.{statement}
-use Rattle.supersaw.proofs.all_ok.Tie as tie
+use Rattle.supersaw.specs.Supersaw.{phasesOk}
+use Rattle.supersaw.proofs.phases_ok.Statement.{statement}
+use Rattle.supersaw.proofs.phases_ok.Tie as tie
 
 abbrev Inv-loop : tie.InvT-loop
-Inv-loop t i₀ i = (i ≤ 8) × (all (λ (k : ℕ). phaseOk (turns (at t k))) i ≡ true)
+Inv-loop phases i₀ i = (i ≤ 7) × (all (λ (k : ℕ). phaseOk (turns (at phases k))) i ≡ true)
 
 abbrev μ-loop : tie.MeasureT-loop
-μ-loop t i₀ i = 8 - i
+μ-loop phases i₀ i = 7 - i
 
 loop-holds : tie.Need-loop-holds Inv-loop μ-loop
 unfolding all
@@ -32,8 +32,8 @@ phase-ok-requires : tie.Need-phase-ok-requires Inv-loop μ-loop
 phase-ok-requires c κs = search needs
 
 returns : tie.Need-returns Inv-loop μ-loop
-unfolding lanesOk
-returns c = all-stops _ 8 _ _ (c .before .before .loop-test .taken) (c .before .phase-ok .ensures) (c .if1 .taken)
+unfolding phasesOk
+returns c = all-stops _ 7 _ _ (c .before .before .loop-test .taken) (c .before .phase-ok .ensures) (c .if1 .taken)
 
 add-i : tie.Need-add-i Inv-loop μ-loop
 add-i c = omega arith
@@ -45,11 +45,11 @@ loop-again : tie.Need-loop-again Inv-loop μ-loop
 loop-again c = (omega arith, all-more _ _ _ (c .before .before .before .loop .inv .1) (c .before .phase-ok .ensures) (c .if1 .left))
 
 returns-2 : tie.Need-returns-2 Inv-loop μ-loop
-unfolding lanesOk
-returns-2 c = all-done _ 8 _ (c .before .loop .inv .0) (c .loop-test .left) (c .before .loop .inv .1)
+unfolding phasesOk
+returns-2 c = all-done _ 7 _ (c .before .loop .inv .0) (c .loop-test .left) (c .before .loop .inv .1)
 
-pub all-ok-spec : {M : Type 1} → statement M
-all-ok-spec =
+pub phases-ok-spec : {M : Type 1} → statement M
+phases-ok-spec =
     tie.close
     (tie.spec
     Inv-loop

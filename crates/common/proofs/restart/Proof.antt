@@ -1,6 +1,6 @@
-use Rattle.wavetable.specs.Reads.{restartOf}
-use Rattle.wavetable.proofs.restart.Statement.{statement}
-use Rattle.wavetable.proofs.restart.Tie as tie
+use Rattle.common.specs.Phase.{restartOf}
+use Rattle.common.proofs.restart.Statement.{statement}
+use Rattle.common.proofs.restart.Tie as tie
 
 returns : tie.Need-returns
 unfolding restartOf
