@@ -8,11 +8,11 @@ use native.Mathlib.Nat.{one-mul}
 use native.Mathlib.Numerals.{add-one}
 use native.Mathlib.Omega.{arith}
 use lib.Dec.{eqb}
-use lib.Ieee.{Float, nan, binary64, add, div, eq}
+use lib.Ieee.{Float, nan, binary64, add, eq}
 use lib.Ieee.Fits.{add-fits}
 use lib.ListN.{length, getD}
 use Rattle.laws.proofs.Tests.{both-true}
-use Rattle.answer.specs.Answer.{markNumber, voltsOf}
+use Rattle.answer.specs.Answer.{hostNumber, voltsOf}
 use Rattle.answer.specs.Block.{afterTicks, answerAt, markAt, frameAt, portsOf, joined, blockRefusalOf}
 use Rattle.answer.specs.declared.Answer.{Answer}
 use Rattle.answer.specs.declared.Tally.{Tally}
@@ -20,7 +20,7 @@ use Rattle.answer.specs.declared.Volts.{Volts}
 use Rattle.answer.proofs.Blocks.{Holds, held-after, held-marks, held-frames, held-accepted, all-taken}
 use Rattle.answer.proofs.Laws.{mark-says}
 use Rattle.common.specs.Memo.{recall1, voctToHzAt}
-use Rattle.common.specs.Phase.{turns, wrapOf}
+use Rattle.common.specs.Phase.{turns, wrapOf, incrementOf}
 use Rattle.common.specs.Tests.{rateOk, phaseOk}
 use Rattle.common.proofs.MemoLaws.{recall1-again}
 use Rattle.common.proofs.PhaseLaws.{wrap-in, accepted-state}
@@ -69,46 +69,46 @@ still-memo v depth q m n k still r e w t = e ∙ r t ∙ w t
 
 pub still-step : (v : VoltsPerOctave) (depth : Float) (rate : Hertz) (q step : Turns) (m n k : Memo1) (still : Bool)
     → (still ≡ true → recall1 voctToHzAt n (pitchOf v depth (q .0) .0) ≡ n) → k ≡ recall1 voctToHzAt n (pitchOf v depth (q .0) .0)
-    → (still ≡ true → n ≡ m) → step ≡ turns (div binary64 (m .val .0) (rate .0)) → still ≡ true → step ≡ turns (div binary64 (k .val .0) (rate .0))
+    → (still ≡ true → n ≡ m) → step ≡ incrementOf (m .val) rate → still ≡ true → step ≡ incrementOf (k .val) rate
 still-step v depth rate q step m n k still r e w z t =
-    z ∙ ap (λ (l : Memo1). turns (div binary64 (l .val .0) (rate .0))) (sym (still-memo v depth q m n k still r e w t))
+    z ∙ ap (λ (l : Memo1). incrementOf (l .val) rate) (sym (still-memo v depth q m n k still r e w t))
 
 pub swung : (v : VoltsPerOctave) (depth : Float) (rate : Hertz) (d : Driver) (i : ℕ) (q q' vibrato : Turns) (m m' : Memo1)
-    → m' ≡ recall1 voctToHzAt m (pitchOf v depth (q .0) .0) → vibrato ≡ turns (div binary64 vibratoRate (rate .0)) → q' ≡ turns (wrapOf (add binary64 (q .0) (vibrato .0)))
+    → m' ≡ recall1 voctToHzAt m (pitchOf v depth (q .0) .0) → vibrato ≡ incrementOf vibratoRate rate → q' ≡ turns (wrapOf (add binary64 (q .0) (vibrato .0)))
     → q ≡ afterTicks (driveNext v depth rate) i d .«vibrato_phase» → m ≡ afterTicks (driveNext v depth rate) i d .«freq_memo»
     → (q' ≡ afterTicks (driveNext v depth rate) (i + 1) d .«vibrato_phase») × (m' ≡ afterTicks (driveNext v depth rate) (i + 1) d .«freq_memo»)
 unfolding afterTicks driveNext vibratoSum driveMemo
 swung v depth rate d i q q' vibrato m m' a y z w k = (rw add-one (simp (z, y, w)), rw add-one (simp (a, k, w)))
 
 pub stridden : (v : VoltsPerOctave) (depth : Float) (rate : Hertz) (d : Driver) (i : ℕ) (q step : Turns) (m m' : Memo1)
-    → m' ≡ recall1 voctToHzAt m (pitchOf v depth (q .0) .0) → step ≡ turns (div binary64 (m' .val .0) (rate .0))
+    → m' ≡ recall1 voctToHzAt m (pitchOf v depth (q .0) .0) → step ≡ incrementOf (m' .val) rate
     → q ≡ afterTicks (driveNext v depth rate) i d .«vibrato_phase» → m ≡ afterTicks (driveNext v depth rate) i d .«freq_memo»
-    → step .0 ≡ strideAt v depth rate d i
+    → step ≡ strideAt v depth rate d i
 unfolding strideAt driveMemo
 stridden v depth rate d i q step m m' a b w k = simp (b, a, w, k)
 
 pub swayed-mark : (v : VoltsPerOctave) (depth : Float) (rate : Hertz) (d : Driver) (i : ℕ) (q vibrato : Turns) (b : Bool) (n : ℕ)
-    → vibrato ≡ turns (div binary64 vibratoRate (rate .0)) → b ≡ isFin (add binary64 (q .0) (vibrato .0)) → n ≡ keptMark b
+    → vibrato ≡ incrementOf vibratoRate rate → b ≡ isFin (add binary64 (q .0) (vibrato .0)) → n ≡ keptMark b
     → q ≡ afterTicks (driveNext v depth rate) i d .«vibrato_phase» → n ≡ swayAt v depth rate d i
 unfolding swayAt vibratoSum
 swayed-mark v depth rate d i q vibrato b n ev eb k w = simp (k, eb, ev, w)
 
 -- ---- a turn of the second
-pub pulse-turn : (xs ys : List Float) (ms ns : List ℕ) (f : ℕ → Float) (g : ℕ → ℕ) (i : ℕ) (start p p' : Turns) (a both : Bool) (n : ℕ)
+pub pulse-turn : (xs ys : List Float) (ms ns : List ℕ) (f : ℕ → Float) (g : ℕ → ℕ) (i : ℕ) (start p p' step : Turns) (a both : Bool) (n : ℕ)
     → i < length xs → i < length ms → ys ≡ over f i xs → ns ≡ over g i ms → p ≡ phaseAt xs start i
-    → p' ≡ turns (wrapOf (add binary64 (p .0) (getD ys i nan))) → a ≡ isFin (add binary64 (p .0) (getD ys i nan))
-    → both ≡ (a && eqb (getD ns i 0) 4) → n ≡ keptMark both
+    → step ≡ turns (getD ys i nan) → p' ≡ turns (wrapOf (add binary64 (p .0) (step .0))) → a ≡ isFin (add binary64 (p .0) (step .0))
+    → both ≡ (a && eqb (getD ns i 0) 14) → n ≡ keptMark both
     → (p' ≡ phaseAt xs start (i + 1)) × (n ≡ pulseMarkAt xs ms start i)
 unfolding phaseAt pulseMarkAt
-pulse-turn xs ys ms ns f g i start p p' a both n h k e q z r w b t =
+pulse-turn xs ys ms ns f g i start p p' step a both n h k e q z v r w b t =
     let x : getD ys i nan ≡ getD xs i nan = ap (λ (l : List Float). getD l i nan) e ∙ over-at nan f i xs h in
     let m : getD ns i 0 ≡ getD ms i 0 = ap (λ (l : List ℕ). getD l i 0) q ∙ over-at 0 g i ms k in
-    (rw add-one (simp (r, z, x)), simp (t, b, w, z, x, m))
+    (rw add-one (simp (r, z, v, x)), simp (t, b, w, z, v, x, m))
 
 -- ---- a turn of the third
 pub voiced-turn : (c s xs ys : List Float) (ms ns : List ℕ) (f : ℕ → Float) (g : ℕ → ℕ) (i : ℕ) (cells : List Float) (rung : Rung) (a : Answer)
     → i < length xs → i < length ms → ys ≡ over f i xs → ns ≡ over g i ms → cells ≡ cellsAt c xs s i
-    → rung ≡ rungOf c cells (getD ys i nan) → a ≡ voicedOf (rung .sum) (eqb (getD ns i 0) 4)
+    → rung ≡ rungOf c cells (getD ys i nan) → a ≡ voicedOf (rung .sum) (eqb (getD ns i 0) 14)
     → (a ≡ voicedAt c s xs ms i) × (rung .state ≡ cellsAt c xs s (i + 1))
 unfolding voicedAt cellsAt
 voiced-turn c s xs ys ms ns f g i cells rung a h k e q z r w =
@@ -117,18 +117,23 @@ voiced-turn c s xs ys ms ns f g i cells rung a h k e q z r w =
     (simp (w, r, z, x, m), rw add-one (simp (r, z, x)))
 
 -- ---- the first and the second together
-kept-told : (b : Bool) → eqb (keptMark b) 4 ≡ b
+kept-told : (b : Bool) → eqb (keptMark b) 14 ≡ b
 unfolding keptMark
 kept-told true = refl
 kept-told false = refl
 
-module _ (v : VoltsPerOctave) (depth : Float) (rate : Hertz) (d : Driver) (n : ℕ) (xs : List Float) (ms : List ℕ) (ex : xs ≡ tab (strideAt v depth rate d) n) (em : ms ≡ tab (swayAt v depth rate d) n) where
-  stride-at : (i : ℕ) → i < n → getD xs i nan ≡ strideAt v depth rate d i
-  stride-at i h = ap (λ (l : List Float). getD l i nan) ex ∙ getD-tab nan (strideAt v depth rate d) n i h
+module _
+    (v : VoltsPerOctave) (depth : Float) (rate : Hertz) (d : Driver) (n : ℕ) (xs : List Float) (ms : List ℕ)
+    (ex : xs ≡ tab (λ i. strideAt v depth rate d i .0) n) (em : ms ≡ tab (swayAt v depth rate d) n) where
+  stride-at : (i : ℕ) → i < n → getD xs i nan ≡ strideAt v depth rate d i .0
+  stride-at i h = ap (λ (l : List Float). getD l i nan) ex ∙ getD-tab nan (λ j. strideAt v depth rate d j .0) n i h
 
-  sway-at : (i : ℕ) → i < n → eqb (getD ms i 0) 4 ≡ isFin (vibratoSum rate (afterTicks (driveNext v depth rate) i d))
+  sway-at : (i : ℕ) → i < n → eqb (getD ms i 0) 14 ≡ isFin (vibratoSum rate (afterTicks (driveNext v depth rate) i d))
   unfolding swayAt
-  sway-at i h = ap (λ (l : List ℕ). eqb (getD l i 0) 4) em ∙ ap (λ (k : ℕ). eqb k 4) (getD-tab 0 (swayAt v depth rate d) n i h) ∙ kept-told (isFin (vibratoSum rate (afterTicks (driveNext v depth rate) i d)))
+  sway-at i h =
+      ap (λ (l : List ℕ). eqb (getD l i 0) 14) em
+      ∙ ap (λ (k : ℕ). eqb k 14) (getD-tab 0 (swayAt v depth rate d) n i h)
+      ∙ kept-told (isFin (vibratoSum rate (afterTicks (driveNext v depth rate) i d)))
 
   phase-at : (i : ℕ) → i ≤ n → phaseAt xs (d .phase) i ≡ afterTicks (driveNext v depth rate) i d .phase
   unfolding phaseAt afterTicks driveNext phaseSum strideAt
@@ -175,10 +180,13 @@ module _ (v : VoltsPerOctave) (depth : Float) (rate : Hertz) (c : List Float) (d
   unfolding pulseAt driverAt
   pulse-at i h = sym (ap (λ (l : List Float). getD l i nan) ex ∙ getD-tab nan (pulseAt v depth rate d) n i h)
 
-  kept-at : (i : ℕ) → i < n → keptOf v depth rate (driverAt i) ≡ eqb (getD ms i 0) 4
+  kept-at : (i : ℕ) → i < n → keptOf v depth rate (driverAt i) ≡ eqb (getD ms i 0) 14
   unfolding keptAt driverAt
   kept-at i h =
-      sym (ap (λ (l : List ℕ). eqb (getD l i 0) 4) em ∙ ap (λ (k : ℕ). eqb k 4) (getD-tab 0 (keptAt v depth rate d) n i h) ∙ kept-told (keptOf v depth rate (driverAt i)))
+      sym
+      (ap (λ (l : List ℕ). eqb (getD l i 0) 14) em
+      ∙ ap (λ (k : ℕ). eqb k 14) (getD-tab 0 (keptAt v depth rate d) n i h)
+      ∙ kept-told (keptOf v depth rate (driverAt i)))
 
   halves : (i : ℕ) → i ≤ n → afterTicks (heldNext v depth rate c) i (moving d s) ≡ moving (driverAt i) (cellsAt c xs s i)
   unfolding afterTicks cellsAt driverAt
@@ -300,9 +308,10 @@ module _ (s : FormantOsc) (c : FormantControls) (e : formantRefusalOf s ≡ 0) w
         ∙ joined-one (λ i. voltsOf (answerAt answerOf nextOf (moving (startOf s c) (s .«resonator_state»)) i)) n
         ∙ tab-ext _ _ n (λ i h. ap (λ (a : Answer). voltsOf a .p10) (same-answer i h))
 
-    pub marks-after : tab (markAt (formantAnswerOf c) (formantNextOf c) s) n ≡ tab (λ i. markNumber (voicedAt (coefMemoOf s c .val) (s .«resonator_state») xs ms i)) n
+    pub marks-after : tab (markAt (formantAnswerOf c) (formantNextOf c) s) n
+        ≡ tab (λ i. hostNumber (voicedAt (coefMemoOf s c .val) (s .«resonator_state») xs ms i)) n
     unfolding voicedIn
-    marks-after = held-marks _ _ _ _ _ _ _ _ holds n ∙ tab-ext _ _ n (λ i h. ap markNumber (same-answer i h))
+    marks-after = held-marks _ _ _ _ _ _ _ _ holds n ∙ tab-ext _ _ n (λ i h. ap hostNumber (same-answer i h))
 
 -- ---- a block's code
 -- the pitch of the first tick is in the memo that was asked for it
@@ -320,7 +329,7 @@ pub ran : (s : FormantOsc) (c : FormantControls) (n : ℕ) (depth : Float) (pitc
     → ms ≡ tab (keptAt (c .«v_oct») depth (s .«sample_rate») (driver (s .phase) (s .«vibrato_phase») memo)) n
     → cells ≡ cellsAt (coefs .val) xs (s .«resonator_state») (length ms)
     → ys ≡ tab (λ i. voltsOf (voicedAt (coefs .val) (s .«resonator_state») xs ms i) .p10) (length ms)
-    → ns ≡ tab (λ i. markNumber (voicedAt (coefs .val) (s .«resonator_state») xs ms i)) (length ms)
+    → ns ≡ tab (λ i. hostNumber (voicedAt (coefs .val) (s .«resonator_state») xs ms i)) (length ms)
     → (record {
       phase = end .phase;
       «vibrato_phase» = end .«vibrato_phase»;
@@ -350,7 +359,7 @@ ran s c n depth pitch memo coefs end xs ms cells ys ns e z ed ep em b ee ex ek e
           ∙ sym (state-after s c e n z xs ms x m),
       (
         ey ∙ (λ k. tab (λ i. voltsOf (voicedAt (b k .val) (s .«resonator_state») xs ms i) .p10) (w k)) ∙ sym (samples-after s c e n z xs ms x m),
-        en ∙ (λ k. tab (λ i. markNumber (voicedAt (b k .val) (s .«resonator_state») xs ms i)) (w k)) ∙ sym (marks-after s c e n z xs ms x m),
+        en ∙ (λ k. tab (λ i. hostNumber (voicedAt (b k .val) (s .«resonator_state») xs ms i)) (w k)) ∙ sym (marks-after s c e n z xs ms x m),
       ),
     )
 

@@ -1,21 +1,26 @@
--- What every reached FormantOsc has: a good rate, two phases in [0, 1), and coefficients that it would compute. So no call refuses it.
+-- What every reached FormantOsc has: a good rate, two phases in [0, 1), and coefficients that it would compute. So no call refuses it
+-- but for what the call is lent.
 use mathlib.Core.Bool.{Bool, true, false, cond}
 use mathlib.Core.Logic.{inl}
-use mathlib.Core.Path.{_≡_, refl, sym, ap, subst}
-use Prim.Native.Nat.{ℕ}
+use mathlib.Core.Path.{_≡_, refl, sym, ap, subst, _∙_}
+use Prim.Native.Nat.{ℕ, _*_}
 use native.Mathlib.Omega.{arith}
+use lib.Dec.{eqb}
 use lib.Ieee.{binary64}
 use lib.Ieee.Fits.{add-fits}
+use lib.ListN.{length}
+use Rattle.answer.proofs.Blocks.{block-keeps, block-refusal}
 use Rattle.answer.proofs.Laws.{mark-says}
-use Rattle.answer.specs.Answer.{accepted}
+use Rattle.answer.specs.Answer.{accepted, outcomeNumber}
+use Rattle.answer.specs.Block.{blockRefusalOf}
 use Rattle.answer.specs.declared.Outcome.the-variants as outcome
 use Rattle.common.proofs.PhaseLaws.{wrap-in, zero-in}
 use Rattle.common.specs.Tests.{rateOk, phaseOk}
 use Rattle.common.specs.declared.Hertz.{Hertz}
 use Rattle.formant_osc.proofs.Coherent.{Coherent, tick-coherent}
 use Rattle.formant_osc.proofs.Either.{unless-either}
-use Rattle.formant_osc.specs.Calls.{Call, Tick, Reset, SetSampleRate, after, First, FitCall, ReachedFormant}
-use Rattle.formant_osc.specs.FormantOsc.{formantAtRest, newFormantOsc, formantRefusalOf, formantUnless, formantNewOf, formantSoundOf, formantTickOf, formantResetOf, rated, formantSetSampleRateOf}
+use Rattle.formant_osc.specs.Calls.{Call, Tick, Play, Reset, SetSampleRate, Told, after, reply, First, FitCall, ReachedFormant}
+use Rattle.formant_osc.specs.FormantOsc.{formantAtRest, newFormantOsc, formantRefusalOf, formantUnless, formantNewOf, formantSoundOf, formantTickOf, formantBlockOf, formantResetOf, rated, formantSetSampleRateOf}
 use Rattle.formant_osc.specs.Memo.{newCoefMemo}
 use Rattle.formant_osc.specs.Promises.{Never-refused}
 use Rattle.formant_osc.specs.declared.FormantControls.{FormantControls}
@@ -76,9 +81,13 @@ sound-good s c g f =
       coefs = tick-coherent s c (g .coefs) f (g .fit);
     }
 
+tick-good : (c : FormantControls) → FitCall (Tick c) → (s : FormantOsc) → Good s → Good (formantTickOf s c .formant)
+tick-good c f s g = subst (λ (t : FormantTicked). Good (t .formant)) (sym (tick-sounds s c g)) (sound-good s c g f)
+
 after-good : (s : FormantOsc) (c : Call) → Good s → FitCall c → Good (after s c)
 unfolding after
-after-good s (Tick c) g f = subst (λ (t : FormantTicked). Good (t .formant)) (sym (tick-sounds s c g)) (sound-good s c g f)
+after-good s (Tick c) g f = tick-good c f s g
+after-good s (Play c t o m) g f = unfold formantBlockOf in block-keeps 1 _ _ _ Good (tick-good c f) s g t o m
 after-good s Reset g f = unfold formantResetOf in unless-either Good (formantRefusalOf s) _ s (rest-good s g) g
 after-good s (SetSampleRate r) g f = unfold formantSetSampleRateOf in go (rateOk r) refl
   where
@@ -91,16 +100,21 @@ good = always Good first-good after-good
 
 -- ---- the promise
 pub never-refused : Never-refused
+unfolding reply outcomeNumber
 never-refused s h =
     let g = good h in
     record {
       phase = g .phase;
       «vibrato_phase» = g .vibrato;
       ticks = λ c. rw (tick-sounds s c g) (sound-accepted s c);
+      plays =
+          λ c t o m. unfold formantBlockOf in
+          block-refusal 1 _ _ _ s t o m
+          ∙ ap (λ (n : ℕ). blockRefusalOf (eqb (length o) (1 * length m)) n t (length m)) (unrefused s g);
       resets = unfold formantResetOf formantUnless in simp (unrefused s g);
       rates = λ r. unfold formantSetSampleRateOf in rates r (rateOk r);
     }
   where
-    rates : (r : Hertz) (b : Bool) → formantUnless (cond b (formantRefusalOf s) 1) (rated s r) s .outcome ≡ cond b outcome.Done (outcome.Refused 1)
+    rates : (r : Hertz) (b : Bool) → Told (outcomeNumber (formantUnless (cond b (formantRefusalOf s) 1) (rated s r) s .outcome)) ≡ Told (cond b 0 1)
     rates r true = unfold formantUnless in simp (unrefused s (good h))
     rates r false = unfold formantUnless in refl

@@ -1,6 +1,7 @@
 -- The Rust's constants of the FormantOsc, by their bits.
 use mathlib.Core.List.{List, [], _∷_}
 use lib.Ieee.{Float, binary64, ofBits}
+use Rattle.common.specs.declared.Hertz.{Hertz}
 
 -- PI: 3.141592653589793
 abbrev pub pi : Float
@@ -47,8 +48,8 @@ abbrev pub amplitude5 : Float
 amplitude5 = ofBits binary64 0x3fa999999999999a
 
 -- VIBRATO_RATE: 5.5
-abbrev pub vibratoRate : Float
-vibratoRate = ofBits binary64 0x4016000000000000
+abbrev pub vibratoRate : Hertz
+vibratoRate = record { 0 = ofBits binary64 0x4016000000000000 }
 
 -- the ends of omega: 0.01, and PI * 0.45 has the factor 0.45
 abbrev pub omegaLow : Float

@@ -3,12 +3,12 @@ use mathlib.Core.Bool.{false, cond, _&&_}
 use mathlib.Core.List.{List, [], _∷_}
 use Prim.Native.Nat.{ℕ}
 use lib.Dec.{eqb}
-use lib.Ieee.{Float, binary64, add, mul, div, neg}
+use lib.Ieee.{Float, binary64, add, mul, neg}
 use Rattle.laws.specs.Float.{zer, one, isFin}
 use Rattle.numeric.specs.Basic.{clampOf}
 use Rattle.common.specs.Consts.{five}
 use Rattle.common.specs.Memo.{newMemo1, recall1, voctToHzAt}
-use Rattle.common.specs.Phase.{turns, wrapOf}
+use Rattle.common.specs.Phase.{turns, wrapOf, incrementOf}
 use Rattle.common.specs.Tests.{rateOk, phaseOk}
 use Rattle.common.specs.declared.Hertz.{Hertz}
 use Rattle.common.specs.declared.Memo1.{Memo1}
@@ -72,8 +72,8 @@ unfoldable pub formantSoundOf : FormantOsc → FormantControls → FormantTicked
 formantSoundOf s c =
     let freqs = freqMemoOf s c in
     let rung = formantRung s c in
-    let next = add binary64 (s .phase .0) (div binary64 (freqs .val .0) (s .«sample_rate» .0)) in
-    let vibratoNext = add binary64 (s .«vibrato_phase» .0) (div binary64 vibratoRate (s .«sample_rate» .0)) in
+    let next = add binary64 (s .phase .0) (incrementOf (freqs .val) (s .«sample_rate») .0) in
+    let vibratoNext = add binary64 (s .«vibrato_phase» .0) (incrementOf vibratoRate (s .«sample_rate») .0) in
     record {
       answer = markOf (onlyOf (mul binary64 (clampOf (rung .sum) (neg one) one) five)) false (isFin (rung .sum)) (isFin next && isFin vibratoNext);
       formant =

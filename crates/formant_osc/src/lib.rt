@@ -11,13 +11,13 @@ use common::VoltsPerOctave;
 ghost use mathlib.Core.Path.{_≡_};
 ghost use mathlib.Core.Bool.{true, _&&_};
 ghost use Prim.Native.Nat.{_≤_, _<_, min};
-ghost use lib.Ieee.{binary64, div};
-ghost use lib.ListN.{length};
+ghost use lib.Ieee.{nan};
+ghost use lib.ListN.{length, getD, set};
 ghost use Rattle.laws.specs.Lists.{tab};
 ghost use Rattle.common.specs.Memo.{recall1, voctToHzAt};
-ghost use Rattle.common.specs.Phase.{turns};
+ghost use Rattle.common.specs.Phase.{turns, incrementOf};
 ghost use Rattle.common.specs.Tests.{phaseOk};
-ghost use Rattle.answer.specs.Answer.{markNumber, voltsOf};
+ghost use Rattle.answer.specs.Answer.{hostNumber, voltsOf};
 ghost use Rattle.answer.specs.Block.{afterTicks, joined, block, markAt, frameAt};
 ghost use Rattle.formant_osc.specs.Coefs.{spotOf, formantOf, getFormants, coefOf, resonatorCoefs};
 ghost use Rattle.formant_osc.specs.Memo.{newCoefMemo, coefHits, coefFilled, coefRecall};
@@ -369,23 +369,31 @@ fn both(a: bool, b: bool) -> bool
     if a { b } else { false }
 }
 
-// What the phase grows by in a tick.
-fn increment(freq: Hertz, sample_rate: Hertz) -> Turns
-    ensures { λ r. ⌜ r ≡ turns (div binary64 (freq .0) («sample_rate» .0)) ⌝ }
-{
-    Turns(freq.0 / sample_rate.0)
-}
-
-// The same, known already where the pitch stands still.
+// What the phase grows by in a tick, known already where the pitch stands still.
 fn stride(still: bool, step: Turns, freq: Hertz, sample_rate: Hertz) -> Turns
-    requires { ⌜ (still ≡ true → step ≡ turns (div binary64 (freq .0) («sample_rate» .0))) ⌝ }
-    ensures { λ r. ⌜ r ≡ turns (div binary64 (freq .0) («sample_rate» .0)) ⌝ }
+    requires { ⌜ (still ≡ true → step ≡ incrementOf freq «sample_rate») ⌝ }
+    ensures { λ r. ⌜ r ≡ incrementOf freq «sample_rate» ⌝ }
 {
     if still {
         step
     } else {
-        increment(freq, sample_rate)
+        common::increment(freq, sample_rate)
     }
+}
+
+// Turns wait as a plain number in the place of tick i's sample, which a caller lends: these two put them there and fetch them.
+fn keep_turns(turns: Turns, i: usize, samples: &mut [f64])
+    requires { ⌜ i < length (now samples) ⌝ }
+    ensures { λ _. ⌜ now (samples .exit) ≡ set (now (samples .entry)) i (turns .0) ⌝ }
+{
+    samples[i] = turns.0;
+}
+
+fn kept_turns(samples: &[f64], i: usize) -> Turns
+    requires { ⌜ i < length (now samples) ⌝ }
+    ensures { λ r. ⌜ r ≡ turns (getD (now (samples .entry)) i nan) ⌝ }
+{
+    Turns(samples[i])
 }
 
 // The memo after a tick. Where the pitch stands still it holds it already.
@@ -400,11 +408,11 @@ fn tuned(still: bool, memo: Memo1, v_oct: VoltsPerOctave, depth: f64, vibrato_ph
     }
 }
 
-// The number of a tick's mark as far as its phases go: 4 clean, 3 lost.
+// What a host would be told of a tick as far as its phases go: 14 clean, 13 lost.
 fn kept_mark(phases: bool) -> u32
     ensures { λ r. ⌜ r ≡ keptMark phases ⌝ }
 {
-    if phases { 4 } else { 3 }
+    if phases { 14 } else { 13 }
 }
 
 // What a tick answers to the resonators' sum.
@@ -428,20 +436,21 @@ fn sway(
 ) -> Driver
     requires { ⌜ (phaseOk (start .«vibrato_phase») ≡ true) × (recall1 voctToHzAt (start .«freq_memo») (pitchOf «v_oct» depth (start .«vibrato_phase» .0) .0) ≡ start .«freq_memo») × (length (now samples) ≡ length (now marks)) ⌝ }
     ensures { λ r. ⌜ r ≡ swayed «v_oct» depth «sample_rate» (length (now (marks .entry))) start ⌝ }
-    ensures { λ r. ⌜ now (samples .exit) ≡ tab (strideAt «v_oct» depth «sample_rate» start) (length (now (marks .entry))) ⌝ }
+    ensures { λ r. ⌜ now (samples .exit) ≡ tab (λ i. strideAt «v_oct» depth «sample_rate» start i .0) (length (now (marks .entry))) ⌝ }
     ensures { λ r. ⌜ now (marks .exit) ≡ tab (swayAt «v_oct» depth «sample_rate» start) (length (now (marks .entry))) ⌝ }
 {
     let memo = start.freq_memo;
     let still = both(depth == 0.0, v_oct.0 != 0.0);
-    let step = increment(memo.val, sample_rate);
-    let vibrato_step = increment(Hertz(5.5), sample_rate);
+    let step = common::increment(memo.val, sample_rate);
+    let vibrato_step = common::increment(Hertz(5.5), sample_rate);
     let mut vibrato_phase = start.vibrato_phase;
     let mut freq_memo = memo;
     let mut i = 0;
     while i < marks.len() {
         let next = Turns(vibrato_phase.0 + vibrato_step.0);
         freq_memo = tuned(still, freq_memo, v_oct, depth, vibrato_phase);
-        samples[i] = stride(still, step, freq_memo.val, sample_rate).0;
+        let turns = stride(still, step, freq_memo.val, sample_rate);
+        keep_turns(turns, i, &mut *samples);
         marks[i] = kept_mark(numeric::is_finite(next.0));
         vibrato_phase = common::wrap_phase(next);
         i += 1;
@@ -464,9 +473,9 @@ fn pulse(start: Turns, samples: &mut [f64], marks: &mut [u32]) -> Turns
     let mut phase = start;
     let mut i = 0;
     while i < marks.len() {
-        let next = Turns(phase.0 + samples[i]);
+        let next = Turns(phase.0 + kept_turns(samples, i).0);
         samples[i] = glottal_pulse(phase);
-        marks[i] = kept_mark(both(numeric::is_finite(next.0), marks[i] == 4));
+        marks[i] = kept_mark(both(numeric::is_finite(next.0), marks[i] == 14));
         phase = common::wrap_phase(next);
         i += 1;
     }
@@ -502,15 +511,15 @@ fn voice(c: [f64; 15], start: [f64; 10], samples: &mut [f64], marks: &mut [u32])
     requires { ⌜ length (now samples) ≡ length (now marks) ⌝ }
     ensures { λ r. ⌜ r ≡ cellsAt c (now (samples .entry)) start (length (now (marks .entry))) ⌝ }
     ensures { λ r. ⌜ now (samples .exit) ≡ tab (λ i. voltsOf (voicedAt c start (now (samples .entry)) (now (marks .entry)) i) .p10) (length (now (marks .entry))) ⌝ }
-    ensures { λ r. ⌜ now (marks .exit) ≡ tab (λ i. markNumber (voicedAt c start (now (samples .entry)) (now (marks .entry)) i)) (length (now (marks .entry))) ⌝ }
+    ensures { λ r. ⌜ now (marks .exit) ≡ tab (λ i. hostNumber (voicedAt c start (now (samples .entry)) (now (marks .entry)) i)) (length (now (marks .entry))) ⌝ }
 {
     let mut cells = start;
     let mut i = 0;
     while i < marks.len() {
         let rung = ring(c, cells, samples[i]);
-        let heard = voiced(rung.sum, marks[i] == 4);
+        let heard = voiced(rung.sum, marks[i] == 14);
         samples[i] = answer::samples(heard).p10;
-        marks[i] = answer::mark_number(heard);
+        marks[i] = answer::host_number(heard);
         cells = rung.state;
         i += 1;
     }
@@ -576,20 +585,21 @@ impl FormantOsc {
         let coefs = self.coef_memo;
         // Here, far from the other phase: side by side the two become one pair, which the next tick can't read before the
         // whole of this one is done.
-        let vibrato_next = Turns(vibrato_phase.0 + 5.5 / sample_rate.0);
+        let vibrato_inc = common::increment(Hertz(5.5), sample_rate);
+        let vibrato_next = Turns(vibrato_phase.0 + vibrato_inc.0);
         let vibrato_wrapped = common::wrap_phase(vibrato_next);
         let v_oct = c.v_oct;
         let vowel = numeric::clamp(c.vowel, 0.0, 1.0);
         let depth = numeric::clamp(c.vibrato, 0.0, 1.0);
         let freq_memo = freqs.voct_to_hz(pitch(v_oct, depth, vibrato_phase));
-        let phase_inc = freq_memo.val.0 / sample_rate.0;
+        let phase_inc = common::increment(freq_memo.val, sample_rate);
         let excitation = glottal_pulse(phase);
         let coef_memo = coefs.recall(vowel, c.formant_shift, sample_rate);
         let val = coef_memo.val;
         let rung = ring(val, state, excitation);
         let sum = rung.sum;
         let resonator_state = rung.state;
-        let next = Turns(phase.0 + phase_inc);
+        let next = Turns(phase.0 + phase_inc.0);
         let phases = both(
             numeric::is_finite(next.0),
             numeric::is_finite(vibrato_next.0),
@@ -704,7 +714,7 @@ impl FormantOsc {
                 FormantBlock {
                     refused: 0,
                     formant,
-                    tally: tally.take_marks(marks),
+                    tally: tally.take_marks(marks).or(tally),
                 }
             }
         } else {

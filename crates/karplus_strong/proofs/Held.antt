@@ -24,8 +24,7 @@ use Rattle.answer.specs.Block.{afterTicks, answerAt}
 use Rattle.answer.proofs.Blocks.{Holds}
 use Rattle.karplus_strong.specs.Consts.{loopLeak}
 use Rattle.karplus_strong.specs.Step.{filteredOf, stretchedOf, wroteOf, clearedOf, Ticking}
-use Rattle.karplus_strong.specs.KarplusStrong.{maxLenOf, roomOf, karplusStrongRefusalOf, finiteOr, periodOf, struckLen, drawsRefusalOf, Striking, strikeOf, strikeIf, heardString, tickUnless, karplusStrongTickOf}
-use Rattle.karplus_strong.specs.Calls.{Strung, strung}
+use Rattle.karplus_strong.specs.KarplusStrong.{maxLenOf, roomOf, karplusStrongRefusalOf, finiteOr, periodOf, struckLen, drawsRefusalOf, Striking, strikeOf, strikeIf, heardString, tickUnless, karplusStrongTickOf, Strung, strung}
 use Rattle.karplus_strong.specs.Held.{tuningOf, tapAt, turnOf, heldAnswer, heldNext}
 use Rattle.karplus_strong.specs.Blocks.{triggerRefusalOf, firstRefusalOf, karplusStrongAnswerOf, karplusStrongNextOf}
 use Rattle.karplus_strong.specs.Promises.{periodAt, risesAt}

@@ -13,5 +13,6 @@ pub mod Held
 pub mod Promised
 pub mod Untouched
 pub mod Unstretched
+pub mod Same
 pub mod Forget
 pub mod Settled

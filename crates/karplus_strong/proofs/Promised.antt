@@ -3,16 +3,18 @@ use mathlib.Core.Bool.{Bool, _&&_, true, false, cond}
 use mathlib.Core.List.{List}
 use mathlib.Core.Logic.{⊎-elim}
 use mathlib.Core.Path.{_≡_, refl, ap, _∙_}
-use Prim.Native.Nat.{ℕ, _≤_, zero, suc, _<_}
+use Prim.Native.Nat.{ℕ, _+_, _*_, _≤_, zero, suc, _<_}
 use native.Mathlib.Nat.{not-suc-le-zero, eq-or-lt-of-le, le-of-suc-le-suc, le-trans}
 use native.Mathlib.Omega.{arith}
-use lib.Dec.{ltb}
+use lib.Dec.{eqb, leb, ltb}
 use lib.Ieee.{Float, binary64, le, mul, neg, low}
 use lib.ListN.{length, getD}
 use borrow.Author.Tests.{le-leb}
 use Rattle.common.proofs.EdgeLaws.{rises-five}
 use Rattle.answer.specs.Answer.{refusalOf, accepted}
-use Rattle.answer.proofs.Blocks.{held-accepted, all-taken}
+use Rattle.answer.specs.Block.{blockRefusalOf}
+use Rattle.answer.specs.declared.Tally.{Tally}
+use Rattle.answer.proofs.Blocks.{block-refusal, held-accepted, all-taken}
 use Rattle.common.specs.Consts.{five, gateThreshold, half}
 use Rattle.common.specs.Edge.{risesAbove, risingAboveOf, risingOf}
 use Rattle.common.specs.Memo.{recall1, voctToHzAt}
@@ -21,17 +23,18 @@ use Rattle.laws.proofs.Order.{lt-false}
 use Rattle.laws.proofs.Tests.{both-true, of-true}
 use Rattle.laws.specs.Float.{zer, one, isFin}
 use Rattle.numeric.specs.Basic.{clampOf}
+use Rattle.karplus_strong.proofs.Alike.{length-blank}
 use Rattle.karplus_strong.proofs.Parts.{max-len-range, period-range, memo-number, Sound, sound-line, turn-is}
 use Rattle.karplus_strong.proofs.Reached.{Good, after-good, reached-good}
-use Rattle.karplus_strong.proofs.Ticks.{step-heard, heard-number, heard-accepted, struckStep, struck-heard, unless-number, twice-heard, twice-left, tick-is, good-refusal, good-room, good-none, good-tick}
+use Rattle.karplus_strong.proofs.Ticks.{step-heard, heard-number, heard-accepted, struckStep, struck-heard, unless-number, twice-heard, twice-left, tick-is, good-refusal, good-room, good-none, good-first, good-tick}
 use Rattle.karplus_strong.proofs.Held.{tuneOf, holds, first-none}
 use Rattle.karplus_strong.specs.Held.{heldAnswer}
-use Rattle.karplus_strong.specs.Calls.{Strung, madeReply, after, reply, Tick, Reset, SetSampleRate, Done}
+use Rattle.karplus_strong.specs.Calls.{after, reply, Tick, Reset, SetSampleRate, Told}
 use Rattle.karplus_strong.specs.Consts.{loopLeak}
-use Rattle.karplus_strong.specs.Blocks.{triggerRefusalOf}
-use Rattle.karplus_strong.specs.KarplusStrong.{roomOf, karplusStrongRefusalOf, rateRefusalOf, madeUnless, karplusStrongNewOf, karplusStrongResetOf, karplusStrongSetSampleRateOf, finiteOr, struckLen, drawsRefusalOf, strikeOf, strikeIf, heardString, tickUnless, karplusStrongTickOf}
+use Rattle.karplus_strong.specs.Blocks.{triggerRefusalOf, karplusStrongBlockOf}
+use Rattle.karplus_strong.specs.KarplusStrong.{maxLenOf, roomOf, karplusStrongCellsOf, karplusStrongRefusalOf, rateRefusalOf, madeNumber, madeUnless, karplusStrongNewOf, karplusStrongResetOf, karplusStrongSetSampleRateOf, finiteOr, struckLen, drawsRefusalOf, strikeOf, strikeIf, heardString, tickUnless, karplusStrongTickOf, Strung}
 use Rattle.karplus_strong.specs.Line.{drawsOk}
-use Rattle.karplus_strong.specs.Promises.{periodAt, risesAt, doneOr, Never-refused, New-there, Edge-comes, Clean-or-cleared, Refused-leaves, Keeps-rate, Block-accepts, Block-tallies}
+use Rattle.karplus_strong.specs.Promises.{periodAt, risesAt, Never-refused, First-there, New-there, Cells-enough, Edge-comes, Clean-or-cleared, Refused-leaves, Keeps-rate, Block-accepts, Block-tallies}
 use Rattle.karplus_strong.specs.Step.{filterCoefOf, apCoefOf, targetDelayOf, tapOf, filteredOf, stretchedOf, Ticking, wroteOf, clearedOf, stepOf}
 use Rattle.common.specs.declared.EdgeDetector.{EdgeDetector}
 use Rattle.common.specs.declared.Hertz.{Hertz}
@@ -46,12 +49,22 @@ pub refused-leaves : Refused-leaves
 refused-leaves s c draws l e = rw (tick-is s c draws l) (twice-left (karplusStrongRefusalOf s (length l)) (triggerRefusalOf s c draws) s l (struckStep s c draws l) (struck-heard s c draws l) (rw (tick-is s c draws l) at e))
 
 -- ---- a reached string is ready
-good-number : (s : KarplusStrong) (c : KarplusStrongControls) (draws : List ℕ) (l : List Float) → Good s (length l) → refusalOf (karplusStrongTickOf s c draws l .out .answer) ≡ cond (risesAt s c) (drawsRefusalOf (struckLen (periodAt s c)) draws) 0
-unfolding triggerRefusalOf
-good-number s c draws l g = ap (λ (t : Ticking). refusalOf (t .out .answer)) (good-tick s c draws l g) ∙ unless-number (triggerRefusalOf s c draws) s l (struckStep s c draws l) (heard-number (struckStep s c draws l .out .answer) (struck-heard s c draws l))
+good-number : (s : KarplusStrong) (c : KarplusStrongControls) (draws : List ℕ) (l : List Float) → Good s (length l)
+    → refusalOf (karplusStrongTickOf s c draws l .out .answer) ≡ triggerRefusalOf s c draws
+good-number s c draws l g =
+    ap (λ (t : Ticking). refusalOf (t .out .answer)) (good-tick s c draws l g)
+    ∙ unless-number (triggerRefusalOf s c draws) s l (struckStep s c draws l) (heard-number (struckStep s c draws l .out .answer) (struck-heard s c draws l))
 
-made-says : (k : ℕ) (t : KarplusStrong) (m l : List Float) → madeReply (madeUnless k (record { out = made.Made t; line = m }) l .out) ≡ doneOr k
-unfolding madeUnless madeReply doneOr
+good-block : (x : Strung) (c : KarplusStrongControls) (draws : List ℕ) (t : Tally) (o : List Float) (m : List ℕ) → Good (x .string) (length (x .line))
+    → karplusStrongBlockOf x c draws t o m .refused
+    ≡ blockRefusalOf (eqb (length o) (1 * length m)) (cond (eqb (length m) 0) 0 (triggerRefusalOf (x .string) c draws)) t (length m)
+unfolding karplusStrongBlockOf
+good-block x c draws t o m g =
+    block-refusal 1 _ _ _ x t o m
+    ∙ ap (λ (k : ℕ). blockRefusalOf (eqb (length o) (1 * length m)) k t (length m)) (good-first (x .string) c draws (length (x .line)) (length m) g)
+
+made-says : (k : ℕ) (t : KarplusStrong) (m l : List Float) → madeNumber (madeUnless k (record { out = made.Made t; line = m }) l .out) ≡ k
+unfolding madeUnless madeNumber
 made-says zero t m l = refl
 made-says (suc k) t m l = refl
 
@@ -60,6 +73,7 @@ never-refused x h = record {
   state = λ n. good-refusal (x .string) (length (x .line)) n g;
   room = good-room (x .string) (length (x .line)) g;
   tick = λ c draws. good-number (x .string) c draws (x .line) g;
+  block = λ c draws t o m. good-block x c draws t o m g;
   reset = reset-says;
   rate = rate-says;
 }
@@ -67,25 +81,39 @@ never-refused x h = record {
     g : Good (x .string) (length (x .line))
     g = reached-good x h
 
-    reset-says : reply x Reset ≡ Done
-    reset-says = unfold reply karplusStrongResetOf doneOr in made-says (karplusStrongRefusalOf (x .string) (length (x .line))) _ _ (x .line) ∙ ap doneOr (good-none (x .string) (length (x .line)) g)
+    reset-says : reply x Reset ≡ Told 0
+    reset-says = unfold reply karplusStrongResetOf in ap Told (made-says _ _ _ (x .line) ∙ good-none (x .string) (length (x .line)) g)
 
     both : (b : Bool) (k : ℕ) → _≡_ {A = ℕ} (cond (true && b) (cond true k 2) 1) (cond b k 1)
     both true k = refl
     both false k = refl
 
-    rate-says : (r : Hertz) → reply x (SetSampleRate r) ≡ doneOr (cond (rateOk r) (roomOf r (length (x .line))) 1)
-    rate-says r = unfold reply karplusStrongSetSampleRateOf rateRefusalOf in made-says (rateRefusalOf (x .string) r (length (x .line))) _ _ (x .line) ∙ ap doneOr (simp (g .sound .rate, sound-line (x .string) (g .sound)) (both (rateOk r) (roomOf r (length (x .line)))))
+    rate-says : (r : Hertz) → reply x (SetSampleRate r) ≡ Told (cond (rateOk r) (roomOf r (length (x .line))) 1)
+    rate-says r =
+        unfold reply karplusStrongSetSampleRateOf rateRefusalOf in
+        ap Told (made-says _ _ _ (x .line) ∙ simp (g .sound .rate, sound-line (x .string) (g .sound)) (both (rateOk r) (roomOf r (length (x .line)))))
+
+pub first-there : First-there
+first-there rate l e h = record { rate = rate; lent = l; is-new = unfold karplusStrongNewOf madeUnless in simp (e, h) }
 
 pub new-there : New-there
-new-there x h l e = record {
-  rate = x .string .«sample_rate»;
-  lent = l;
-  is-new = unfold karplusStrongNewOf madeUnless in simp (g .sound .rate, e, good-room (x .string) (length (x .line)) g);
-}
+new-there x h l e =
+    let g = reached-good x h in
+    let r = g .room in
+    record {
+      is-new = first-there (x .string .«sample_rate») l (g .sound .rate) (rw e (good-room (x .string) (length (x .line)) g));
+      rate = refl;
+      size = length-blank 0 (maxLenOf (x .string .«sample_rate»)) l (omega arith) ∙ e;
+    }
+
+-- ---- a line of enough cells
+pub cells-enough : Cells-enough
+unfolding karplusStrongNewOf karplusStrongCellsOf
+cells-enough rate l = made-says (cond (rateOk rate) (roomOf rate (length l)) 1) _ _ l ∙ go (rateOk rate)
   where
-    g : Good (x .string) (length (x .line))
-    g = reached-good x h
+    go : (b : Bool) → _≡_ {A = ℕ} (cond b (roomOf rate (length l)) 1) (cond b (cond (leb (cond b (maxLenOf rate + 2) 0) (length l)) 0 3) 1)
+    go true = unfold roomOf in refl
+    go false = refl
 
 -- ---- an edge
 draws-less : (d : List ℕ) (n m : ℕ) → m ≤ n → drawsOk d n ≡ true → drawsOk d m ≡ true

@@ -6,13 +6,15 @@ use mathlib.Core.Path.{_≡_, refl, sym, ap, subst}
 use Prim.Native.Nat.{ℕ, zero, suc, _+_, _≤_, _<_, min}
 use native.Mathlib.Nat.{mod-lt}
 use native.Mathlib.Omega.{arith}
-use lib.Dec.{T, ltb}
-use lib.ListN.{length, length-set}
+use lib.Dec.{T, eqb, ltb}
+use lib.ListN.{length, length-set, getD}
 use lib.Ieee.{Float, nan, inf, fin, binary64, mul, neg, fits, isNan, ofBits}
-use borrow.Author.Tests.{ltb-true}
+use borrow.Author.Tests.{eqb-true, ltb-true}
 use Rattle.laws.proofs.Always.{always}
+use Rattle.laws.proofs.Over.{length-over}
 use Rattle.laws.specs.Float.{zer, one, isFin, F64}
 use Rattle.numeric.specs.Basic.{clampOf, wholeOf}
+use Rattle.answer.proofs.Blocks.{block-keeps}
 use Rattle.common.proofs.MemoLaws.{recalled1}
 use Rattle.common.specs.Consts.{half}
 use Rattle.common.specs.Edge.{newEdge, risingOf}
@@ -24,8 +26,9 @@ use Rattle.common.specs.declared.Memo1.{Memo1}
 use Rattle.karplus_strong.specs.Consts.{loopLeak}
 use Rattle.karplus_strong.specs.Line.{blankOf, struckOf}
 use Rattle.karplus_strong.specs.Step.{filterCoefOf, apCoefOf, targetDelayOf, tapOf, filteredOf, stretchedOf, Ticking, restOf, wroteOf, clearedOf, stepOf}
-use Rattle.karplus_strong.specs.KarplusStrong.{maxLenOf, roomOf, karplusStrongRefusalOf, rateRefusalOf, Making, madeUnless, newKarplusStrong, karplusStrongNewOf, karplusStrongResetOf, placeOf, resizedString, karplusStrongSetSampleRateOf, finiteOr, struckLen, drawsRefusalOf, strikeOf, strikeIf, heardString, tickUnless, karplusStrongSoundOf, karplusStrongTickOf}
-use Rattle.karplus_strong.specs.Calls.{Strung, Call, Tick, Reset, SetSampleRate, stringAfter, strungAfter, after, FitCall, First, ReachedString}
+use Rattle.karplus_strong.specs.KarplusStrong.{maxLenOf, roomOf, karplusStrongRefusalOf, rateRefusalOf, Making, madeOr, madeUnless, newKarplusStrong, karplusStrongNewOf, karplusStrongResetOf, placeOf, resizedString, karplusStrongSetSampleRateOf, finiteOr, struckLen, drawsRefusalOf, strikeOf, strikeIf, heardString, tickUnless, karplusStrongSoundOf, karplusStrongTickOf, Strung}
+use Rattle.karplus_strong.specs.Blocks.{karplusStrongBlockOf}
+use Rattle.karplus_strong.specs.Calls.{Call, Tick, Play, Reset, SetSampleRate, Lend, strungAfter, lentOf, takenLine, after, FitCall, First, ReachedString}
 use Rattle.karplus_strong.specs.Promises.{periodAt}
 use Rattle.karplus_strong.specs.declared.KarplusStrong.{KarplusStrong}
 use Rattle.karplus_strong.specs.declared.KarplusStrongControls.{KarplusStrongControls}
@@ -136,7 +139,7 @@ tick-good s c draws l g f = go (karplusStrongRefusalOf s (length l))
 
 -- ---- and so do the other calls
 made-good : (k : ℕ) (s t : KarplusStrong) (l m : List Float) → Good s (length l) → (k ≡ 0 → Good t (length m)) → let x = strungAfter s (madeUnless k (record { out = made.Made t; line = m }) l) in Good (x .string) (length (x .line))
-unfolding madeUnless stringAfter
+unfolding madeUnless madeOr
 made-good zero s t l m g h = h refl
 made-good (suc k) s t l m g h = g
 
@@ -174,6 +177,20 @@ rate-good s r l g e h =
     let z : length (blankOf (min (s .len) (maxLenOf r)) (maxLenOf r) l) ≡ length l = length-blank (min (s .len) (maxLenOf r)) (maxLenOf r) l (omega arith) in
     record { sound = record { rate = e; least = omega arith; most = omega arith; place = place-in (s .«write_pos») (maxLenOf r) (omega arith); value = a .value }; room = omega arith; memo = g .memo }
 
+-- a line that is taken has room, and the string's cells
+lent-length : (x : Strung) (l : List Float) (n : ℕ) → Good (x .string) n → maxLenOf (x .string .«sample_rate») + 2 ≤ length l → length (lentOf x l) ≡ length l
+unfolding lentOf
+lent-length x l n g h = let q = g .sound .most in length-over (λ i. getD (x .line) i nan) (x .string .len) l (omega arith)
+
+lent-good : (x : Strung) (l : List Float) → Good (x .string) (length (x .line)) → Good (x .string) (length (takenLine x l))
+lent-good x l g = go (eqb (roomOf (x .string .«sample_rate») (length l)) 0) (eqb-true (roomOf (x .string .«sample_rate») (length l)) 0)
+  where
+    go : (b : Bool) → (b ≡ true → roomOf (x .string .«sample_rate») (length l) ≡ 0) → Good (x .string) (length (cond b (lentOf x l) (x .line)))
+    go true h =
+        let r = room-of (x .string .«sample_rate») (length l) (h refl) in
+        record { sound = g .sound; room = rw (lent-length x l _ g r) r; memo = g .memo }
+    go false h = g
+
 -- what new made is the new string
 made-new : (k : ℕ) (t s : KarplusStrong) (m l x : List Float) → madeUnless k (record { out = made.Made t; line = m }) l ≡ record { out = made.Made s; line = x } → (k ≡ 0) × (s ≡ t) × (x ≡ m)
 unfolding madeUnless
@@ -206,10 +223,15 @@ first-good x f = let i = first-is x f in rw (i .2, i .3) (new-good (f .rate) (f 
 pub after-good : (x : Strung) (c : Call) → Good (x .string) (length (x .line)) → FitCall c → Good (after x c .string) (length (after x c .line))
 unfolding after karplusStrongResetOf karplusStrongSetSampleRateOf
 after-good x (Tick c draws) g f = let t = tick-good (x .string) c draws (x .line) g f in rw (t .line) (t .state)
+after-good x (Play c draws t o m) g f =
+    unfold karplusStrongBlockOf in
+    block-keeps 1 _ _ _ (λ (y : Strung). Good (y .string) (length (y .line)))
+    (λ y h. let u = tick-good (y .string) c draws (y .line) h f in rw (u .line) (u .state)) x g t o m
 after-good x Reset g f = made-good (karplusStrongRefusalOf (x .string) (length (x .line))) (x .string) (restOf (x .string) (x .string .len) newEdge) (x .line) (blankOf 0 (x .string .len) (x .line)) g (λ (e : karplusStrongRefusalOf (x .string) (length (x .line)) ≡ 0). reset-good (x .string) (x .line) g)
 after-good x (SetSampleRate r) g f =
     made-good (rateRefusalOf (x .string) r (length (x .line))) (x .string) (resizedString (x .string) r (maxLenOf r)) (x .line) (blankOf (min (x .string .len) (maxLenOf r)) (maxLenOf r) (x .line)) g
     (λ (e : rateRefusalOf (x .string) r (length (x .line)) ≡ 0). let a = rate-accepted (x .string) r (length (x .line)) e in rate-good (x .string) r (x .line) g (a .1) (a .2))
+after-good x (Lend l) g f = lent-good x l g
 
 pub reached-good : (x : Strung) → ReachedString x → Good (x .string) (length (x .line))
 reached-good x h = always (λ (y : Strung). Good (y .string) (length (y .line))) first-good after-good h

@@ -2,7 +2,7 @@
 use mathlib.Core.Path.{_≡_, sym, _∙_}
 use Rattle.laws.specs.Machine.{Settles}
 use Rattle.karplus_strong.specs.Step.{Ticking}
-use Rattle.karplus_strong.specs.KarplusStrong.{Making, karplusStrongNewOf, karplusStrongTickOf, karplusStrongResetOf, karplusStrongSetSampleRateOf}
+use Rattle.karplus_strong.specs.KarplusStrong.{Making, karplusStrongCellsOf, karplusStrongNewOf, karplusStrongTickOf, karplusStrongResetOf, karplusStrongSetSampleRateOf}
 use Rattle.karplus_strong.specs.Blocks.{karplusStrongBlockOf}
 use Rattle.karplus_strong.specs.Promises.{Settled}
 use Rattle.laws.proofs.Settled as laws
@@ -16,6 +16,7 @@ making t x y p q = (λ i. record { out = (p .0 ∙ sym (q .0)) i; line = (p .1 �
 pub settled : Settled
 settled =
     record {
+      cells = λ rate. laws.settled (karplusStrongCellsOf rate);
       new = λ rate l. making (karplusStrongNewOf rate l);
       tick = λ s c draws l. ticking (karplusStrongTickOf s c draws l);
       block = λ x c draws t o m. laws.settled (karplusStrongBlockOf x c draws t o m);

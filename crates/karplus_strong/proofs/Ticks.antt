@@ -5,6 +5,7 @@ use mathlib.Core.Logic.{inl, inr, _⊎_}
 use mathlib.Core.Path.{_≡_, refl, sym, ap, _∙_, subst}
 use Prim.Native.Nat.{ℕ, _+_, zero, suc}
 use native.Mathlib.Omega.{arith}
+use lib.Dec.{eqb}
 use lib.Ieee.{Float, binary64, mul, neg}
 use lib.ListN.{length}
 use borrow.Author.Tests.{le-leb}
@@ -17,9 +18,8 @@ use Rattle.numeric.specs.Basic.{clampOf}
 use types.Kit.{pick}
 use Rattle.karplus_strong.proofs.Parts.{sound-line, heard-clean, heard-cleared}
 use Rattle.karplus_strong.proofs.Reached.{Good}
-use Rattle.karplus_strong.specs.Calls.{Refused}
 use Rattle.karplus_strong.specs.Consts.{loopLeak}
-use Rattle.karplus_strong.specs.Blocks.{triggerRefusalOf}
+use Rattle.karplus_strong.specs.Blocks.{triggerRefusalOf, firstRefusalOf}
 use Rattle.karplus_strong.specs.KarplusStrong.{maxLenOf, roomOf, karplusStrongRefusalOf, finiteOr, strikeIf, heardString, tickUnless, karplusStrongSoundOf, karplusStrongTickOf}
 use Rattle.karplus_strong.specs.Promises.{periodAt, risesAt}
 use Rattle.karplus_strong.specs.Step.{filterCoefOf, apCoefOf, targetDelayOf, tapOf, filteredOf, stretchedOf, Ticking, outOf, wroteOf, clearedOf, stepOf}
@@ -125,3 +125,17 @@ good-none s n g = good-refusal s n n g ∙ good-room s n g
 pub good-tick : (s : KarplusStrong) (c : KarplusStrongControls) (draws : List ℕ) (l : List Float) → Good s (length l) → karplusStrongTickOf s c draws l ≡ tickUnless (triggerRefusalOf s c draws) s l (struckStep s c draws l)
 unfolding tickUnless
 good-tick s c draws l g = tick-is s c draws l ∙ ap (λ (k : ℕ). tickUnless k s l (tickUnless (triggerRefusalOf s c draws) s l (struckStep s c draws l))) (good-none s (length l) g)
+
+-- and so is a block's first
+pub good-first : (s : KarplusStrong) (c : KarplusStrongControls) (draws : List ℕ) (n k : ℕ) → Good s n
+    → firstRefusalOf s c draws n k ≡ cond (eqb k 0) 0 (triggerRefusalOf s c draws)
+unfolding firstRefusalOf
+good-first s c draws n k g = simp (good-none s n g)
+
+pub first-good-none : (s : KarplusStrong) (c : KarplusStrongControls) (draws : List ℕ) (n k : ℕ) → Good s n
+    → triggerRefusalOf s c draws ≡ 0 → firstRefusalOf s c draws n k ≡ 0
+first-good-none s c draws n k g e = good-first s c draws n k g ∙ rw e (go (eqb k 0))
+  where
+    go : (b : Bool) → _≡_ {A = ℕ} (cond b 0 0) 0
+    go true = refl
+    go false = refl

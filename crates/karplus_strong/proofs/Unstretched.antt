@@ -7,7 +7,7 @@ use Prim.Native.Nat.{ℕ, zero, suc, _+_, _-_, _*_, _/_, _%_, _^_, _≤_, _<_, m
 use native.Mathlib.Decide.{ℕ-discrete}
 use native.Mathlib.Nat.{le-trans, le-of-eq, le-of-suc-le-suc, eq-or-lt-of-le, add-le-add, mod-lt, mul-le-mul-right, mul-one, mul-pos, not-suc-le-zero}
 use native.Mathlib.Omega.{arith}
-use lib.Dec.{T, leb, ltb, lit<, lit≤}
+use lib.Dec.{T, eqb, leb, ltb, lit<, lit≤}
 use lib.ListN.{length, getD, set}
 use lib.Seq.{getD-set-same, getD-set-other}
 use lib.Ieee.{Float, nan, inf, fin, binary64, add, sub, mul, neg, lt, le, eq, isNan, fits, ofBits, toUnsigned}
@@ -21,7 +21,7 @@ use Rattle.laws.proofs.Interval.{Under, Within, part-of, round-sized, sized-mul
 use Rattle.laws.proofs.Order.{le-of-lt-true, float-le-trans}
 use Rattle.laws.proofs.Tests.{both-true, of-true}
 use Rattle.laws.proofs.Weights.{weighed}
-use Rattle.laws.proofs.Zeros.{zero-times, zero-plus, minus-zero}
+use Rattle.laws.proofs.Zeros.{times-nought, zero-times, zero-plus, minus-zero}
 use Rattle.laws.proofs.Values.{add-round, div-round, exact-at, ofInt-val}
 use Rattle.laws.specs.Float.{F64, zer, one, isFin}
 use Rattle.laws.specs.Lists.{over}
@@ -34,22 +34,23 @@ use Rattle.common.specs.Memo.{recall1, voctToHzAt}
 use Rattle.common.specs.Tests.{rateOk}
 use Rattle.common.specs.declared.Hertz.{Hertz}
 use Rattle.common.specs.declared.Memo1.{Memo1}
+use Rattle.answer.proofs.Blocks.{block-keeps}
 use Rattle.answer.specs.Answer.{markNumber, accepted}
 use Rattle.answer.specs.declared.Answer.{Answer}
 use Rattle.karplus_strong.specs.Consts.{loopLeak}
 use Rattle.karplus_strong.specs.Line.{blankAt, blankOf, impulseOf, pulseOf, excitedAt, excitedOf, sumTo, meanOf, levelAt, levelOf, struckOf, drawsOk}
 use Rattle.karplus_strong.specs.Step.{filterCoefOf, apCoefOf, filterDelayOf, apDelayOf, targetDelayOf, offsetOne, offsetTwo, tapOf, filteredOf, stretchedOf, Ticking, restOf, stepOf}
-use Rattle.karplus_strong.specs.Blocks.{triggerRefusalOf}
-use Rattle.karplus_strong.specs.KarplusStrong.{maxLenOf, karplusStrongRefusalOf, rateRefusalOf, madeUnless, karplusStrongResetOf, resizedString, karplusStrongSetSampleRateOf, finiteOr, periodOf, struckLen, drawsRefusalOf, strikeOf, strikeIf, heardString, tickUnless, karplusStrongTickOf}
-use Rattle.karplus_strong.specs.Calls.{Strung, Call, Tick, Reset, SetSampleRate, stringAfter, strungAfter, after, FitCall, First}
-use Rattle.karplus_strong.specs.Promises.{periodAt, risesAt, Unstretched, Never-cleared}
+use Rattle.karplus_strong.specs.Blocks.{triggerRefusalOf, karplusStrongNextOf, karplusStrongBlockOf}
+use Rattle.karplus_strong.specs.KarplusStrong.{maxLenOf, karplusStrongRefusalOf, roomOf, rateRefusalOf, madeOr, madeUnless, karplusStrongResetOf, resizedString, karplusStrongSetSampleRateOf, finiteOr, periodOf, struckLen, drawsRefusalOf, strikeOf, strikeIf, heardString, tickUnless, karplusStrongTickOf, Strung, strung}
+use Rattle.karplus_strong.specs.Calls.{Call, Tick, Play, Reset, SetSampleRate, Lend, strungAfter, lentOf, after, FitCall, First}
+use Rattle.karplus_strong.specs.Promises.{periodAt, risesAt, NoStretch, Unstretched, Never-cleared}
 use Rattle.karplus_strong.specs.declared.KarplusStrong.{KarplusStrong}
 use Rattle.karplus_strong.specs.declared.KarplusStrongControls.{KarplusStrongControls}
 use Rattle.karplus_strong.specs.declared.KarplusStrongMade.the-variants as made
 use Rattle.karplus_strong.proofs.Alike.{getD-over, length-struck}
 use Rattle.karplus_strong.proofs.Parts.{Sound, damped, delay-range, heard-clean, memo-number, struck-room}
 use Rattle.karplus_strong.proofs.Promised.{struck-short}
-use Rattle.karplus_strong.proofs.Reached.{Good, first-is, first-good, after-good}
+use Rattle.karplus_strong.proofs.Reached.{Good, tick-good, first-is, first-good, after-good}
 use Rattle.karplus_strong.proofs.Ticks.{struckStep, good-tick}
 use Rattle.karplus_strong.proofs.Weights.{tap-weights, filter-weights, exact-upto}
 
@@ -195,44 +196,59 @@ filtered-within s x d l h X L =
     whole : (p : ℕ) → p ≤ 9007199254740992 → p + (9007199254740992 - p) ≡ 9007199254740992
     whole p h = omega arith
 
-stretched-within : (s : KarplusStrong) (y : Float) → Within 3 y → Within 3 (s .«ap_x1») → Within 3 (s .«ap_y1») → Within 3 (stretchedOf s y (apCoefOf zer))
+-- a zero of either sign
+none : (x : Float) → eq x zer ≡ true → (s : Bool) × HasValue (apCoefOf x) s 0 1
+unfolding apCoefOf
+none x e =
+    let t = times-nought (neg half) x (unfold neg ofBits in tt) (of-true (eq x zer) e) in
+    (t .0, subst (λ (v : Float). HasValue v (t .0) 0 1) (sym (t .1)) (refl, refl))
+
+stretched-within : (s : KarplusStrong) (y x : Float) → eq x zer ≡ true → Within 3 y → Within 3 (s .«ap_x1») → Within 3 (s .«ap_y1»)
+    → Within 3 (stretchedOf s y (apCoefOf x))
 unfolding stretchedOf
-stretched-within s y w x1 y1 =
-    let a = zero-times 3 (apCoefOf zer) y true none w in
-    let b = zero-times 3 (apCoefOf zer) (s .«ap_y1») true none y1 in
-    minus-zero 3 (add binary64 (mul binary64 (apCoefOf zer) y) (s .«ap_x1»)) (mul binary64 (apCoefOf zer) (s .«ap_y1»)) (b .0) (lit≤ tt) (b .1)
-    (zero-plus 3 (mul binary64 (apCoefOf zer) y) (s .«ap_x1») (a .0) (lit≤ tt) (a .1) x1)
-  where
-    none : HasValue (apCoefOf zer) true 0 1
-    none = unfold apCoefOf mul neg ofBits in (refl, refl)
+stretched-within s y x e w x1 y1 =
+    let n = none x e in
+    let a = zero-times 3 (apCoefOf x) y (n .0) (n .1) w in
+    let b = zero-times 3 (apCoefOf x) (s .«ap_y1») (n .0) (n .1) y1 in
+    minus-zero 3 (add binary64 (mul binary64 (apCoefOf x) y) (s .«ap_x1»)) (mul binary64 (apCoefOf x) (s .«ap_y1»)) (b .0) (lit≤ tt) (b .1)
+    (zero-plus 3 (mul binary64 (apCoefOf x) y) (s .«ap_x1») (a .0) (lit≤ tt) (a .1) x1)
 
 leaked-within : (x : Float) → Within 3 x → Within 3 (mul binary64 x loopLeak)
 leaked-within x h = (h .0, sized-mul (h .0) 3 x loopLeak (lit≤ tt) (h .1) (part-of 0 loopLeak (unfold ofBits in tt)))
 
-step-calm : (s : KarplusStrong) (p d : Float) (l : List Float) → s .«write_pos» < s .len → s .len ≤ length l → T (le zer d) → T (le d one) → Delay (targetDelayOf p (filterCoefOf d) (apCoefOf zer)) → Calm s l → CalmTick (stepOf s p d zer l)
+step-calm : (s : KarplusStrong) (p d bend : Float) (l : List Float) → eq bend zer ≡ true → s .«write_pos» < s .len → s .len ≤ length l
+    → T (le zer d) → T (le d one) → Delay (targetDelayOf p (filterCoefOf d) (apCoefOf bend)) → Calm s l → CalmTick (stepOf s p d bend l)
 unfolding stepOf
-step-calm s p d l h k lo hi g c = rw (is-true (isFin v) (within-finite 3 v leaked)) (record { calm = record { cells = λ i q. cell i q (ℕ-discrete i (s .«write_pos»)); lp = filtered; x1 = filtered; y1 = bent }; mark = λ e. subst (λ (a : Answer). markNumber a ≡ 4) (heard-clean v (is-true (isFin v) (within-finite 3 v leaked))) (unfold markNumber in refl) })
+step-calm s p d bend l flat h k lo hi g c =
+    rw settled
+    (record {
+      calm = record { cells = λ i q. cell i q (ℕ-discrete i (s .«write_pos»)); lp = filtered; x1 = filtered; y1 = bent };
+      mark = λ e. subst (λ (a : Answer). markNumber a ≡ 4) (heard-clean v settled) (unfold markNumber in refl);
+    })
   where
     x : Float
-    x = tapOf l (s .«write_pos») (s .len) (targetDelayOf p (filterCoefOf d) (apCoefOf zer))
+    x = tapOf l (s .«write_pos») (s .len) (targetDelayOf p (filterCoefOf d) (apCoefOf bend))
 
     y : Float
     y = filteredOf s x (filterCoefOf d)
 
     z : Float
-    z = stretchedOf s y (apCoefOf zer)
+    z = stretchedOf s y (apCoefOf bend)
 
     v : Float
     v = mul binary64 z loopLeak
 
     filtered : Within 3 y
-    filtered = filtered-within s x d lo hi (tap-within l (s .«write_pos») (s .len) (targetDelayOf p (filterCoefOf d) (apCoefOf zer)) h g (c .cells)) (c .lp)
+    filtered = filtered-within s x d lo hi (tap-within l (s .«write_pos») (s .len) (targetDelayOf p (filterCoefOf d) (apCoefOf bend)) h g (c .cells)) (c .lp)
 
     bent : Within 3 z
-    bent = stretched-within s y filtered (c .x1) (c .y1)
+    bent = stretched-within s y bend flat filtered (c .x1) (c .y1)
 
     leaked : Within 3 v
     leaked = leaked-within z bent
+
+    settled : isFin v ≡ true
+    settled = is-true (isFin v) (within-finite 3 v leaked)
 
     cell : (i : ℕ) → i < s .len → Dec (i ≡ s .«write_pos») → Within 3 (getD (set l (s .«write_pos») v) i nan)
     cell i q (yes e) = rw e (subst (Within 3) (sym (getD-set-same l (s .«write_pos») v nan (omega arith))) leaked)
@@ -249,23 +265,29 @@ finite-positive (fin true m e) a w = absurd a
 finite-positive (fin false m e) a w = a
 
 -- the delay of a tick is such a one
-delay-fine : (r f : Hertz) (d : Float) → rateOk r ≡ true → T (not (isNan (f .0))) → Delay (targetDelayOf (periodOf r f) (filterCoefOf (clampOf (finiteOr d half) zer one)) (apCoefOf zer))
-delay-fine r f d e q = record { fits = max-fits; sign = finite-positive x (above-of-le one x (unfold ofBits in tt) least) most; least = least; most = most }
+abbrev delayAt : Hertz → Hertz → Float → Float → Float
+delayAt r f d t = targetDelayOf (periodOf r f) (filterCoefOf (clampOf (finiteOr d half) zer one)) (apCoefOf (clampOf (finiteOr t zer) (neg one) one))
+
+delay-fine : (r f : Hertz) (d t : Float) → rateOk r ≡ true → T (not (isNan (f .0))) → Delay (delayAt r f d t)
+delay-fine r f d t e q = record { fits = max-fits; sign = finite-positive x (above-of-le one x (unfold ofBits in tt) least) most; least = least; most = most }
   where
     x : Float
-    x = targetDelayOf (periodOf r f) (filterCoefOf (clampOf (finiteOr d half) zer one)) (apCoefOf zer)
+    x = delayAt r f d t
+
+    left : Float
+    left = sub binary64 (periodOf r f) (filterDelayOf (filterCoefOf (clampOf (finiteOr d half) zer one)))
+
+    bent : Float
+    bent = apDelayOf (apCoefOf (clampOf (finiteOr t zer) (neg one) one))
 
     y : Float
-    y = sub binary64 (sub binary64 (periodOf r f) (filterDelayOf (filterCoefOf (clampOf (finiteOr d half) zer one)))) (apDelayOf (apCoefOf zer))
+    y = sub binary64 left bent
 
     most : wholeOf x ≤ 9610
-    most = subst (λ (z : Float). wholeOf (targetDelayOf (periodOf r f) (filterCoefOf (clampOf (finiteOr d half) zer one)) (apCoefOf z)) ≤ 9610) still (delay-range r f d zer e q)
-      where
-        still : clampOf (finiteOr zer zer) (neg one) one ≡ zer
-        still = unfold clampOf finiteOr lt neg ofBits in refl
+    most = delay-range r f d t e q
 
     max-fits : F64 x
-    max-fits = unfold targetDelayOf maxOf in cond-fits binary64 (lt one y) y (cond (isNan one) y one) (sub-fits binary64 (sub binary64 (periodOf r f) (filterDelayOf (filterCoefOf (clampOf (finiteOr d half) zer one)))) (apDelayOf (apCoefOf zer))) (unfold isNan fits ofBits in tt)
+    max-fits = unfold targetDelayOf maxOf in cond-fits binary64 (lt one y) y (cond (isNan one) y one) (sub-fits binary64 left bent) (unfold isNan fits ofBits in tt)
 
     least : T (le one x)
     least = unfold targetDelayOf maxOf in go (lt one y) refl
@@ -283,25 +305,30 @@ draws-fine n d e = go (leb n (length d)) (drawsOk d n) refl e
     go true false h k = absurd (omega arith)
     go false b h k = absurd (omega arith)
 
-struck-calm : (rising : Bool) (t : KarplusStrong) (p b d : Float) (draws : List ℕ) (l : List Float)
-    → _≡_ {A = ℕ} (cond rising (drawsRefusalOf (struckLen p) draws) 0) 0 → struckLen p ≤ length l → struckLen p ≤ 9611 → t .«write_pos» < t .len → t .len ≤ length l → T (le zer b) → T (le b one) → T (le zer d) → T (le d one)
-    → Delay (targetDelayOf p (filterCoefOf d) (apCoefOf zer)) → Calm t l → CalmTick (stepOf (strikeIf rising t p b draws l .out) p d zer (strikeIf rising t p b draws l .line))
-struck-calm false t p b d draws l e r n h k bl bh dl dh g c = unfold strikeIf in step-calm t p d l h k dl dh g c
-struck-calm true t p b d draws l e r n h k bl bh dl dh g c =
+struck-calm : (rising : Bool) (t : KarplusStrong) (p b d bend : Float) (draws : List ℕ) (l : List Float)
+    → eq bend zer ≡ true → _≡_ {A = ℕ} (cond rising (drawsRefusalOf (struckLen p) draws) 0) 0 → struckLen p ≤ length l → struckLen p ≤ 9611
+    → t .«write_pos» < t .len → t .len ≤ length l → T (le zer b) → T (le b one) → T (le zer d) → T (le d one)
+    → Delay (targetDelayOf p (filterCoefOf d) (apCoefOf bend)) → Calm t l
+    → CalmTick (stepOf (strikeIf rising t p b draws l .out) p d bend (strikeIf rising t p b draws l .line))
+struck-calm false t p b d bend draws l flat e r n h k bl bh dl dh g c = unfold strikeIf in step-calm t p d bend l flat h k dl dh g c
+struck-calm true t p b d bend draws l flat e r n h k bl bh dl dh g c =
     unfold strikeIf strikeOf in
     (let q = length-struck (struckLen p) b draws l r in
     let z : 0 < struckLen p = unfold struckLen in omega arith in
-    step-calm (restOf t (struckLen p) (t .«trigger_edge»)) p d (struckOf (struckLen p) b draws l) z (omega arith) dl dh g
+    step-calm (restOf t (struckLen p) (t .«trigger_edge»)) p d bend (struckOf (struckLen p) b draws l) flat z (omega arith) dl dh g
     (record { cells = struck-within (struckLen p) b draws l z n (draws-fine (struckLen p) draws e) bl bh; lp = zero-within; x1 = zero-within; y1 = zero-within }))
 
-sound-calm : (s : KarplusStrong) (c : KarplusStrongControls) (draws : List ℕ) (l : List Float) → Good s (length l) → clampOf (finiteOr (c .stretch) zer) (neg one) one ≡ zer → triggerRefusalOf s c draws ≡ 0 → Calm s l → CalmTick (struckStep s c draws l)
+sound-calm : (s : KarplusStrong) (c : KarplusStrongControls) (draws : List ℕ) (l : List Float) → Good s (length l) → NoStretch c
+    → triggerRefusalOf s c draws ≡ 0 → Calm s l → CalmTick (struckStep s c draws l)
 unfolding struckStep triggerRefusalOf
 sound-calm s c draws l g z e k =
-    rw z
-    (struck-calm (risesAt s c) (heardString s (risingOf (s .«trigger_edge») (c .trigger) .edge) memo) (periodAt s c) (clampOf (finiteOr (c .brightness) half) zer one) (clampOf (finiteOr (c .damping) half) zer one) draws l e
-    (struck-room (s .«sample_rate») (memo .val) (periodAt s c) (length l) refl (a .rate) number (g .room)) (struck-short s c a) (a .place) (let q = a .most in let r = g .room in omega arith) (damped (c .brightness) .0) (damped (c .brightness) .1) (damped (c .damping) .0) (damped (c .damping) .1)
-    (delay-fine (s .«sample_rate») (memo .val) (c .damping) (a .rate) number)
-    (record { cells = k .cells; lp = k .lp; x1 = k .x1; y1 = k .y1 }))
+    struck-calm (risesAt s c) (heardString s (risingOf (s .«trigger_edge») (c .trigger) .edge) memo) (periodAt s c)
+    (clampOf (finiteOr (c .brightness) half) zer one) (clampOf (finiteOr (c .damping) half) zer one) (clampOf (finiteOr (c .stretch) zer) (neg one) one) draws l z e
+    (struck-room (s .«sample_rate») (memo .val) (periodAt s c) (length l) refl (a .rate) number (g .room)) (struck-short s c a) (a .place)
+    (let q = a .most in let r = g .room in omega arith)
+    (damped (c .brightness) .0) (damped (c .brightness) .1) (damped (c .damping) .0) (damped (c .damping) .1)
+    (delay-fine (s .«sample_rate») (memo .val) (c .damping) (c .stretch) (a .rate) number)
+    (record { cells = k .cells; lp = k .lp; x1 = k .x1; y1 = k .y1 })
   where
     a : Sound s
     a = g .sound
@@ -312,7 +339,8 @@ sound-calm s c draws l g z e k =
     number : T (not (isNan (memo .val .0)))
     number = memo-number (s .«freq_memo») (c .voct .0) (finiteOr (c .voct .0) zer) memo (a .value) refl refl
 
-tick-calm : (s : KarplusStrong) (c : KarplusStrongControls) (draws : List ℕ) (l : List Float) → Good s (length l) → clampOf (finiteOr (c .stretch) zer) (neg one) one ≡ zer → Calm s l → CalmTick (karplusStrongTickOf s c draws l)
+tick-calm : (s : KarplusStrong) (c : KarplusStrongControls) (draws : List ℕ) (l : List Float) → Good s (length l) → NoStretch c → Calm s l
+    → CalmTick (karplusStrongTickOf s c draws l)
 tick-calm s c draws l g z k = rw (good-tick s c draws l g) (pick (triggerRefusalOf s c draws) refl)
   where
     pick : (n : ℕ) → triggerRefusalOf s c draws ≡ n → CalmTick (tickUnless n s l (struckStep s c draws l))
@@ -329,32 +357,55 @@ blank-within a n l h i q = subst (Within 3) (sym (getD-over (blankAt a l) n l i 
     go false e = zero-within
 
 made-calm : (k : ℕ) (s t : KarplusStrong) (l m : List Float) → Calm s l → Calm t m → let x = strungAfter s (madeUnless k (record { out = made.Made t; line = m }) l) in Calm (x .string) (x .line)
-unfolding madeUnless stringAfter
+unfolding madeUnless madeOr
 made-calm zero s t l m c d = d
 made-calm (suc k) s t l m c d = c
+
+lent-calm : (s : KarplusStrong) (l m : List Float) → Calm s l → Calm s (lentOf (strung s l) m)
+unfolding lentOf
+lent-calm s l m k = record {
+  cells = λ i q. subst (Within 3) (sym (getD-over (λ j. getD l j nan) (s .len) m i q)) (k .cells i q);
+  lp = k .lp;
+  x1 = k .x1;
+  y1 = k .y1;
+}
+
+-- a string that goes through ticks of such a stretch
+abbrev Quiet : Strung → Type 0
+Quiet y = Good (y .string) (length (y .line)) × Calm (y .string) (y .line)
+
+tick-quiet : (c : KarplusStrongControls) (draws : List ℕ) → F64 (c .voct .0) → NoStretch c → (y : Strung) → Quiet y → Quiet (karplusStrongNextOf c draws y)
+tick-quiet c draws f z y q =
+    let t = tick-good (y .string) c draws (y .line) (q .0) f in
+    (rw (t .line) (t .state), tick-calm (y .string) c draws (y .line) (q .0) z (q .1) .calm)
 
 after-calm : (x : Strung) (c : Call) → Good (x .string) (length (x .line)) → Unstretched c → Calm (x .string) (x .line) → Calm (after x c .string) (after x c .line)
 unfolding after karplusStrongResetOf karplusStrongSetSampleRateOf
 after-calm x (Tick c draws) g f k = tick-calm (x .string) c draws (x .line) g (f .1) k .calm
+after-calm x (Play c draws t o m) g f k = unfold karplusStrongBlockOf in block-keeps 1 _ _ _ Quiet (tick-quiet c draws (f .0) (f .1)) x (g, k) t o m .1
 after-calm x Reset g f k =
     made-calm (karplusStrongRefusalOf (x .string) (length (x .line))) (x .string) (restOf (x .string) (x .string .len) newEdge) (x .line) (blankOf 0 (x .string .len) (x .line)) k
     (record { cells = blank-within 0 (x .string .len) (x .line) (λ i q. absurd (not-suc-le-zero q)); lp = zero-within; x1 = zero-within; y1 = zero-within })
 after-calm x (SetSampleRate r) g f k =
     made-calm (rateRefusalOf (x .string) r (length (x .line))) (x .string) (resizedString (x .string) r (maxLenOf r)) (x .line) (blankOf (min (x .string .len) (maxLenOf r)) (maxLenOf r) (x .line)) k
     (record { cells = blank-within (min (x .string .len) (maxLenOf r)) (maxLenOf r) (x .line) (λ i q. k .cells i (omega arith)); lp = k .lp; x1 = k .x1; y1 = k .y1 })
+after-calm x (Lend l) g f k = go (eqb (roomOf (x .string .«sample_rate») (length l)) 0)
+  where
+    go : (b : Bool) → Calm (x .string) (cond b (lentOf x l) (x .line))
+    go true = lent-calm (x .string) (x .line) l k
+    go false = k
 
 fit : (c : Call) → Unstretched c → FitCall c
 fit (Tick c draws) f = f .0
+fit (Play c draws t o m) f = f .0
 fit Reset f = f
 fit (SetSampleRate rate) f = f
+fit (Lend l) f = f
 
 first-calm : (x : Strung) → First x → Calm (x .string) (x .line)
 first-calm x f =
     let i = first-is x f in
     rw (i .2, i .3) (record { cells = blank-within 0 (maxLenOf (f .rate)) (f .lent) (λ j q. absurd (not-suc-le-zero q)); lp = zero-within; x1 = zero-within; y1 = zero-within })
-
-abbrev Quiet : Strung → Type 0
-Quiet y = Good (y .string) (length (y .line)) × Calm (y .string) (y .line)
 
 pub never-cleared : Never-cleared
 never-cleared x h c draws f = let k = always Quiet (λ (y : Strung) (i : First y). (first-good y i, first-calm y i)) (λ (y : Strung) (c : Call) (p : Quiet y) (u : Unstretched c). (after-good y c (p .0) (fit c u), after-calm y c (p .0) u (p .1))) h in

@@ -1,63 +1,75 @@
--- The string as a machine: its calls, the string after each, and what each replies. The line is lent as the last call left it.
+-- The string as a machine: its calls, the string after each, and what each replies. A call is lent the line as the last call left
+-- it; between two calls its caller may take another line.
+use mathlib.Core.Bool.{cond}
 use mathlib.Core.List.{List}
 use mathlib.Core.Path.{_≡_}
 use Prim.Native.Nat.{ℕ}
-use lib.Ieee.{Float}
+use lib.Dec.{eqb}
+use lib.Ieee.{Float, nan}
+use lib.ListN.{length, getD}
 use Rattle.laws.specs.Float.{F64}
+use Rattle.laws.specs.Lists.{over}
 use Rattle.laws.specs.Machine.{Reached}
 use Rattle.common.specs.declared.Hertz.{Hertz}
+use Rattle.answer.specs.Block.{Block, block}
 use Rattle.answer.specs.declared.Answer.{Answer}
-use Rattle.karplus_strong.specs.KarplusStrong.{Making, karplusStrongNewOf, karplusStrongTickOf, karplusStrongResetOf, karplusStrongSetSampleRateOf}
+use Rattle.answer.specs.declared.Tally.{Tally}
+use Rattle.karplus_strong.specs.KarplusStrong.{Making, roomOf, madeNumber, madeOr, karplusStrongNewOf, karplusStrongTickOf, karplusStrongResetOf, karplusStrongSetSampleRateOf, Strung, strung}
+use Rattle.karplus_strong.specs.Blocks.{karplusStrongBlockOf}
 use Rattle.karplus_strong.specs.declared.KarplusStrong.{KarplusStrong}
 use Rattle.karplus_strong.specs.declared.KarplusStrongControls.{KarplusStrongControls}
-use Rattle.karplus_strong.specs.declared.KarplusStrongMade.{KarplusStrongMade}
 use Rattle.karplus_strong.specs.declared.KarplusStrongMade.the-variants as made
-
--- a string with its line
-pub record Strung : Type 0 where
-  pub string : KarplusStrong
-  pub line : List Float
-
-abbrev pub strung : KarplusStrong → List Float → Strung
-strung s l = record { string = s; line = l }
 
 pub data Call : Type 0 where
   Tick : KarplusStrongControls → List ℕ → Call
+  Play : KarplusStrongControls → List ℕ → Tally → List Float → List ℕ → Call
   Reset : Call
   SetSampleRate : Hertz → Call
+  -- no call of the string's: from here on its caller lends this line, the string's cells copied to it
+  Lend : List Float → Call
 
+-- Told is 0, or the number that refused the call
 pub data Reply : Type 0 where
   Ticked : Answer → Reply
-  Done : Reply
-  Refused : ℕ → Reply
-
--- a refused call leaves the string
-unfoldable pub stringAfter : KarplusStrong → KarplusStrongMade → KarplusStrong
-stringAfter s (made.Made t) = t
-stringAfter s (made.Refused n) = s
-
-unfoldable pub madeReply : KarplusStrongMade → Reply
-madeReply (made.Made t) = Done
-madeReply (made.Refused n) = Refused n
+  Played : Block KarplusStrong → Reply
+  Told : ℕ → Reply
 
 abbrev pub strungAfter : KarplusStrong → Making → Strung
-strungAfter s m = record { string = stringAfter s (m .out); line = m .line }
+strungAfter s m = record { string = madeOr s (m .out); line = m .line }
+
+-- a line with the string's cells; the cells past them are its own
+unfoldable pub lentOf : Strung → List Float → List Float
+lentOf x l = over (λ i. getD (x .line) i nan) (x .string .len) l
+
+-- one that is too short for the rate isn't taken
+abbrev pub takenLine : Strung → List Float → List Float
+takenLine x l = cond (eqb (roomOf (x .string .«sample_rate») (length l)) 0) (lentOf x l) (x .line)
 
 unfoldable pub after : Strung → Call → Strung
 after x (Tick c draws) = let t = karplusStrongTickOf (x .string) c draws (x .line) in record { string = t .out .«karplus_strong»; line = t .line }
+after x (Play c draws t o m) = karplusStrongBlockOf x c draws t o m .state
 after x Reset = strungAfter (x .string) (karplusStrongResetOf (x .string) (x .line))
 after x (SetSampleRate rate) = strungAfter (x .string) (karplusStrongSetSampleRateOf (x .string) rate (x .line))
+after x (Lend l) = strung (x .string) (takenLine x l)
+
+-- what a block leaves beside its line
+abbrev pub unstrung : Block Strung → Block KarplusStrong
+unstrung b = block (b .refused) (b .state .string) (b .tally) (b .samples) (b .marks)
 
 unfoldable pub reply : Strung → Call → Reply
 reply x (Tick c draws) = Ticked (karplusStrongTickOf (x .string) c draws (x .line) .out .answer)
-reply x Reset = madeReply (karplusStrongResetOf (x .string) (x .line) .out)
-reply x (SetSampleRate rate) = madeReply (karplusStrongSetSampleRateOf (x .string) rate (x .line) .out)
+reply x (Play c draws t o m) = Played (unstrung (karplusStrongBlockOf x c draws t o m))
+reply x Reset = Told (madeNumber (karplusStrongResetOf (x .string) (x .line) .out))
+reply x (SetSampleRate rate) = Told (madeNumber (karplusStrongSetSampleRateOf (x .string) rate (x .line) .out))
+reply x (Lend l) = Told (roomOf (x .string .«sample_rate») (length l))
 
 -- the pitch is an f64
 abbrev pub FitCall : Call → Type 0
 FitCall (Tick c draws) = F64 (c .voct .0)
+FitCall (Play c draws t o m) = F64 (c .voct .0)
 FitCall Reset = Unit
 FitCall (SetSampleRate rate) = Unit
+FitCall (Lend l) = Unit
 
 -- a string that new made in some line
 pub record First (x : Strung) : Type 0 where

@@ -10,7 +10,7 @@ use Rattle.numeric.specs.Basic.{wholeOf, realOf}
 use Rattle.answer.specs.declared.Answer.{Answer}
 use Rattle.karplus_strong.specs.Consts.{loopLeak}
 use Rattle.karplus_strong.specs.Step.{filterCoefOf, apCoefOf, targetDelayOf, offsetOne, offsetTwo, filteredOf, stretchedOf, Ticking, wroteOf, clearedOf}
-use Rattle.karplus_strong.specs.Calls.{Strung}
+use Rattle.karplus_strong.specs.KarplusStrong.{Strung}
 use Rattle.karplus_strong.specs.declared.KarplusStrong.{KarplusStrong}
 use Rattle.karplus_strong.specs.declared.Tuning.{Tuning}
 

@@ -40,6 +40,10 @@ roomOf rate n = cond (leb (maxLenOf rate + 2) n) 0 3
 unfoldable pub karplusStrongRefusalOf : KarplusStrong → ℕ → ℕ
 karplusStrongRefusalOf s n = cond (rateOk (s .«sample_rate»)) (cond (lineOk s (maxLenOf (s .«sample_rate»))) (roomOf (s .«sample_rate») n) 2) 1
 
+-- the cells that a line needs at a rate; 0 of a rate that is refused
+unfoldable pub karplusStrongCellsOf : Hertz → ℕ
+karplusStrongCellsOf rate = cond (rateOk rate) (maxLenOf rate + 2) 0
+
 -- a rate change asks 1 of the old rate and the new, 2 by the old one's max_len and 3 by the new one's
 unfoldable pub rateRefusalOf : KarplusStrong → Hertz → ℕ → ℕ
 rateRefusalOf s rate n = cond (rateOk (s .«sample_rate») && rateOk rate) (cond (lineOk s (maxLenOf (s .«sample_rate»))) (roomOf rate n) 2) 1
@@ -49,6 +53,16 @@ rateRefusalOf s rate n = cond (rateOk (s .«sample_rate») && rateOk rate) (cond
 pub record Making : Type 0 where
   pub out : KarplusStrongMade
   pub line : List Float
+
+-- the number of what was made: 0 done, or what refused it
+unfoldable pub madeNumber : KarplusStrongMade → ℕ
+madeNumber (made.Made t) = 0
+madeNumber (made.Refused n) = n
+
+-- and the string: a refused call leaves the one before it
+unfoldable pub madeOr : KarplusStrong → KarplusStrongMade → KarplusStrong
+madeOr s (made.Made t) = t
+madeOr s (made.Refused n) = s
 
 -- done, unless a refusal's number isn't 0
 unfoldable pub madeUnless : ℕ → Making → List Float → Making
@@ -133,3 +147,11 @@ karplusStrongSoundOf s c draws l =
 
 unfoldable pub karplusStrongTickOf : KarplusStrong → KarplusStrongControls → List ℕ → List Float → Ticking
 karplusStrongTickOf s c draws l = tickUnless (karplusStrongRefusalOf s (length l)) s l (karplusStrongSoundOf s c draws l)
+
+-- ---- a string with its line
+pub record Strung : Type 0 where
+  pub string : KarplusStrong
+  pub line : List Float
+
+abbrev pub strung : KarplusStrong → List Float → Strung
+strung s l = record { string = s; line = l }

@@ -3,7 +3,7 @@ pub mod Ranges
 pub mod Line
 pub mod Step
 pub mod KarplusStrong
-pub mod Calls
 pub mod Held
 pub mod Blocks
+pub mod Calls
 pub mod Promises

@@ -1,11 +1,12 @@
 -- What the string promises: the statements. The proofs of the same names in small letters stand in proofs/.
 use mathlib.Core.Bool.{Bool, true, false, cond}
-use mathlib.Core.List.{List, _∷_}
+use mathlib.Core.List.{List}
 use mathlib.Core.Logic.{_⊎_}
 use mathlib.Core.Path.{_≡_}
-use Prim.Native.Nat.{ℕ, zero, suc, _≤_, _<_}
+use Prim.Native.Nat.{ℕ, _*_, _≤_, _<_}
+use lib.Dec.{eqb, leb}
 use lib.ListN.{length, getD}
-use lib.Ieee.{Float, nan, le, neg}
+use lib.Ieee.{Float, nan, eq, le, neg}
 use Rattle.laws.specs.Float.{zer, one, isFin}
 use Rattle.laws.specs.Machine.{Reached, replies, Settles}
 use Rattle.numeric.specs.Basic.{clampOf}
@@ -15,14 +16,14 @@ use Rattle.common.specs.Memo.{recall1, voctToHzAt}
 use Rattle.common.specs.Tests.{rateOk}
 use Rattle.common.specs.declared.Hertz.{Hertz}
 use Rattle.answer.specs.Answer.{markNumber, voltsOf, refusalOf, accepted}
-use Rattle.answer.specs.Block.{Block}
+use Rattle.answer.specs.Block.{Block, blockRefusalOf}
 use Rattle.answer.specs.Promises.{AllAccepted, AllTaken}
 use Rattle.answer.specs.declared.Tally.{Tally}
 use Rattle.karplus_strong.specs.Line.{blankOf, drawsOk}
 use Rattle.karplus_strong.specs.Step.{Ticking, outOf}
-use Rattle.karplus_strong.specs.KarplusStrong.{Making, maxLenOf, roomOf, karplusStrongRefusalOf, newKarplusStrong, finiteOr, periodOf, struckLen, drawsRefusalOf, karplusStrongNewOf, karplusStrongTickOf, karplusStrongResetOf, karplusStrongSetSampleRateOf}
-use Rattle.karplus_strong.specs.Calls.{Strung, Call, Tick, Reset, SetSampleRate, Reply, Done, Refused, after, reply, FitCall, First, ReachedString}
-use Rattle.karplus_strong.specs.Blocks.{karplusStrongBlockOf, firstRefusalOf, karplusStrongAnswerOf, karplusStrongNextOf}
+use Rattle.karplus_strong.specs.KarplusStrong.{Making, maxLenOf, roomOf, karplusStrongCellsOf, karplusStrongRefusalOf, madeNumber, newKarplusStrong, finiteOr, periodOf, struckLen, karplusStrongNewOf, karplusStrongTickOf, karplusStrongResetOf, karplusStrongSetSampleRateOf, Strung, strung}
+use Rattle.karplus_strong.specs.Blocks.{triggerRefusalOf, karplusStrongBlockOf, firstRefusalOf, karplusStrongAnswerOf, karplusStrongNextOf}
+use Rattle.karplus_strong.specs.Calls.{Call, Tick, Play, Reset, SetSampleRate, Lend, Told, after, reply, FitCall, First, ReachedString}
 use Rattle.karplus_strong.specs.declared.KarplusStrong.{KarplusStrong}
 use Rattle.karplus_strong.specs.declared.KarplusStrongControls.{KarplusStrongControls}
 
@@ -34,19 +35,19 @@ periodAt s c = periodOf (s .«sample_rate») (recall1 voctToHzAt (s .«freq_memo
 abbrev pub risesAt : KarplusStrong → KarplusStrongControls → Bool
 risesAt s c = risingOf (s .«trigger_edge») (c .trigger) .rising
 
-unfoldable pub doneOr : ℕ → Reply
-doneOr zero = Done
-doneOr (suc n) = Refused (suc n)
-
 -- 1 and 2 never come, and 3 only where a caller lends a line that is too short: its own isn't. Then a tick is refused only
--- where it takes its trigger, by its draws; a reset is done; and a rate change says only what the new rate asks.
+-- where it takes its trigger, by its draws; a block by 52, by what refuses its first tick, if it has one, and by the tally's 7; a reset
+-- is done; and a rate change says only what the new rate asks.
 pub record Ready (x : Strung) : Type 0 where
   pub state : (n : ℕ) → karplusStrongRefusalOf (x .string) n ≡ roomOf (x .string .«sample_rate») n
   pub room : roomOf (x .string .«sample_rate») (length (x .line)) ≡ 0
   pub tick : (c : KarplusStrongControls) (draws : List ℕ)
-      → refusalOf (karplusStrongTickOf (x .string) c draws (x .line) .out .answer) ≡ cond (risesAt (x .string) c) (drawsRefusalOf (struckLen (periodAt (x .string) c)) draws) 0
-  pub reset : reply x Reset ≡ Done
-  pub rate : (r : Hertz) → reply x (SetSampleRate r) ≡ doneOr (cond (rateOk r) (roomOf r (length (x .line))) 1)
+      → refusalOf (karplusStrongTickOf (x .string) c draws (x .line) .out .answer) ≡ triggerRefusalOf (x .string) c draws
+  pub block : (c : KarplusStrongControls) (draws : List ℕ) (t : Tally) (o : List Float) (m : List ℕ)
+      → karplusStrongBlockOf x c draws t o m .refused
+      ≡ blockRefusalOf (eqb (length o) (1 * length m)) (cond (eqb (length m) 0) 0 (triggerRefusalOf (x .string) c draws)) t (length m)
+  pub reset : reply x Reset ≡ Told 0
+  pub rate : (r : Hertz) → reply x (SetSampleRate r) ≡ Told (cond (rateOk r) (roomOf r (length (x .line))) 1)
 
 abbrev pub Never-refused : Type 0
 Never-refused = (x : Strung) → ReachedString x → Ready x
@@ -57,15 +58,49 @@ pub record Strikes (x : Strung) (c : KarplusStrongControls) (draws : List ℕ) :
   pub is-accepted : accepted (karplusStrongTickOf (x .string) c draws (x .line) .out .answer) ≡ true
   pub edge : risesAt (x .string) c ≡ true
 
--- from that tick on the answers are those of any new string of its rate in a line of the same size, given this tick and the same calls
+-- two lines of one size that agree below n
+pub record Alike (n : ℕ) (l m : List Float) : Type 0 where
+  pub size : length l ≡ length m
+  pub cells : (i : ℕ) → i < n → getD l i nan ≡ getD m i nan
+
+-- two strings that no call tells apart: they are equal, and their lines are alike below their length
+pub record Same (x y : Strung) : Type 0 where
+  pub string : x .string ≡ y .string
+  pub line : Alike (x .string .len) (x .line) (y .line)
+
+-- a call that forgets x: it replies what it would reply y, leaves the same, and from then on every call replies alike
+pub record Forgotten (x y : Strung) (call : Call) : Type 0 where
+  pub said : reply x call ≡ reply y call
+  pub state : Same (after x call) (after y call)
+  pub later : (cs : List Call) → replies after reply (after x call) cs ≡ replies after reply (after y call) cs
+
+-- y is a new string of x's rate in a line of the same size
+pub record Fresh (x y : Strung) : Type 0 where
+  pub is-new : First y
+  pub rate : y .string .«sample_rate» ≡ x .string .«sample_rate»
+  pub size : length (y .line) ≡ length (x .line)
+
+-- such a tick makes of x what it makes of any such y
 abbrev pub Forgets : Type 0
 Forgets = (x : Strung) → ReachedString x → (c : KarplusStrongControls) (draws : List ℕ) → FitCall (Tick c draws) → Strikes x c draws
-    → (y : Strung) → First y → y .string .«sample_rate» ≡ x .string .«sample_rate» → length (y .line) ≡ length (x .line)
-    → (cs : List Call) → replies after reply x (Tick c draws ∷ cs) ≡ replies after reply y (Tick c draws ∷ cs)
+    → (y : Strung) → Fresh x y → Forgotten x y (Tick c draws)
 
--- such a string there is
+-- and so does a block that isn't refused and whose first tick is such a one
+abbrev pub Block-forgets : Type 0
+Block-forgets = (x : Strung) → ReachedString x → (c : KarplusStrongControls) (draws : List ℕ) → FitCall (Tick c draws) → Strikes x c draws
+    → (t : Tally) (o : List Float) (m : List ℕ) → 0 < length m → karplusStrongBlockOf x c draws t o m .refused ≡ 0
+    → (y : Strung) → Fresh x y → Forgotten x y (Play c draws t o m)
+
+abbrev pub newStrung : Hertz → List Float → Strung
+newStrung rate l = strung (newKarplusStrong rate) (blankOf 0 (maxLenOf rate) l)
+
+-- such a string there is: at each rate that isn't refused, in each line that has room for it
+abbrev pub First-there : Type 0
+First-there = (rate : Hertz) (l : List Float) → rateOk rate ≡ true → roomOf rate (length l) ≡ 0 → First (newStrung rate l)
+
+-- so of each reached string, in each line of its line's size
 abbrev pub New-there : Type 0
-New-there = (x : Strung) → ReachedString x → (l : List Float) → length l ≡ length (x .line) → First (record { string = newKarplusStrong (x .string .«sample_rate»); line = blankOf 0 (maxLenOf (x .string .«sample_rate»)) l })
+New-there = (x : Strung) → ReachedString x → (l : List Float) → length l ≡ length (x .line) → Fresh x (newStrung (x .string .«sample_rate») l)
 
 -- and such a tick: after one whose trigger is not above the threshold, one with 5.0 V and enough draws
 abbrev pub Edge-comes : Type 0
@@ -73,18 +108,22 @@ Edge-comes = (x : Strung) → ReachedString x → (low high : KarplusStrongContr
     → (accepted (karplusStrongTickOf (x .string) low none (x .line) .out .answer) ≡ true) × Strikes (after x (Tick low none)) high draws
 
 -- ---- only the cells below the length count
--- two lines of one size that agree there
-pub record Alike (n : ℕ) (l m : List Float) : Type 0 where
-  pub size : length l ≡ length m
-  pub cells : (i : ℕ) → i < n → getD l i nan ≡ getD m i nan
-
--- a tick says and does the same over both, and leaves them so
+-- a tick says and does the same over two lines that are alike there, and leaves them so
 pub record SameTick (t u : Ticking) : Type 0 where
   pub out : t .out ≡ u .out
   pub line : Alike (t .out .«karplus_strong» .len) (t .line) (u .line)
 
 abbrev pub Only-its-cells : Type 0
 Only-its-cells = (s : KarplusStrong) (c : KarplusStrongControls) (draws : List ℕ) (l m : List Float) → Alike (s .len) l m → SameTick (karplusStrongTickOf s c draws l) (karplusStrongTickOf s c draws m)
+
+-- and no call tells such strings apart
+abbrev pub Same-replies : Type 0
+Same-replies = (x y : Strung) → Same x y → (cs : List Call) → replies after reply x cs ≡ replies after reply y cs
+
+-- so its caller may take any other line that has room and the same cells there
+abbrev pub Any-line : Type 0
+Any-line = (x : Strung) → ReachedString x → (l : List Float) → roomOf (x .string .«sample_rate») (length l) ≡ 0
+    → ((i : ℕ) → i < x .string .len → getD (x .line) i nan ≡ getD l i nan) → after x (Lend l) ≡ strung (x .string) l
 
 -- and nothing is written from cell n on
 pub record SamePast (n : ℕ) (l m : List Float) : Type 0 where
@@ -110,12 +149,17 @@ Clean-or-cleared = (s : KarplusStrong) (c : KarplusStrongControls) (draws : List
     → ((markNumber (karplusStrongTickOf s c draws l .out .answer) ≡ 4) × (isFin (voltsOf (karplusStrongTickOf s c draws l .out .answer) .p10) ≡ true))
     ⊎ ((markNumber (karplusStrongTickOf s c draws l .out .answer) ≡ 1) × (voltsOf (karplusStrongTickOf s c draws l .out .answer) ≡ outOf zer))
 
--- and while its stretch counts as 0.0 a string is never cleared, whatever its other controls do. With another it may be: at
+-- and while its stretch counts as 0.0 or -0.0 a string is never cleared, whatever its other controls do. With another it may be: at
 -- 48,000 Hz, voct 0.0 and damping 1.0, a stretch of -1.0 and 1.0 by turns drives the loop up until it overflows
+abbrev pub NoStretch : KarplusStrongControls → Type 0
+NoStretch c = eq (clampOf (finiteOr (c .stretch) zer) (neg one) one) zer ≡ true
+
 abbrev pub Unstretched : Call → Type 0
-Unstretched (Tick c draws) = FitCall (Tick c draws) × (clampOf (finiteOr (c .stretch) zer) (neg one) one ≡ zer)
+Unstretched (Tick c draws) = FitCall (Tick c draws) × NoStretch c
+Unstretched (Play c draws t o m) = FitCall (Tick c draws) × NoStretch c
 Unstretched Reset = Unit
 Unstretched (SetSampleRate rate) = Unit
+Unstretched (Lend l) = Unit
 
 abbrev pub Never-cleared : Type 0
 Never-cleared = (x : Strung) → Reached First Unstretched after x → (c : KarplusStrongControls) (draws : List ℕ) → Unstretched (Tick c draws) → accepted (karplusStrongTickOf (x .string) c draws (x .line) .out .answer) ≡ true → markNumber (karplusStrongTickOf (x .string) c draws (x .line) .out .answer) ≡ 4
@@ -136,8 +180,14 @@ Block-accepts = (x : Strung) (c : KarplusStrongControls) (draws : List ℕ) (n :
 abbrev pub Block-tallies : Type 0
 Block-tallies = (x : Strung) (c : KarplusStrongControls) (draws : List ℕ) (n : ℕ) → 0 < n → firstRefusalOf (x .string) c draws (length (x .line)) n ≡ 0 → AllTaken (karplusStrongAnswerOf c draws) (karplusStrongNextOf c draws) x
 
+-- ---- a line of so many cells is enough, and a shorter one isn't
+abbrev pub Cells-enough : Type 0
+Cells-enough = (rate : Hertz) (l : List Float)
+    → madeNumber (karplusStrongNewOf rate l .out) ≡ cond (rateOk rate) (cond (leb (karplusStrongCellsOf rate) (length l)) 0 3) 1
+
 -- ---- each contract settles the answer and the line, and a block's its samples and marks
 pub record Settled : Type 0 where
+  pub cells : (rate : Hertz) → Settles (λ (n : ℕ). n ≡ karplusStrongCellsOf rate)
   pub new : (rate : Hertz) (l : List Float) → Settles (λ (r : Making). (r .out ≡ karplusStrongNewOf rate l .out) × (r .line ≡ karplusStrongNewOf rate l .line))
   pub tick : (s : KarplusStrong) (c : KarplusStrongControls) (draws : List ℕ) (l : List Float) → Settles (λ (r : Ticking). (r .out ≡ karplusStrongTickOf s c draws l .out) × (r .line ≡ karplusStrongTickOf s c draws l .line))
   pub block : (x : Strung) (c : KarplusStrongControls) (draws : List ℕ) (t : Tally) (o : List Float) (m : List ℕ) → Settles (λ (b : Block Strung). b ≡ karplusStrongBlockOf x c draws t o m)

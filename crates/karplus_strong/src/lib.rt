@@ -19,14 +19,13 @@ ghost use Rattle.numeric.specs.Basic.{clampOf, wholeOf};
 ghost use Rattle.common.specs.Consts.{half};
 ghost use Rattle.common.specs.Memo.{recall1, voctToHzAt};
 ghost use Rattle.common.specs.Tests.{rateOk};
-ghost use Rattle.answer.specs.Answer.{markNumber, voltsOf};
+ghost use Rattle.answer.specs.Answer.{hostNumber, voltsOf};
 ghost use Rattle.answer.specs.Block.{afterTicks, portsOf, joined, block, markAt, frameAt};
 ghost use Rattle.karplus_strong.specs.Ranges.{Cut};
 ghost use Rattle.karplus_strong.specs.Line.{blankOf, pulseOf, excitedOf, sumTo, levelOf, struckOf, drawsOk};
 ghost use Rattle.karplus_strong.specs.Step.{filterCoefOf, apCoefOf, targetDelayOf, restOf, outOf, stepOf};
 ghost use Rattle.karplus_strong.specs.Held.{tuningOf, tapAt, turnOf, heldAnswer, heldNext};
-ghost use Rattle.karplus_strong.specs.KarplusStrong.{maxLenOf, lineOk, roomOf, karplusStrongRefusalOf, rateRefusalOf, placeOf, resizedString, finiteOr, periodOf, struckLen, drawsRefusalOf, strikeOf, strikeIf, heardString, refusedTick, karplusStrongSoundOf, karplusStrongTickOf, karplusStrongNewOf, karplusStrongResetOf, karplusStrongSetSampleRateOf};
-ghost use Rattle.karplus_strong.specs.Calls.{strung};
+ghost use Rattle.karplus_strong.specs.KarplusStrong.{maxLenOf, lineOk, roomOf, karplusStrongRefusalOf, rateRefusalOf, placeOf, resizedString, finiteOr, periodOf, struckLen, drawsRefusalOf, strikeOf, strikeIf, heardString, refusedTick, karplusStrongSoundOf, karplusStrongTickOf, karplusStrongNewOf, karplusStrongResetOf, karplusStrongSetSampleRateOf, karplusStrongCellsOf, strung};
 ghost use Rattle.karplus_strong.specs.Blocks.{triggerRefusalOf, firstRefusalOf, karplusStrongAnswerOf, karplusStrongNextOf, karplusStrongBlockOf};
 
 // The Rust's fields less `max_len`, which follows from the rate, the lent line, of which the length stays, and the noise.
@@ -300,13 +299,13 @@ fn tuned(period: f64, damping: f64, stretch: f64) -> Tuning
 }
 
 // The frequency that a memo gives for a pitch, without a new memo.
-fn recalled(memo: Memo1, voct: f64) -> Hertz
-    ensures { λ r. ⌜ r ≡ recall1 voctToHzAt memo voct .val ⌝ }
+fn recalled(memo: Memo1, voct: VoltsPerOctave) -> Hertz
+    ensures { λ r. ⌜ r ≡ recall1 voctToHzAt memo (voct .0) .val ⌝ }
 {
-    if memo.hits(voct) {
+    if memo.hits(voct.0) {
         memo.val
     } else {
-        common::voct_to_hz(VoltsPerOctave(voct))
+        common::voct_to_hz(voct)
     }
 }
 
@@ -347,11 +346,12 @@ fn fits(samples: usize, n: usize) -> bool
 // What tick i of a block answers.
 fn put(a: Answer, i: usize, samples: &mut [f64], marks: &mut [u32])
     requires { ⌜ (i < length (now marks)) × (length (now samples) ≡ 1 * length (now marks)) ⌝ }
-    ensures { λ _. ⌜ (now (samples .exit) ≡ sets (now (samples .entry)) (1 * i) (portsOf 1 (voltsOf a))) × (now (marks .exit) ≡ set (now (marks .entry)) i (markNumber a)) ⌝ }
+    ensures { λ _. ⌜ now (samples .exit) ≡ sets (now (samples .entry)) (1 * i) (portsOf 1 (voltsOf a)) ⌝ }
+    ensures { λ _. ⌜ now (marks .exit) ≡ set (now (marks .entry)) i (hostNumber a) ⌝ }
 {
     let v = answer::samples(a);
     samples[i] = v.p10;
-    marks[i] = answer::mark_number(a);
+    marks[i] = answer::host_number(a);
 }
 
 impl KarplusStrong {
@@ -373,6 +373,17 @@ impl KarplusStrong {
     {
         if n < KarplusStrong::max_len_for(sample_rate) + 2 {
             3
+        } else {
+            0
+        }
+    }
+
+    // The cells that a line needs at a sample rate; 0 of a rate that is refused.
+    pub fn cells(sample_rate: Hertz) -> usize
+        ensures { λ r. ⌜ r ≡ karplusStrongCellsOf «sample_rate» ⌝ }
+    {
+        if common::rate_ok(sample_rate) {
+            KarplusStrong::max_len_for(sample_rate) + 2
         } else {
             0
         }
@@ -634,7 +645,7 @@ impl KarplusStrong {
         let memo = self.freq_memo;
         let sample_rate = self.sample_rate;
         let trigger_edge = self.trigger_edge;
-        let freq = recalled(memo, finite_or(voct.0, 0.0));
+        let freq = recalled(memo, VoltsPerOctave(finite_or(voct.0, 0.0)));
         let risen = trigger_edge.rising(c.trigger);
         draws_refusal(risen.rising, period_of(sample_rate, freq), draws)
     }
@@ -718,7 +729,7 @@ impl KarplusStrong {
                 KarplusStrongBlock {
                     refused: 0,
                     karplus_strong,
-                    tally: tally.take_marks(marks),
+                    tally: tally.take_marks(marks).or(tally),
                 }
             }
         } else {

@@ -6,10 +6,8 @@ pub settled : Settled
 settled =
     record {
       same = λ a b. laws.settled _;
-      «is_line» = λ text at key. laws.settled _;
+      reader-is-line = λ r key. laws.settled _;
       reader-value = λ r. laws.settled _;
       reader-next = λ r. laws.settled _;
-      «value_at» = λ text at. laws.settled _;
-      «next_at» = λ text at. laws.settled _;
       «number_of» = λ v. laws.settled _;
     }

@@ -1,5 +1,5 @@
--- The code's lanes give what the Rust's loop gives: the loop's lines done for all at once, and a quiet tick's shortcut.
-use mathlib.Core.Bool.{Bool, true, _&&_}
+-- A block's lanes give what the Rust's loop gives: the loop's lines done for all at once, and a quiet tick's shortcut.
+use mathlib.Core.Bool.{true, _&&_}
 use mathlib.Core.List.{List, [], _∷_, _++_}
 use mathlib.Core.Logic.{⊎-elim}
 use mathlib.Core.Path.{_≡_, refl, sym, ap, _∙_, subst}
@@ -8,7 +8,7 @@ use native.Mathlib.Nat.{le-of-suc-le-suc, eq-or-lt-of-le}
 use native.Mathlib.Omega.{arith}
 use lib.Dec.{T, lit<}
 use lib.ListN.{length, List·getD-append}
-use lib.Ieee.{Float, nan, binary64, round, add, sub, mul, div, lt, le, ofBits}
+use lib.Ieee.{Float, nan, binary64, round, add, sub, mul, lt, le, ofBits}
 use lib.Ieee.Bits.{is-true}
 use Rattle.common.proofs.PhaseLaws.{accepted-state}
 use Rattle.laws.proofs.Over.{length-tab, tab-ext, getD-tab}
@@ -21,16 +21,17 @@ use Rattle.laws.specs.Lists.{all, tab}
 use Rattle.numeric.specs.Basic.{clampOf}
 use Rattle.common.specs.Consts.{rateLow, rateHigh}
 use Rattle.common.specs.Memo.{recall1, voctToHzAt}
-use Rattle.common.specs.Phase.{turns, wrapOf, polyblepOf}
+use Rattle.common.specs.Phase.{incrementOf, wrapOf, polyblepOf}
 use Rattle.common.specs.Tests.{rateOk, phaseOk}
 use Rattle.common.specs.declared.Hertz.{Hertz}
 use Rattle.common.specs.declared.Memo1.{Memo1}
-use Rattle.supersaw.proofs.Sign.{small, one-plus, clamp-small}
+use Rattle.supersaw.proofs.Sign.{small, one-plus}
 use Rattle.supersaw.proofs.StepLaws.{Steady, steady-law}
 use Rattle.supersaw.specs.Consts.{detuneRatios, mixLevels}
-use Rattle.supersaw.specs.Lanes.{lanesOf, lanesOk, incsOf, sawsOf, sumsOf, wrapsOf, lanesFinite, mixTo, totalMix, blendOf, movedOf, steppedOf, advancedOf, tickedOf, steadyOf, lanesSteady, quietOf, rampsOf, rampedOf}
-use Rattle.supersaw.specs.Supersaw.{supersawRefusalOf, supersawSoundOf, supersawTickOf}
-use Rattle.supersaw.specs.Voices.{at, dtOf, sawOf, Voices, voiceOf, voicesOf}
+use Rattle.supersaw.specs.Lanes.{lanesOf, incsOf, sawsOf, sumsOf, wrapsOf, lanesFinite, mixTo, totalMix}
+use Rattle.supersaw.specs.Lanes.{blendOf, movedOf, steppedOf, advancedOf, steadyOf, lanesSteady, quietOf, rampsOf, rampedOf}
+use Rattle.supersaw.specs.Supersaw.{phasesOk, supersawRefusalOf, supersawSoundOf}
+use Rattle.supersaw.specs.Voices.{at, freqOf, dtOf, sawOf, subDtOf, Voices, voiceOf, voicesOf}
 use Rattle.supersaw.specs.declared.Supersaw.{Supersaw}
 use Rattle.supersaw.specs.declared.SupersawControls.{SupersawControls}
 use Rattle.supersaw.specs.declared.SupersawTicked.{SupersawTicked}
@@ -74,26 +75,23 @@ loop-is (a ∷ b ∷ c ∷ d ∷ e ∷ f ∷ g ∷ x ∷ xs) low detune base rat
     long : (n : ℕ) → suc (suc (suc (suc (suc (suc (suc (suc n))))))) ≡ 7 → ⊥
     long n h = omega arith
 
+-- a tick of the lanes, put back into the state
+abbrev pub tickedOf : Supersaw → Moved → Memo1 → SupersawTicked
+tickedOf s r memo = record { answer = r .answer; supersaw = advancedOf s (r .phases) memo }
+
 pub sound-is : (s : Supersaw) (c : SupersawControls) → length (s .phases) ≡ 7
     → tickedOf s (steppedOf (lanesOf (s .phases) (s .«sub_phase»)) (incsOf (clampOf (c .detune) zer one) (recall1 voctToHzAt (s .«freq_memo») (c .voct .0) .val) (s .«sample_rate»)) (clampOf (c .mix) zer one)) (recall1 voctToHzAt (s .«freq_memo») (c .voct .0)) ≡ supersawSoundOf s c
-unfolding supersawSoundOf tickedOf movedOf steppedOf advancedOf blendOf lanesOf lanesFinite all wrapsOf sumsOf sawsOf incsOf tab
+unfolding supersawSoundOf movedOf steppedOf advancedOf blendOf lanesOf lanesFinite all wrapsOf sumsOf sawsOf incsOf tab
 sound-is s c h =
     rw (← loop-is (s .phases) (s .«sub_phase» .0) (clampOf (c .detune) zer one) (recall1 voctToHzAt (s .«freq_memo») (c .voct .0) .val) (s .«sample_rate») h, total-is)
 
--- ---- the test of all eight
-lanes-ok : (s : Supersaw) → lanesOk (lanesOf (s .phases) (s .«sub_phase»)) ≡ (all (λ i. phaseOk (turns (at (s .phases) i))) 7 && phaseOk (s .«sub_phase»))
-unfolding lanesOk lanesOf all tab
-lanes-ok s = refl
-
-pub ok-by : (s : Supersaw) (t : List Float) (b : Bool) → t ≡ lanesOf (s .phases) (s .«sub_phase») → b ≡ lanesOk t → (all (λ i. phaseOk (turns (at (s .phases) i))) 7 && phaseOk (s .«sub_phase»)) ≡ b
-ok-by s t b e h = sym (h ∙ ap lanesOk e ∙ lanes-ok s)
-
--- no number refuses the state: its rate and its phases are good
-pub accepts : (s : Supersaw) → supersawRefusalOf s ≡ 0 → (rateOk (s .«sample_rate») ≡ true) × (lanesOk (lanesOf (s .phases) (s .«sub_phase»)) ≡ true)
+-- ---- no number refuses the state: its rate and its phases are good
+pub accepts : (s : Supersaw) → supersawRefusalOf s ≡ 0
+    → (rateOk (s .«sample_rate») ≡ true) × ((phasesOk (s .phases) ≡ true) × (phaseOk (s .«sub_phase») ≡ true))
 unfolding supersawRefusalOf
 accepts s h =
-    let p = accepted-state (rateOk (s .«sample_rate»)) (all (λ i. phaseOk (turns (at (s .phases) i))) 7 && phaseOk (s .«sub_phase»)) h in
-    (p .0, lanes-ok s ∙ p .1)
+    let p = accepted-state (rateOk (s .«sample_rate»)) (phasesOk (s .phases) && phaseOk (s .«sub_phase»)) h in
+    (p .0, both-true (phasesOk (s .phases)) (phaseOk (s .«sub_phase»)) (p .1))
 
 -- ---- increments have no minus sign
 module _ (detune : Float) (base rate : Hertz) (D : T (small detune)) (B : lt zer (base .0) ≡ true) (R : rateOk rate ≡ true) where
@@ -108,22 +106,23 @@ module _ (detune : Float) (base rate : Hertz) (D : T (small detune)) (B : lt zer
   ratios-small : all (λ i. small (at detuneRatios i)) 7 ≡ true
   ratios-small = unfold all ofBits in refl
 
-  dt-plus : (i : ℕ) → i < 7 → Plus (dtOf i detune base rate)
+  dt-plus : (i : ℕ) → i < 7 → Plus (dtOf i detune base rate .0)
   dt-plus i l =
-      unfold dtOf in
+      unfold dtOf freqOf incrementOf in
       div-plus (mul binary64 (base .0) (add binary64 one (mul binary64 (at detuneRatios i) detune))) (rate .0)
       (mul-plus (base .0) (add binary64 one (mul binary64 (at detuneRatios i) detune)) (above-plus (base .0) B) (one-plus (at detuneRatios i) detune (of-true (small (at detuneRatios i)) (all-at (λ j. small (at detuneRatios j)) 7 ratios-small i l)) D))
       rate-plus
 
-  low-plus : Plus (div binary64 (base .0) (mul binary64 two (rate .0)))
+  low-plus : Plus (subDtOf base rate .0)
+  unfolding subDtOf incrementOf
   low-plus = div-plus (base .0) (mul binary64 two (rate .0)) (above-plus (base .0) B) (mul-plus two (rate .0) (unfold ofBits in tt) rate-plus)
 
-  inc-at : (i : ℕ) → i < 7 → at (incsOf detune base rate) i ≡ dtOf i detune base rate
+  inc-at : (i : ℕ) → i < 7 → at (incsOf detune base rate) i ≡ dtOf i detune base rate .0
   inc-at i l =
-      let z = length-tab (λ (j : ℕ). dtOf j detune base rate) 7 in
+      let z = length-tab (λ (j : ℕ). dtOf j detune base rate .0) 7 in
       unfold incsOf in
-      List·getD-append (tab (λ (j : ℕ). dtOf j detune base rate) 7) (div binary64 (base .0) (mul binary64 two (rate .0)) ∷ []) nan i (omega arith)
-      ∙ getD-tab nan (λ (j : ℕ). dtOf j detune base rate) 7 i l
+      List·getD-append (tab (λ (j : ℕ). dtOf j detune base rate .0) 7) (subDtOf base rate .0 ∷ []) nan i (omega arith)
+      ∙ getD-tab nan (λ (j : ℕ). dtOf j detune base rate .0) 7 i l
 
   incs-plus : (i : ℕ) → i < 8 → Plus (at (incsOf detune base rate) i)
   incs-plus i l =
@@ -155,39 +154,17 @@ module _ (t dt : List Float) (lane : (i : ℕ) → i < 8 → Steady (at t i) (at
   unfolding rampedOf steppedOf
   ramped-is mix = λ j. movedOf (blendOf (ramps-are j) mix) (at (ramps-are j) 7) (sums-finite j) (sums-are j)
 
-  all-ok : true ≡ lanesOk t
-  unfolding lanesOk
-  all-ok = sym (all-of (λ (i : ℕ). phaseOk (turns (at t i))) 8 (λ i l. lane i l .ok))
+pub quiet-ramped : (detune : Float) (base rate : Hertz) (t dt : List Float) → T (small detune) → rateOk rate ≡ true
+    → dt ≡ incsOf detune base rate → quietOf base t dt ≡ true → (mix : Float) → rampedOf t dt mix ≡ steppedOf t dt mix
+quiet-ramped detune base rate t dt D R i q = ramped-is t dt lane
+  where
+    parts : (lt zer (base .0) ≡ true) × (lanesSteady t dt ≡ true)
+    parts = both-true (lt zer (base .0)) (lanesSteady t dt) (unfold quietOf in q)
 
-module _ (detune : Float) (base rate : Hertz) (t dt : List Float) (D : T (small detune)) (i : dt ≡ incsOf detune base rate) (q : quietOf rate base t dt ≡ true) where
-  parts : (rateOk rate ≡ true) × ((lt zer (base .0) ≡ true) × (lanesSteady t dt ≡ true))
-  parts =
-      let p = both-true (rateOk rate) (lt zer (base .0) && lanesSteady t dt) (unfold quietOf in q) in
-      (p .0, both-true (lt zer (base .0)) (lanesSteady t dt) (p .1))
+    plus : (j : ℕ) → j < 8 → Plus (at dt j)
+    plus j k = rw i (incs-plus detune base rate D (parts .0) R j k)
 
-  plus : (j : ℕ) → j < 8 → Plus (at dt j)
-  plus j k = rw i (incs-plus detune base rate D (parts .1 .0) (parts .0) j k)
-
-  lane : (j : ℕ) → j < 8 → Steady (at t j) (at dt j)
-  lane j k = steady-law (at t j) (at dt j) (plus j k) (all-at (λ (k : ℕ). steadyOf (at t k) (at dt k)) 8 (unfold lanesSteady in parts .1 .1) j k)
-
-  pub quiet-ramped : (mix : Float) → rampedOf t dt mix ≡ steppedOf t dt mix
-  quiet-ramped = ramped-is t dt lane
-
-  quiet-free : (s : Supersaw) → s .«sample_rate» ≡ rate → t ≡ lanesOf (s .phases) (s .«sub_phase») → supersawRefusalOf s ≡ 0
-  quiet-free s r l = unfold supersawRefusalOf in simp (r, parts .0, ok-by s t true l (all-ok t dt lane))
-
--- ---- a tick's two ways
-module _ (s : Supersaw) (c : SupersawControls) (detune mix : Float) (memo : Memo1) (t dt : List Float) (d : detune ≡ clampOf (c .detune) zer one) (x : mix ≡ clampOf (c .mix) zer one) (m : memo ≡ recall1 voctToHzAt (s .«freq_memo») (c .voct .0)) (l : (t ≡ lanesOf (s .phases) (s .«sub_phase»)) × (length (s .phases) ≡ 7)) (i : dt ≡ incsOf detune (memo .val) (s .«sample_rate»)) where
-  sounds : tickedOf s (steppedOf t dt mix) memo ≡ supersawSoundOf s c
-  sounds = rw (i, l .0, x, d, m) (sound-is s c (l .1))
-
-  pub tick-steps : (n : ℕ) (u : Moved) (r : SupersawTicked) → n ≡ supersawRefusalOf s → n ≡ 0 → u ≡ steppedOf t dt mix → r ≡ tickedOf s u memo → r ≡ supersawTickOf s c
-  unfolding supersawTickOf
-  tick-steps n u r h z e k = k ∙ ap (λ (v : Moved). tickedOf s v memo) e ∙ sounds ∙ rw (sym h ∙ z)
-
-  pub tick-ramps : (q : Bool) (u : Moved) (r : SupersawTicked) → q ≡ quietOf (s .«sample_rate») (memo .val) t dt → q ≡ true → u ≡ rampedOf t dt mix → r ≡ tickedOf s u memo → r ≡ supersawTickOf s c
-  tick-ramps q u r h y e k = tick-steps 0 u r (sym (quiet-free detune (memo .val) (s .«sample_rate») t dt D i (sym h ∙ y) s refl (l .0))) refl (e ∙ quiet-ramped detune (memo .val) (s .«sample_rate») t dt D i (sym h ∙ y) mix) k
-    where
-      D : T (small detune)
-      D = subst (λ (z : Float). T (small z)) (sym d) (clamp-small (c .detune))
+    lane : (j : ℕ) → j < 8 → Steady (at t j) (at dt j)
+    lane j k =
+        steady-law (at t j) (at dt j) (plus j k)
+        (all-at (λ (k : ℕ). steadyOf (at t k) (at dt k)) 8 (unfold lanesSteady in parts .1) j k)

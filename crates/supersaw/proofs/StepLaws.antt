@@ -1,4 +1,4 @@
--- A phase more than an increment above its step and below the next one: in [0, 1), with no residual, and its sum needs no wrap.
+-- A phase more than an increment above its step and below the next one: no residual, and its sum needs no wrap.
 use mathlib.Core.Bool.{true, false, _&&_, false≢true}
 use mathlib.Core.Path.{_≡_, refl, sym, _∙_, subst}
 use Prim.Native.Nat.{ℕ, _+_, _-_, _*_, _≤_, _<_}
@@ -11,7 +11,7 @@ use lib.Ieee.Bits.{is-true}
 use lib.Ieee.Fits.{down-pos, add-fits}
 use lib.Ieee.Order.{round-mono}
 use lib.Ieee.Positive.{first-pos}
-use Rattle.laws.proofs.Order.{lt-false, lt-by-values, le-of-lt-true, lt-le-trans, le-lt-trans, finite-between, inf-not-below}
+use Rattle.laws.proofs.Order.{lt-false, lt-by-values, le-of-lt-true, lt-le-trans, finite-between, inf-not-below}
 use Rattle.laws.proofs.Rounded.{round-below-one}
 use Rattle.laws.proofs.Sign.{Plus}
 use Rattle.laws.proofs.Tests.{both-true, of-true}
@@ -19,12 +19,15 @@ use Rattle.laws.proofs.Unique.{round-own}
 use Rattle.laws.proofs.Values.{sub-round, sum-pos-neg}
 use Rattle.laws.specs.Float.{zer, one, F64, isFin}
 use Rattle.common.proofs.PhaseLaws.{wrap-unit}
-use Rattle.common.specs.Phase.{turns, wrapOf, polyblepOf}
-use Rattle.common.specs.Tests.{phaseOk}
+use Rattle.common.specs.Phase.{wrapOf, polyblepOf}
 use Rattle.supersaw.specs.Lanes.{steadyOf}
 
+-- the test of a phase that is more than an increment above its step
+pub steady-above : (t dt : Float) → fits binary64 t ≡ true → lt dt t ≡ true → lt (add binary64 t dt) one ≡ steadyOf t dt
+unfolding steadyOf
+steady-above t dt f h = simp (f, h)
+
 pub record Steady (t dt : Float) : Type 0 where
-  pub ok : phaseOk (turns t) ≡ true
   pub still : polyblepOf t dt ≡ zer
   pub kept : wrapOf (add binary64 t dt) ≡ add binary64 t dt
   pub finite : isFin (add binary64 t dt) ≡ true
@@ -95,10 +98,8 @@ module _ (n m : ℕ) (g e : ℤ) (F : F64 (fin false n g)) (above : m * up e * d
 
   steady-fin : T (lt dt t) → Steady t dt
   steady-fin h =
-      let b : T (lt next one) = of-true (lt next one) below in
       let z : T (lt zer next) = lt-le-trans zer t next positive grows in
       record {
-        ok = unfold phaseOk in simp (is-true (le zer t) (le-of-lt-true zer t positive), is-true (lt t one) (le-lt-trans t next one grows b));
         still = unfold polyblepOf in simp (lt-false t dt (le-of-lt-true dt t h), lt-false (sub binary64 one dt) t under);
         kept = wrap-unit next (add-fits binary64 t dt) (is-true (lt zer next) z) below;
         finite = finite-between next one (is-true (lt zer next) z) below;

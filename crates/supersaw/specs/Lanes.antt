@@ -1,4 +1,4 @@
--- What the code does for eight oscillators at once, the seven voices and the sub oscillator. The public contracts don't
+-- What a block's code does for eight oscillators at once, the seven voices and the sub oscillator. The public contracts don't
 -- cite it: they cite Supersaw.antt, and proofs/LaneLaws.antt has that the two agree.
 use mathlib.Core.Bool.{Bool, true, false, _&&_}
 use mathlib.Core.List.{List, [], _∷_, _++_}
@@ -7,27 +7,22 @@ use lib.Ieee.{Float, binary64, add, sub, mul, div, lt, ofBits, fits}
 use Rattle.laws.specs.Float.{zer, one, two, isFin}
 use Rattle.laws.specs.Lists.{all, tab}
 use Rattle.common.specs.Phase.{turns, wrapOf}
-use Rattle.common.specs.Tests.{rateOk, phaseOk}
 use Rattle.common.specs.declared.Hertz.{Hertz}
 use Rattle.common.specs.declared.Memo1.{Memo1}
 use Rattle.common.specs.declared.Turns.{Turns}
 use Rattle.answer.specs.Mark.{markOf}
 use Rattle.supersaw.specs.Consts.{mixLevels}
-use Rattle.supersaw.specs.Voices.{at, dtOf, sawOf}
+use Rattle.supersaw.specs.Voices.{at, dtOf, sawOf, subDtOf}
 use Rattle.supersaw.specs.declared.Supersaw.{Supersaw}
-use Rattle.supersaw.specs.declared.SupersawTicked.{SupersawTicked}
 use Rattle.supersaw.specs.declared.Moved.{Moved}
 
 -- the phases
 unfoldable pub lanesOf : List Float → Turns → List Float
 lanesOf phases low = tab (at phases) 7 ++ (low .0 ∷ [])
 
-unfoldable pub lanesOk : List Float → Bool
-lanesOk t = all (λ i. phaseOk (turns (at t i))) 8
-
 -- the increments
 unfoldable pub incsOf : Float → Hertz → Hertz → List Float
-incsOf detune base rate = tab (λ i. dtOf i detune base rate) 7 ++ (div binary64 (base .0) (mul binary64 two (rate .0)) ∷ [])
+incsOf detune base rate = tab (λ i. dtOf i detune base rate .0) 7 ++ (subDtOf base rate .0 ∷ [])
 
 unfoldable pub sawsOf : List Float → List Float → List Float
 sawsOf t dt = tab (λ i. sawOf (at t i) (at dt i)) 8
@@ -68,9 +63,6 @@ steppedOf t dt mix =
 unfoldable pub advancedOf : Supersaw → List Float → Memo1 → Supersaw
 advancedOf s t memo = record { phases = tab (at t) 7; «sub_phase» = turns (at t 7); «sample_rate» = s .«sample_rate»; «freq_memo» = memo }
 
-unfoldable pub tickedOf : Supersaw → Moved → Memo1 → SupersawTicked
-tickedOf s r memo = record { answer = r .answer; supersaw = advancedOf s (r .phases) memo }
-
 -- ---- the tick in which no oscillator comes near its step
 -- more than an increment above its step, and more than one below the next; every f64 fits
 unfoldable pub steadyOf : Float → Float → Bool
@@ -79,8 +71,8 @@ steadyOf t dt = fits binary64 t && (lt dt t && lt (add binary64 t dt) one)
 unfoldable pub lanesSteady : List Float → List Float → Bool
 lanesSteady t dt = all (λ i. steadyOf (at t i) (at dt i)) 8
 
-unfoldable pub quietOf : Hertz → Hertz → List Float → List Float → Bool
-quietOf rate base t dt = rateOk rate && (lt zer (base .0) && lanesSteady t dt)
+unfoldable pub quietOf : Hertz → List Float → List Float → Bool
+quietOf base t dt = lt zer (base .0) && lanesSteady t dt
 
 unfoldable pub rampsOf : List Float → List Float
 rampsOf t = tab (λ i. sub binary64 (sub binary64 (mul binary64 two (at t i)) one) zer) 8

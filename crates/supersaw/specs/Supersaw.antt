@@ -1,10 +1,10 @@
 -- The Supersaw's calls, written from oscillators.rs, with document 01's refusals and marks.
-use mathlib.Core.Bool.{true, false, cond, _&&_}
+use mathlib.Core.Bool.{Bool, true, false, cond, _&&_}
 use mathlib.Core.List.{List}
 use Prim.Native.Nat.{ℕ}
 use lib.Dec.{eqb}
 use lib.Ieee.{Float, binary64, add, sub, mul, div}
-use Rattle.laws.specs.Float.{zer, one, two, isFin}
+use Rattle.laws.specs.Float.{zer, one, isFin}
 use Rattle.laws.specs.Lists.{all, tab}
 use Rattle.numeric.specs.Basic.{clampOf, realOf}
 use Rattle.common.specs.Memo.{newMemo1, recall1, voctToHzAt}
@@ -18,7 +18,7 @@ use Rattle.answer.specs.declared.Answer.the-variants as answer
 use Rattle.answer.specs.declared.Outcome.the-variants as outcome
 use Rattle.answer.specs.declared.Tally.{Tally}
 use Rattle.supersaw.specs.Consts.{seven}
-use Rattle.supersaw.specs.Voices.{at, sawOf, voicesOf}
+use Rattle.supersaw.specs.Voices.{at, sawOf, subDtOf, voicesOf}
 use Rattle.supersaw.specs.declared.Supersaw.{Supersaw}
 use Rattle.supersaw.specs.declared.SupersawControls.{SupersawControls}
 use Rattle.supersaw.specs.declared.SupersawTicked.{SupersawTicked}
@@ -32,11 +32,15 @@ startPhases = tab (λ i. div binary64 (realOf i) seven) 7
 unfoldable pub newSupersaw : Hertz → Supersaw
 newSupersaw r = record { phases = startPhases; «sub_phase» = turns zer; «sample_rate» = r; «freq_memo» = newMemo1 }
 
+-- the seven voices' phases are in range
+unfoldable pub phasesOk : List Float → Bool
+phasesOk phases = all (λ i. phaseOk (turns (at phases i))) 7
+
 -- 0, or what refuses a state: 1 its rate, 2 one of its eight phases
 unfoldable pub supersawRefusalOf : Supersaw → ℕ
 supersawRefusalOf s =
     cond (rateOk (s .«sample_rate»))
-    (cond (all (λ i. phaseOk (turns (at (s .phases) i))) 7 && phaseOk (s .«sub_phase»)) 0 2)
+    (cond (phasesOk (s .phases) && phaseOk (s .«sub_phase»)) 0 2)
     1
 
 -- t, unless n refuses, which leaves s
@@ -56,7 +60,7 @@ supersawSoundOf s c =
     let v = voicesOf detune (memo .val) (s .«sample_rate») (s .phases) 7 in
     let normalized = div binary64 (v .sum) (v .«total_mix») in
     let output = add binary64 (mul binary64 (v .«center_saw») (sub binary64 one mix)) (mul binary64 normalized mix) in
-    let sub_dt = div binary64 (memo .val .0) (mul binary64 two (s .«sample_rate» .0)) in
+    let sub_dt = subDtOf (memo .val) (s .«sample_rate») .0 in
     let next = add binary64 (s .«sub_phase» .0) sub_dt in
     record {
       answer = markOf (record { p10 = output; p11 = sawOf (s .«sub_phase» .0) sub_dt; p12 = zer; p13 = zer; p14 = zer }) false true (v .finite && isFin next);

@@ -1,21 +1,30 @@
--- The seven voices: the loop of Supersaw::tick_generic, written from oscillators.rs.
+-- The seven voices: the loop of Supersaw::tick_generic, written from oscillators.rs; and the sub's increment.
 use mathlib.Core.Bool.{Bool, true, cond, _&&_}
 use mathlib.Core.List.{List}
 use Prim.Native.Nat.{ℕ, zero, suc}
 use lib.Dec.{eqb}
 use lib.ListN.{getD, set}
-use lib.Ieee.{Float, nan, binary64, add, sub, mul, div}
+use lib.Ieee.{Float, nan, binary64, add, sub, mul}
 use Rattle.laws.specs.Float.{zer, one, two, isFin}
-use Rattle.common.specs.Phase.{wrapOf, polyblepOf}
+use Rattle.common.specs.Phase.{incrementOf, wrapOf, polyblepOf}
 use Rattle.common.specs.declared.Hertz.{Hertz}
+use Rattle.common.specs.declared.Turns.{Turns}
 use Rattle.supersaw.specs.Consts.{detuneRatios, mixLevels}
 
 abbrev pub at : List Float → ℕ → Float
 at l i = getD l i nan
 
--- freq / sample_rate, where freq is base_freq * (1.0 + DETUNE_RATIOS[i] * detune)
-unfoldable pub dtOf : ℕ → Float → Hertz → Hertz → Float
-dtOf i detune base rate = div binary64 (mul binary64 (base .0) (add binary64 one (mul binary64 (at detuneRatios i) detune))) (rate .0)
+-- freq: base_freq * (1.0 + DETUNE_RATIOS[i] * detune)
+unfoldable pub freqOf : ℕ → Float → Hertz → Hertz
+freqOf i detune base = record { 0 = mul binary64 (base .0) (add binary64 one (mul binary64 (at detuneRatios i) detune)) }
+
+-- dt: freq / sample_rate
+unfoldable pub dtOf : ℕ → Float → Hertz → Hertz → Turns
+dtOf i detune base rate = incrementOf (freqOf i detune base) rate
+
+-- sub_dt: base_freq / (2.0 * sample_rate)
+unfoldable pub subDtOf : Hertz → Hertz → Turns
+subDtOf base rate = incrementOf base (record { 0 = mul binary64 two (rate .0) })
 
 -- (2.0 * phase - 1.0) - polyblep(phase, dt)
 unfoldable pub sawOf : Float → Float → Float
@@ -32,7 +41,7 @@ pub record Voices : Type 0 where
 -- turn i
 unfoldable pub voiceOf : Float → Hertz → Hertz → Voices → ℕ → Voices
 voiceOf detune base rate v i =
-    let dt = dtOf i detune base rate in
+    let dt = dtOf i detune base rate .0 in
     let saw = sawOf (at (v .phases) i) dt in
     let next = add binary64 (at (v .phases) i) dt in
     record {

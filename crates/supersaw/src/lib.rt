@@ -1,7 +1,7 @@
 // The Supersaw of oscillators.rs, in its order: seven detuned saws, and a sub oscillator an octave below their center.
 // Its outputs: p10 out, p11 sub.
-// The Rust takes one voice after another. Here each line of its loop is done for all eight oscillators, the sub
-// oscillator last, and a tick in which none comes near its step skips what only a step needs: that is twice as fast.
+// A tick takes one voice after another, as the Rust does. A block does each line of that loop for all eight oscillators, the sub
+// oscillator last, and skips in a tick where none comes near its step what only a step needs: that is four times as fast.
 use answer::Answer;
 use answer::Outcome;
 use answer::Tally;
@@ -11,19 +11,22 @@ use common::Memo1;
 use common::Turns;
 use common::VoltsPerOctave;
 ghost use mathlib.Core.Path.{_≡_};
-ghost use mathlib.Core.Bool.{true};
+ghost use mathlib.Core.Bool.{true, cond, _&&_};
 ghost use mathlib.Core.List.{List};
 ghost use Prim.Native.Nat.{_<_, _*_};
 ghost use lib.Dec.{eqb};
 ghost use lib.Ieee.{Float};
 ghost use lib.ListN.{length, set};
 ghost use lib.Seq.{sets};
+ghost use Rattle.laws.specs.Float.{isFin};
 ghost use Rattle.laws.specs.Lists.{tab};
-ghost use Rattle.answer.specs.Answer.{markNumber, voltsOf};
+ghost use Rattle.answer.specs.Answer.{hostNumber, voltsOf};
 ghost use Rattle.answer.specs.Block.{afterTicks, portsOf, joined, block, markAt, frameAt};
-ghost use Rattle.supersaw.specs.Voices.{sawOf};
-ghost use Rattle.supersaw.specs.Supersaw.{startPhases, supersawRefusalOf, supersawNewOf, supersawTickOf, supersawAnswerOf, supersawNextOf, supersawBlockOf, supersawResetOf, supersawSetSampleRateOf};
-ghost use Rattle.supersaw.specs.Lanes.{lanesOf, lanesOk, incsOf, sawsOf, rampsOf, sumsOf, wrapsOf, lanesFinite, steadyOf, lanesSteady, mixTo, blendOf, movedOf, steppedOf, rampedOf, quietOf, advancedOf, tickedOf};
+ghost use Rattle.supersaw.specs.Voices.{freqOf, sawOf, subDtOf};
+ghost use Rattle.supersaw.specs.Supersaw.{startPhases, phasesOk, supersawRefusalOf, supersawNewOf, supersawSoundOf};
+ghost use Rattle.supersaw.specs.Supersaw.{supersawTickOf, supersawAnswerOf, supersawNextOf, supersawBlockOf, supersawResetOf, supersawSetSampleRateOf};
+ghost use Rattle.supersaw.specs.Lanes.{lanesOf, incsOf, sawsOf, rampsOf, sumsOf, wrapsOf, lanesFinite, steadyOf};
+ghost use Rattle.supersaw.specs.Lanes.{lanesSteady, mixTo, blendOf, movedOf, steppedOf, rampedOf, quietOf, advancedOf};
 ghost use Rattle.supersaw.specs.Held.{heldAnswer, heldNext};
 
 pub struct Supersaw {
@@ -64,6 +67,46 @@ struct Moved {
     phases: [f64; 8],
 }
 
+// Whether each of the seven is a phase.
+fn phases_ok(phases: [f64; 7]) -> bool
+    ensures { λ r. ⌜ r ≡ phasesOk phases ⌝ }
+{
+    let mut i = 0;
+    while i < 7 {
+        if !common::phase_ok(Turns(phases[i])) {
+            return false;
+        }
+        i += 1;
+    }
+    true
+}
+
+// A band-limited saw.
+fn saw(t: Turns, dt: Turns) -> f64
+    ensures { λ r. ⌜ r ≡ sawOf (t .0) (dt .0) ⌝ }
+{
+    2.0 * t.0 - 1.0 - common::polyblep(t, dt)
+}
+
+// The saw of voice 3, the center, from its turn on.
+fn center(i: usize, saw: f64, center_saw: f64) -> f64
+    ensures { λ r. ⌜ r ≡ cond (eqb i 3) saw «center_saw» ⌝ }
+{
+    if i == 3 { saw } else { center_saw }
+}
+
+// Whether each phase so far was finite before its wrap, and x is.
+fn still_finite(finite: bool, x: Turns) -> bool
+    ensures { λ r. ⌜ r ≡ (finite && isFin (x .0)) ⌝ }
+{
+    if finite {
+        numeric::is_finite(x.0)
+    } else {
+        false
+    }
+}
+
+// ---- what a block does for eight oscillators at once
 // The eight phases.
 fn lanes(phases: [f64; 7], sub_phase: Turns) -> [f64; 8]
     ensures { λ r. ⌜ (r ≡ lanesOf phases «sub_phase») × (length phases ≡ 7) ⌝ }
@@ -78,13 +121,6 @@ fn lanes(phases: [f64; 7], sub_phase: Turns) -> [f64; 8]
         phases[6],
         sub_phase.0,
     ]
-}
-
-// A band-limited saw.
-fn saw(t: Turns, dt: Turns) -> f64
-    ensures { λ r. ⌜ r ≡ sawOf (t .0) (dt .0) ⌝ }
-{
-    2.0 * t.0 - 1.0 - common::polyblep(t, dt)
 }
 
 fn saws(t: [f64; 8], dt: [f64; 8]) -> [f64; 8]
@@ -149,24 +185,11 @@ fn all_finite(x: [f64; 8]) -> bool
     true
 }
 
-fn all_ok(t: [f64; 8]) -> bool
-    ensures { λ r. ⌜ r ≡ lanesOk t ⌝ }
-{
-    let mut i = 0;
-    while i < 8 {
-        if !common::phase_ok(Turns(t[i])) {
-            return false;
-        }
-        i += 1;
-    }
-    true
-}
-
 // More than an increment above its step, and more than one below the next.
-fn steady(t: f64, dt: f64) -> bool
-    ensures { λ r. ⌜ r ≡ steadyOf t dt ⌝ }
+fn steady(t: Turns, dt: Turns) -> bool
+    ensures { λ r. ⌜ r ≡ steadyOf (t .0) (dt .0) ⌝ }
 {
-    if dt < t { t + dt < 1.0 } else { false }
+    if dt.0 < t.0 { t.0 + dt.0 < 1.0 } else { false }
 }
 
 fn all_steady(t: [f64; 8], dt: [f64; 8]) -> bool
@@ -174,7 +197,7 @@ fn all_steady(t: [f64; 8], dt: [f64; 8]) -> bool
 {
     let mut i = 0;
     while i < 8 {
-        if !steady(t[i], dt[i]) {
+        if !steady(Turns(t[i]), Turns(dt[i])) {
             return false;
         }
         i += 1;
@@ -213,13 +236,14 @@ fn fits(samples: usize, n: usize) -> bool
 // What tick i of a block answers.
 fn put(a: Answer, i: usize, samples: &mut [f64], marks: &mut [u32])
     requires { ⌜ (i < length (now marks)) × (length (now samples) ≡ 2 * length (now marks)) ⌝ }
-    ensures { λ _. ⌜ (now (samples .exit) ≡ sets (now (samples .entry)) (2 * i) (portsOf 2 (voltsOf a))) × (now (marks .exit) ≡ set (now (marks .entry)) i (markNumber a)) ⌝ }
+    ensures { λ _. ⌜ now (samples .exit) ≡ sets (now (samples .entry)) (2 * i) (portsOf 2 (voltsOf a)) ⌝ }
+    ensures { λ _. ⌜ now (marks .exit) ≡ set (now (marks .entry)) i (hostNumber a) ⌝ }
 {
     let v = answer::samples(a);
     let at = 2 * i;
     samples[at] = v.p10;
     samples[at + 1] = v.p11;
-    marks[i] = answer::mark_number(a);
+    marks[i] = answer::host_number(a);
 }
 
 impl Supersaw {
@@ -237,9 +261,6 @@ impl Supersaw {
     // How loud each voice is.
     const MIX_LEVELS: [f64; 7] = [0.5, 0.7, 0.9, 1.0, 0.9, 0.7, 0.5];
 
-    // The sum of these levels, as the Rust's loop rounds it.
-    const TOTAL_MIX: f64 = 5.2;
-
     // Voice i starts at i/7.
     fn start() -> [f64; 7]
         ensures { λ r. ⌜ r ≡ startPhases ⌝ }
@@ -255,42 +276,6 @@ impl Supersaw {
         ]
     }
 
-    // What each phase grows by in a tick; the sub oscillator's by half the center's.
-    fn increments(detune: f64, base_freq: Hertz, sample_rate: Hertz) -> [f64; 8]
-        ensures { λ r. ⌜ r ≡ incsOf detune «base_freq» «sample_rate» ⌝ }
-    {
-        let mut dt = [base_freq.0 / (2.0 * sample_rate.0); 8];
-        let mut i = 0;
-        while i < 7 {
-            let detune_amount = Self::DETUNE_RATIOS[i] * detune;
-            let freq = base_freq.0 * (1.0 + detune_amount);
-            dt[i] = freq / sample_rate.0;
-            i += 1;
-        }
-        dt
-    }
-
-    // The seven voices at their levels.
-    fn mixed(s: [f64; 8]) -> f64
-        ensures { λ r. ⌜ r ≡ mixTo s 7 ⌝ }
-    {
-        let mut sum = 0.0;
-        let mut i = 0;
-        while i < 7 {
-            sum += s[i] * Self::MIX_LEVELS[i];
-            i += 1;
-        }
-        sum
-    }
-
-    // From the center voice to all seven.
-    fn blend(s: [f64; 8], mix: f64) -> f64
-        ensures { λ r. ⌜ r ≡ blendOf s mix ⌝ }
-    {
-        let normalized = Self::mixed(s) / Self::TOTAL_MIX;
-        s[3] * (1.0 - mix) + normalized * mix
-    }
-
     // 0, or the number that refuses this state: 1 its rate, 2 one of its phases.
     fn refusal(self) -> u32
         ensures { λ r. ⌜ r ≡ supersawRefusalOf self ⌝ }
@@ -299,8 +284,8 @@ impl Supersaw {
         let sub_phase = self.sub_phase;
         let sample_rate = self.sample_rate;
         if common::rate_ok(sample_rate) {
-            if all_ok(lanes(phases, sub_phase)) {
-                0
+            if phases_ok(phases) {
+                if common::phase_ok(sub_phase) { 0 } else { 2 }
             } else {
                 2
             }
@@ -332,16 +317,130 @@ impl Supersaw {
         }
     }
 
-    // Whether no oscillator comes near its step. Then nothing refuses the state either.
-    fn quiet(sample_rate: Hertz, base_freq: Hertz, t: [f64; 8], dt: [f64; 8]) -> bool
-        ensures { λ r. ⌜ r ≡ quietOf «sample_rate» «base_freq» t dt ⌝ }
+    // The frequency of voice i.
+    fn detuned(i: usize, detune: f64, base_freq: Hertz) -> Hertz
+        requires { ⌜ i < 7 ⌝ }
+        ensures { λ r. ⌜ r ≡ freqOf i detune «base_freq» ⌝ }
     {
-        if common::rate_ok(sample_rate) {
-            if base_freq.0 > 0.0 {
-                all_steady(t, dt)
-            } else {
-                false
+        let detune_amount = Self::DETUNE_RATIOS[i] * detune;
+        Hertz(base_freq.0 * (1.0 + detune_amount))
+    }
+
+    // What the sub oscillator's phase grows by in a tick: half of the center's, as the Rust rounds it.
+    fn sub_increment(base_freq: Hertz, sample_rate: Hertz) -> Turns
+        ensures { λ r. ⌜ r ≡ subDtOf «base_freq» «sample_rate» ⌝ }
+    {
+        common::increment(base_freq, Hertz(2.0 * sample_rate.0))
+    }
+
+    // An accepted tick: each voice in its turn, then the sub oscillator.
+    fn sound(self, c: SupersawControls) -> SupersawTicked
+        ensures { λ r. ⌜ r ≡ supersawSoundOf self c ⌝ }
+    {
+        let sub_phase = self.sub_phase;
+        let sample_rate = self.sample_rate;
+        let memo = self.freq_memo;
+        let detune = numeric::clamp(c.detune, 0.0, 1.0);
+        let mix = numeric::clamp(c.mix, 0.0, 1.0);
+        let freq_memo = memo.voct_to_hz(c.voct);
+        let base_freq = freq_memo.val;
+        let mut supersaw = self;
+        let mut sum = 0.0;
+        let mut total_mix = 0.0;
+        let mut center_saw = 0.0;
+        let mut finite = true;
+        let mut i = 0;
+        while i < 7 {
+            let freq = Self::detuned(i, detune, base_freq);
+            let dt = common::increment(freq, sample_rate);
+            let phase = Turns(supersaw.phases[i]);
+            let saw = saw(phase, dt);
+            center_saw = center(i, saw, center_saw);
+            sum += saw * Self::MIX_LEVELS[i];
+            total_mix += Self::MIX_LEVELS[i];
+            let next = Turns(phase.0 + dt.0);
+            finite = still_finite(finite, next);
+            supersaw.phases[i] = common::wrap_phase(next).0;
+            i += 1;
+        }
+        let normalized = sum / total_mix;
+        let output = center_saw * (1.0 - mix) + normalized * mix;
+        let sub_dt = Self::sub_increment(base_freq, sample_rate);
+        let sub = saw(sub_phase, sub_dt);
+        let sub_next = Turns(sub_phase.0 + sub_dt.0);
+        supersaw.sub_phase = common::wrap_phase(sub_next);
+        supersaw.freq_memo = freq_memo;
+        let volts = Volts {
+            p10: output,
+            p11: sub,
+            p12: 0.0,
+            p13: 0.0,
+            p14: 0.0,
+        };
+        SupersawTicked {
+            answer: answer::mark(volts, false, true, still_finite(finite, sub_next)),
+            supersaw,
+        }
+    }
+
+    pub fn tick(self, c: SupersawControls) -> SupersawTicked
+        ensures { λ r. ⌜ r ≡ supersawTickOf self c ⌝ }
+    {
+        let n = self.refusal();
+        if n == 0 {
+            self.sound(c)
+        } else {
+            SupersawTicked {
+                answer: Answer::Refused(n),
+                supersaw: self,
             }
+        }
+    }
+
+    // The sum of MIX_LEVELS, as a tick's loop rounds it.
+    const TOTAL_MIX: f64 = 5.2;
+
+    // What each phase grows by in a tick.
+    fn increments(detune: f64, base_freq: Hertz, sample_rate: Hertz) -> [f64; 8]
+        ensures { λ r. ⌜ r ≡ incsOf detune «base_freq» «sample_rate» ⌝ }
+    {
+        let mut dt = [Self::sub_increment(base_freq, sample_rate).0; 8];
+        let mut i = 0;
+        while i < 7 {
+            let freq = Self::detuned(i, detune, base_freq);
+            dt[i] = common::increment(freq, sample_rate).0;
+            i += 1;
+        }
+        dt
+    }
+
+    // The seven voices at their levels.
+    fn mixed(s: [f64; 8]) -> f64
+        ensures { λ r. ⌜ r ≡ mixTo s 7 ⌝ }
+    {
+        let mut sum = 0.0;
+        let mut i = 0;
+        while i < 7 {
+            sum += s[i] * Self::MIX_LEVELS[i];
+            i += 1;
+        }
+        sum
+    }
+
+    // From the center voice to all seven.
+    fn blend(s: [f64; 8], mix: f64) -> f64
+        ensures { λ r. ⌜ r ≡ blendOf s mix ⌝ }
+    {
+        let normalized = Self::mixed(s) / Self::TOTAL_MIX;
+        s[3] * (1.0 - mix) + normalized * mix
+    }
+
+    // Whether no oscillator comes near its step.
+    fn quiet(base_freq: Hertz, t: [f64; 8], dt: [f64; 8]) -> bool
+        ensures { λ r. ⌜ r ≡ quietOf «base_freq» t dt ⌝ }
+    {
+        if base_freq.0 > 0.0 {
+            all_steady(t, dt)
         } else {
             false
         }
@@ -366,17 +465,6 @@ impl Supersaw {
         }
     }
 
-    fn ticked(self, moved: Moved, freq_memo: Memo1) -> SupersawTicked
-        ensures { λ r. ⌜ r ≡ tickedOf self moved «freq_memo» ⌝ }
-    {
-        let answer = moved.answer;
-        let phases = moved.phases;
-        SupersawTicked {
-            answer,
-            supersaw: self.advanced(phases, freq_memo),
-        }
-    }
-
     // A quiet tick: no residual, and no wrap.
     fn ramped(t: [f64; 8], dt: [f64; 8], mix: f64) -> Moved
         ensures { λ r. ⌜ r ≡ rampedOf t dt mix ⌝ }
@@ -395,11 +483,11 @@ impl Supersaw {
     }
 
     // The same tick, by the shorter way where it is quiet.
-    fn turn(sample_rate: Hertz, base_freq: Hertz, t: [f64; 8], dt: [f64; 8], mix: f64) -> Moved
-        requires { ⌜ (quietOf «sample_rate» «base_freq» t dt ≡ true → rampedOf t dt mix ≡ steppedOf t dt mix) ⌝ }
+    fn turn(base_freq: Hertz, t: [f64; 8], dt: [f64; 8], mix: f64) -> Moved
+        requires { ⌜ (quietOf «base_freq» t dt ≡ true → rampedOf t dt mix ≡ steppedOf t dt mix) ⌝ }
         ensures { λ r. ⌜ r ≡ steppedOf t dt mix ⌝ }
     {
-        if Self::quiet(sample_rate, base_freq, t, dt) {
+        if Self::quiet(base_freq, t, dt) {
             Self::ramped(t, dt, mix)
         } else {
             Self::stepped(t, dt, mix)
@@ -408,7 +496,6 @@ impl Supersaw {
 
     // Ticks in which the memo holds: only the phases move.
     fn glide(
-        sample_rate: Hertz,
         base_freq: Hertz,
         first: [f64; 8],
         dt: [f64; 8],
@@ -416,7 +503,8 @@ impl Supersaw {
         samples: &mut [f64],
         marks: &mut [u32],
     ) -> [f64; 8]
-        requires { ⌜ ((t : List Float) → quietOf «sample_rate» «base_freq» t dt ≡ true → rampedOf t dt mix ≡ steppedOf t dt mix) × (length (now samples) ≡ 2 * length (now marks)) ⌝ }
+        requires { ⌜ ((t : List Float) → quietOf «base_freq» t dt ≡ true → rampedOf t dt mix ≡ steppedOf t dt mix) ⌝ }
+        requires { ⌜ length (now samples) ≡ 2 * length (now marks) ⌝ }
         ensures { λ r. ⌜ r ≡ afterTicks (heldNext dt mix) (length (now (marks .entry))) first ⌝ }
         ensures { λ r. ⌜ now (samples .exit) ≡ joined (frameAt 2 (heldAnswer dt mix) (heldNext dt mix) first) (length (now (marks .entry))) ⌝ }
         ensures { λ r. ⌜ now (marks .exit) ≡ tab (markAt (heldAnswer dt mix) (heldNext dt mix) first) (length (now (marks .entry))) ⌝ }
@@ -424,62 +512,13 @@ impl Supersaw {
         let mut t = first;
         let mut i = 0;
         while i < marks.len() {
-            let moved = Self::turn(sample_rate, base_freq, t, dt, mix);
+            let moved = Self::turn(base_freq, t, dt, mix);
             let heard = moved.answer;
             put(heard, i, &mut *samples, &mut *marks);
             t = moved.phases;
             i += 1;
         }
         t
-    }
-
-    // The same tick as a block of one, so that the longer way stands in one loop and its phases stay in registers there.
-    fn single(sample_rate: Hertz, base_freq: Hertz, t: [f64; 8], dt: [f64; 8], mix: f64) -> Moved
-        requires { ⌜ ((x : List Float) → quietOf «sample_rate» «base_freq» x dt ≡ true → rampedOf x dt mix ≡ steppedOf x dt mix) ⌝ }
-        ensures { λ r. ⌜ r ≡ steppedOf t dt mix ⌝ }
-    {
-        let mut samples = [0.0; 2];
-        let mut marks = [0; 1];
-        let phases = Self::glide(sample_rate, base_freq, t, dt, mix, &mut samples, &mut marks);
-        let volts = Volts {
-            p10: samples[0],
-            p11: samples[1],
-            p12: 0.0,
-            p13: 0.0,
-            p14: 0.0,
-        };
-        Moved {
-            answer: answer::answer_of(marks[0], volts),
-            phases,
-        }
-    }
-
-    pub fn tick(self, c: SupersawControls) -> SupersawTicked
-        ensures { λ r. ⌜ r ≡ supersawTickOf self c ⌝ }
-    {
-        let phases = self.phases;
-        let sub_phase = self.sub_phase;
-        let sample_rate = self.sample_rate;
-        let memo = self.freq_memo;
-        let detune = numeric::clamp(c.detune, 0.0, 1.0);
-        let mix = numeric::clamp(c.mix, 0.0, 1.0);
-        let freq_memo = memo.voct_to_hz(c.voct);
-        let base_freq = freq_memo.val;
-        let t = lanes(phases, sub_phase);
-        let dt = Self::increments(detune, base_freq, sample_rate);
-        if Self::quiet(sample_rate, base_freq, t, dt) {
-            self.ticked(Self::ramped(t, dt, mix), freq_memo)
-        } else {
-            let n = self.refusal();
-            if n == 0 {
-                self.ticked(Self::single(sample_rate, base_freq, t, dt, mix), freq_memo)
-            } else {
-                SupersawTicked {
-                    answer: Answer::Refused(n),
-                    supersaw: self,
-                }
-            }
-        }
     }
 
     // The ticks of a block: the memo holds from the first on.
@@ -499,7 +538,7 @@ impl Supersaw {
         let base_freq = freq_memo.val;
         let first = lanes(phases, sub_phase);
         let dt = Self::increments(detune, base_freq, sample_rate);
-        let last = Self::glide(sample_rate, base_freq, first, dt, mix, samples, marks);
+        let last = Self::glide(base_freq, first, dt, mix, samples, marks);
         self.advanced(last, freq_memo)
     }
 
@@ -527,7 +566,7 @@ impl Supersaw {
                 SupersawBlock {
                     refused: 0,
                     supersaw,
-                    tally: tally.take_marks(marks),
+                    tally: tally.take_marks(marks).or(tally),
                 }
             }
         } else {

@@ -4,13 +4,12 @@ use mathlib.Core.Path.{_≡_, refl}
 use Prim.Native.Nat.{ℕ, _≤_}
 use native.Mathlib.Omega.{arith}
 use lib.Dec.{eqb}
-use lib.Ieee.{Float, lt, le, eq, ofBits}
+use lib.Ieee.{Float}
 use borrow.Author.Tests.{eqb-true, eqb-false}
 use Rattle.common.proofs.PhaseLaws.{accepted-state}
 use Rattle.common.specs.Tests.{rateOk, phaseOk}
-use Rattle.common.specs.declared.Turns.{Turns}
 use Rattle.wavetable.specs.Held.{PairFits, pairOf}
-use Rattle.wavetable.specs.Reads.{startOf, tableIndexOf, restartOf}
+use Rattle.wavetable.specs.Reads.{startOf, tableIndexOf}
 use Rattle.wavetable.specs.Wavetable.{wavetableRefusalOf, wavetableTickRefusalOf}
 use Rattle.wavetable.specs.declared.Pair.{Pair}
 use Rattle.wavetable.specs.declared.Wavetable.{Wavetable}
@@ -32,12 +31,6 @@ bank-sized s size h = passed (wavetableRefusalOf s) size h .1
 pub accepts : (s : Wavetable) (size : ℕ) → wavetableTickRefusalOf s size ≡ 0 → (rateOk (s .«sample_rate») ≡ true) × (phaseOk (s .phase) ≡ true)
 unfolding wavetableRefusalOf wavetableTickRefusalOf
 accepts s size h = accepted-state (rateOk (s .«sample_rate»)) (phaseOk (s .phase)) (passed (wavetableRefusalOf s) size h .0)
-
--- the phase that is read is good too
-pub restart-ok : (p : Turns) (edge : Bool) → phaseOk p ≡ true → phaseOk (restartOf p edge) ≡ true
-unfolding restartOf phaseOk lt le eq ofBits
-restart-ok p true h = refl
-restart-ok p false h = h
 
 -- there is a table above the lower one
 pub index-few : (index : ℕ) (pos : Float) → index ≡ tableIndexOf pos → index ≤ 6

@@ -3,22 +3,26 @@ use mathlib.Core.Bool.{true}
 use mathlib.Core.List.{List, _∷_}
 use mathlib.Core.Logic.{inl}
 use mathlib.Core.Path.{_≡_, refl, sym, ap, _∙_}
+use Prim.Native.Nat.{ℕ}
 use lib.Dec.{eqb}
 use lib.Ieee.{Float, le}
 use lib.ListN.{length}
 use borrow.Author.Tests.{eq-eqb}
+use Rattle.answer.proofs.Blocks.{block-fits, block-refusal, block-same}
+use Rattle.answer.specs.Block.{blockOf}
 use Rattle.common.proofs.EdgeLaws.{rises-new, gate-above, rises-five}
 use Rattle.common.proofs.MemoLaws.{recall1-is}
 use Rattle.common.specs.Consts.{gateThreshold, five}
 use Rattle.common.specs.Edge.{risesAbove}
 use Rattle.common.specs.Memo.{newMemo1, voctToHzAt}
+use Rattle.common.specs.Phase.{restartOf}
 use Rattle.laws.specs.Float.{F64}
 use Rattle.laws.specs.Machine.{replies, more}
-use Rattle.wavetable.proofs.Reached.{Good, tick-sounds, tick-accepted, good-new, good, never-refused}
+use Rattle.wavetable.proofs.Accepted.{bank-sized}
+use Rattle.wavetable.proofs.Reached.{Good, refused-sized, tick-sounds, tick-accepted, good-new, good, never-refused}
 use Rattle.wavetable.specs.Calls.{after, reply, Tick, Ticked}
-use Rattle.wavetable.specs.Promises.{takesEdge, Forgets, Edge-comes}
-use Rattle.wavetable.specs.Reads.{restartOf}
-use Rattle.wavetable.specs.Wavetable.{newWavetable, wavetableNewOf, wavetableSoundOf, wavetableTickOf}
+use Rattle.wavetable.specs.Promises.{takesEdge, Forgets, Block-forgets, Edge-comes}
+use Rattle.wavetable.specs.Wavetable.{newWavetable, wavetableTickRefusalOf, wavetableNewOf, wavetableSoundOf, wavetableTickOf, wavetableAnswerOf, wavetableNextOf, wavetableBlockOf}
 use Rattle.wavetable.specs.declared.Wavetable.{Wavetable}
 use Rattle.wavetable.specs.declared.WavetableControls.{WavetableControls}
 use Rattle.wavetable.specs.declared.WavetableTicked.{WavetableTicked}
@@ -38,10 +42,27 @@ pub forgets : Forgets
 unfolding replies after reply
 forgets s h c bank f a e =
     let g = good h in
+    let q = struck-tick s c bank g f (sym (tick-accepted s c bank g) ∙ a) e in
     record {
       new = unfold wavetableNewOf in simp (g .rate);
-      same = λ cs. ap (λ (t : WavetableTicked). Ticked (t .answer) ∷ replies after reply (t .wavetable) cs) (struck-tick s c bank g f (sym (tick-accepted s c bank g) ∙ a) e);
+      state = ap (λ (t : WavetableTicked). t .wavetable) q;
+      same = λ cs. ap (λ (t : WavetableTicked). Ticked (t .answer) ∷ replies after reply (t .wavetable) cs) q;
     }
+
+-- ---- so does a block that begins with it
+pub block-forgets : Block-forgets
+unfolding wavetableBlockOf
+block-forgets s h c t bank o m f z l e =
+    let g = good h in
+    let new = newWavetable (s .«sample_rate») in
+    let fits = sym (block-refusal 1 (wavetableTickRefusalOf s (length bank)) (wavetableAnswerOf c bank) (wavetableNextOf c bank) s t o m) ∙ z in
+    let b = bank-sized s (length bank) (block-fits 1 _ t o m _ refl fits .1) in
+    let q = struck-tick s c bank g f (eq-eqb _ _ b) e in
+    let same = ap (λ (x : WavetableTicked). x .answer) q in
+    let leaves = ap (λ (x : WavetableTicked). x .wavetable) q in
+    let k = refused-sized s (length bank) g ∙ sym (refused-sized new (length bank) (good-new (s .«sample_rate») (g .rate))) in
+    block-same (wavetableNextOf c bank) s new leaves 1 _ (wavetableAnswerOf c bank) t o m same (fits, l)
+    ∙ ap (λ (n : ℕ). blockOf 1 n (wavetableAnswerOf c bank) (wavetableNextOf c bank) new t o m) k
 
 -- ---- an edge can be had
 held : (s : Wavetable) (c : WavetableControls) (bank : List Float) → wavetableSoundOf s c bank .wavetable .«prev_sync» ≡ c .sync

@@ -5,7 +5,7 @@ use mathlib.Core.Path.{_≡_, refl, ap, _∙_}
 use Prim.Native.Nat.{ℕ, _+_}
 use native.Mathlib.Numerals.{add-one}
 use lib.Ieee.Fits.{add-fits}
-use lib.Ieee.{Float, binary64, add, div}
+use lib.Ieee.{Float, binary64, add}
 use lib.ListN.{length}
 use borrow.Author.Tests.{eq-eqb}
 use Rattle.answer.proofs.Blocks.{Holds, held-accepted, all-taken}
@@ -15,18 +15,18 @@ use Rattle.answer.specs.Mark.{markOf}
 use Rattle.answer.specs.declared.Answer.{Answer}
 use Rattle.common.proofs.EdgeLaws.{rises-once}
 use Rattle.common.proofs.MemoLaws.{recall1-again}
-use Rattle.common.proofs.PhaseLaws.{wrap-in}
+use Rattle.common.proofs.PhaseLaws.{restart-in, wrap-in}
 use Rattle.common.specs.Consts.{gateThreshold}
 use Rattle.common.specs.Edge.{risesAbove}
 use Rattle.common.specs.Memo.{recall1, voctToHzAt}
-use Rattle.common.specs.Phase.{turns, wrapOf}
+use Rattle.common.specs.Phase.{turns, wrapOf, incrementOf, restartOf}
 use Rattle.common.specs.Tests.{phaseOk}
 use Rattle.common.specs.declared.Memo1.{Memo1}
 use Rattle.common.specs.declared.Turns.{Turns}
 use Rattle.laws.specs.Float.{isFin}
-use Rattle.wavetable.proofs.Accepted.{accepts, bank-sized, restart-ok}
+use Rattle.wavetable.proofs.Accepted.{accepts, bank-sized}
 use Rattle.wavetable.specs.Held.{pairOf, mixAt, heldAnswer, heldNext}
-use Rattle.wavetable.specs.Reads.{tablePosOf, tableIndexOf, blendOf, readTable, mixOf, restartOf}
+use Rattle.wavetable.specs.Reads.{tablePosOf, tableIndexOf, blendOf, readTable, mixOf}
 use Rattle.wavetable.specs.Wavetable.{wavetableRefusalOf, wavetableTickRefusalOf, outVolts, wavetableSoundOf, wavetableTickOf, wavetableAnswerOf, wavetableNextOf}
 use Rattle.wavetable.specs.Promises.{Block-accepts, Block-tallies}
 use Rattle.wavetable.specs.declared.Pair.{Pair}
@@ -59,7 +59,7 @@ abbrev pub firstOf : Wavetable → WavetableControls → Turns
 firstOf s c = restartOf (s .phase) (risesAbove gateThreshold (s .«prev_sync») (c .sync))
 
 abbrev pub stepOf : Wavetable → WavetableControls → Turns
-stepOf s c = turns (div binary64 (heldMemo s c .val .0) (s .«sample_rate» .0))
+stepOf s c = incrementOf (heldMemo s c .val) (s .«sample_rate»)
 
 abbrev pub heldPair : Wavetable → WavetableControls → Pair
 heldPair s c = pairOf (c .table) (c .morph) (stepOf s c .0)
@@ -92,7 +92,7 @@ pub holds : (s : Wavetable) (c : WavetableControls) (bank : List Float) → wave
     → Holds (wavetableAnswerOf c bank) (wavetableNextOf c bank) (heldAnswer bank (heldPair s c) (stepOf s c)) (heldNext (stepOf s c)) (stateOf s c) (λ p. phaseOk p ≡ true) s (firstOf s c)
 holds s c bank h =
     record {
-      good = restart-ok (s .phase) (risesAbove gateThreshold (s .«prev_sync») (c .sync)) (accepts s (length bank) h .1);
+      good = restart-in (s .phase) (risesAbove gateThreshold (s .«prev_sync») (c .sync)) (accepts s (length bank) h .1);
       first = ap (λ (t : WavetableTicked). t .answer) (tick-sounds s c bank h ∙ first-sound s c bank);
       second = ap (λ (t : WavetableTicked). t .wavetable) (tick-sounds s c bank h ∙ first-sound s c bank);
       stays = λ p k. unfold heldNext in wrap-in _ (add-fits binary64 _ _);

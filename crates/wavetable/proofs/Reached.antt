@@ -1,17 +1,19 @@
 -- What every reached Wavetable has: a good rate, a phase in [0, 1), and a memo that holds what it would compute. So no call
--- refuses it but for the bank's size.
+-- refuses it but for what the call is lent.
 use mathlib.Core.Bool.{Bool, true, false, cond}
 use mathlib.Core.List.{List}
 use mathlib.Core.Logic.{inl}
 use mathlib.Core.Path.{_≡_, refl, sym, ap, subst, _∙_}
-use Prim.Native.Nat.{ℕ}
+use Prim.Native.Nat.{ℕ, _*_}
 use native.Mathlib.Omega.{arith}
 use lib.Dec.{eqb}
 use lib.Ieee.Fits.{add-fits}
 use lib.Ieee.{Float, binary64}
 use lib.ListN.{length}
+use Rattle.answer.proofs.Blocks.{block-keeps, block-refusal}
 use Rattle.answer.proofs.Laws.{mark-says}
 use Rattle.answer.specs.Answer.{accepted}
+use Rattle.answer.specs.Block.{blockRefusalOf}
 use Rattle.common.proofs.MemoLaws.{recalled1}
 use Rattle.common.proofs.PhaseLaws.{wrap-in, zero-in}
 use Rattle.common.specs.Memo.{voctToHzAt}
@@ -19,9 +21,9 @@ use Rattle.common.specs.Promises.{Coherent1}
 use Rattle.common.specs.Tests.{rateOk, phaseOk}
 use Rattle.laws.proofs.Always.{always}
 use Rattle.laws.specs.Float.{F64}
-use Rattle.wavetable.specs.Calls.{Call, keptOr, toldOf, after, reply, FitCall, First, ReachedWavetable, Tick, Reset, SetSampleRate, Done, Refused}
+use Rattle.wavetable.specs.Calls.{Call, after, reply, FitCall, First, ReachedWavetable, Tick, Play, Reset, SetSampleRate, Told}
 use Rattle.wavetable.specs.Promises.{Never-refused}
-use Rattle.wavetable.specs.Wavetable.{newWavetable, wavetableRefusalOf, wavetableTickRefusalOf, wavetableNewOf, wavetableSoundOf, wavetableTickOf, madeUnless, wavetableResetOf, rated, wavetableSetSampleRateOf}
+use Rattle.wavetable.specs.Wavetable.{newWavetable, wavetableRefusalOf, wavetableTickRefusalOf, wavetableNewOf, wavetableSoundOf, wavetableTickOf, wavetableBlockOf, madeNumber, madeOr, madeUnless, wavetableResetOf, rated, wavetableSetSampleRateOf}
 use Rattle.answer.specs.declared.Answer.the-variants as answer
 use Rattle.common.specs.declared.Hertz.{Hertz}
 use Rattle.wavetable.specs.declared.Wavetable.{Wavetable}
@@ -38,6 +40,10 @@ pub record Good (s : Wavetable) : Type 0 where
 unrefused : (s : Wavetable) → Good s → wavetableRefusalOf s ≡ 0
 unfolding wavetableRefusalOf
 unrefused s g = simp (g .rate, g .phase)
+
+pub refused-sized : (s : Wavetable) (size : ℕ) → Good s → wavetableTickRefusalOf s size ≡ cond (eqb size 16384) 0 4
+unfolding wavetableTickRefusalOf
+refused-sized s size g = simp (unrefused s g)
 
 -- a tick that sounds where the bank's size is right, and is refused by 4 where it isn't
 abbrev sized : Bool → Wavetable → WavetableControls → List Float → WavetableTicked
@@ -87,13 +93,17 @@ sized-good : (b : Bool) (s : Wavetable) (c : WavetableControls) (bank : List Flo
 sized-good true s c bank g f = sound-good s c bank g f
 sized-good false s c bank g f = g
 
+tick-good : (c : WavetableControls) (bank : List Float) → F64 (c .«v_oct» .0) → (s : Wavetable) → Good s → Good (wavetableTickOf s c bank .wavetable)
+tick-good c bank f s g = subst (λ (t : WavetableTicked). Good (t .wavetable)) (sym (tick-sized s c bank g)) (sized-good (eqb (length bank) 16384) s c bank g f)
+
 after-good : (s : Wavetable) (c : Call) → Good s → FitCall c → Good (after s c)
 unfolding after
-after-good s (Tick c bank) g f = subst (λ (t : WavetableTicked). Good (t .wavetable)) (sym (tick-sized s c bank g)) (sized-good (eqb (length bank) 16384) s c bank g f)
+after-good s (Tick c bank) g f = tick-good c bank f s g
+after-good s (Play c t bank o m) g f = unfold wavetableBlockOf in block-keeps 1 _ _ _ Good (tick-good c bank f) s g t o m
 after-good s Reset g f = unfold wavetableResetOf madeUnless in simp (unrefused s g) (record { rate = g .rate; phase = zero-in; memo = g .memo })
 after-good s (SetSampleRate r) g f = unfold wavetableSetSampleRateOf madeUnless in go (rateOk r) refl
   where
-    go : (b : Bool) → rateOk r ≡ b → Good (keptOr s (cond b (madeUnless (wavetableRefusalOf s) (rated s r)) (made.Refused 1)))
+    go : (b : Bool) → rateOk r ≡ b → Good (madeOr s (cond b (madeUnless (wavetableRefusalOf s) (rated s r)) (made.Refused 1)))
     go true e = unfold madeUnless in simp (unrefused s g) (record { rate = e; phase = g .phase; memo = g .memo })
     go false e = g
 
@@ -108,10 +118,14 @@ never-refused s h =
     record {
       phase = g .phase;
       ticks = λ c bank. tick-accepted s c bank g;
+      plays =
+          λ c t bank o m. unfold wavetableBlockOf in
+          block-refusal 1 _ _ _ s t o m
+          ∙ ap (λ (n : ℕ). blockRefusalOf (eqb (length o) (1 * length m)) n t (length m)) (refused-sized s (length bank) g);
       resets = unfold wavetableResetOf madeUnless in simp (unrefused s g);
       rates = λ r. unfold wavetableSetSampleRateOf madeUnless in rates r (rateOk r);
     }
   where
-    rates : (r : Hertz) (b : Bool) → toldOf (cond b (madeUnless (wavetableRefusalOf s) (rated s r)) (made.Refused 1)) ≡ cond b Done (Refused 1)
+    rates : (r : Hertz) (b : Bool) → Told (madeNumber (cond b (madeUnless (wavetableRefusalOf s) (rated s r)) (made.Refused 1))) ≡ Told (cond b 0 1)
     rates r true = unfold madeUnless in simp (unrefused s (good h))
     rates r false = refl

@@ -1,17 +1,15 @@
 -- How a tick reads the bank, written from Wavetable::select_level, read_table and tick_generic.
-use mathlib.Core.Bool.{Bool, cond}
+use mathlib.Core.Bool.{cond}
 use mathlib.Core.List.{List}
 use Prim.Native.Nat.{ℕ, zero, suc, _+_, _-_, _*_, _%_, min}
 use lib.Ieee.{Float, nan, binary64, add, sub, mul, div, le}
 use lib.ListN.{getD}
 use Rattle.common.specs.Consts.{five, half}
-use Rattle.common.specs.Phase.{turns}
 use Rattle.laws.specs.Float.{zer, one}
 use Rattle.numeric.specs.Basic.{fabsOf, clampOf, minOf, maxOf, wholeOf, realOf}
 use Rattle.numeric.specs.Floor.{floorOf}
 use Rattle.wavetable.specs.Consts.{tableSize, lastTable, leastInc}
 use Rattle.wavetable.specs.Harmonics.{maxHarmonic}
-use Rattle.common.specs.declared.Turns.{Turns}
 
 -- floor(0.5 / inc), inc = fabs(phase_inc).max(1e-9)
 unfoldable pub allowedOf : Float → Float
@@ -41,10 +39,6 @@ unfoldable pub readTable : List Float → ℕ → ℕ → Float → Float
 readTable bank table level phase =
     let pos = mul binary64 phase tableSize in
     between bank (startOf table level) (wholeOf pos % 256) (sub binary64 pos (floorOf pos))
-
--- if sync > GATE_THRESHOLD_V && prev_sync <= GATE_THRESHOLD_V { phase = 0.0 }
-unfoldable pub restartOf : Turns → Bool → Turns
-restartOf phase edge = cond edge (turns zer) phase
 
 -- table_pos: table.clamp(0.0, 1.0) * 7
 unfoldable pub tablePosOf : Float → Float

@@ -3,17 +3,17 @@ use mathlib.Core.Bool.{true, false, cond}
 use mathlib.Core.List.{List}
 use Prim.Native.Nat.{ℕ}
 use lib.Dec.{eqb}
-use lib.Ieee.{Float, binary64, add, div}
+use lib.Ieee.{Float, binary64, add}
 use lib.ListN.{length}
 use Rattle.answer.specs.Block.{Block, blockOf}
 use Rattle.answer.specs.Mark.{markOf}
 use Rattle.common.specs.Consts.{gateThreshold}
 use Rattle.common.specs.Edge.{risesAbove}
 use Rattle.common.specs.Memo.{newMemo1, recall1, voctToHzAt}
-use Rattle.common.specs.Phase.{turns, wrapOf}
+use Rattle.common.specs.Phase.{turns, wrapOf, incrementOf, restartOf}
 use Rattle.common.specs.Tests.{rateOk, phaseOk}
 use Rattle.laws.specs.Float.{zer, isFin}
-use Rattle.wavetable.specs.Reads.{restartOf, tablePosOf, tableIndexOf, blendOf, mixOf}
+use Rattle.wavetable.specs.Reads.{tablePosOf, tableIndexOf, blendOf, mixOf}
 use Rattle.common.specs.declared.Hertz.{Hertz}
 use Rattle.answer.specs.declared.Volts.{Volts}
 use Rattle.answer.specs.declared.Answer.{Answer}
@@ -50,7 +50,7 @@ unfoldable pub wavetableSoundOf : Wavetable → WavetableControls → List Float
 wavetableSoundOf s c bank =
     let phase = restartOf (s .phase) (risesAbove gateThreshold (s .«prev_sync») (c .sync)) .0 in
     let memo = recall1 voctToHzAt (s .«freq_memo») (c .«v_oct» .0) in
-    let inc = div binary64 (memo .val .0) (s .«sample_rate» .0) in
+    let inc = incrementOf (memo .val) (s .«sample_rate») .0 in
     let pos = tablePosOf (c .table) in
     let index = tableIndexOf pos in
     let out = mixOf bank index (blendOf pos index (c .morph)) inc phase in
@@ -75,6 +75,17 @@ wavetableNextOf c bank s = wavetableTickOf s c bank .wavetable
 
 unfoldable pub wavetableBlockOf : Wavetable → WavetableControls → Tally → List Float → List Float → List ℕ → Block Wavetable
 wavetableBlockOf s c t bank o m = blockOf 1 (wavetableTickRefusalOf s (length bank)) (wavetableAnswerOf c bank) (wavetableNextOf c bank) s t o m
+
+-- ---- calls without samples
+-- their number: 0 of what was made, or that of the refusal
+abbrev pub madeNumber : WavetableMade → ℕ
+madeNumber (made.Made s) = 0
+madeNumber (made.Refused n) = n
+
+-- what was made; a refusal leaves s
+abbrev pub madeOr : Wavetable → WavetableMade → Wavetable
+madeOr s (made.Made t) = t
+madeOr s (made.Refused n) = s
 
 -- s, unless n refuses
 unfoldable pub madeUnless : ℕ → Wavetable → WavetableMade

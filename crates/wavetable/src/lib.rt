@@ -13,21 +13,20 @@ use common::VoltsPerOctave;
 ghost use mathlib.Core.Path.{_≡_};
 ghost use mathlib.Core.Bool.{true, false};
 ghost use Prim.Native.Nat.{_≤_, _<_, _*_, min};
-ghost use lib.Ieee.{binary64, sub, div};
+ghost use lib.Ieee.{binary64, sub};
 ghost use lib.ListN.{length, set};
 ghost use lib.Seq.{sets};
 ghost use Rattle.laws.specs.Lists.{tab};
-ghost use Rattle.answer.specs.Answer.{markNumber, voltsOf};
+ghost use Rattle.answer.specs.Answer.{hostNumber, voltsOf};
 ghost use Rattle.answer.specs.Mark.{markOf};
 ghost use Rattle.answer.specs.Block.{afterTicks, portsOf, joined, block, markAt, frameAt};
 ghost use Rattle.common.specs.Consts.{gateThreshold};
 ghost use Rattle.common.specs.Edge.{risesAbove};
-ghost use Rattle.common.specs.Phase.{turns};
 ghost use Rattle.numeric.specs.Basic.{wholeOf, realOf};
 ghost use Rattle.numeric.specs.Floor.{floorOf};
 ghost use Rattle.wavetable.specs.Harmonics.{maxHarmonic};
 ghost use Rattle.wavetable.specs.Levels.{levelWithin};
-ghost use Rattle.wavetable.specs.Reads.{allowedOf, startOf, between, restartOf, tablePosOf, tableIndexOf, blendOf};
+ghost use Rattle.wavetable.specs.Reads.{allowedOf, startOf, between, tablePosOf, tableIndexOf, blendOf};
 ghost use Rattle.wavetable.specs.Held.{PairFits, pairOf, mixAt, heldAnswer, heldNext};
 ghost use Rattle.wavetable.specs.Wavetable.{wavetableRefusalOf, wavetableTickRefusalOf, wavetableNewOf, outVolts, wavetableSoundOf, wavetableTickOf, wavetableAnswerOf, wavetableNextOf, wavetableBlockOf, wavetableResetOf, wavetableSetSampleRateOf};
 
@@ -156,20 +155,6 @@ fn synced(prev_sync: f64, sync: f64) -> bool
     sync > GATE_THRESHOLD_V && prev_sync <= GATE_THRESHOLD_V
 }
 
-// The phase that is read: 0 where the sync edge is taken.
-fn restart(phase: Turns, edge: bool) -> Turns
-    ensures { λ r. ⌜ r ≡ restartOf phase edge ⌝ }
-{
-    if edge { Turns(0.0) } else { phase }
-}
-
-// What the phase grows by in a tick.
-fn increment(freq: Hertz, sample_rate: Hertz) -> Turns
-    ensures { λ r. ⌜ r ≡ turns (div binary64 (freq .0) («sample_rate» .0)) ⌝ }
-{
-    Turns(freq.0 / sample_rate.0)
-}
-
 // From 0, the first table, to 7, the last. The clamp lets a NaN pass.
 fn table_pos(table: f64) -> f64
     ensures { λ r. ⌜ r ≡ tablePosOf table ⌝ }
@@ -240,10 +225,10 @@ fn mark(out: f64, phases: bool) -> Answer
 // What tick i of a block answers.
 fn put(a: Answer, i: usize, samples: &mut [f64], marks: &mut [u32])
     requires { ⌜ (i < length (now marks)) × (length (now samples) ≡ 1 * length (now marks)) ⌝ }
-    ensures { λ _. ⌜ (now (samples .exit) ≡ sets (now (samples .entry)) (1 * i) (portsOf 1 (voltsOf a))) × (now (marks .exit) ≡ set (now (marks .entry)) i (markNumber a)) ⌝ }
+    ensures { λ _. ⌜ (now (samples .exit) ≡ sets (now (samples .entry)) (1 * i) (portsOf 1 (voltsOf a))) × (now (marks .exit) ≡ set (now (marks .entry)) i (hostNumber a)) ⌝ }
 {
     samples[i] = answer::samples(a).p10;
-    marks[i] = answer::mark_number(a);
+    marks[i] = answer::host_number(a);
 }
 
 impl Wavetable {
@@ -296,10 +281,10 @@ impl Wavetable {
         let sample_rate = self.sample_rate;
         let memo = self.freq_memo;
         let v_oct = c.v_oct;
-        let phase = restart(old, synced(self.prev_sync, c.sync));
+        let phase = common::restart(old, synced(self.prev_sync, c.sync));
         let freq_memo = memo.voct_to_hz(v_oct);
         let freq = freq_memo.val;
-        let phase_inc = increment(freq, sample_rate);
+        let phase_inc = common::increment(freq, sample_rate);
         let out = mix(bank, choose(c.table, c.morph, phase_inc), phase);
         let next = Turns(phase.0 + phase_inc.0);
         WavetableTicked {
@@ -364,10 +349,10 @@ impl Wavetable {
         let sample_rate = self.sample_rate;
         let memo = self.freq_memo;
         let v_oct = c.v_oct;
-        let first = restart(old, synced(self.prev_sync, c.sync));
+        let first = common::restart(old, synced(self.prev_sync, c.sync));
         let freq_memo = memo.voct_to_hz(v_oct);
         let freq = freq_memo.val;
-        let step = increment(freq, sample_rate);
+        let step = common::increment(freq, sample_rate);
         let pair = choose(c.table, c.morph, step);
         Wavetable {
             phase: Self::glide(pair, first, step, bank, samples, marks),
@@ -403,7 +388,7 @@ impl Wavetable {
                 WavetableBlock {
                     refused: 0,
                     wavetable,
-                    tally: tally.take_marks(marks),
+                    tally: tally.take_marks(marks).or(tally),
                 }
             }
         } else {

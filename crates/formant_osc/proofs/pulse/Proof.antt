@@ -23,11 +23,8 @@ loop-holds : tie.Need-loop-holds Inv-loop μ-loop
 unfolding phaseAt
 loop-holds c = (omega arith, refl, refl, over-none _ _, over-none _ _, refl)
 
-mul-t7 : tie.Need-mul-t7 Inv-loop μ-loop
-mul-t7 c = omega arith
-
-slice-read-t10 : tie.Need-slice-read-t10 Inv-loop μ-loop
-slice-read-t10 c = omega arith
+kept-turns-requires : tie.Need-kept-turns-requires Inv-loop μ-loop
+kept-turns-requires c κs = omega arith
 
 glottal-pulse-requires : tie.Need-glottal-pulse-requires Inv-loop μ-loop
 glottal-pulse-requires c κs = tt
@@ -70,10 +67,21 @@ loop-less c = omega arith
 
 loop-again : tie.Need-loop-again Inv-loop μ-loop
 loop-again c =
-    let s = c .before .before .before .before .before .before .before .before .before .loop .inv in
-    let l = c .before .before .before .before .before .before .before .before .before .before .before .before .pre in
-    let w = pulse-turn _ _ _ _ _ _ _ _ _ _ _ _ _ (omega arith) (omega arith) (s .3) (s .4) (s .5) (c .wrap-phase .ensures) (c .before .before .before .before .is-finite .ensures) (c .before .before .both .ensures) (c .before .kept-mark .ensures) in
-    (omega arith, simp length-set (s .1), simp length-set (s .2), over-more _ _ _ _ _ (omega arith) (s .3) (c .before .before .before .before .before .glottal-pulse .ensures ∙ ap (λ (p : Turns). glottalPulse (p .0)) (s .5)), over-more _ _ _ _ _ (omega arith) (s .4) (w .1), w .0)
+    let l = c .before .before .before .before .before .before .before .before .before .before .before in
+    let s = l .loop .inv in
+    let z = l .before .before .before .pre in
+    let k = c .before .before .before .before .before .before .before .before .kept-turns .ensures in
+    let f = c .before .before .before .before .is-finite .ensures in
+    let b = c .before .before .both .ensures in
+    let g = c .before .before .before .before .before .glottal-pulse .ensures in
+    let w = pulse-turn _ _ _ _ _ _ _ _ _ _ _ _ _ _ (omega arith) (omega arith) (s .3) (s .4) (s .5) k (c .wrap-phase .ensures) f b (c .before .kept-mark .ensures) in (
+      omega arith,
+      simp length-set (s .1),
+      simp length-set (s .2),
+      over-more _ _ _ _ _ (omega arith) (s .3) (g ∙ ap (λ (p : Turns). glottalPulse (p .0)) (s .5)),
+      over-more _ _ _ _ _ (omega arith) (s .4) (w .1),
+      w .0,
+    )
 
 same-length : tie.Need-same-length Inv-loop μ-loop
 same-length c = c .before .loop .inv .1
@@ -95,8 +103,7 @@ pulse-spec =
     Inv-loop
     μ-loop
     loop-holds
-    mul-t7
-    slice-read-t10
+    kept-turns-requires
     glottal-pulse-requires
     mul-samples
     slice-write-samples

@@ -8,6 +8,7 @@ use lib.Ieee.Fits.{add-fits}
 use lib.ListN.{length, length-set}
 use Rattle.answer.specs.Block.{afterTicks}
 use Rattle.common.specs.Tests.{phaseOk}
+use Rattle.common.specs.declared.Turns.{Turns}
 use Rattle.common.proofs.PhaseLaws.{wrap-in}
 use Rattle.laws.specs.Lists.{over}
 use Rattle.laws.proofs.Over.{over-done, over-none, over-more}
@@ -19,7 +20,7 @@ use Rattle.formant_osc.proofs.sway.Tie as tie
 
 abbrev Inv-loop : tie.InvT-loop
 Inv-loop start v-oct depth sample-rate samples₀ marks₀ still step vibrato-step vibrato-phase₀ freq-memo₀ i₀ samples marks vibrato-phase freq-memo i =
-    (i ≤ length marks₀) × (length samples ≡ length samples₀) × (length marks ≡ length marks₀) × (samples ≡ over (strideAt v-oct depth sample-rate start) i samples₀) × (marks ≡ over (swayAt v-oct depth sample-rate start) i marks₀) × (vibrato-phase ≡ afterTicks (driveNext v-oct depth sample-rate) i start .«vibrato_phase») × (freq-memo ≡ afterTicks (driveNext v-oct depth sample-rate) i start .«freq_memo») × (phaseOk vibrato-phase ≡ true) × (still ≡ true → freq-memo ≡ start .«freq_memo»)
+    (i ≤ length marks₀) × (length samples ≡ length samples₀) × (length marks ≡ length marks₀) × (samples ≡ over (λ k. strideAt v-oct depth sample-rate start k .0) i samples₀) × (marks ≡ over (swayAt v-oct depth sample-rate start) i marks₀) × (vibrato-phase ≡ afterTicks (driveNext v-oct depth sample-rate) i start .«vibrato_phase») × (freq-memo ≡ afterTicks (driveNext v-oct depth sample-rate) i start .«freq_memo») × (phaseOk vibrato-phase ≡ true) × (still ≡ true → freq-memo ≡ start .«freq_memo»)
 
 abbrev μ-loop : tie.MeasureT-loop
 μ-loop start v-oct depth sample-rate samples₀ marks₀ still step vibrato-step vibrato-phase₀ freq-memo₀ i₀ samples marks vibrato-phase freq-memo i = length marks₀ - i
@@ -51,11 +52,8 @@ stride-requires c κs =
     let f = of-true (fits binary64 (c .before .before .before .before .before .before .before .before .before .before .before .before .before .args .v-oct .0)) (c .before .before .before .before .before .before .before .before .before .before .before .before .before .good .1 .0 .1 .1 .0 .1) in
     still-step _ _ _ _ _ _ _ _ _ (still-tuned _ _ _ _ _ _ _ f (c .before .before .before .before .before .before .before .before .both .ensures) (c .before .before .before .before .before .before .before .before .before .before .before .before .before .pre .0) (s .7) (c .before .before .before .before .before .before .before .before .before .before .before .before .before .pre .1) (s .8)) (c .tuned .ensures) (s .8) (c .before .before .before .before .before .before .before .increment .ensures)
 
-mul-samples : tie.Need-mul-samples Inv-loop μ-loop
-mul-samples c = let g = c .before .before .before .before .before .before .before .before .before .before .before .before .before .before .good in omega arith
-
-slice-write-samples : tie.Need-slice-write-samples Inv-loop μ-loop
-slice-write-samples c = omega arith
+keep-turns-requires : tie.Need-keep-turns-requires Inv-loop μ-loop
+keep-turns-requires c κs = omega arith
 
 is-finite-requires : tie.Need-is-finite-requires Inv-loop μ-loop
 is-finite-requires c κs = tt
@@ -64,7 +62,7 @@ kept-mark-requires : tie.Need-kept-mark-requires Inv-loop μ-loop
 kept-mark-requires c κs = tt
 
 mul-marks : tie.Need-mul-marks Inv-loop μ-loop
-mul-marks c = let g = c .before .before .before .before .before .before .before .before .before .before .before .before .before .before .before .before .good in let t = c .before .before .before .before .before .before .loop-test .taken in let s = c .before .before .before .before .before .before .before .loop .inv in omega arith
+mul-marks c = let g = c .before .before .before .before .before .before .before .before .before .before .before .before .before .before .before .before .before .before .before .before .good in let t = c .before .before .before .before .before .before .before .before .before .before .loop-test .taken in let s = c .before .before .before .before .before .before .before .before .before .before .before .loop .inv in omega arith
 
 slice-write-marks : tie.Need-slice-write-marks Inv-loop μ-loop
 slice-write-marks c = omega arith
@@ -73,7 +71,7 @@ wrap-phase-requires : tie.Need-wrap-phase-requires Inv-loop μ-loop
 wrap-phase-requires c κs = tt
 
 add-i : tie.Need-add-i Inv-loop μ-loop
-add-i c = let g = c .before .before .before .before .before .before .before .before .before .before .before .before .before .before .before .before .before .good in let t = c .before .before .before .before .before .before .before .loop-test .taken in let s = c .before .before .before .before .before .before .before .before .loop .inv in omega arith
+add-i c = let g = c .before .before .before .before .before .before .before .before .before .before .before .before .before .before .before .before .before .before .before .before .before .good in let t = c .before .before .before .before .before .before .before .before .before .before .before .loop-test .taken in let s = c .before .before .before .before .before .before .before .before .before .before .before .before .loop .inv in omega arith
 
 loop-less : tie.Need-loop-less Inv-loop μ-loop
 loop-less c = omega arith
@@ -81,15 +79,26 @@ loop-less c = omega arith
 loop-again : tie.Need-loop-again Inv-loop μ-loop
 unfolding eq ne
 loop-again c =
-    let s = c .before .before .before .before .before .before .before .before .loop .inv in
-    let l = c .before .before .before .before .before .before .before .before .before .before .before .before .before .before .before .before .before .pre .2 in
-    let f = of-true (fits binary64 (c .before .before .before .before .before .before .before .before .before .before .before .before .before .before .before .before .before .args .v-oct .0)) (c .before .before .before .before .before .before .before .before .before .before .before .before .before .before .before .before .before .good .1 .0 .1 .1 .0 .1) in
-    let t = c .before .before .before .before .tuned .ensures in
-    let v = c .before .before .before .before .before .before .before .before .before .before .increment2 .ensures in
-    let x = stridden _ _ _ _ _ _ _ _ _ t (c .before .before .before .stride .ensures) (s .5) (s .6) in
+    let s = c .before .before .before .before .before .before .before .before .before .before .before .before .loop .inv in
+    let p = c .before .before .before .before .before .before .before .before .before .before .before .before .before .before .before .before .before .before .before .before .before .pre in
+    let f = of-true (fits binary64 (c .before .before .before .before .before .before .before .before .before .before .before .before .before .before .before .before .before .before .before .before .before .args .v-oct .0)) (c .before .before .before .before .before .before .before .before .before .before .before .before .before .before .before .before .before .before .before .before .before .good .1 .0 .1 .1 .0 .1) in
+    let t = c .before .before .before .before .before .before .before .before .tuned .ensures in
+    let k = c .before .before .before .before .before .keep-turns .ensures in
+    let v = c .before .before .before .before .before .before .before .before .before .before .before .before .before .before .increment2 .ensures in
+    let b = c .before .before .before .before .before .before .before .before .before .before .before .before .before .before .before .before .both .ensures in
+    let x = stridden _ _ _ _ _ _ _ _ _ t (c .before .before .before .before .before .before .before .stride .ensures) (s .5) (s .6) in
     let n = swayed-mark _ _ _ _ _ _ _ _ _ v (c .before .before .is-finite .ensures) (c .before .kept-mark .ensures) (s .5) in
-    let w = swung _ _ _ _ _ _ _ _ _ _ t v (c .wrap-phase .ensures) (s .5) (s .6) in
-    (omega arith, simp length-set (s .1), simp length-set (s .2), over-more _ _ _ _ _ (omega arith) (s .3) x, over-more _ _ _ _ _ (omega arith) (s .4) n, w .0, w .1, rw (c .wrap-phase .ensures) (wrap-in _ (add-fits binary64 _ _)), still-memo _ _ _ _ _ _ _ (still-tuned _ _ _ _ _ _ _ f (c .before .before .before .before .before .before .before .before .before .before .before .before .both .ensures) (c .before .before .before .before .before .before .before .before .before .before .before .before .before .before .before .before .before .pre .0) (s .7) (c .before .before .before .before .before .before .before .before .before .before .before .before .before .before .before .before .before .pre .1) (s .8)) t (s .8))
+    let w = swung _ _ _ _ _ _ _ _ _ _ t v (c .wrap-phase .ensures) (s .5) (s .6) in (
+      omega arith,
+      simp (k, length-set) (s .1),
+      simp length-set (s .2),
+      rw k (over-more _ _ _ _ _ (omega arith) (s .3) (ap (λ (u : Turns). u .0) x)),
+      over-more _ _ _ _ _ (omega arith) (s .4) n,
+      w .0,
+      w .1,
+      rw (c .wrap-phase .ensures) (wrap-in _ (add-fits binary64 _ _)),
+      still-memo _ _ _ _ _ _ _ (still-tuned _ _ _ _ _ _ _ f b (p .0) (s .7) (p .1) (s .8)) t (s .8),
+    )
 
 same-length : tie.Need-same-length Inv-loop μ-loop
 same-length c = c .before .before .loop .inv .1
@@ -117,8 +126,7 @@ sway-spec =
     loop-holds
     tuned-requires
     stride-requires
-    mul-samples
-    slice-write-samples
+    keep-turns-requires
     is-finite-requires
     kept-mark-requires
     mul-marks

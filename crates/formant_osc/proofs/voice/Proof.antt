@@ -3,7 +3,7 @@ use Prim.Native.Nat.{_-_, _≤_}
 use native.Mathlib.Nat.{le-antisymm}
 use native.Mathlib.Omega.{arith}
 use lib.ListN.{length, length-set}
-use Rattle.answer.specs.Answer.{markNumber, voltsOf}
+use Rattle.answer.specs.Answer.{hostNumber, voltsOf}
 use Rattle.laws.specs.Lists.{over}
 use Rattle.laws.proofs.Over.{over-done, over-none, over-more}
 use Rattle.answer.specs.declared.Answer.{Answer}
@@ -15,7 +15,7 @@ use Rattle.formant_osc.proofs.voice.Tie as tie
 
 abbrev Inv-loop : tie.InvT-loop
 Inv-loop c samples₀ marks₀ cells₀ i₀ samples marks cells i =
-    (i ≤ length marks₀) × (length samples ≡ length samples₀) × (length marks ≡ length marks₀) × (samples ≡ over (λ k. voltsOf (voicedAt c cells₀ samples₀ marks₀ k) .p10) i samples₀) × (marks ≡ over (λ k. markNumber (voicedAt c cells₀ samples₀ marks₀ k)) i marks₀) × (cells ≡ cellsAt c samples₀ cells₀ i)
+    (i ≤ length marks₀) × (length samples ≡ length samples₀) × (length marks ≡ length marks₀) × (samples ≡ over (λ k. voltsOf (voicedAt c cells₀ samples₀ marks₀ k) .p10) i samples₀) × (marks ≡ over (λ k. hostNumber (voicedAt c cells₀ samples₀ marks₀ k)) i marks₀) × (cells ≡ cellsAt c samples₀ cells₀ i)
 
 abbrev μ-loop : tie.MeasureT-loop
 μ-loop c samples₀ marks₀ cells₀ i₀ samples marks cells i = length marks₀ - i
@@ -51,8 +51,8 @@ mul-samples c = omega arith
 slice-write-samples : tie.Need-slice-write-samples Inv-loop μ-loop
 slice-write-samples c = omega arith
 
-mark-number-requires : tie.Need-mark-number-requires Inv-loop μ-loop
-mark-number-requires c κs = tt
+host-number-requires : tie.Need-host-number-requires Inv-loop μ-loop
+host-number-requires c κs = tt
 
 mul-marks : tie.Need-mul-marks Inv-loop μ-loop
 mul-marks c = omega arith
@@ -71,7 +71,7 @@ loop-again c =
     let s = c .before .before .before .before .before .before .before .before .loop .inv in
     let p = c .before .before .before .before .before .before .before .before .before .before .before .pre in
     let t = voiced-turn _ _ _ _ _ _ _ _ _ _ _ _ (omega arith) (omega arith) (s .3) (s .4) (s .5) (c .before .before .before .before .before .ring .ensures) (c .before .before .before .voiced .ensures) in
-    (omega arith, simp length-set (s .1), simp length-set (s .2), over-more _ _ _ _ _ (omega arith) (s .3) (ap (λ (v : Volts). v .p10) (c .before .before .samples .ensures) ∙ ap (λ (a : Answer). voltsOf a .p10) (t .0)), over-more _ _ _ _ _ (omega arith) (s .4) (c .before .mark-number .ensures ∙ ap markNumber (t .0)), t .1)
+    (omega arith, simp length-set (s .1), simp length-set (s .2), over-more _ _ _ _ _ (omega arith) (s .3) (ap (λ (v : Volts). v .p10) (c .before .before .samples .ensures) ∙ ap (λ (a : Answer). voltsOf a .p10) (t .0)), over-more _ _ _ _ _ (omega arith) (s .4) (c .before .host-number .ensures ∙ ap hostNumber (t .0)), t .1)
 
 same-length : tie.Need-same-length Inv-loop μ-loop
 same-length c = c .before .loop .inv .1
@@ -102,7 +102,7 @@ voice-spec =
     samples-requires
     mul-samples
     slice-write-samples
-    mark-number-requires
+    host-number-requires
     mul-marks
     slice-write-marks
     add-i

@@ -20,17 +20,17 @@ loop-holds : tie.Need-loop-holds Inv-loop μ-loop
 unfolding all
 loop-holds c = (omega arith, refl)
 
-mul-steady : tie.Need-mul-steady Inv-loop μ-loop
-mul-steady c = omega arith
+mul-t7 : tie.Need-mul-t7 Inv-loop μ-loop
+mul-t7 c = omega arith
 
-array-read-steady : tie.Need-array-read-steady Inv-loop μ-loop
-array-read-steady c = omega arith
+array-read-t10 : tie.Need-array-read-t10 Inv-loop μ-loop
+array-read-t10 c = omega arith
 
-mul-steady-2 : tie.Need-mul-steady-2 Inv-loop μ-loop
-mul-steady-2 c = omega arith
+mul-t12 : tie.Need-mul-t12 Inv-loop μ-loop
+mul-t12 c = omega arith
 
-array-read-steady-2 : tie.Need-array-read-steady-2 Inv-loop μ-loop
-array-read-steady-2 c = omega arith
+array-read-t15 : tie.Need-array-read-t15 Inv-loop μ-loop
+array-read-t15 c = omega arith
 
 steady-requires : tie.Need-steady-requires Inv-loop μ-loop
 steady-requires c κs = search needs
@@ -59,10 +59,10 @@ all-steady-spec =
     Inv-loop
     μ-loop
     loop-holds
-    mul-steady
-    array-read-steady
-    mul-steady-2
-    array-read-steady-2
+    mul-t7
+    array-read-t10
+    mul-t12
+    array-read-t15
     steady-requires
     returns
     add-i

@@ -27,8 +27,8 @@ mul-samples-2 c = search needs
 slice-write-samples-2 : tie.Need-slice-write-samples-2
 slice-write-samples-2 c = simp length-set (omega arith)
 
-mark-number-requires : tie.Need-mark-number-requires
-mark-number-requires c κs = search needs
+host-number-requires : tie.Need-host-number-requires
+host-number-requires c κs = search needs
 
 mul-marks : tie.Need-mul-marks
 mul-marks c = search needs
@@ -44,7 +44,7 @@ same-length-2 c = search needs
 
 returns : tie.Need-returns
 unfolding portsOf
-returns c = (simp (c .before .samples .ensures, add-one), simp (c .mark-number .ensures))
+returns c = (simp (c .before .samples .ensures, add-one), simp (c .host-number .ensures))
 
 pub put-spec : {M : Type 1} → statement M
 put-spec =
@@ -57,7 +57,7 @@ put-spec =
     add-samples
     mul-samples-2
     slice-write-samples-2
-    mark-number-requires
+    host-number-requires
     mul-marks
     slice-write-marks
     same-length

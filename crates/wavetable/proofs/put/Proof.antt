@@ -13,8 +13,8 @@ mul-samples c = search needs
 slice-write-samples : tie.Need-slice-write-samples
 slice-write-samples c = search needs
 
-mark-number-requires : tie.Need-mark-number-requires
-mark-number-requires c κs = search needs
+host-number-requires : tie.Need-host-number-requires
+host-number-requires c κs = search needs
 
 mul-marks : tie.Need-mul-marks
 mul-marks c = search needs
@@ -30,7 +30,7 @@ same-length-2 c = search needs
 
 returns : tie.Need-returns
 unfolding portsOf
-returns c = (simp (c .before .samples .ensures, one-mul), simp (c .mark-number .ensures))
+returns c = (simp (c .before .samples .ensures, one-mul), simp (c .host-number .ensures))
 
 pub put-spec : {M : Type 1} → statement M
 put-spec =
@@ -39,7 +39,7 @@ put-spec =
     samples-requires
     mul-samples
     slice-write-samples
-    mark-number-requires
+    host-number-requires
     mul-marks
     slice-write-marks
     same-length

@@ -1,8 +1,9 @@
 use native.Mathlib.Omega.{arith}
 use Rattle.answer.proofs.Blocks.{block-refused, block-fits, block-empty, block-done}
+use Rattle.answer.specs.Tally.{tallyOr}
 use Rattle.formant_osc.specs.FormantOsc.{formantBlockOf}
 use native.Mathlib.Nat.{one-mul}
-use mathlib.Core.Path.{_∙_}
+use mathlib.Core.Path.{ap, _∙_}
 use Rattle.formant_osc.proofs.Held.{one-each}
 use borrow.Author.Needs.{needs}
 use Rattle.formant_osc.proofs.FormantOsc.block.Statement.{statement}
@@ -20,6 +21,9 @@ run-requires c κs = let a = c .before .before .before .before .before .before .
 take-marks-requires : tie.Need-take-marks-requires
 take-marks-requires c κs = search needs
 
+or-requires : tie.Need-or-requires
+or-requires c κs = search needs
+
 returns : tie.Need-returns
 unfolding formantBlockOf
 returns c = let a = c .before .before .before .before .before .before .args in block-empty 1 _ _ _ (a .self) (a .tally) (a .samples .now) (a .marks .now) _ (one-each (a .samples .now) (a .marks .now) _ _ (a .tally) _ (c .before .before .block-refusal .ensures) (c .before .before .before .refusal .ensures)) (c .before .if1 .taken) (c .if2 .taken)
@@ -32,7 +36,7 @@ same-length-2 c = search needs
 
 returns-2 : tie.Need-returns-2
 unfolding formantBlockOf
-returns-2 c = let a = c .before .before .before .before .before .before .before .before .before .before .before .before .before .before .before .args in let r = c .before .before .before .before .before .before .run .ensures in block-done 1 _ _ _ (a .self) (a .tally) (a .samples .now) (a .marks .now) _ (one-each (a .samples .now) (a .marks .now) _ _ (a .tally) _ (c .before .before .before .before .before .before .before .before .before .before .before .block-refusal .ensures) (c .before .before .before .before .before .before .before .before .before .before .before .before .refusal .ensures)) (c .before .before .before .before .before .before .before .before .before .before .if1 .taken) _ _ _ _ (r .0) (r .1 .0) (r .1 .1) (c .take-marks .ensures)
+returns-2 c = let a = c .before .before .before .before .before .before .before .before .before .before .before .before .before .before .before .before .args in let r = c .before .before .before .before .before .before .before .run .ensures in block-done 1 _ _ _ (a .self) (a .tally) (a .samples .now) (a .marks .now) _ (one-each (a .samples .now) (a .marks .now) _ _ (a .tally) _ (c .before .before .before .before .before .before .before .before .before .before .before .before .block-refusal .ensures) (c .before .before .before .before .before .before .before .before .before .before .before .before .before .refusal .ensures)) (c .before .before .before .before .before .before .before .before .before .before .before .if1 .taken) _ _ _ _ (r .0) (r .1 .0) (r .1 .1) (c .or .ensures ∙ ap (tallyOr (a .tally)) (c .before .take-marks .ensures))
 
 returns-3 : tie.Need-returns-3
 unfolding formantBlockOf
@@ -46,6 +50,7 @@ block-spec =
     block-refusal-requires
     run-requires
     take-marks-requires
+    or-requires
     returns
     same-length
     same-length-2

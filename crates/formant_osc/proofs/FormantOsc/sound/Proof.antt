@@ -4,6 +4,9 @@ use borrow.Author.Needs.{needs}
 use Rattle.formant_osc.proofs.FormantOsc.sound.Statement.{statement}
 use Rattle.formant_osc.proofs.FormantOsc.sound.Tie as tie
 
+increment-requires : tie.Need-increment-requires
+increment-requires c κs = search needs
+
 wrap-phase-requires : tie.Need-wrap-phase-requires
 wrap-phase-requires c κs = search needs
 
@@ -18,6 +21,9 @@ pitch-requires c κs = search needs
 
 voct-to-hz-requires : tie.Need-voct-to-hz-requires
 voct-to-hz-requires c κs = search needs
+
+increment-requires-2 : tie.Need-increment-requires-2
+increment-requires-2 c κs = search needs
 
 glottal-pulse-requires : tie.Need-glottal-pulse-requires
 glottal-pulse-requires c κs = search needs
@@ -45,17 +51,19 @@ wrap-phase-requires-2 c κs = search needs
 
 returns : tie.Need-returns
 unfolding formantSoundOf freqMemoOf coefMemoOf formantRung voicedOf
-returns c = simp (c .wrap-phase2 .ensures, c .before .voiced .ensures, c .before .before .both .ensures, c .before .before .before .is-finite2 .ensures, c .before .before .before .before .is-finite .ensures, c .before .before .before .before .before .before .before .ring .ensures, c .before .before .before .before .before .before .before .before .before .recall .ensures, c .before .before .before .before .before .before .before .before .before .before .glottal-pulse .ensures, c .before .before .before .before .before .before .before .before .before .before .before .before .before .voct-to-hz .ensures, c .before .before .before .before .before .before .before .before .before .before .before .before .before .before .pitch .ensures, c .before .before .before .before .before .before .before .before .before .before .before .before .before .before .before .clamp2 .ensures, c .before .before .before .before .before .before .before .before .before .before .before .before .before .before .before .before .clamp .ensures, c .before .before .before .before .before .before .before .before .before .before .before .before .before .before .before .before .before .before .wrap-phase .ensures)
+returns c = simp (c .wrap-phase2 .ensures, c .before .voiced .ensures, c .before .before .both .ensures, c .before .before .before .is-finite2 .ensures, c .before .before .before .before .is-finite .ensures, c .before .before .before .before .before .before .before .before .ring .ensures, c .before .before .before .before .before .before .before .before .before .before .recall .ensures, c .before .before .before .before .before .before .before .before .before .before .before .glottal-pulse .ensures, c .before .before .before .before .before .before .before .before .before .before .before .before .increment2 .ensures, c .before .before .before .before .before .before .before .before .before .before .before .before .before .voct-to-hz .ensures, c .before .before .before .before .before .before .before .before .before .before .before .before .before .before .pitch .ensures, c .before .before .before .before .before .before .before .before .before .before .before .before .before .before .before .clamp2 .ensures, c .before .before .before .before .before .before .before .before .before .before .before .before .before .before .before .before .clamp .ensures, c .before .before .before .before .before .before .before .before .before .before .before .before .before .before .before .before .before .before .wrap-phase .ensures, c .before .before .before .before .before .before .before .before .before .before .before .before .before .before .before .before .before .before .before .before .before .increment .ensures)
 
 pub sound-spec : {M : Type 1} → statement M
 sound-spec =
     tie.close
     (tie.spec
+    increment-requires
     wrap-phase-requires
     clamp-requires
     clamp-requires-2
     pitch-requires
     voct-to-hz-requires
+    increment-requires-2
     glottal-pulse-requires
     recall-requires
     ring-requires

@@ -1,6 +1,8 @@
+use mathlib.Core.Path.{ap, _∙_}
+use Rattle.answer.specs.Tally.{tallyOr}
 use Rattle.karplus_strong.proofs.Held.{first-none}
 use Rattle.karplus_strong.specs.Blocks.{karplusStrongBlockOf}
-use Rattle.karplus_strong.specs.Calls.{strung}
+use Rattle.karplus_strong.specs.KarplusStrong.{strung}
 use Rattle.answer.proofs.Blocks.{block-refused, block-fits, block-empty, block-done}
 use native.Mathlib.Omega.{arith}
 use borrow.Author.Needs.{needs}
@@ -22,6 +24,9 @@ run-requires c κs = let a = c .before .before .before .before .before .before .
 take-marks-requires : tie.Need-take-marks-requires
 take-marks-requires c κs = search needs
 
+or-requires : tie.Need-or-requires
+or-requires c κs = search needs
+
 returns : tie.Need-returns
 unfolding karplusStrongBlockOf
 returns c = let a = c .before .before .before .before .before .before .before .before .before .args in block-empty 1 _ _ _ (strung (a .self) (a .line .now)) (a .tally) (a .samples .now) (a .marks .now) _ (rw (c .before .before .before .fits2 .ensures, c .before .before .before .before .first-refusal .ensures) at (c .before .before .block-refusal .ensures)) (c .before .if1 .taken) (c .if2 .taken)
@@ -37,7 +42,7 @@ same-length-3 c = search needs
 
 returns-2 : tie.Need-returns-2
 unfolding karplusStrongBlockOf
-returns-2 c = let a = c .before .before .before .before .before .before .before .before .before .before .before .before .before .before .before .before .before .before .before .before .before .args in let r = c .before .before .before .before .before .before .before .before .run .ensures in block-done 1 _ _ _ (strung (a .self) (a .line .now)) (a .tally) (a .samples .now) (a .marks .now) _ (rw (c .before .before .before .before .before .before .before .before .before .before .before .before .before .before .before .fits2 .ensures, c .before .before .before .before .before .before .before .before .before .before .before .before .before .before .before .before .first-refusal .ensures) at (c .before .before .before .before .before .before .before .before .before .before .before .before .before .before .block-refusal .ensures)) (c .before .before .before .before .before .before .before .before .before .before .before .before .before .if1 .taken) _ _ _ _ (r .0) (r .1 .0) (r .1 .1) (c .take-marks .ensures)
+returns-2 c = let a = c .before .before .before .before .before .before .before .before .before .before .before .before .before .before .before .before .before .before .before .before .before .before .args in let r = c .before .before .before .before .before .before .before .before .before .run .ensures in block-done 1 _ _ _ (strung (a .self) (a .line .now)) (a .tally) (a .samples .now) (a .marks .now) _ (rw (c .before .before .before .before .before .before .before .before .before .before .before .before .before .before .before .before .fits2 .ensures, c .before .before .before .before .before .before .before .before .before .before .before .before .before .before .before .before .before .first-refusal .ensures) at (c .before .before .before .before .before .before .before .before .before .before .before .before .before .before .before .block-refusal .ensures)) (c .before .before .before .before .before .before .before .before .before .before .before .before .before .before .if1 .taken) _ _ _ _ (r .0) (r .1 .0) (r .1 .1) (c .or .ensures ∙ ap (tallyOr (a .tally)) (c .before .take-marks .ensures))
 
 returns-3 : tie.Need-returns-3
 unfolding karplusStrongBlockOf
@@ -52,6 +57,7 @@ block-spec =
     block-refusal-requires
     run-requires
     take-marks-requires
+    or-requires
     returns
     same-length
     same-length-2

@@ -1,6 +1,6 @@
 use Rattle.karplus_strong.proofs.Held.{heard, moved, turned-ready}
 use Rattle.karplus_strong.specs.Held.{heldAnswer, heldNext}
-use Rattle.karplus_strong.specs.Calls.{strung}
+use Rattle.karplus_strong.specs.KarplusStrong.{strung}
 use Rattle.answer.proofs.Blocks.{one-port, joined-none, frames-more, frames-done, marks-more, marks-done}
 use Rattle.answer.specs.Block.{afterTicks, markAt, frameAt, joined}
 use Rattle.laws.proofs.Over.{over-none}

@@ -1,5 +1,7 @@
+use mathlib.Core.Path.{ap, _∙_}
 use native.Mathlib.Omega.{arith}
 use borrow.Author.Needs.{needs}
+use Rattle.answer.specs.Tally.{tallyOr}
 use Rattle.answer.proofs.Blocks.{block-refused, block-fits, block-empty, block-done}
 use Rattle.supersaw.specs.Supersaw.{supersawBlockOf}
 use Rattle.supersaw.proofs.Supersaw.block.Statement.{statement}
@@ -20,6 +22,9 @@ run-requires c κs = let a = c .before .before .before .before .before .before .
 take-marks-requires : tie.Need-take-marks-requires
 take-marks-requires c κs = search needs
 
+or-requires : tie.Need-or-requires
+or-requires c κs = search needs
+
 returns : tie.Need-returns
 unfolding supersawBlockOf
 returns c = let a = c .before .before .before .before .before .before .before .args in block-empty 2 _ _ _ (a .self) (a .tally) (a .samples .now) (a .marks .now) _ (rw (c .before .before .before .before .fits2 .ensures, c .before .before .before .refusal .ensures) at (c .before .before .block-refusal .ensures)) (c .before .if1 .taken) (c .if2 .taken)
@@ -32,7 +37,15 @@ same-length-2 c = search needs
 
 returns-2 : tie.Need-returns-2
 unfolding supersawBlockOf
-returns-2 c = let a = c .before .before .before .before .before .before .before .before .before .before .before .before .before .before .before .before .args in let r = c .before .before .before .before .before .before .run .ensures in block-done 2 _ _ _ (a .self) (a .tally) (a .samples .now) (a .marks .now) _ (rw (c .before .before .before .before .before .before .before .before .before .before .before .before .before .fits2 .ensures, c .before .before .before .before .before .before .before .before .before .before .before .before .refusal .ensures) at (c .before .before .before .before .before .before .before .before .before .before .before .block-refusal .ensures)) (c .before .before .before .before .before .before .before .before .before .before .if1 .taken) _ _ _ _ (r .0) (r .1 .0) (r .1 .1) (c .take-marks .ensures)
+returns-2 c =
+    let ran = c .before .before .before .before .before .before .before in
+    let asked = ran .before .before .before .before .before in
+    let a = asked .before .before .before .before .before .args in
+    let r = ran .run .ensures in
+    block-done 2 _ _ _ (a .self) (a .tally) (a .samples .now) (a .marks .now) _
+    (rw (asked .before .before .fits2 .ensures, asked .before .refusal .ensures) at (asked .block-refusal .ensures))
+    (ran .before .before .before .before .if1 .taken) _ _ _ _ (r .0) (r .1 .0) (r .1 .1)
+    (c .or .ensures ∙ ap (tallyOr (a .tally)) (c .before .take-marks .ensures))
 
 returns-3 : tie.Need-returns-3
 unfolding supersawBlockOf
@@ -47,6 +60,7 @@ block-spec =
     block-refusal-requires
     run-requires
     take-marks-requires
+    or-requires
     returns
     same-length
     same-length-2

@@ -14,11 +14,11 @@ use Rattle.supersaw.proofs.Supersaw.glide.Statement.{statement}
 use Rattle.supersaw.proofs.Supersaw.glide.Tie as tie
 
 abbrev Inv-loop : tie.InvT-loop
-Inv-loop sample-rate base-freq dt mix samples₀ marks₀ t₀ i₀ samples marks t i =
+Inv-loop base-freq dt mix samples₀ marks₀ t₀ i₀ samples marks t i =
     (i ≤ length marks₀) × (length samples ≡ length samples₀) × (length marks ≡ length marks₀) × (samples ≡ sets samples₀ 0 (joined (frameAt 2 (heldAnswer dt mix) (heldNext dt mix) t₀) i)) × (marks ≡ over (markAt (heldAnswer dt mix) (heldNext dt mix) t₀) i marks₀) × (t ≡ afterTicks (heldNext dt mix) i t₀)
 
 abbrev μ-loop : tie.MeasureT-loop
-μ-loop sample-rate base-freq dt mix samples₀ marks₀ t₀ i₀ samples marks t i = length marks₀ - i
+μ-loop base-freq dt mix samples₀ marks₀ t₀ i₀ samples marks t i = length marks₀ - i
 
 loop-holds : tie.Need-loop-holds Inv-loop μ-loop
 unfolding afterTicks

@@ -1,31 +1,34 @@
+use borrow.Author.Needs.{needs}
 use Rattle.supersaw.proofs.Loops.{seven-more, seven-done}
-use mathlib.Core.Path.{_≡_, refl}
+use mathlib.Core.Path.{_≡_}
 use Prim.Native.Nat.{ℕ, _≤_, _-_}
 use native.Mathlib.Omega.{arith}
-use lib.Ieee.{binary64, mul, div}
 use lib.ListN.{replicate}
 use Rattle.laws.proofs.Over.{over-none}
-use Rattle.laws.specs.Float.{two}
 use Rattle.laws.specs.Lists.{over}
-use Rattle.supersaw.specs.Voices.{dtOf}
+use Rattle.supersaw.specs.Voices.{dtOf, subDtOf}
 use Rattle.supersaw.specs.Lanes.{incsOf}
 use Rattle.supersaw.proofs.Supersaw.increments.Statement.{statement}
 use Rattle.supersaw.proofs.Supersaw.increments.Tie as tie
 
 abbrev Inv-loop : tie.InvT-loop
-Inv-loop detune base-freq sample-rate dt₀ i₀ dt i = (i ≤ 7) × (dt ≡ over (λ (k : ℕ). dtOf k detune base-freq sample-rate) i (replicate 8 (div binary64 (base-freq .0) (mul binary64 two (sample-rate .0)))))
+Inv-loop detune base-freq sample-rate dt₀ i₀ dt i =
+    (i ≤ 7) × (dt ≡ over (λ (k : ℕ). dtOf k detune base-freq sample-rate .0) i (replicate 8 (subDtOf base-freq sample-rate .0)))
 
 abbrev μ-loop : tie.MeasureT-loop
 μ-loop detune base-freq sample-rate dt₀ i₀ dt i = 7 - i
 
+sub-increment-requires : tie.Need-sub-increment-requires Inv-loop μ-loop
+sub-increment-requires c κs = search needs
+
 loop-holds : tie.Need-loop-holds Inv-loop μ-loop
-loop-holds c = (omega arith, over-none _ _)
+loop-holds c = (omega arith, rw (c .sub-increment .ensures) (over-none _ _))
 
-mul-detune-amount : tie.Need-mul-detune-amount Inv-loop μ-loop
-mul-detune-amount c = omega arith
+detuned-requires : tie.Need-detuned-requires Inv-loop μ-loop
+detuned-requires c κs = omega arith
 
-array-read-detune-amount : tie.Need-array-read-detune-amount Inv-loop μ-loop
-array-read-detune-amount c = omega arith
+increment-requires : tie.Need-increment-requires Inv-loop μ-loop
+increment-requires c κs = search needs
 
 mul-dt : tie.Need-mul-dt Inv-loop μ-loop
 mul-dt c = omega arith
@@ -41,7 +44,11 @@ loop-less c = omega arith
 
 loop-again : tie.Need-loop-again Inv-loop μ-loop
 unfolding dtOf
-loop-again c = (omega arith, seven-more _ _ _ _ _ (c .before .before .loop-test .taken) (c .before .before .before .loop .inv .1) refl)
+loop-again c = (
+  omega arith,
+  seven-more _ _ _ _ _ (c .before .before .loop-test .taken) (c .before .before .before .loop .inv .1)
+      (simp (c .increment .ensures, c .before .detuned .ensures)),
+)
 
 returns : tie.Need-returns Inv-loop μ-loop
 unfolding incsOf
@@ -53,9 +60,10 @@ increments-spec =
     (tie.spec
     Inv-loop
     μ-loop
+    sub-increment-requires
     loop-holds
-    mul-detune-amount
-    array-read-detune-amount
+    detuned-requires
+    increment-requires
     mul-dt
     array-write-dt
     add-i

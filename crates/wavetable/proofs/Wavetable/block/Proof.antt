@@ -1,5 +1,5 @@
 use mathlib.Core.List.{List}
-use mathlib.Core.Path.{_≡_}
+use mathlib.Core.Path.{_≡_, ap, _∙_}
 use Prim.Native.Nat.{ℕ, _*_}
 use native.Mathlib.Nat.{one-mul}
 use native.Mathlib.Omega.{arith}
@@ -9,6 +9,7 @@ use lib.ListN.{length}
 use borrow.Author.Needs.{needs}
 use Rattle.answer.proofs.Blocks.{block-refused, block-fits, block-empty, block-done}
 use Rattle.answer.specs.Block.{blockRefusalOf}
+use Rattle.answer.specs.Tally.{tallyOr}
 use Rattle.answer.specs.declared.Tally.{Tally}
 use Rattle.wavetable.specs.Wavetable.{wavetableBlockOf}
 use Rattle.wavetable.proofs.Wavetable.block.Statement.{statement}
@@ -31,6 +32,9 @@ run-requires c κs = let a = c .before .before .before .before .before .before .
 take-marks-requires : tie.Need-take-marks-requires
 take-marks-requires c κs = search needs
 
+or-requires : tie.Need-or-requires
+or-requires c κs = search needs
+
 returns : tie.Need-returns
 unfolding wavetableBlockOf
 returns c = let a = c .before .before .before .before .before .before .before .args in block-empty 1 _ _ _ (a .self) (a .tally) (a .samples .now) (a .marks .now) _ (single (a .samples .now) (a .marks .now) (a .tally) _ _ _ (c .before .before .before .tick-refusal .ensures) (c .before .before .block-refusal .ensures)) (c .before .if1 .taken) (c .if2 .taken)
@@ -43,7 +47,7 @@ same-length-2 c = search needs
 
 returns-2 : tie.Need-returns-2
 unfolding wavetableBlockOf
-returns-2 c = let a = c .before .before .before .before .before .before .before .before .before .before .before .before .before .before .before .before .args in let r = c .before .before .before .before .before .before .run .ensures in block-done 1 _ _ _ (a .self) (a .tally) (a .samples .now) (a .marks .now) _ (single (a .samples .now) (a .marks .now) (a .tally) _ _ _ (c .before .before .before .before .before .before .before .before .before .before .before .before .tick-refusal .ensures) (c .before .before .before .before .before .before .before .before .before .before .before .block-refusal .ensures)) (c .before .before .before .before .before .before .before .before .before .before .if1 .taken) _ _ _ _ (r .0) (r .1 .0) (r .1 .1) (c .take-marks .ensures)
+returns-2 c = let a = c .before .before .before .before .before .before .before .before .before .before .before .before .before .before .before .before .before .args in let r = c .before .before .before .before .before .before .before .run .ensures in block-done 1 _ _ _ (a .self) (a .tally) (a .samples .now) (a .marks .now) _ (single (a .samples .now) (a .marks .now) (a .tally) _ _ _ (c .before .before .before .before .before .before .before .before .before .before .before .before .before .tick-refusal .ensures) (c .before .before .before .before .before .before .before .before .before .before .before .before .block-refusal .ensures)) (c .before .before .before .before .before .before .before .before .before .before .before .if1 .taken) _ _ _ _ (r .0) (r .1 .0) (r .1 .1) (c .or .ensures ∙ ap (tallyOr (a .tally)) (c .before .take-marks .ensures))
 
 returns-3 : tie.Need-returns-3
 unfolding wavetableBlockOf
@@ -57,6 +61,7 @@ block-spec =
     block-refusal-requires
     run-requires
     take-marks-requires
+    or-requires
     returns
     same-length
     same-length-2
