@@ -1,4 +1,5 @@
-/* Renders a vowel of 480 samples twice, once with a broken control value, and shows what is finished; then reads a score:
+/* Renders a vowel of 480 samples twice, once with a broken control value, and shows what is finished; plucks a string; then
+ * reads a score:
  *
  *     tools/library ../target/gruttisol
  *     cc -I c c/example.c ../target/gruttisol/libgruttisol.a -o ../target/example && ../target/example
@@ -25,8 +26,32 @@ static int render(double vowel)
                                           out, SAMPLES, marks, SAMPLES);
     if (refused)
         return printf("refused=%u\n", refused);
-    return printf("begun=%u finished=%u cleared=%u notfinite=%u lost=%u claimed=%s\n", counts[0], counts[1], counts[2],
-                  counts[3], counts[4], counts[0] == SAMPLES && counts[1] == SAMPLES ? "yes" : "no");
+    int first = 0; /* samples before the first that isn't clean */
+    while (first < SAMPLES && marks[first] == GRUTTISOL_CLEAN)
+        first++;
+    return printf("begun=%u finished=%u cleared=%u notfinite=%u lost=%u claimed=%s, clean up to sample %d\n", counts[0], counts[1],
+                  counts[2], counts[3], counts[4], counts[0] == SAMPLES && counts[1] == SAMPLES ? "yes" : "no", first);
+}
+
+/* Line and draws are the caller's; these are long enough at every rate and pitch. */
+static void pluck(double sample_rate)
+{
+    static double line[GRUTTISOL_KARPLUS_STRONG_LINE];
+    static uint64_t draws[GRUTTISOL_KARPLUS_STRONG_DRAWS];
+    double floats[GRUTTISOL_KARPLUS_STRONG_FLOATS], out[GRUTTISOL_KARPLUS_STRONG_SAMPLES];
+    uint64_t wholes[GRUTTISOL_KARPLUS_STRONG_WHOLES];
+
+    uint32_t answer = gruttisol_karplus_strong_new(sample_rate, floats, GRUTTISOL_KARPLUS_STRONG_FLOATS,
+                                                   wholes, GRUTTISOL_KARPLUS_STRONG_WHOLES,
+                                                   line, GRUTTISOL_KARPLUS_STRONG_LINE);
+    if (answer == 0)
+        answer = gruttisol_karplus_strong_tick(-32.0, 5.0, 0.5, 0.5, 0.0, floats, GRUTTISOL_KARPLUS_STRONG_FLOATS,
+                                               wholes, GRUTTISOL_KARPLUS_STRONG_WHOLES,
+                                               line, GRUTTISOL_KARPLUS_STRONG_LINE,
+                                               draws, GRUTTISOL_KARPLUS_STRONG_DRAWS,
+                                               out, GRUTTISOL_KARPLUS_STRONG_SAMPLES);
+    printf("a string at %g Hz, of a line of %u cells: %s\n", sample_rate,
+           (unsigned)gruttisol_karplus_strong_cells(sample_rate), answer == GRUTTISOL_CLEAN ? "clean" : "refused or not clean");
 }
 
 static void read_score(const char *score, size_t length)
@@ -50,6 +75,8 @@ int main(void)
 
     render(0.25);
     render(NAN);
+    pluck(192000.0);
+    pluck(INFINITY);
     printf("a rate of 999.5 Hz: refused=%u\n", gruttisol_vco_new(999.5, floats, GRUTTISOL_VCO_FLOATS, wholes, GRUTTISOL_VCO_WHOLES));
     read_score(score, sizeof score - 1);
     read_score(score, sizeof score - 2); /* without its last line feed */

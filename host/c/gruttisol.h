@@ -2,7 +2,8 @@
  *
  * Every function takes any numbers and any memory of the lengths that it is told: it ends, reads and writes inside the lent
  * memory alone and keeps none of it. A lent array is two arguments, its first cell and its length; arrays lent to one
- * call must not overlap.
+ * call must not overlap. The calling thread rounds to nearest and flushes no subnormal number to zero, as a program starts:
+ * in another mode of the processor other numbers come out, and nothing is promised of them.
  *
  * An oscillator's state is two arrays, `floats` and `wholes`, of the lengths given below. Make it by `.._new`; then lend it to
  * each call as the last call left it. A state of your own making is taken or refused.
@@ -14,13 +15,23 @@
  *   50 to 53  an array of another length: floats, wholes, samples, counts
  * A refused call leaves every array as it stood.
  *
+ * Arrays come in one order: floats, wholes, what an oscillator is lent beside its state (bank; line, draws), then of a tick
+ * samples, of a block counts, samples, marks.
+ *
  * A block, `.._block`, is as many ticks with one set of controls as there are `marks`, and their tally: the same as so many calls of
  * `.._tick` and of gruttisol_tally_take, in less time. `samples` takes a tick's samples for each mark, one tick after another,
- * and each mark becomes 1 cleared, 2 notfinite, 3 lost or 4 clean.
+ * and each mark becomes what the tick would answer, a gruttisol_mark. A block is done or refused as a whole: where the tally hasn't
+ * room for all of its ticks it is refused by 7, though so many single ticks would go on until the tally is full.
+ *
+ * What a host must change that was written for an earlier header:
+ *   - a block's marks are 11 to 14, as a tick answers, and no longer 1 to 4;
+ *   - samples are the last array of gruttisol_wavetable_tick and gruttisol_karplus_strong_tick, after bank, or line and draws;
+ *   - the cells of a string's line are asked of gruttisol_karplus_strong_cells.
  */
 #ifndef GRUTTISOL_H
 #define GRUTTISOL_H
 
+#include <stdbool.h>
 #include <stddef.h>
 #include <stdint.h>
 
@@ -52,8 +63,8 @@ enum gruttisol_refusal {
 /* ---- the tally: counts are begun, finished, cleared, notfinite, lost; a new one is five zeros */
 #define GRUTTISOL_COUNTS 5
 
-/* Takes the number that a tick answered. */
-uint32_t gruttisol_tally_take(uint32_t answer, uint32_t *counts, size_t counts_len);
+/* Takes the number that a tick answered; one that is no gruttisol_mark is a refused tick, which counts nowhere. */
+uint32_t gruttisol_tally_take(uint32_t code, uint32_t *counts, size_t counts_len);
 
 /* ---- Vco: samples sin, tri, saw, sqr; bit i of `wanted` asks for the i-th, and one that isn't wanted reads 0.0 */
 #define GRUTTISOL_VCO_FLOATS 4
@@ -122,7 +133,7 @@ uint32_t gruttisol_wavetable_new(double sample_rate, double *floats, size_t floa
                                  uint64_t *wholes, size_t wholes_len);
 uint32_t gruttisol_wavetable_tick(double v_oct, double table, double morph, double sync,
                                   double *floats, size_t floats_len, uint64_t *wholes, size_t wholes_len,
-                                  double *samples, size_t samples_len, const double *bank, size_t bank_len);
+                                  const double *bank, size_t bank_len, double *samples, size_t samples_len);
 uint32_t gruttisol_wavetable_block(double v_oct, double table, double morph, double sync,
                                    double *floats, size_t floats_len, uint64_t *wholes, size_t wholes_len,
                                    const double *bank, size_t bank_len,
@@ -150,12 +161,15 @@ uint32_t gruttisol_formant_osc_reset(double *floats, size_t floats_len, uint64_t
 uint32_t gruttisol_formant_osc_set_sample_rate(double sample_rate, double *floats, size_t floats_len,
                                                uint64_t *wholes, size_t wholes_len);
 
-/* ---- KarplusStrong: a sample out. Each call is lent the line as the last call left it, of gruttisol_karplus_strong_cells at least;
- *      a rate change one that is enough for the new rate. Another line will do if the string's cells, the first wholes[0] of
- *      them, are copied to it. A tick that takes its trigger reads as many draws as the string gets cells, each below 2^53. */
+/* ---- KarplusStrong: a sample out. Each call is lent the line as the last call left it, of gruttisol_karplus_strong_cells(sample_rate)
+ *      cells at least; a rate change one that is enough for the new rate. Another line will do if the string's cells, the first
+ *      wholes[0] of them, are copied to it. A tick that takes its trigger reads as many draws as the string gets cells, each below
+ *      2^53, which are fewer than the line has. */
 #define GRUTTISOL_KARPLUS_STRONG_FLOATS 6
 #define GRUTTISOL_KARPLUS_STRONG_WHOLES 4
 #define GRUTTISOL_KARPLUS_STRONG_SAMPLES 1
+#define GRUTTISOL_KARPLUS_STRONG_LINE 9612  /* cells that are enough at every rate */
+#define GRUTTISOL_KARPLUS_STRONG_DRAWS 9611 /* draws that are enough at every rate */
 
 /* The cells that a line needs at a sample rate: sample_rate / 20 truncated, and 12. Of a rate that is refused by 1 it is 0. */
 uint64_t gruttisol_karplus_strong_cells(double sample_rate);
@@ -164,8 +178,8 @@ uint32_t gruttisol_karplus_strong_new(double sample_rate, double *floats, size_t
                                       uint64_t *wholes, size_t wholes_len, double *line, size_t line_len);
 uint32_t gruttisol_karplus_strong_tick(double voct, double trigger, double damping, double brightness, double stretch,
                                        double *floats, size_t floats_len, uint64_t *wholes, size_t wholes_len,
-                                       double *samples, size_t samples_len, double *line, size_t line_len,
-                                       const uint64_t *draws, size_t draws_len);
+                                       double *line, size_t line_len, const uint64_t *draws, size_t draws_len,
+                                       double *samples, size_t samples_len);
 uint32_t gruttisol_karplus_strong_block(double voct, double trigger, double damping, double brightness, double stretch,
                                         double *floats, size_t floats_len, uint64_t *wholes, size_t wholes_len,
                                         double *line, size_t line_len, const uint64_t *draws, size_t draws_len,
@@ -176,10 +190,11 @@ uint32_t gruttisol_karplus_strong_reset(double *floats, size_t floats_len, uint6
 uint32_t gruttisol_karplus_strong_set_sample_rate(double sample_rate, double *floats, size_t floats_len,
                                                   uint64_t *wholes, size_t wholes_len, double *line, size_t line_len);
 
-/* ---- scores: what a text of at most 1,024 bytes says. floats are the volts of the oscillator's inputs in port order, 0.0 past its
+/* ---- scores: what a text of at most GRUTTISOL_SCORE_TEXT bytes says. floats are the volts of the oscillator's inputs in port order, 0.0 past its
  *      last one; wholes are a gruttisol_osc, samples a second and frames. */
 #define GRUTTISOL_SCORE_FLOATS 5
 #define GRUTTISOL_SCORE_WHOLES 3
+#define GRUTTISOL_SCORE_TEXT 1024
 
 enum gruttisol_osc {
     GRUTTISOL_OSC_VCO = 0,
@@ -191,11 +206,28 @@ enum gruttisol_osc {
 uint32_t gruttisol_score_read(const uint8_t *text, size_t text_len, double *floats, size_t floats_len,
                               uint64_t *wholes, size_t wholes_len);
 
-/* ---- functions of numbers alone */
+/* ---- functions of numbers alone: sine and cosine of radians, 2^x and 3000^r; the small functions as Rust has them, any NaN being
+ *      7FF8000000000000; k * 2^-53 and twice it less 1; the oscillators' pitch, phase and residuals, in volts, hertz and turns */
 double gruttisol_sin(double x);
 double gruttisol_cos(double x);
 double gruttisol_exp2(double x);
 double gruttisol_pow3000(double r);
+double gruttisol_floor(double x);
+double gruttisol_fabs(double x);
+bool gruttisol_is_finite(double x);
+double gruttisol_clamp(double x, double lo, double hi);
+double gruttisol_min(double a, double b);
+double gruttisol_max(double a, double b);
+uint64_t gruttisol_to_u64(double x);
+double gruttisol_of_u64(uint64_t n);
+uint64_t gruttisol_bits(double x);
+double gruttisol_of_bits(uint64_t b);
+double gruttisol_draw(uint64_t k);
+double gruttisol_bipolar(uint64_t k);
+double gruttisol_voct_to_hz(double voct);
+double gruttisol_wrap_phase(double x);
+double gruttisol_polyblep(double t, double dt);
+double gruttisol_polyblamp(double t, double dt);
 
 #ifdef __cplusplus
 }

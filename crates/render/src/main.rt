@@ -1,79 +1,158 @@
-// Reads a score from standard input and prints what it plays, or its refusal.
+// Reads a score from standard input and prints what it plays, or its refusal. A read or write that fails is told on standard error.
+use libc::STDERR_FILENO;
 use libc::STDIN_FILENO;
 use libc::STDOUT_FILENO;
 use player::Player;
 use score::Reading;
 use score::Score;
+ghost use mathlib.Core.Bool.{true};
 ghost use mathlib.Core.Path.{_≡_};
-ghost use Prim.Native.Nat.{_<_};
+ghost use Prim.Native.Nat.{_+_, _≤_, _<_};
 ghost use lib.ListN.{length};
-ghost use Rattle.io.specs.Counts.{Counts};
 ghost use Rattle.frame.specs.End.{refusedText};
-ghost use Rattle.score.specs.Score.{scoreOf};
 ghost use Rattle.score.specs.declared.Reading.the-variants.{Values, Refused};
+ghost use Rattle.render.specs.Reads.{stepOf, Within, Reaches, takenOf};
 ghost use Rattle.render.specs.Writes.{pieceOf, endOf};
 
 // So many frames are written at once: their texts fit into the buffer.
 const AT_ONCE: u32 = 400;
 
-// ---- all that is written; no contract can speak of the output, so the `requires` says what is handed to it, and of which text
+// What standard input gave: a text of so many bytes, or a failure.
+enum Taken {
+    Text(usize),
+    Failed,
+}
 
-fn write_piece(text: &[u8], input: &[u8], score: Score, frame: u32) -> bool
-    requires { ⌜ (scoreOf (now input) ≡ Values score) × (now text ≡ pieceOf score frame 400) ⌝ }
+// After a read: there are so many bytes now, or no more come.
+enum Step {
+    On(usize),
+    Stop(Taken),
+}
+
+// ---- all that is written; no contract can speak of the output, so the `requires` says what is handed to it, of which input, and
+// that nothing follows a write that failed
+
+fn write_piece(
+    text: &[u8],
+    input: &[u8],
+    taken: Taken,
+    score: Score,
+    frame: u32,
+    wrote: bool,
+) -> bool
+    requires { ⌜ (takenOf taken (now input) ≡ Values score) × (now text ≡ pieceOf score frame 400) × (wrote ≡ true) ⌝ }
 {
     io::write_all(STDOUT_FILENO, text)
 }
 
-fn write_end(text: &[u8], input: &[u8], score: Score) -> bool
-    requires { ⌜ (scoreOf (now input) ≡ Values score) × (now text ≡ endOf score) ⌝ }
+fn write_end(text: &[u8], input: &[u8], taken: Taken, score: Score, wrote: bool) -> bool
+    requires { ⌜ (takenOf taken (now input) ≡ Values score) × (now text ≡ endOf score) × (wrote ≡ true) ⌝ }
 {
     io::write_all(STDOUT_FILENO, text)
 }
 
-fn write_refused(text: &[u8], input: &[u8], n: u32) -> bool
-    requires { ⌜ (scoreOf (now input) ≡ Refused n) × (now text ≡ refusedText n) ⌝ }
+fn write_refused(text: &[u8], input: &[u8], taken: Taken, n: u32) -> bool
+    requires { ⌜ (takenOf taken (now input) ≡ Refused n) × (now text ≡ refusedText n) ⌝ }
 {
     io::write_all(STDOUT_FILENO, text)
+}
+
+// ---- what is read
+
+fn after_read(n: usize, got: isize, room: &[u8]) -> Step
+    requires { ⌜ n + length (now room) < 4096 ⌝ }
+    ensures { λ r. ⌜ r ≡ stepOf n got (length (now (room .entry))) ⌝ }
+{
+    if got < 0 {
+        return Step::Stop(Taken::Failed);
+    }
+    let more = io::count(got, room);
+    if more == 0 {
+        return Step::Stop(Taken::Text(n));
+    }
+    Step::On(n + more)
+}
+
+// One read, behind the first n bytes.
+fn read_on(input: &mut [u8], n: usize) -> Step
+    requires { ⌜ (n ≤ length (now input)) × (length (now input) < 4096) ⌝ }
+    ensures { λ r. ⌜ Reaches r n (now (input .exit)) ⌝ }
+{
+    let got = libc::read(STDIN_FILENO, &mut input[n..]);
+    after_read(n, got, &input[n..])
+}
+
+// Room for more than a score may have: of a longer text so much is read that it is refused, and no more.
+fn read_text(input: &mut [u8]) -> Taken
+    requires { ⌜ (1024 < length (now input)) × (length (now input) < 4096) ⌝ }
+    ensures { λ r. ⌜ Within r (now (input .exit)) ⌝ }
+{
+    let mut n = 0;
+    while n < input.len() {
+        match read_on(&mut *input, n) {
+            Step::On(more) => n = more,
+            Step::Stop(taken) => return taken,
+        }
+    }
+    Taken::Text(n)
+}
+
+fn reading(input: &[u8], taken: Taken) -> Reading
+    requires { ⌜ Within taken (now input) ⌝ }
+    ensures { λ r. ⌜ r ≡ takenOf taken (now (input .entry)) ⌝ }
+{
+    match taken {
+        Taken::Text(n) => score::read(&input[..n]),
+        Taken::Failed => Reading::Refused(21),
+    }
 }
 
 // ---- the program
 
-// The score that was read of the input, piece by piece, until nothing is left or nobody reads on.
-fn play(out: &mut [u8], input: &[u8], score: Score)
-    requires { ⌜ (length (now out) ≡ 65536) × (scoreOf (now input) ≡ Values score) ⌝ }
+// The score that was read of the input, piece by piece, until nothing is left or a write fails. It answers whether all was written.
+fn play(out: &mut [u8], input: &[u8], taken: Taken, score: Score) -> bool
+    requires { ⌜ (length (now out) ≡ 65536) × (takenOf taken (now input) ≡ Values score) ⌝ }
 {
     let mut player = Player::new(score);
+    let mut wrote = true;
     while player.frame < player.frames {
         let played = player.run(&mut *out, AT_ONCE);
         let to = played.to;
-        if !write_piece(&out[..to], input, score, player.frame) {
-            return;
+        wrote = write_piece(&out[..to], input, taken, score, player.frame, wrote);
+        if !wrote {
+            return false;
         }
         let next = played.player;
         player = next;
     }
     let to = player.finish(&mut *out);
-    write_end(&out[..to], input, score);
+    write_end(&out[..to], input, taken, score, wrote)
 }
 
-// Room for more than a score may have: of a longer text so much is read that it is refused, and no more.
-fn read_text(input: &mut [u8]) -> usize
-    requires { ⌜ 1024 < length (now input) ⌝ }
-    ensures { λ r. ⌜ Counts r (now (input .exit)) ⌝ }
+// It answers whether all was written.
+fn print(out: &mut [u8], input: &[u8], taken: Taken) -> bool
+    requires { ⌜ (length (now out) ≡ 65536) × Within taken (now input) ⌝ }
 {
-    io::read_full(STDIN_FILENO, input)
+    match reading(input, taken) {
+        Reading::Values(s) => play(out, input, taken, s),
+        Reading::Refused(k) => {
+            let to = frame::put_refused(&mut *out, 0, k);
+            write_refused(&out[..to], input, taken, k)
+        }
+    }
 }
 
 fn main() {
     let mut input = [0u8; 1025];
-    let n = read_text(&mut input);
+    let taken = read_text(&mut input);
+    if let Taken::Failed = taken {
+        io::write_all(STDERR_FILENO, b"render: a read of standard input failed\n");
+    }
     let mut out = io::large_buffer();
-    let text = &input[..n];
-    match score::read(text) {
-        Reading::Values(s) => play(&mut out, text, s),
-        Reading::Refused(k) => {
-            let to = frame::put_refused(&mut out, 0, k);
-            write_refused(&out[..to], text, k);
-        }
+    if !print(&mut out, &input, taken) {
+        io::write_all(
+            STDERR_FILENO,
+            b"render: a write to standard output failed\n",
+        );
     }
 }

@@ -94,6 +94,11 @@ fn apart(cell: usize, a: f64, b: f64) -> String {
     format!("cell {cell} is {}, and is due to be {}", hex(a), hex(b))
 }
 
+/// The longest line of a state at a rate, and of a number that is no rate the one at 48,000 Hz.
+fn longest(rate: f64) -> u64 {
+    ours::KarplusStrong::cells(if bad_rate(rate) { 48000.0 } else { rate }) as u64 - 1
+}
+
 /// Cells and draws of a string in the list of stored ticks.
 const STORED: usize = 62;
 
@@ -105,6 +110,9 @@ impl Pair for KarplusStrong {
     const CONTROLS: &'static [Control] = &[PITCH, GATE, UNIT, UNIT, BOTH_WAYS];
     const PORTS: usize = 1;
     const MASKED: bool = false;
+    const MARKS: &'static [Mark] = &[Mark::Cleared, Mark::Clean];
+    const REFUSALS: &'static [u32] = &[1, 2, 3, 5, 6, 7, 52];
+    const STRUCK: bool = true;
     type Floats = [f64; 6];
     type Wholes = [u64; 4];
 
@@ -134,7 +142,7 @@ impl Pair for KarplusStrong {
         let rate = draw.state_rate();
         let [key] = draw.keys([controls[0]]);
         let floats = [rate, draw.level(), draw.level(), draw.level(), draw.previous(), draw.hertz()];
-        let most = ours::KarplusStrong::cells(if bad_rate(rate) { 48000.0 } else { rate }) as u64 - 1;
+        let most = longest(rate);
         let len = match draw.below(8) {
             0 => draw.of(&[4, 5, most, most - 1]),
             1 => draw.of(&[0, 1, 3, most + 1, most + 2, u64::MAX]),
@@ -170,10 +178,9 @@ impl Pair for KarplusStrong {
     }
 
     fn refusal(floats: &[f64; 6], &[len, write_pos, ..]: &[u64; 4]) -> u32 {
-        let cells = ours::KarplusStrong::cells(floats[0]) as u64;
         if bad_rate(floats[0]) {
             1
-        } else if !(4..cells).contains(&len) || write_pos >= len || floats[5].is_nan() {
+        } else if !(4..=longest(floats[0])).contains(&len) || write_pos >= len || floats[5].is_nan() {
             2
         } else {
             0

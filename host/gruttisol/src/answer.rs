@@ -19,7 +19,8 @@ impl fmt::Display for Refused {
             21 => "a line of the score is wrong, missing or one too many, or its oscillator isn't known",
             22 => "a number of the score isn't written as one",
             23 => "a number of the score is out of its range",
-            _ => "a slice of another length than the boundary takes",
+            50..=53 => "a slice of another length than the boundary takes",
+            _ => "a number that no call refuses by",
         };
         write!(f, "refused by {}: {why}", self.0)
     }
@@ -27,7 +28,8 @@ impl fmt::Display for Refused {
 
 impl error::Error for Refused {}
 
-/// How an accepted tick went: the first of these that applies. The numbers are those that an exported tick answers.
+/// How an accepted tick went: the first of these that applies. The numbers are those that an exported tick answers and a block
+/// writes.
 #[derive(Clone, Copy, PartialEq, Eq, Debug)]
 pub enum Mark {
     /// The string zeroed its line.
@@ -43,9 +45,16 @@ impl Mark {
     /// All marks, in the order of their numbers.
     pub const ALL: [Mark; 4] = [Mark::Cleared, Mark::NotFinite, Mark::Lost, Mark::Clean];
 
-    /// The mark that a number of a block stands for: 1 cleared, 2 notfinite, 3 lost, 4 clean.
-    pub fn of_block(number: u32) -> Option<Mark> {
-        Mark::ALL.into_iter().find(|&mark| mark as u32 == number.wrapping_add(10))
+    /// The mark of this number, if it is one's.
+    #[inline]
+    pub fn of_number(number: u32) -> Option<Mark> {
+        match number {
+            11 => Some(Mark::Cleared),
+            12 => Some(Mark::NotFinite),
+            13 => Some(Mark::Lost),
+            14 => Some(Mark::Clean),
+            _ => None,
+        }
     }
 
     /// The word that stands for it in texts.
@@ -79,11 +88,8 @@ pub(crate) fn done(code: u32) -> Result<(), Refused> {
 /// A tick: the number of a mark says that it was accepted.
 #[inline]
 pub(crate) fn ticked<V>(code: u32, volts: V) -> Result<Ticked<V>, Refused> {
-    match code {
-        11 => Ok(Ticked { mark: Mark::Cleared, volts }),
-        12 => Ok(Ticked { mark: Mark::NotFinite, volts }),
-        13 => Ok(Ticked { mark: Mark::Lost, volts }),
-        14 => Ok(Ticked { mark: Mark::Clean, volts }),
-        _ => Err(Refused(code)),
+    match Mark::of_number(code) {
+        Some(mark) => Ok(Ticked { mark, volts }),
+        None => Err(Refused(code)),
     }
 }

@@ -55,7 +55,9 @@ impl KarplusStrong {
         (&self.floats, &self.wholes)
     }
 
-    /// A state of the caller's making; where it is no string's, every call refuses it.
+    /// A state of the caller's making. Calls refuse it by 1 where its sample rate isn't one and by 2 where its length or write
+    /// position is out of range or the memo's frequency is NaN; all else of it they take as it stands, as a memo that doesn't
+    /// fit its key.
     pub fn of_parts(floats: [f64; 6], wholes: [u64; 4]) -> Self {
         KarplusStrong { floats, wholes }
     }
@@ -73,9 +75,9 @@ impl KarplusStrong {
             c.stretch,
             floats,
             wholes,
-            &mut samples,
             line,
             draws,
+            &mut samples,
         );
         let [out] = samples;
         ticked(code, Volts { out })
@@ -92,9 +94,9 @@ impl KarplusStrong {
     }
 
     /// As many ticks with these controls as there are `marks`, and their tally: the same as so many calls of `tick`, in less
-    /// time. `samples` takes one volt for each tick, one tick after another, and `marks` a number for each, which
-    /// `Mark::of_block` reads. Refused by 52 where `samples` has another length, by what refuses the first tick, and by 7;
-    /// then nothing changes.
+    /// time. `samples` takes one volt for each tick, one tick after another, and `marks` the number of a `Mark` for each.
+    /// Refused by 52 where `samples` has another length, by what refuses the first tick, and by 7 where the tally doesn't add
+    /// up or hasn't room for all of them; then nothing changes.
     pub fn block(
         &mut self,
         c: &Controls,

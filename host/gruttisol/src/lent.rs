@@ -43,7 +43,7 @@ lent! {
     fn supersaw_set_sample_rate(sample_rate: f64; floats: mut f64, wholes: mut u64);
 
     fn wavetable_new(sample_rate: f64; floats: mut f64, wholes: mut u64);
-    fn wavetable_tick(v_oct: f64, table: f64, morph: f64, sync: f64; floats: mut f64, wholes: mut u64, samples: mut f64, bank: const f64);
+    fn wavetable_tick(v_oct: f64, table: f64, morph: f64, sync: f64; floats: mut f64, wholes: mut u64, bank: const f64, samples: mut f64);
     fn wavetable_block(v_oct: f64, table: f64, morph: f64, sync: f64; floats: mut f64, wholes: mut u64, bank: const f64, counts: mut u32, samples: mut f64, marks: mut u32);
     fn wavetable_reset(; floats: mut f64, wholes: mut u64);
     fn wavetable_set_sample_rate(sample_rate: f64; floats: mut f64, wholes: mut u64);
@@ -57,7 +57,7 @@ lent! {
     fn formant_osc_set_sample_rate(sample_rate: f64; floats: mut f64, wholes: mut u64);
 
     fn karplus_strong_new(sample_rate: f64; floats: mut f64, wholes: mut u64, line: mut f64);
-    fn karplus_strong_tick(voct: f64, trigger: f64, damping: f64, brightness: f64, stretch: f64; floats: mut f64, wholes: mut u64, samples: mut f64, line: mut f64, draws: const u64);
+    fn karplus_strong_tick(voct: f64, trigger: f64, damping: f64, brightness: f64, stretch: f64; floats: mut f64, wholes: mut u64, line: mut f64, draws: const u64, samples: mut f64);
     fn karplus_strong_block(voct: f64, trigger: f64, damping: f64, brightness: f64, stretch: f64; floats: mut f64, wholes: mut u64, line: mut f64, draws: const u64, counts: mut u32, samples: mut f64, marks: mut u32);
     fn karplus_strong_reset(; floats: mut f64, wholes: mut u64, line: mut f64);
     fn karplus_strong_set_sample_rate(sample_rate: f64; floats: mut f64, wholes: mut u64, line: mut f64);
@@ -90,7 +90,8 @@ macro_rules! oscillator {
                 (&self.floats, &self.wholes)
             }
 
-            /// A state of the caller's making; where it is no oscillator's, every call refuses it.
+            /// A state of the caller's making. Calls refuse it by 1 where its sample rate isn't one and by 2 where a phase isn't
+            /// from 0 to below 1; all else of it they take as it stands, as a memo that doesn't fit its key.
             pub fn of_parts(floats: [f64; $floats], wholes: [u64; $wholes]) -> Self {
                 $name { floats, wholes }
             }
@@ -220,7 +221,7 @@ mod tests {
 
     #[test]
     fn wavetable() {
-        refuses([4, 2, 1], |f, w, s| wavetable_tick(0.0, 0.0, 0.0, 0.0, f, w, s, &[]));
+        refuses([4, 2, 1], |f, w, s| wavetable_tick(0.0, 0.0, 0.0, 0.0, f, w, &[], s));
         refuses([4, 2, 0], |f, w, _| wavetable_new(NO_RATE, f, w));
         refuses([4, 2, 0], |f, w, _| wavetable_reset(f, w));
         refuses([4, 2, 0], |f, w, _| wavetable_set_sample_rate(48000.0, f, w));
@@ -236,7 +237,7 @@ mod tests {
 
     #[test]
     fn karplus_strong() {
-        refuses([6, 4, 1], |f, w, s| karplus_strong_tick(0.0, 5.0, 0.5, 0.5, 0.0, f, w, s, &mut [], &[]));
+        refuses([6, 4, 1], |f, w, s| karplus_strong_tick(0.0, 5.0, 0.5, 0.5, 0.0, f, w, &mut [], &[], s));
         refuses([6, 4, 0], |f, w, _| karplus_strong_new(NO_RATE, f, w, &mut []));
         refuses([6, 4, 0], |f, w, _| karplus_strong_reset(f, w, &mut []));
         refuses([6, 4, 0], |f, w, _| karplus_strong_set_sample_rate(48000.0, f, w, &mut []));

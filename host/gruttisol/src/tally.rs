@@ -28,12 +28,11 @@ impl Tally {
         &mut self.counts
     }
 
-    /// Takes a tick's answer, which is counted by its mark; a refused tick counts nowhere. Refused by 7.
+    /// Takes a tick's answer, which is counted by its mark; a refused tick counts nowhere, whatever number it carries. Refused
+    /// by 7.
     pub fn take(&mut self, answer: Result<Mark, Refused>) -> Result<(), Refused> {
-        let code = match answer {
-            Ok(mark) => mark as u32,
-            Err(Refused(number)) => number,
-        };
-        done(tally_take(code, &mut self.counts))
+        // to the archive any number that is no mark's is a refused tick
+        const NO_MARK: u32 = 0;
+        done(tally_take(answer.map_or(NO_MARK, |mark| mark as u32), &mut self.counts))
     }
 }

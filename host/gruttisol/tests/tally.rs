@@ -36,6 +36,16 @@ fn counts_are_of_the_answers_taken() {
     println!("{ANSWERS} answers: begun, finished, cleared, notfinite, lost are {counts:?}");
 }
 
+/// Whatever number a refusal carries, a mark's too.
+#[test]
+fn no_refusal_counts() {
+    for number in (0..100).chain([u32::MAX]) {
+        let mut tally = Tally::of_counts([10, 1, 2, 3, 4]);
+        assert_eq!(tally.take(Err(Refused(number))), Ok(()), "{number}");
+        assert_eq!(*tally.counts(), [10, 1, 2, 3, 4], "{number}");
+    }
+}
+
 #[test]
 fn sums_that_do_not_add_up_are_refused() {
     for counts in [[1, 0, 0, 0, 0], [0, 1, 0, 0, 0], [0, FULL, 1, 0, 0], [4, 1, 1, 1, 2], [FULL, FULL, FULL, FULL, 3]] {

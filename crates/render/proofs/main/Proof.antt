@@ -1,10 +1,6 @@
--- `main`: the score that is played, and the refusal whose text is written, are what the input reads as.
-use mathlib.Core.Path.{sym, _∙_}
+-- `main`: there is room for more than a score may have, and what was read of it is what is printed of.
 use native.Mathlib.Omega.{arith}
-use lib.Seq.{length-take-le}
 use borrow.Author.Needs.{needs}
-use Rattle.text.proofs.PutLaws.{within}
-use Rattle.render.proofs.Written.{refused-written}
 use Rattle.render.proofs.main.Statement.{statement}
 use Rattle.render.proofs.main.Tie as tie
 
@@ -12,46 +8,37 @@ slice-aggregate-read-text : tie.Need-slice-aggregate-read-text
 slice-aggregate-read-text c = search needs
 
 read-text-requires : tie.Need-read-text-requires
-read-text-requires c κs = search needs
+read-text-requires c κs = (omega arith, omega arith)
+
+enum-told : tie.Need-enum-told
+enum-told c = search needs
+
+slice-aggregate-write-all : tie.Need-slice-aggregate-write-all
+slice-aggregate-write-all c = search needs
+
+write-all-requires : tie.Need-write-all-requires
+write-all-requires c κs = search needs
+
+enum-told-2 : tie.Need-enum-told-2
+enum-told-2 c = search needs
 
 large-buffer-requires : tie.Need-large-buffer-requires
 large-buffer-requires c κs = search needs
 
-array-share-prefix-input : tie.Need-array-share-prefix-input
-array-share-prefix-input c = search needs
+slice-aggregate-print : tie.Need-slice-aggregate-print
+slice-aggregate-print c = search needs
 
-slice-aggregate-text : tie.Need-slice-aggregate-text
-slice-aggregate-text c = search needs
+slice-aggregate-print-2 : tie.Need-slice-aggregate-print-2
+slice-aggregate-print-2 c = search needs
 
-read-requires : tie.Need-read-requires
-read-requires c κs = search needs
+print-requires : tie.Need-print-requires
+print-requires c κs = search needs
 
-enum-known-s : tie.Need-enum-known-s
-enum-known-s c = search needs
+slice-aggregate-write-all-2 : tie.Need-slice-aggregate-write-all-2
+slice-aggregate-write-all-2 c = search needs
 
-slice-aggregate-play : tie.Need-slice-aggregate-play
-slice-aggregate-play c = search needs
-
-play-requires : tie.Need-play-requires
-play-requires c κs = (sym (c .before .before .before .before .before .before .large-buffer .ensures), sym (c .before .before .before .before .read .ensures) ∙ c .before .before .s .given .1)
-
-enum-known-k : tie.Need-enum-known-k
-enum-known-k c = search needs
-
-slice-aggregate-put-refused : tie.Need-slice-aggregate-put-refused
-slice-aggregate-put-refused c = search needs
-
-put-refused-requires : tie.Need-put-refused-requires
-put-refused-requires c κs = search needs
-
-array-share-prefix-out : tie.Need-array-share-prefix-out
-array-share-prefix-out c = within _ _ _ (c .before .put-refused .ensures) .0
-
-slice-aggregate-write-refused : tie.Need-slice-aggregate-write-refused
-slice-aggregate-write-refused c = sym (length-take-le _ _ (within _ _ _ (c .before .before .put-refused .ensures) .0))
-
-write-refused-requires : tie.Need-write-refused-requires
-write-refused-requires c κs = (sym (c .before .before .before .before .before .before .before .read .ensures) ∙ c .before .before .before .before .before .k .given .1, refused-written _ _ _ (c .before .before .before .before .before .k .given .0 .0) (omega arith) (sym (c .before .before .before .before .before .before .before .before .before .large-buffer .ensures)) (c .before .before .put-refused .ensures))
+write-all-requires-2 : tie.Need-write-all-requires-2
+write-all-requires-2 c κs = search needs
 
 returns : tie.Need-returns
 returns c = search needs
@@ -65,18 +52,15 @@ main-spec =
     (tie.spec
     slice-aggregate-read-text
     read-text-requires
+    enum-told
+    slice-aggregate-write-all
+    write-all-requires
+    enum-told-2
     large-buffer-requires
-    array-share-prefix-input
-    slice-aggregate-text
-    read-requires
-    enum-known-s
-    slice-aggregate-play
-    play-requires
-    enum-known-k
-    slice-aggregate-put-refused
-    put-refused-requires
-    array-share-prefix-out
-    slice-aggregate-write-refused
-    write-refused-requires
+    slice-aggregate-print
+    slice-aggregate-print-2
+    print-requires
+    slice-aggregate-write-all-2
+    write-all-requires-2
     returns
     returns-2)

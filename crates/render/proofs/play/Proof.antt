@@ -1,26 +1,28 @@
 -- `play`: between two pieces the player stands where the pieces before it end.
 use Prim.Native.Nat.{_-_}
-use mathlib.Core.Path.{_≡_, sym, _∙_}
+use mathlib.Core.Bool.{true}
+use mathlib.Core.Path.{_≡_, refl, sym, _∙_}
 use native.Mathlib.Omega.{arith}
 use lib.ListN.{length}
 use lib.Seq.{length-take-le}
 use borrow.Author.Needs.{needs}
+use borrow.Author.Tests.{not-false}
 use Rattle.text.proofs.PutLaws.{within}
 use Rattle.render.proofs.Written.{Stands, stands-first, put-piece, piece-written, stands-next, less-left, end-written}
 use Rattle.render.proofs.play.Statement.{statement}
 use Rattle.render.proofs.play.Tie as tie
 
 abbrev Inv-loop : tie.InvT-loop
-Inv-loop out₀ input score player₀ out player = (length out ≡ 65536) × Stands score player
+Inv-loop out₀ input taken score player₀ wrote₀ out player wrote = (length out ≡ 65536) × Stands score player × (wrote ≡ true)
 
 abbrev μ-loop : tie.MeasureT-loop
-μ-loop out₀ input score player₀ out player = score .frames - player .frame
+μ-loop out₀ input taken score player₀ wrote₀ out player wrote = score .frames - player .frame
 
 new-requires : tie.Need-new-requires Inv-loop μ-loop
 new-requires c κs = search needs
 
 loop-holds : tie.Need-loop-holds Inv-loop μ-loop
-loop-holds c = (c .before .before .before .pre .0, stands-first _ _ (c .new .ensures))
+loop-holds c = (c .before .before .before .pre .0, stands-first _ _ (c .new .ensures), refl)
 
 run-requires : tie.Need-run-requires Inv-loop μ-loop
 run-requires c κs = search needs
@@ -32,7 +34,7 @@ slice-aggregate-write-piece : tie.Need-slice-aggregate-write-piece Inv-loop μ-l
 slice-aggregate-write-piece c = sym (length-take-le _ _ (within _ _ _ (put-piece (c .before .before .before .before .before .before .before .before .before .before .before .args .score) _ (c .before .before .before .before .before .before .before .loop .inv .1) _ _ _ _ (c .before .before .before .run .ensures)) .0))
 
 write-piece-requires : tie.Need-write-piece-requires Inv-loop μ-loop
-write-piece-requires c κs = let g = c .before .before .before .before .before .before .before .before .before .before .before .good .1 .1 .0 in (c .before .before .before .before .before .before .before .before .before .before .before .pre .1, piece-written _ _ (c .before .before .before .before .before .before .before .loop .inv .1) _ _ _ (omega arith) (c .before .before .before .before .before .before .before .loop .inv .0) (c .before .before .before .run .ensures))
+write-piece-requires c κs = let g = c .before .before .before .before .before .before .before .before .before .before .before .good .1 .1 .1 .0 in (c .before .before .before .before .before .before .before .before .before .before .before .pre .1, piece-written _ _ (c .before .before .before .before .before .before .before .loop .inv .1) _ _ _ (omega arith) (c .before .before .before .before .before .before .before .loop .inv .0) (c .before .before .before .run .ensures), c .before .before .before .before .before .before .before .loop .inv .2)
 
 same-length : tie.Need-same-length Inv-loop μ-loop
 same-length c = within _ _ _ (put-piece (c .before .before .before .before .before .before .before .before .before .before .before .before .before .args .score) _ (c .before .before .before .before .before .before .before .before .before .loop .inv .1) _ _ _ _ (c .before .before .before .before .before .run .ensures)) .1 ∙ c .before .before .before .before .before .before .before .before .before .loop .inv .0 ∙ sym (c .before .before .before .before .before .before .before .before .before .before .before .before .before .pre .0)
@@ -44,7 +46,7 @@ loop-less : tie.Need-loop-less Inv-loop μ-loop
 loop-less c = less-left _ _ (c .before .before .before .before .before .before .before .before .before .before .loop .inv .1) _ _ _ (c .before .before .before .before .before .before .run .ensures) (c .before .before .before .before .before .before .before .before .if1 .taken)
 
 loop-again : tie.Need-loop-again Inv-loop μ-loop
-loop-again c = (within _ _ _ (put-piece (c .before .before .before .before .before .before .before .before .before .before .before .before .before .before .args .score) _ (c .before .before .before .before .before .before .before .before .before .before .loop .inv .1) _ _ _ _ (c .before .before .before .before .before .before .run .ensures)) .1 ∙ c .before .before .before .before .before .before .before .before .before .before .loop .inv .0, stands-next _ _ (c .before .before .before .before .before .before .before .before .before .before .loop .inv .1) _ _ _ _ (c .before .before .before .before .before .before .run .ensures))
+loop-again c = (within _ _ _ (put-piece (c .before .before .before .before .before .before .before .before .before .before .before .before .before .before .args .score) _ (c .before .before .before .before .before .before .before .before .before .before .loop .inv .1) _ _ _ _ (c .before .before .before .before .before .before .run .ensures)) .1 ∙ c .before .before .before .before .before .before .before .before .before .before .loop .inv .0, stands-next _ _ (c .before .before .before .before .before .before .before .before .before .before .loop .inv .1) _ _ _ _ (c .before .before .before .before .before .before .run .ensures), not-false _ (c .before .if2 .left))
 
 finish-requires : tie.Need-finish-requires Inv-loop μ-loop
 finish-requires c κs = search needs
@@ -56,7 +58,7 @@ slice-aggregate-write-end : tie.Need-slice-aggregate-write-end Inv-loop μ-loop
 slice-aggregate-write-end c = sym (length-take-le _ _ (within _ _ _ (c .before .before .before .finish .ensures) .0))
 
 write-end-requires : tie.Need-write-end-requires Inv-loop μ-loop
-write-end-requires c κs = let k = c .before .before .before .before .before .before .struct-known .given in (c .before .before .before .before .before .before .before .before .before .before .before .pre .1, end-written _ _ (c .before .before .before .before .before .before .before .loop .inv .1) _ _ _ (c .before .before .before .before .before .if1 .left) (record { begun = omega arith; finished = omega arith; cleared = omega arith; notfinite = omega arith; lost = omega arith }) (c .before .before .before .before .before .before .before .loop .inv .0) (c .before .before .before .finish .ensures))
+write-end-requires c κs = let k = c .before .before .before .before .before .before .struct-known .given in (c .before .before .before .before .before .before .before .before .before .before .before .pre .1, end-written _ _ (c .before .before .before .before .before .before .before .loop .inv .1) _ _ _ (c .before .before .before .before .before .if1 .left) (record { begun = omega arith; finished = omega arith; cleared = omega arith; notfinite = omega arith; lost = omega arith }) (c .before .before .before .before .before .before .before .loop .inv .0) (c .before .before .before .finish .ensures), c .before .before .before .before .before .before .before .loop .inv .2)
 
 same-length-2 : tie.Need-same-length-2 Inv-loop μ-loop
 same-length-2 c = within _ _ _ (c .before .before .before .before .finish .ensures) .1 ∙ c .before .before .before .before .before .before .before .before .loop .inv .0 ∙ sym (c .before .before .before .before .before .before .before .before .before .before .before .before .pre .0)
