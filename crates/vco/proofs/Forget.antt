@@ -18,7 +18,7 @@ use Rattle.answer.specs.Mark.{markOf}
 use Rattle.answer.proofs.Blocks.{block-meets}
 use Rattle.answer.proofs.Laws.{mark-says}
 use Rattle.answer.specs.declared.Volts.{Volts}
-use Rattle.vco.specs.Vco.{newVco, frequencyOf, crossesOf, vcoVoltsOf, vcoAnswerOf, vcoSoundOf, vcoToldOf, vcoNextOf, vcoBlockOf}
+use Rattle.vco.specs.Vco.{newVco, vcoNewOf, frequencyOf, crossesOf, vcoVoltsOf, vcoAnswerOf, vcoSoundOf, vcoToldOf, vcoNextOf, vcoBlockOf}
 use Rattle.vco.specs.Calls.{Tick, Fit, after, reply}
 use Rattle.vco.specs.Promises.{taken, Forgets, Block-forgets, Edge-comes}
 use Rattle.vco.proofs.Reached.{Good, good-unrefused, good-new, after-tick, Remembers, reached, good-tick, tick-sound, accepted-sound, good-accepts}
@@ -71,6 +71,7 @@ forgets s h c wanted f a e =
     let r = s .«sample_rate» in
     let n = good-new r (g .rate) in
     record {
+      new = unfold vcoNewOf in simp (g .rate);
       accepts = rw (tick-sound (newVco r) n c wanted) (accepted-sound (newVco r) c wanted);
       sin = rw (tick-sound s g c wanted, tick-sound (newVco r) n c wanted) (struck-sin s c wanted e);
       tri = rw (tick-sound s g c wanted, tick-sound (newVco r) n c wanted) (struck-tri s (k .1) c wanted f e);
