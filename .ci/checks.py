@@ -356,6 +356,7 @@ WITHOUT_BOTH = {
     "laws": "it has no code",
     "examples": "it has no code",
     "values": "it states nothing: a program that prints, held to its file stdout",
+    **dict.fromkeys(["exports", "exports_score", "line", "replay"], "it states nothing but Settled, which any definition fulfils"),
 }
 
 
@@ -485,6 +486,11 @@ CHECKS = {
         {"crates/laws/must-fail/x.edit": "file: specs/Lists.antt\nold: no such text\nnew: y\n"},
         {"crates/lfo/must-fail/": "", "crates/lfo/must-fail/y.edit": "file: crates.txt\nold: y\nnew: z\n"},
         {"crates/laws/must-fail/": "", "crates/laws/wrong/y.edit": "file: crates.txt\nold: y\nnew: z\n"},
+        {
+            "crates/x/must-fail/": "",
+            "crates/x/src/lib.rt": "y\n",
+            **{f"crates/x/{part}.edit": "file: src/lib.rt\nold: y\nnew: z\n" for part in ("must-fail/a", "wrong/b", "wrong/c")},
+        },
         {"crates/x/must-fail/": "", "crates/x/must-fail/y.edit": "file: src/lib.rt\nold: y\nnew: z\n", "crates/x/src/lib.rt": "y\n"},
     ],
 }

@@ -60,6 +60,7 @@ def both(edit):
 
 ERROR = re.compile(r"^\S*?/(?:crates/\w+|must-fail/\w+/[\w-]+)/((?:src|specs|proofs)/\S+?):\d+:\d+: error(?:\[[\w-]+\])?: (.*)$", re.M)
 FOLLOWS = "was not admitted (it has holes or undetermined implicits, or was rejected), so this cannot be checked"
+STILL = "the crate is still proved"
 UNFIT = re.compile(r"is not in scope|that can be named from here|has no field")
 
 
@@ -72,10 +73,11 @@ def errors(log):
 
 def judge(log, promises=None):
     """What is wrong with a refusal, by its log, or ''. Given the proofs of promises, one of them must fail, and no function's own."""
-    if re.search(r"^logic=proved ", log, re.M):
-        return "the crate is still proved"
-    if not re.search(r"^logic=not-proved", log, re.M):
+    verdicts = re.findall(r"^logic=(proved|not-proved)\b", log, re.M)
+    if not verdicts:
         return "it didn't reach the prover"
+    if verdicts[-1] == "proved":  # the last: what stands below is proved before it, if it isn't yet
+        return STILL
     found = list(errors(log))
     roots = [(file, name, said) for file, name, said in found if FOLLOWS not in said]
     if not roots:
@@ -155,8 +157,7 @@ def seed(name):
         build = re.search(r"^rattle-build (\S+)", (library / "format").read_text(), re.M)[1].replace("/", "_")
         shutil.copytree(library / "toolchain" / "checked", folder / build)
     said = dev(work, name)
-    proved = re.search(r"^logic=proved ", said, re.M)
-    return folder, "" if proved else f"the crate unchanged isn't proved: {said[-500:]}"
+    return folder, "" if judge(said) == STILL else f"the crate unchanged isn't proved: {said[-500:]}"
 
 
 def attempt(name, label, edit, folder):
@@ -209,7 +210,7 @@ def try_script():
     comment = source.splitlines()[0]
     contract = next(row for row in source.splitlines() if "ensures" in row and source.count(row) == 1)
     asked = {
-        "the crate is still proved": f"old: {comment}\nnew: {comment} More.\n",
+        STILL: f"old: {comment}\nnew: {comment} More.\n",
         "src/lib.rt is no longer well formed": f"old: {contract}\nnew: {contract.replace('≡', '≡ unheard-of')}\n",
     }
     for expected, edit in asked.items():
