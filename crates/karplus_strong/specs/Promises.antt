@@ -3,7 +3,7 @@ use mathlib.Core.Bool.{Bool, true, false, cond}
 use mathlib.Core.List.{List}
 use mathlib.Core.Logic.{_⊎_}
 use mathlib.Core.Path.{_≡_}
-use Prim.Native.Nat.{ℕ, _*_, _≤_, _<_}
+use Prim.Native.Nat.{ℕ, _*_, _≤_, _<_, min}
 use lib.Dec.{eqb, leb}
 use lib.ListN.{length, getD}
 use lib.Ieee.{Float, nan, eq, le, neg}
@@ -23,7 +23,7 @@ use Rattle.karplus_strong.specs.Line.{blankOf, drawsOk}
 use Rattle.karplus_strong.specs.Step.{Ticking, outOf}
 use Rattle.karplus_strong.specs.KarplusStrong.{Making, maxLenOf, roomOf, karplusStrongCellsOf, karplusStrongRefusalOf, madeNumber, newKarplusStrong, finiteOr, periodOf, struckLen, karplusStrongNewOf, karplusStrongTickOf, karplusStrongResetOf, karplusStrongSetSampleRateOf, Strung, strung}
 use Rattle.karplus_strong.specs.Blocks.{triggerRefusalOf, karplusStrongBlockOf, firstRefusalOf, karplusStrongAnswerOf, karplusStrongNextOf}
-use Rattle.karplus_strong.specs.Calls.{Call, Tick, Play, Reset, SetSampleRate, Lend, Told, after, reply, FitCall, First, ReachedString}
+use Rattle.karplus_strong.specs.Calls.{Call, Tick, Play, Reset, SetSampleRate, Lend, Told, strungAfter, after, reply, FitCall, First, ReachedString}
 use Rattle.karplus_strong.specs.declared.KarplusStrong.{KarplusStrong}
 use Rattle.karplus_strong.specs.declared.KarplusStrongControls.{KarplusStrongControls}
 
@@ -124,6 +124,12 @@ Same-replies = (x y : Strung) → Same x y → (cs : List Call) → replies afte
 abbrev pub Any-line : Type 0
 Any-line = (x : Strung) → ReachedString x → (l : List Float) → roomOf (x .string .«sample_rate») (length l) ≡ 0
     → ((i : ℕ) → i < x .string .len → getD (x .line) i nan ≡ getD l i nan) → after x (Lend l) ≡ strung (x .string) l
+
+-- and a rate change any line that has room for the new rate and the cells that the string keeps: it stays a reached one
+abbrev pub Rate-line : Type 0
+Rate-line = (x : Strung) → ReachedString x → (r : Hertz) → rateOk r ≡ true → (l : List Float) → roomOf r (length l) ≡ 0
+    → ((i : ℕ) → i < min (x .string .len) (maxLenOf r) → getD (x .line) i nan ≡ getD l i nan)
+    → let m = karplusStrongSetSampleRateOf (x .string) r l in (madeNumber (m .out) ≡ 0) × ReachedString (strungAfter (x .string) m)
 
 -- and nothing is written from cell n on
 pub record SamePast (n : ℕ) (l m : List Float) : Type 0 where
