@@ -140,6 +140,8 @@ pub record SamePast (n : ℕ) (l m : List Float) : Type 0 where
 pub record Past-untouched : Type 0 where
   pub new : (rate : Hertz) (l : List Float) → SamePast (maxLenOf rate) l (karplusStrongNewOf rate l .line)
   pub tick : (s : KarplusStrong) (c : KarplusStrongControls) (draws : List ℕ) (l : List Float) → SamePast (karplusStrongTickOf s c draws l .out .«karplus_strong» .len) l (karplusStrongTickOf s c draws l .line)
+  pub block : (x : Strung) (c : KarplusStrongControls) (draws : List ℕ) (t : Tally) (o : List Float) (m : List ℕ)
+      → let y = karplusStrongBlockOf x c draws t o m .state in SamePast (y .string .len) (x .line) (y .line)
   pub reset : (s : KarplusStrong) (l : List Float) → SamePast (s .len) l (karplusStrongResetOf s l .line)
   pub «set_sample_rate» : (s : KarplusStrong) (rate : Hertz) (l : List Float) → SamePast (maxLenOf rate) l (karplusStrongSetSampleRateOf s rate l .line)
 
