@@ -16,7 +16,7 @@ use Rattle.common.specs.Memo.{recall1, voctToHzAt}
 use Rattle.common.specs.Tests.{rateOk}
 use Rattle.common.specs.declared.Hertz.{Hertz}
 use Rattle.answer.specs.Answer.{markNumber, voltsOf, refusalOf, accepted}
-use Rattle.answer.specs.Block.{Block, blockRefusalOf}
+use Rattle.answer.specs.Block.{Block, blockRefusalOf, answerAt}
 use Rattle.answer.specs.Promises.{AllAccepted, AllTaken}
 use Rattle.answer.specs.declared.Tally.{Tally}
 use Rattle.karplus_strong.specs.Line.{blankOf, drawsOk}
@@ -171,6 +171,12 @@ Unstretched (Lend l) = Unit
 
 abbrev pub Never-cleared : Type 0
 Never-cleared = (x : Strung) → Reached First Unstretched after x → (c : KarplusStrongControls) (draws : List ℕ) → Unstretched (Tick c draws) → accepted (karplusStrongTickOf (x .string) c draws (x .line) .out .answer) ≡ true → markNumber (karplusStrongTickOf (x .string) c draws (x .line) .out .answer) ≡ 4
+
+-- nor in any tick of a block that isn't refused
+abbrev pub Block-never-cleared : Type 0
+Block-never-cleared = (x : Strung) → Reached First Unstretched after x → (c : KarplusStrongControls) (draws : List ℕ) (t : Tally) (o : List Float) (m : List ℕ)
+    → Unstretched (Play c draws t o m) → karplusStrongBlockOf x c draws t o m .refused ≡ 0
+    → (i : ℕ) → i < length m → markNumber (answerAt (karplusStrongAnswerOf c draws) (karplusStrongNextOf c draws) x i) ≡ 4
 
 -- a refused tick leaves string and line as they stood
 abbrev pub Refused-leaves : Type 0
