@@ -5,10 +5,12 @@ Each check is one test. It is given the files as {path: text} and says what is w
 that it must refuse, so a check that has gone blind fails. The last line printed is 'N passed, M failed'.
 """
 import hashlib
+import os
 import pathlib
 import re
 import subprocess
 import sys
+import tempfile
 
 sys.dont_write_bytecode = True  # no folder of compiled files beside this one
 import boundary
@@ -16,6 +18,7 @@ import contracts
 import counts
 import edits
 import statements
+import tests
 
 ROOT = pathlib.Path(__file__).resolve().parent.parent
 
@@ -353,6 +356,7 @@ WITHOUT_BOTH = {
     "laws": "it has no code",
     "examples": "it has no code",
     "values": "it states nothing: a program that prints, held to its file stdout",
+    **dict.fromkeys(["exports", "exports_score", "line", "replay"], "it states nothing but Settled, which any definition fulfils"),
 }
 
 
@@ -373,6 +377,32 @@ def edits_stand(files):
         inside = sum("/must-fail/" in path for path in paths)
         if inside != (len(paths) if crate in LIGHT else 1):
             yield f"crates/{crate}/must-fail/: {inside} edits of {len(paths)}"
+
+
+# ---- the count of the host's tests
+
+# a harness of three tests of which each ends in another way; one prints what a harness would say
+HARNESS = """#!/bin/sh
+case $1 in --list) printf 'a: test\\nb: test\\nc: test\\n'; exit ;; esac
+echo 'test result: ok. 99 passed; 0 failed; 0 ignored'
+while [ "$1" != --logfile ]; do shift; done
+printf 'ok a\\nfailed b\\nignored c\\n' >"$2"
+exit 101
+"""
+
+
+def tests_counted(files):
+    """The host's tests are counted by what their harness notes, and not by what they print."""
+    with tempfile.TemporaryDirectory() as folder:
+        program = pathlib.Path(folder) / "harness"
+        program.write_text(files.get(".ci/harness", HARNESS))
+        program.chmod(0o755)
+        ran = subprocess.run(
+            [sys.executable, "-c", "import sys, tests; print(*tests.counts(sys.argv[1], []), file=sys.stderr)", program],
+            cwd=ROOT / ".ci", capture_output=True, text=True, env={**os.environ, "PYTHONDONTWRITEBYTECODE": "1"},
+        )
+    if ran.stderr.split() != ["101", "1", "1", "1"]:
+        yield f".ci/harness: counted as {ran.stderr.strip()}"
 
 
 # ---- the checks, each with examples that it must refuse
@@ -447,6 +477,11 @@ CHECKS = {
         {"docs/PROOFS.md": "nothing\n"},
     ],
     counted: [{"docs/PROOFS.md": "nothing\n"}],
+    tests_counted: [
+        {".ci/harness": HARNESS.replace("failed b", "ok b")},
+        {".ci/harness": HARNESS.replace("exit 101", "exit 0")},
+        {".ci/harness": HARNESS.replace("ok a\\n", "")},
+    ],
     edits_stand: [
         {"crates/laws/must-fail/x.edit": "file: specs/Lists.antt\nold: no such text\nnew: y\n"},
         {"crates/lfo/must-fail/": "", "crates/lfo/must-fail/y.edit": "file: crates.txt\nold: y\nnew: z\n"},

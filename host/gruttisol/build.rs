@@ -5,7 +5,8 @@
 mod native;
 
 use std::path::PathBuf;
-use std::{env, fs};
+use std::sync::atomic::{AtomicUsize, Ordering};
+use std::{env, fs, thread};
 
 fn main() {
     let out = PathBuf::from(env::var_os("OUT_DIR").unwrap());
@@ -18,8 +19,18 @@ fn main() {
     }
     let crates = native::watch();
     let listed = fs::read_to_string(&crates).unwrap_or_else(|e| native::fail(&format!("{}: {e}", crates.display())));
-    for name in listed.lines().filter_map(|line| line.split(':').next()).filter(|name| name.starts_with("exports")) {
-        native::make(name, &archive(name));
-        link(name);
-    }
+    let names = listed.lines().filter_map(|line| line.split(':').next()).filter(|name| name.starts_with("exports"));
+    let names: Vec<&str> = names.collect();
+    // two at once: each is proved anew, on one core
+    let next = AtomicUsize::new(0);
+    thread::scope(|scope| {
+        for _ in 0..2 {
+            scope.spawn(|| {
+                while let Some(name) = names.get(next.fetch_add(1, Ordering::Relaxed)) {
+                    native::make(name, &archive(name));
+                }
+            });
+        }
+    });
+    names.into_iter().for_each(link);
 }
