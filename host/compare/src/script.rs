@@ -365,7 +365,9 @@ fn block<P: Pair>(pair: &mut P, controls: &[f64], draw: &mut Draw, counts: &mut 
     for i in 0..n {
         let mut theirs = [f64::from_bits(UNWRITTEN); 5];
         let their_mark = pair.theirs_tick(controls, wanted, &mut theirs[..P::PORTS]);
-        let Some(mark) = Mark::of_number(marks[i]) else { return Err(told(format!("tick {i} is marked {}", marks[i]))) };
+        let Some(mark) = Mark::of_number(marks[i]) else {
+            return Err(told(format!("tick {i} is marked {}", marks[i])));
+        };
         let ours = &samples[P::PORTS * i..P::PORTS * (i + 1)];
         same_sound(wanted, (mark, ours), (their_mark, &theirs[..P::PORTS]))
             .map_err(|said| told(format!("tick {i}: {said}")))?;
