@@ -11,7 +11,11 @@ import subprocess
 import sys
 
 sys.dont_write_bytecode = True  # no folder of compiled files beside this one
+import boundary
+import contracts
 import counts
+import edits
+import statements
 
 ROOT = pathlib.Path(__file__).resolve().parent.parent
 
@@ -39,9 +43,34 @@ def of_crates(files, folders, endings):
             yield path, parts[1], text
 
 
-def blanked(text, comment):
+BLANK = {
+    # quoted texts, in which no comment begins, and comments; in antt a name may have -- inside, and block comments stand in each other
+    ".antt": re.compile(r"\"(?:\\.|[^\"\\])*\"|(?<![^\s(){}.;,@\"«»])--.*|\{-|-\}"),
+    ".rt": re.compile(r"b?\"(?:\\.|[^\"\\])*\"|b?'(?:\\.|[^'\\])'|//.*|/\*(?s:.*?)\*/"),
+}
+
+
+def blanked(path, text):
     """The text with its comments blanked, so that every place keeps its line."""
-    return re.sub(comment, lambda m: " " * len(m[0]), text)
+    spaces = lambda part: re.sub(r"[^\n]", " ", part)
+    if not path.endswith(".antt"):
+        return BLANK[".rt"].sub(lambda m: spaces(m[0]) if m[0].startswith("/") else m[0], text)
+    found, at, depth = [], 0, 0
+    while m := BLANK[".antt"].search(text, at):
+        between = text[at : m.start()]
+        found.append(spaces(between) if depth else between)
+        if m[0] == "{-":
+            depth += 1
+        elif m[0] == "-}":
+            depth = max(depth - 1, 0)
+        elif depth:  # in a block comment only its ends mean anything
+            found.append(spaces(text[m.start() : m.start() + 1]))
+            at = m.start() + 1
+            continue
+        found.append(m[0] if m[0].startswith('"') else spaces(m[0]))
+        at = m.end()
+    found.append(spaces(text[at:]) if depth else text[at:])
+    return "".join(found)
 
 
 def line(text, at):
@@ -78,12 +107,30 @@ def entries(text, at):
             start = i + 1
 
 
+APART = statements.APART
+TACTICS = "simp|rw|rw⁻¹|grw|search|cc|omega"
+
+
+def listed(text, m):
+    """What an `unfolding` names: the rest of its line, and lines below it that stand farther right."""
+    column = m.start() - (text.rfind("\n", 0, m.start()) + 1)
+    first, *rows = text[m.end() :].split("\n")
+    yield from first.split()
+    for row in rows:
+        if row.strip() and len(row) - len(row.lstrip()) <= column:
+            return
+        yield from row.split()
+
+
 def opened(text):
-    """The names that a proof looks into, as (place, name): of `unfolding`, of `unfold .. in`, and heads in simp and rw."""
-    for m in re.finditer(r"\bunfolding[ \t](.*)|\bunfold\s((?s:.*?))\bin\b", text):
-        for name in (m[1] or m[2]).split():
+    """The names that a proof looks into, as (place, name): of `unfolding`, `unfold .. in`, heads in the lists of tactics and sets of them."""
+    for m in re.finditer(rf"(?<!{APART})unfolding(?!{APART})", text):
+        for name in listed(text, m):
             yield m.start(), name
-    for m in re.finditer(r"(?<![\w-])(?:simp|rw)\s+(?=\S)", text):
+    for m in re.finditer(rf"(?<!{APART})unfold\s((?s:.*?))(?<!{APART})in(?!{APART})", text):
+        for name in m[1].split():
+            yield m.start(), name
+    for m in re.finditer(rf"(?<!{APART})(?:{TACTICS}|ruleset\s+\S+\s*=)\s+(?=\S)", text):
         for at, entry in entries(text, m.end()):
             head = re.match(r"[\s(←]*([^\s(),]+)", entry)
             if head:
@@ -97,26 +144,43 @@ def below(files):
             yield path.split("/")[-1].removesuffix(".antt")
 
 
+def last(name):
+    return name.split(".")[-1]
+
+
 def only_promises(files):
     """No crate but numeric looks into sine, cosine and powers, or names what is below them or a law of them that is no promise."""
     promises = {name.lower() for name in re.findall(r"^abbrev pub ([A-Z]\S*) :", files[PROMISES], re.M)}
+    outer = r"Rattle.numeric\S*?\.specs\.(?:Trig|Power)\b(?:\.\{([^}]*)\}|\.(\w+))?"
     inner = rf"Rattle.numeric\S*?\.proofs\.(?:{'|'.join(below(files))})\b(?:\.\{{([^}}]*)\}}|\.([\w-]+))?"
     defined = {name for path in OWNERS for name in re.findall(r"^unfoldable pub (\S+)", files[path], re.M)}
     if not PROMISED < defined:
         yield f"{OWNERS}: without {PROMISED - defined}"
     for path, crate, text in of_crates(files, ["src", "specs", "proofs"], (".rt", ".antt")):
+        text = blanked(path, text).replace("«", "").replace("»", "")
+        at_line = lambda at: f"{path}:{line(text, at)}"
+        # an alias would be unfolded under another name, and what is passed on could be
+        for m in re.finditer(rf"(?<!{APART})({'|'.join(PROMISED)})\s+as\s", text):
+            yield f"{at_line(m.start())}: gives {m[1]} another name"
+        for m in re.finditer(r"^\s*(?:unfoldable )?pub use\s[^{;]*(?:\{[^}]*\})?", text, re.M):
+            if re.search(r"\.specs\.(?:Trig|Power)\b", m[0]) or PROMISED & set(re.findall(rf"{APART}+", m[0])):
+                yield f"{at_line(m.start())}: passes sine or powers on"
         if crate == "numeric":
+            # to unfold a definition is to unfold what its own line names
+            for name, part in statements.declarations(text) if path not in OWNERS else []:
+                if re.match("unfoldable|abbrev", part) and PROMISED & {last(named) for _, named in opened(part)}:
+                    yield f"{path}: whoever unfolds {name} looks into sine or powers"
             continue
-        text = blanked(text, r"--.*|//.*")
-        outer = r"Rattle.numeric\S*?\.specs\.(?:Trig|Power)\b(?:\.\{([^}]*)\}|\.(\w+))?"
+        for m in re.finditer(r"Rattle.numeric(?!(?:·specs|·proofs)?\.(?:specs|proofs)\.\w)", text):
+            yield f"{at_line(m.start())}: names numeric, or all of its specs/ or proofs/, and not a module of it"
         for pattern, allowed in [(outer, PROMISED), (inner, promises)]:
             for m in re.finditer(pattern, text):
                 names = set(re.split(r"[\s,]+", (m[1] or m[2] or "*").strip())) - allowed
                 if names:
-                    yield f"{path}:{line(text, m.start())}: names {', '.join(sorted(names))} of numeric"
+                    yield f"{at_line(m.start())}: names {', '.join(sorted(names))} of numeric"
         for at, name in opened(text):
-            if name.split(".")[-1] in PROMISED:
-                yield f"{path}:{line(text, at)}: unfolds {name}"
+            if last(name) in PROMISED:
+                yield f"{at_line(at)}: unfolds {name}"
 
 
 # ---- contracts
@@ -136,7 +200,7 @@ def clauses(text, at):
 def settled(files):
     """Every public function has an `ensures` and no `requires`."""
     for path, _, text in of_crates(files, ["src"], ".rt"):
-        text = blanked(text, r"//.*")
+        text = blanked(path, text)
         for m in re.finditer(r"\bpub\s+(?:extern\s+\"C\"\s+)?fn\s+(\w+)", text):
             words = list(clauses(text, m.end()))
             if "ensures" not in words:
@@ -155,7 +219,7 @@ def instances(files):
     """Every public function has its instance of Settles in the crate's record Settled, which is proved."""
     functions, fields, proved = {}, {}, set()
     for path, crate, text in of_crates(files, ["src"], ".rt"):
-        for m in re.finditer(r"\bpub\s+(?:extern\s+\"C\"\s+)?fn\s+(\w+)", blanked(text, r"//.*")):
+        for m in re.finditer(r"\bpub\s+(?:extern\s+\"C\"\s+)?fn\s+(\w+)", blanked(path, text)):
             functions.setdefault(crate, []).append((f"{path}:{line(text, m.start())}", m[1]))
     for path, crate, text in of_crates(files, ["specs"], ".antt"):
         for record in re.findall(r"^pub record Settled : Type 0 where\n((?:  .*\n)+)", text, re.M):
@@ -174,12 +238,36 @@ def instances(files):
             yield f"{path}: Settled isn't proved"
 
 
+def repeated(files):
+    """Each public contract is equations of what the call leaves with definitions, and stands under Settles in its own text."""
+    return contracts.differences(files)
+
+
+def proved(files):
+    """Each statement of Promises, Settled and Examples has a proof of its name and type, and each part of one is part of some."""
+    for path, name in statements.unclaimed(files):
+        yield f"{path}: no statement names {name}"
+    for path, name, proof in statements.stated(files):
+        crate, module = path.split("/")[1], path.split("/")[3].removesuffix(".antt")
+        for _, _, text in (given for given in of_crates(files, ["proofs"], ".antt") if given[1] == crate):
+            brought = re.findall(rf"^use Rattle\.{crate}\.specs\.{module}\.\{{([^}}]*)\}}", text, re.M)
+            if any(name in re.split(r"[\s,]+", names) for names in brought) and re.search(rf"^pub {re.escape(proof)} : {re.escape(name)}$", text, re.M):
+                break
+        else:
+            yield f"{path}: proofs/ has no `pub {proof} : {name}`"
+
+
+def boundary_holds(files):
+    """Every exported function is in the C header and in the safe crate, with its types and order, and nothing else is."""
+    return boundary.differences(files)
+
+
 # ---- what must not stand in the repository
 
 def no_hole(files):
     """No proof has a hole."""
     for path, _, text in of_crates(files, ["specs", "proofs"], ".antt"):
-        text = blanked(text, r"--.*")
+        text = blanked(path, text)
         for m in re.finditer(r"(?<![^\s(,=])\?(?![^\s),])", text):
             yield f"{path}:{line(text, m.start())}: a hole"
 
@@ -258,25 +346,44 @@ def counted(files):
         yield f"{counts.PAGE}: its counts are others than today's, which `python3 .ci/counts.py --write` puts there"
 
 
-def edits(files):
-    """Each crate has three to eight edits that must fail, and what an edit takes out stands once in its file."""
+# every edit of these is tried from nothing; of any other crate one is
+LIGHT = {"laws", "text", "line", "values", "exports", "exports_score", "examples", "render"}
+# no edit of these changes definition and code together
+WITHOUT_BOTH = {
+    "laws": "it has no code",
+    "examples": "it has no code",
+    "values": "it states nothing: a program that prints, held to its file stdout",
+}
+
+
+def edits_stand(files):
+    """Each crate has three to eight edits, in must-fail/ all of a light crate and one of another, and what an edit takes out stands once."""
     found = {path.split("/")[1]: [] for path in files if re.match("crates/[^/]+/(src|specs)/", path)}
-    for path, crate, text in of_crates(files, {"must-fail"}, ".edit"):
+    for path, crate, text in of_crates(files, {"must-fail", "wrong"}, ".edit"):
         found.setdefault(crate, []).append(path)
-        edited = None
-        for said in text.splitlines():
-            if said.startswith("file: "):
-                edited = f"crates/{crate}/{said[len('file: '):]}"
-            if said.startswith("old: "):
-                times = files.get(edited, "").count(said[len("old: "):])
-                if times != 1:
-                    yield f"{path}: what it takes out stands {times} times in {edited}"
+        for file, old, _ in edits.changes(text):
+            times = files.get(f"crates/{crate}/{file}", "").count(old)
+            if times != 1:
+                yield f"{path}: what it takes out stands {times} times in crates/{crate}/{file}"
     for crate, paths in found.items():
         if not 3 <= len(paths) <= 8:
-            yield f"crates/{crate}/must-fail/: {len(paths)} edits"
+            yield f"crates/{crate}/must-fail/: {len(paths)} edits, with those of wrong/"
+        if crate not in WITHOUT_BOTH and not any(edits.both(files[path]) for path in paths):
+            yield f"crates/{crate}/must-fail/: no edit changes definition and code together"
+        inside = sum("/must-fail/" in path for path in paths)
+        if inside != (len(paths) if crate in LIGHT else 1):
+            yield f"crates/{crate}/must-fail/: {inside} edits of {len(paths)}"
 
 
 # ---- the checks, each with examples that it must refuse
+
+def settling(contract, equation, binders):
+    """A crate with one function and what its record Settled says of it."""
+    return {
+        "crates/x/src/lib.rt": f"pub fn f(x: f64, y: f64, z: f64) -> f64\n    ensures {{ λ r. ⌜ {contract} ⌝ }}\n{{ x }}\n",
+        "crates/x/specs/Settled.antt": f"pub record Settled : Type 0 where\n  pub f : {binders}Settles (λ (a : Float). {equation})\n",
+    }
+
 
 CHECKS = {
     only_promises: [
@@ -287,6 +394,18 @@ CHECKS = {
         {"crates/x/specs/A.antt": "use Rattle.numeric.specs.Power as power\n"},
         {"crates/x/proofs/A.antt": "use Rattle.numeric.proofs.TrigLaws.{sin-inside, kernel-inside}\n"},
         {"crates/x/proofs/A.antt": "use Rattle.numeric.proofs.PowerLaws as laws\n"},
+        {"crates/x/proofs/A.antt": "a : A\nunfolding lt\n    sinOf\na = refl\n"},
+        {"crates/x/proofs/A.antt": "a : A\nunfolding «sinOf»\na = refl\n"},
+        {"crates/x/proofs/A.antt": "a : A\n{- -- -} unfolding sinOf\na = refl\n"},
+        {"crates/x/proofs/A.antt": "ruleset waves = (b, sinOf)\n"},
+        {"crates/x/proofs/A.antt": "use Rattle.numeric.specs.Trig.{sinOf as wave}\n"},
+        {"crates/x/proofs/A.antt": "use Rattle.y.specs.Waves.{sinOf as wave}\n"},
+        {"crates/x/specs/A.antt": "unfoldable pub use Rattle.numeric.specs.Trig.{sinOf}\n"},
+        {"crates/x/proofs/A.antt": "use Rattle.numeric.specs as below\n"},
+        {"crates/x/proofs/A.antt": "use Rattle.numeric as below\n"},
+        {"crates/x/proofs/A.antt": "use Rattle.numeric.specs.{Trig.kernelSin}\n"},
+        {"crates/numeric/specs/Key.antt": "unfoldable pub key : Type 0\nunfolding sinOf\nkey = Type 0\n"},
+        {"crates/numeric/specs/Key.antt": "unfoldable pub use Rattle.numeric.specs.Trig.{kernelSin}\n"},
     ],
     settled: [
         {"crates/x/src/lib.rt": "pub fn f(x: [u8; 2]) -> [u8; 2] // ensures { x }\n{\n    x\n}\n"},
@@ -296,6 +415,27 @@ CHECKS = {
         {"crates/x/src/lib.rt": "pub fn f(x: u8) -> u8\n    ensures { x }\n{ x }\n"},
         {"crates/line/specs/Settled.antt": "pub record Settled : Type 0 where\n  pub same : Settles P\n"},
         {"crates/x/specs/Settled.antt": "pub record Settled : Type 0 where\n  pub f : Type 0\n"},
+    ],
+    repeated: [
+        {"crates/x/src/lib.rt": "pub fn f(x: u8) -> u8\n    ensures { λ r. ⌜ r ≡ r ⌝ }\n{ x }\n"},
+        {"crates/x/src/lib.rt": "pub fn f(x: u8) -> u8\n    ensures { λ r. ⌜ r ≡ sinOf r ⌝ }\n{ x }\n"},
+        {"crates/x/src/lib.rt": "pub fn f(x: u8) -> u8\n    ensures { λ r. ⌜ r ≡ x ⌝ }\n{ x }\n"},
+        settling("r ≡ sinOf x", "a ≡ cosOf b", "(b : Float) → "),
+        settling("r ≡ sinOf x", "a ≡ a", "(b : Float) → "),
+        settling("r ≡ clampOf x x x", "a ≡ clampOf b c d", "(b c d : Float) → b ≡ c → "),
+        settling("r ≡ clampOf x y z", "a ≡ clampOf b b c", "(b c : Float) → "),
+    ],
+    proved: [
+        {"crates/lfo/specs/Promises.antt": "abbrev pub Never-lost : Type 0\nNever-lost = Type 0\n"},
+        {"crates/x/specs/Promises.antt": "pub record Kept : Type 0 where\n", "crates/x/proofs/A.antt": "use Rattle.x.specs.Promises.{Kept}\n\nkept : Kept\n"},
+        {"crates/x/specs/Promises.antt": "pub record Kept : Type 0 where\n", "crates/x/proofs/A.antt": "abbrev Kept : Type 0\n\npub kept : Kept\n"},
+        {"crates/x/specs/Promises.antt": "pub record Keeping (n : ℕ) : Type 0 where\n"},
+    ],
+    boundary_holds: [
+        {"crates/x/src/lib.rt": 'pub extern "C" fn gruttisol_more(x: f64) -> f64\n', "host/": ""},
+        {"host/c/gruttisol.h": "double gruttisol_sin(double y);\n"},
+        {"host/gruttisol/src/more.rs": 'unsafe extern "C" {\n'},
+        {"host/gruttisol/src/": "", "host/gruttisol/src/more.rs": "exported! {\n    fn sin(x: f32) -> f64;\n}\n"},
     ],
     no_hole: [{"crates/x/proofs/f/Proof.antt": "returns c = ?\n"}],
     own_words: [{"docs/x.md": "built in /" + "work/ here\n"}],
@@ -307,8 +447,10 @@ CHECKS = {
         {"docs/PROOFS.md": "nothing\n"},
     ],
     counted: [{"docs/PROOFS.md": "nothing\n"}],
-    edits: [
+    edits_stand: [
         {"crates/laws/must-fail/x.edit": "file: specs/Lists.antt\nold: no such text\nnew: y\n"},
+        {"crates/lfo/must-fail/": "", "crates/lfo/must-fail/y.edit": "file: crates.txt\nold: y\nnew: z\n"},
+        {"crates/laws/must-fail/": "", "crates/laws/wrong/y.edit": "file: crates.txt\nold: y\nnew: z\n"},
         {"crates/x/must-fail/": "", "crates/x/must-fail/y.edit": "file: src/lib.rt\nold: y\nnew: z\n", "crates/x/src/lib.rt": "y\n"},
     ],
 }

@@ -6,7 +6,7 @@
 
 Columns: lines of definitions and of statements in specs/, without blank lines, comments, `use` and `pub mod`; a statement file is
 Promises, Settled or Examples, and all of the crate examples. Public functions in src/; those of them that an instance of `Settles` is
-stated for; edits that must fail. Axioms of a program are those that the prover named when it last proved it, in target/log;
+stated for; edits that the prover must refuse, of must-fail/ and wrong/. Axioms of a program are those that the prover named when it last proved it, in target/log;
 where it has not, those of the page.
 """
 import pathlib
@@ -34,7 +34,7 @@ def crate_counts(files):
     """For each crate: definitions, statements, public functions, settled ones, edits."""
     counts = {}
     for path, text in files.items():
-        match = re.fullmatch(r"crates/(\w+)/(specs|src|must-fail)/([\w-]+\.(?:antt|rt|edit))", path)
+        match = re.fullmatch(r"crates/(\w+)/(specs|src|must-fail|wrong)/([\w-]+\.(?:antt|rt|edit))", path)
         if not match:
             continue
         crate, folder, name = match.groups()

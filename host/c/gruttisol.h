@@ -31,6 +31,7 @@
 #ifndef GRUTTISOL_H
 #define GRUTTISOL_H
 
+#include <stdbool.h>
 #include <stddef.h>
 #include <stdint.h>
 
@@ -63,7 +64,7 @@ enum gruttisol_refusal {
 #define GRUTTISOL_COUNTS 5
 
 /* Takes the number that a tick answered; one that is no gruttisol_mark is a refused tick, which counts nowhere. */
-uint32_t gruttisol_tally_take(uint32_t answer, uint32_t *counts, size_t counts_len);
+uint32_t gruttisol_tally_take(uint32_t code, uint32_t *counts, size_t counts_len);
 
 /* ---- Vco: samples sin, tri, saw, sqr; bit i of `wanted` asks for the i-th, and one that isn't wanted reads 0.0 */
 #define GRUTTISOL_VCO_FLOATS 4
@@ -161,15 +162,16 @@ uint32_t gruttisol_formant_osc_set_sample_rate(double sample_rate, double *float
                                                uint64_t *wholes, size_t wholes_len);
 
 /* ---- KarplusStrong: a sample out. Each call is lent the line as the last call left it, of gruttisol_karplus_strong_cells(sample_rate)
- *      cells at least; a rate change one that is enough for the new rate. A tick that takes its trigger reads as many draws as
- *      the string gets cells, each below 2^53, which are fewer than the line has. */
+ *      cells at least; a rate change one that is enough for the new rate. Another line will do if the string's cells, the first
+ *      wholes[0] of them, are copied to it. A tick that takes its trigger reads as many draws as the string gets cells, each below
+ *      2^53, which are fewer than the line has. */
 #define GRUTTISOL_KARPLUS_STRONG_FLOATS 6
 #define GRUTTISOL_KARPLUS_STRONG_WHOLES 4
 #define GRUTTISOL_KARPLUS_STRONG_SAMPLES 1
 #define GRUTTISOL_KARPLUS_STRONG_LINE 9612  /* cells that are enough at every rate */
 #define GRUTTISOL_KARPLUS_STRONG_DRAWS 9611 /* draws that are enough at every rate */
 
-/* The cells that a line needs at a sample rate; 0 of a rate that is refused. */
+/* The cells that a line needs at a sample rate: sample_rate / 20 truncated, and 12. Of a rate that is refused by 1 it is 0. */
 uint64_t gruttisol_karplus_strong_cells(double sample_rate);
 
 uint32_t gruttisol_karplus_strong_new(double sample_rate, double *floats, size_t floats_len,
@@ -204,11 +206,28 @@ enum gruttisol_osc {
 uint32_t gruttisol_score_read(const uint8_t *text, size_t text_len, double *floats, size_t floats_len,
                               uint64_t *wholes, size_t wholes_len);
 
-/* ---- functions of numbers alone */
+/* ---- functions of numbers alone: sine and cosine of radians, 2^x and 3000^r; the small functions as Rust has them, any NaN being
+ *      7FF8000000000000; k * 2^-53 and twice it less 1; the oscillators' pitch, phase and residuals, in volts, hertz and turns */
 double gruttisol_sin(double x);
 double gruttisol_cos(double x);
 double gruttisol_exp2(double x);
 double gruttisol_pow3000(double r);
+double gruttisol_floor(double x);
+double gruttisol_fabs(double x);
+bool gruttisol_is_finite(double x);
+double gruttisol_clamp(double x, double lo, double hi);
+double gruttisol_min(double a, double b);
+double gruttisol_max(double a, double b);
+uint64_t gruttisol_to_u64(double x);
+double gruttisol_of_u64(uint64_t n);
+uint64_t gruttisol_bits(double x);
+double gruttisol_of_bits(uint64_t b);
+double gruttisol_draw(uint64_t k);
+double gruttisol_bipolar(uint64_t k);
+double gruttisol_voct_to_hz(double voct);
+double gruttisol_wrap_phase(double x);
+double gruttisol_polyblep(double t, double dt);
+double gruttisol_polyblamp(double t, double dt);
 
 #ifdef __cplusplus
 }

@@ -1,17 +1,21 @@
 //! Finds the Rust's source and declares its files as modules, for the crates `quiver` and `quiver_system`.
 //!
 //! QUIVER_SRC names the folder that holds the Rust's `src`; if it isn't set, `shared/docs/src` beside the repository is
-//! taken. Nothing of it is in this repository. Files with private fields are copied to cargo's own folder with one line
-//! added at their end, which declares a child module of `probe/`; every byte before that line is the Rust's.
+//! taken. Nothing of it is in this repository. What is found there must be quiver's at 74f0456287, or the build stops. Files with
+//! private fields are copied to cargo's own folder with one line added at their end, which declares a child module of `probe/`;
+//! every byte before that line is the Rust's.
 //!
 //! Where there is no source, the crate is empty, and crates that depend on it are told so: only with the source is
 //! DEP_QUIVER_FOUND (or DEP_QUIVER_SYSTEM_FOUND) set in their build scripts.
+#[path = "source.rs"]
+mod source;
+
+use source::{is_it, FILES};
 use std::path::{Path, PathBuf};
 use std::{env, fs};
 
-/// The Rust's files, each as the module that it is and whether a child of it is added.
-const FILES: [(&str, bool); 5] =
-    [("port", false), ("introspection", false), ("rng", true), ("modules/common", true), ("modules/oscillators", true)];
+/// The files to which a child is added.
+const WITH_CHILD: [&str; 3] = ["rng", "modules/common", "modules/oscillators"];
 
 fn main() {
     println!("cargo:rustc-check-cfg=cfg(found)");
@@ -19,7 +23,9 @@ fn main() {
     let here = PathBuf::from(env::var_os("CARGO_MANIFEST_DIR").unwrap());
     let above = |what: &str| here.ancestors().find(|folder| folder.join(what).exists()).unwrap();
     let (quiver, repository) = (above("probe"), above("crates.txt"));
-    println!("cargo:rerun-if-changed={}", quiver.join("build.rs").display());
+    for own in ["build.rs", "source.rs"] {
+        println!("cargo:rerun-if-changed={}", quiver.join(own).display());
+    }
     let out = PathBuf::from(env::var_os("OUT_DIR").unwrap());
     let source = env::var_os("QUIVER_SRC").map_or(repository.join("../shared/docs/src"), PathBuf::from).join("src");
     let file = |name: &str| source.join(name).with_extension("rs");
@@ -28,6 +34,11 @@ fn main() {
     }
     let found = FILES.iter().all(|(name, _)| file(name).is_file());
     let modules = if found {
+        for (name, hash) in FILES {
+            if !is_it(&fs::read(file(name)).unwrap(), hash) {
+                panic!("{} isn't quiver's at 74f0456287, which was ported", file(name).display());
+            }
+        }
         println!("cargo:rustc-cfg=found");
         println!("cargo:found=yes");
         declared(|name, child| if child { with_child(&file(name), quiver, &out) } else { whole(&file(name)) })
@@ -41,7 +52,8 @@ fn main() {
 /// The declarations of all files, `place` saying where a file stands.
 fn declared(place: impl Fn(&str, bool) -> PathBuf) -> String {
     let (mut top, mut modules) = (String::new(), String::new());
-    for (name, child) in FILES {
+    for (name, _) in FILES {
+        let child = WITH_CHILD.contains(&name);
         let (into, name_there) = match name.strip_prefix("modules/") {
             Some(inner) => (&mut modules, inner),
             None => (&mut top, name),

@@ -27,7 +27,7 @@ pub enum Answer {
     Refused(u32),
 }
 
-// What a call without samples says of itself, beside a state that an enum can't hold.
+// What a call without samples says of itself: of a state with an array, beside it, for an enum with one needs proofs by hand.
 pub enum Outcome {
     Done,
     Refused(u32),

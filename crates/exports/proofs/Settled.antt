@@ -2,8 +2,8 @@
 use Rattle.laws.proofs.Settled as laws
 use Rattle.exports.specs.Settled.{Settled}
 
-pub exports-settled : Settled
-exports-settled =
+pub settled : Settled
+settled =
     record {
       «is_finite» = λ x. laws.settled _;
       fabs = λ x. laws.settled _;

@@ -9,8 +9,7 @@ use lib.ListN.{length}
 use Rattle.answer.specs.Block.{Block}
 use Rattle.answer.specs.Flat.{sizesOf, tickSizesOf, Kept, kept, Heard, heard, heardOf, Played, played, playedOf, tallyFrom}
 use Rattle.karplus_strong.specs.Step.{Ticking}
-use Rattle.karplus_strong.specs.KarplusStrong.{Making, karplusStrongNewOf, karplusStrongTickOf, karplusStrongResetOf, karplusStrongSetSampleRateOf}
-use Rattle.karplus_strong.specs.Calls.{Strung, strung}
+use Rattle.karplus_strong.specs.KarplusStrong.{Making, karplusStrongCellsOf, karplusStrongNewOf, karplusStrongTickOf, karplusStrongResetOf, karplusStrongSetSampleRateOf, Strung, strung}
 use Rattle.karplus_strong.specs.Blocks.{karplusStrongBlockOf}
 use Rattle.answer.specs.declared.Tally.{Tally}
 use Rattle.answer.specs.declared.Tallied.{Tallied}
@@ -19,6 +18,10 @@ use Rattle.exports_karplus_strong.specs.State.{stateOf, floatsOf, wholes
 use Rattle.karplus_strong.specs.declared.KarplusStrongControls.{KarplusStrongControls}
 use Rattle.karplus_strong.specs.declared.KarplusStrongMade.{KarplusStrongMade}
 use Rattle.karplus_strong.specs.declared.KarplusStrongMade.the-variants as made
+
+-- the cells that a line needs at a rate
+unfoldable pub karplusStrongCellsAt : Float → ℕ
+karplusStrongCellsAt rate = karplusStrongCellsOf (record { 0 = rate })
 
 -- 0 and the new state, or what refused it
 unfoldable pub keptOf : KarplusStrongMade → List Float → List ℕ → Kept

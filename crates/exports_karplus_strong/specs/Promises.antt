@@ -4,7 +4,7 @@ use mathlib.Core.Path.{_≡_}
 use Prim.Native.Nat.{ℕ}
 use lib.Ieee.{Float}
 use Rattle.laws.specs.Machine.{Settles}
-use Rattle.exports_karplus_strong.specs.Calls.{Left, Sounded, Rung, karplusStrongNewAt, karplusStrongTickAt, karplusStrongBlockAt, karplusStrongResetAt, karplusStrongSetSampleRateAt}
+use Rattle.exports_karplus_strong.specs.Calls.{Left, Sounded, Rung, karplusStrongCellsAt, karplusStrongNewAt, karplusStrongTickAt, karplusStrongBlockAt, karplusStrongResetAt, karplusStrongSetSampleRateAt}
 use Rattle.exports_karplus_strong.specs.State.{stateOf, floatsOf, wholesOf}
 use Rattle.karplus_strong.specs.declared.KarplusStrong.{KarplusStrong}
 
@@ -14,6 +14,7 @@ Read-back = (s : KarplusStrong) → stateOf (floatsOf s) (wholesOf s) ≡ s
 
 -- each contract settles the number and every lent slice at exit
 pub record Settled : Type 0 where
+  pub cells : (rate : Float) → Settles (λ (n : ℕ). n ≡ karplusStrongCellsAt rate)
   pub new : (rate : Float) (f : List Float) (w : List ℕ) (l : List Float) → Settles (λ (k : Left). k ≡ karplusStrongNewAt rate f w l)
   pub tick : (voct trigger damping brightness stretch : Float) (f : List Float) (w : List ℕ) (l : List Float) (draws : List ℕ) (o : List Float)
       → Settles (λ (h : Sounded). h ≡ karplusStrongTickAt voct trigger damping brightness stretch f w l draws o)

@@ -1,6 +1,6 @@
 // The KarplusStrong for hosts, over lent slices. A state is floats [sample_rate, lp_state, ap_x1, ap_y1, trigger_edge.prev,
 // freq_memo.val] and wholes [len, write_pos, freq_memo.key, freq_memo.valid], the last 0 or not; samples are [out].
-// Each call answers a number: 0 done; of an accepted tick 11 cleared, 14 clean (12 and 13 are other oscillators'); of a refused call
+// Each call but `cells` answers a number: 0 done; of an accepted tick 11 cleared, 14 clean (12 and 13 are other oscillators'); of a refused call
 // 1 to 7 as document 01 has them, or 50, 51, 52, 53 where floats, wholes, samples or counts have another length. A refused
 // call writes nothing. A block answers 0, with the ticks' samples one after another, their marks by the same numbers, and the
 // tally's five counts: begun, finished, cleared, notfinite, lost.
@@ -22,9 +22,9 @@ ghost use lib.Ieee.{Float, nan};
 ghost use lib.ListN.{length, getD};
 ghost use Rattle.answer.specs.Block.{block};
 ghost use Rattle.answer.specs.Flat.{kept, heard, heardOf, played, playedOf};
-ghost use Rattle.karplus_strong.specs.Calls.{strung};
+ghost use Rattle.karplus_strong.specs.KarplusStrong.{strung};
 ghost use Rattle.exports_karplus_strong.specs.State.{stateOf, floatsOf, wholesOf, samplesOf};
-ghost use Rattle.exports_karplus_strong.specs.Calls.{left, sounded, rung, strungFloats, strungWholes, keptOf, karplusStrongNewAt, karplusStrongTickAt, karplusStrongBlockAt, karplusStrongResetAt, karplusStrongSetSampleRateAt};
+ghost use Rattle.exports_karplus_strong.specs.Calls.{left, sounded, rung, strungFloats, strungWholes, keptOf, karplusStrongCellsAt, karplusStrongNewAt, karplusStrongTickAt, karplusStrongBlockAt, karplusStrongResetAt, karplusStrongSetSampleRateAt};
 
 fn state(floats: &[f64], wholes: &[u64]) -> KarplusStrong
     requires { ⌜ (length (now floats) ≡ 6) × (length (now wholes) ≡ 4) ⌝ }
@@ -90,6 +90,14 @@ fn put_made(m: KarplusStrongMade, floats: &mut [f64], wholes: &mut [u64]) -> u32
         }
         KarplusStrongMade::Refused(n) => n,
     }
+}
+
+// The cells that a line needs at a sample rate, or 0 of a rate that every call refuses.
+#[no_mangle]
+pub extern "C" fn gruttisol_karplus_strong_cells(sample_rate: f64) -> u64
+    ensures { λ r. ⌜ r ≡ karplusStrongCellsAt «sample_rate» ⌝ }
+{
+    KarplusStrong::cells(Hertz(sample_rate)) as u64
 }
 
 #[no_mangle]

@@ -4,7 +4,8 @@ use mathlib.Core.Path.{_≡_}
 use Prim.Native.Nat.{ℕ}
 use lib.Ieee.{Float}
 use Rattle.wavetable.specs.Bank.{Filled, filled}
-use Rattle.exports_wavetable.specs.Calls.{filledWith, outcomeNumber, numbered}
+use Rattle.answer.specs.Answer.{outcomeNumber}
+use Rattle.exports_wavetable.specs.Calls.{filledWith, numbered}
 use Rattle.answer.specs.declared.Outcome.{Outcome}
 
 pub numbered-is : (n : ℕ) (o : Outcome) (l : List Float) (f : Filled) → n ≡ outcomeNumber o → filled o l ≡ f → filledWith n l ≡ numbered f

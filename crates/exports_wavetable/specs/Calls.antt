@@ -3,12 +3,11 @@
 use mathlib.Core.List.{List}
 use Prim.Native.Nat.{ℕ}
 use lib.Ieee.{Float}
+use Rattle.answer.specs.Answer.{outcomeNumber}
 use Rattle.answer.specs.Flat.{Kept, kept, keptSized, Heard, heardOf, heardSized, Played, playedOf, playedSized}
 use Rattle.wavetable.specs.Bank.{Filled, fillBankOf, fillTableOf}
 use Rattle.wavetable.specs.Wavetable.{wavetableNewOf, wavetableTickOf, wavetableBlockOf, wavetableResetOf, wavetableSetSampleRateOf}
 use Rattle.exports_wavetable.specs.State.{stateOf, floatsOf, wholesOf, samplesOf}
-use Rattle.answer.specs.declared.Outcome.{Outcome}
-use Rattle.answer.specs.declared.Outcome.the-variants as outcome
 use Rattle.wavetable.specs.declared.WavetableMade.{WavetableMade}
 use Rattle.wavetable.specs.declared.WavetableMade.the-variants as made
 
@@ -43,10 +42,6 @@ pub record FilledWith : Type 0 where
 
 abbrev pub filledWith : ℕ → List Float → FilledWith
 filledWith n l = record { code = n; cells = l }
-
-unfoldable pub outcomeNumber : Outcome → ℕ
-outcomeNumber outcome.Done = 0
-outcomeNumber (outcome.Refused n) = n
 
 unfoldable pub numbered : Filled → FilledWith
 numbered f = filledWith (outcomeNumber (f .outcome)) (f .cells)

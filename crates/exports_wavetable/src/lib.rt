@@ -21,10 +21,11 @@ ghost use mathlib.Core.List.{List};
 ghost use Prim.Native.Nat.{ℕ};
 ghost use lib.Ieee.{Float};
 ghost use lib.ListN.{length};
+ghost use Rattle.answer.specs.Answer.{outcomeNumber};
 ghost use Rattle.answer.specs.Block.{block};
 ghost use Rattle.answer.specs.Flat.{kept, heard, heardOf, played, playedOf};
 ghost use Rattle.exports_wavetable.specs.State.{stateOf, floatsOf, wholesOf, samplesOf};
-ghost use Rattle.exports_wavetable.specs.Calls.{keptOf, wavetableNewAt, wavetableTickAt, wavetableBlockAt, wavetableResetAt, wavetableSetSampleRateAt, outcomeNumber, filledWith, wavetableFillBankAt, wavetableFillTableAt};
+ghost use Rattle.exports_wavetable.specs.Calls.{keptOf, wavetableNewAt, wavetableTickAt, wavetableBlockAt, wavetableResetAt, wavetableSetSampleRateAt, filledWith, wavetableFillBankAt, wavetableFillTableAt};
 
 fn state(floats: &[f64], wholes: &[u64]) -> Wavetable
     requires { ⌜ (length (now floats) ≡ 4) × (length (now wholes) ≡ 2) ⌝ }

@@ -3,22 +3,25 @@ use mathlib.Core.Bool.{Bool, true, false, cond}
 use mathlib.Core.List.{List}
 use mathlib.Core.Logic.{_⊎_, inl, inr}
 use mathlib.Core.Path.{_≡_, refl, sym, ap, _∙_, subst}
-use Prim.Native.Nat.{ℕ, _*_}
+use Prim.Native.Nat.{ℕ, zero, suc, _*_, _<_}
 use native.Mathlib.Nat.{mul-pos}
 use native.Mathlib.Omega.{arith}
 use lib.Dec.{eqb, lit<}
 use lib.Ieee.{Float, nan, inf, fin, binary64, add, mul, div, neg, ofBits, round, up, down, unlike}
 use lib.Ieee.Fits.{down-pos}
 use lib.IntN.{pos}
-use lib.ListN.{getD}
+use lib.ListN.{length, getD}
+use Rattle.answer.proofs.Blocks.{ticks-keep, block-refusal}
 use Rattle.answer.specs.Answer.{markNumber}
+use Rattle.answer.specs.Block.{afterTicks, answerAt, ticksOf, blockOf}
 use Rattle.formant_osc.proofs.Coherent.{tick-coefs}
 use Rattle.formant_osc.proofs.Reached.{tick-sounds, good}
-use Rattle.formant_osc.proofs.Spoiled.{sound-unfinished, plus-out, plus-sum}
+use Rattle.formant_osc.proofs.Spoiled.{sound-unfinished, plus-out, plus-sum, unfinished-marks}
+use Rattle.formant_osc.specs.Calls.{Tick, after, FitCall, ReachedFormant}
 use Rattle.formant_osc.specs.Coefs.{formantOf, getFormants, coefOf, resonatorCoefs}
 use Rattle.formant_osc.specs.Consts.{bandwidth1}
-use Rattle.formant_osc.specs.FormantOsc.{coefMemoOf, formantRung, formantSoundOf}
-use Rattle.formant_osc.specs.Promises.{Spoiled, shiftFactor, Dead-shift}
+use Rattle.formant_osc.specs.FormantOsc.{coefMemoOf, formantRefusalOf, formantRung, formantSoundOf, formantAnswerOf, formantNextOf, formantBlockOf}
+use Rattle.formant_osc.specs.Promises.{Spoiled, shiftFactor, Dead-shift, Blocks-dead}
 use Rattle.formant_osc.specs.Sound.{glottalPulse, resonateOf, rungOf}
 use Rattle.formant_osc.specs.declared.FormantControls.{FormantControls}
 use Rattle.formant_osc.specs.declared.FormantOsc.{FormantOsc}
@@ -26,6 +29,7 @@ use Rattle.formant_osc.specs.declared.FormantTicked.{FormantTicked}
 use Rattle.laws.proofs.Number.{add-nan-l, mul-nan-l, mul-nan-r, div-nan-r}
 use Rattle.laws.proofs.Values.{round-zero}
 use Rattle.laws.specs.Float.{zer, one, two, isFin}
+use Rattle.laws.specs.Machine.{more}
 
 -- 0 of either sign, or NaN
 abbrev Dead : Float → Type 0
@@ -118,3 +122,21 @@ dead-shift s h c f d =
     let g = good h in
     let e = ap (λ (v : List Float). getD v 0 nan) (tick-coefs s c (g .coefs) f (g .fit)) ∙ coefs-dead _ _ c d in
     subst (λ (t : FormantTicked). (markNumber (t .answer) ≡ 2) × Spoiled (t .formant)) (sym (tick-sounds s c g)) (sound-dead s c e)
+
+-- ---- the ticks of a block: each state in it is reached
+ticks-dead : (s : FormantOsc) → ReachedFormant s → (c : FormantControls) → FitCall (Tick c) → (shiftFactor c ≡ zer) ⊎ (shiftFactor c ≡ nan) → (i : ℕ)
+    → (markNumber (answerAt (formantAnswerOf c) (formantNextOf c) s i) ≡ 2) × Spoiled (afterTicks (formantNextOf c) (suc i) s)
+unfolding answerAt afterTicks after
+ticks-dead s h c f d i = dead-shift _ (ticks-keep ReachedFormant (formantNextOf c) (λ r k. more k (Tick c) f) s h i) c f d
+
+pub blocks-dead : Blocks-dead
+unfolding formantBlockOf blockOf ticksOf
+blocks-dead s h c f d t o m r l =
+    let e = sym (block-refusal 1 (formantRefusalOf s) (formantAnswerOf c) (formantNextOf c) s t o m) ∙ r in (
+      unfinished-marks s c t o m r (λ i. ticks-dead s h c f d i .0),
+      simp e (last (length m) l),
+    )
+  where
+    last : (n : ℕ) → 0 < n → Spoiled (afterTicks (formantNextOf c) n s)
+    last zero z = absurd (omega arith)
+    last (suc n) z = ticks-dead s h c f d n .1

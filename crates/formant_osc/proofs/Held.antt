@@ -122,13 +122,18 @@ unfolding keptMark
 kept-told true = refl
 kept-told false = refl
 
-module _ (v : VoltsPerOctave) (depth : Float) (rate : Hertz) (d : Driver) (n : ℕ) (xs : List Float) (ms : List ℕ) (ex : xs ≡ tab (λ i. strideAt v depth rate d i .0) n) (em : ms ≡ tab (swayAt v depth rate d) n) where
+module _
+    (v : VoltsPerOctave) (depth : Float) (rate : Hertz) (d : Driver) (n : ℕ) (xs : List Float) (ms : List ℕ)
+    (ex : xs ≡ tab (λ i. strideAt v depth rate d i .0) n) (em : ms ≡ tab (swayAt v depth rate d) n) where
   stride-at : (i : ℕ) → i < n → getD xs i nan ≡ strideAt v depth rate d i .0
   stride-at i h = ap (λ (l : List Float). getD l i nan) ex ∙ getD-tab nan (λ j. strideAt v depth rate d j .0) n i h
 
   sway-at : (i : ℕ) → i < n → eqb (getD ms i 0) 14 ≡ isFin (vibratoSum rate (afterTicks (driveNext v depth rate) i d))
   unfolding swayAt
-  sway-at i h = ap (λ (l : List ℕ). eqb (getD l i 0) 14) em ∙ ap (λ (k : ℕ). eqb k 14) (getD-tab 0 (swayAt v depth rate d) n i h) ∙ kept-told (isFin (vibratoSum rate (afterTicks (driveNext v depth rate) i d)))
+  sway-at i h =
+      ap (λ (l : List ℕ). eqb (getD l i 0) 14) em
+      ∙ ap (λ (k : ℕ). eqb k 14) (getD-tab 0 (swayAt v depth rate d) n i h)
+      ∙ kept-told (isFin (vibratoSum rate (afterTicks (driveNext v depth rate) i d)))
 
   phase-at : (i : ℕ) → i ≤ n → phaseAt xs (d .phase) i ≡ afterTicks (driveNext v depth rate) i d .phase
   unfolding phaseAt afterTicks driveNext phaseSum strideAt
@@ -178,7 +183,10 @@ module _ (v : VoltsPerOctave) (depth : Float) (rate : Hertz) (c : List Float) (d
   kept-at : (i : ℕ) → i < n → keptOf v depth rate (driverAt i) ≡ eqb (getD ms i 0) 14
   unfolding keptAt driverAt
   kept-at i h =
-      sym (ap (λ (l : List ℕ). eqb (getD l i 0) 14) em ∙ ap (λ (k : ℕ). eqb k 14) (getD-tab 0 (keptAt v depth rate d) n i h) ∙ kept-told (keptOf v depth rate (driverAt i)))
+      sym
+      (ap (λ (l : List ℕ). eqb (getD l i 0) 14) em
+      ∙ ap (λ (k : ℕ). eqb k 14) (getD-tab 0 (keptAt v depth rate d) n i h)
+      ∙ kept-told (keptOf v depth rate (driverAt i)))
 
   halves : (i : ℕ) → i ≤ n → afterTicks (heldNext v depth rate c) i (moving d s) ≡ moving (driverAt i) (cellsAt c xs s i)
   unfolding afterTicks cellsAt driverAt
@@ -300,7 +308,8 @@ module _ (s : FormantOsc) (c : FormantControls) (e : formantRefusalOf s ≡ 0) w
         ∙ joined-one (λ i. voltsOf (answerAt answerOf nextOf (moving (startOf s c) (s .«resonator_state»)) i)) n
         ∙ tab-ext _ _ n (λ i h. ap (λ (a : Answer). voltsOf a .p10) (same-answer i h))
 
-    pub marks-after : tab (markAt (formantAnswerOf c) (formantNextOf c) s) n ≡ tab (λ i. hostNumber (voicedAt (coefMemoOf s c .val) (s .«resonator_state») xs ms i)) n
+    pub marks-after : tab (markAt (formantAnswerOf c) (formantNextOf c) s) n
+        ≡ tab (λ i. hostNumber (voicedAt (coefMemoOf s c .val) (s .«resonator_state») xs ms i)) n
     unfolding voicedIn
     marks-after = held-marks _ _ _ _ _ _ _ _ holds n ∙ tab-ext _ _ n (λ i h. ap hostNumber (same-answer i h))
 

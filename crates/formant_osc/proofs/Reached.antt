@@ -107,7 +107,10 @@ never-refused s h =
       phase = g .phase;
       «vibrato_phase» = g .vibrato;
       ticks = λ c. rw (tick-sounds s c g) (sound-accepted s c);
-      plays = λ c t o m. unfold formantBlockOf in block-refusal 1 _ _ _ s t o m ∙ ap (λ (n : ℕ). blockRefusalOf (eqb (length o) (1 * length m)) n t (length m)) (unrefused s g);
+      plays =
+          λ c t o m. unfold formantBlockOf in
+          block-refusal 1 _ _ _ s t o m
+          ∙ ap (λ (n : ℕ). blockRefusalOf (eqb (length o) (1 * length m)) n t (length m)) (unrefused s g);
       resets = unfold formantResetOf formantUnless in simp (unrefused s g);
       rates = λ r. unfold formantSetSampleRateOf in rates r (rateOk r);
     }

@@ -5,23 +5,30 @@ use mathlib.Core.Path.{_≡_, refl, sym, ap, _∙_, subst}
 use Prim.Native.Nat.{ℕ, zero, suc, _<_, _*_}
 use native.Mathlib.Omega.{arith}
 use lib.Ieee.{Float, nan, binary64, mul, neg}
-use lib.ListN.{getD}
-use Rattle.answer.proofs.Blocks.{block-keeps}
+use lib.ListN.{length, getD}
+use Rattle.answer.proofs.Blocks.{ticks-keep, block-keeps, block-refusal, block-fits}
 use Rattle.answer.proofs.Laws.{mark-says}
-use Rattle.answer.specs.Answer.{markNumber, accepted}
+use Rattle.answer.specs.Answer.{markNumber, hostNumber, accepted}
+use Rattle.answer.specs.Block.{afterTicks, answerAt, markAt, ticksOf, blockOf}
 use Rattle.answer.specs.Mark.{allFinite, ruleOf, markOf}
+use Rattle.answer.specs.declared.Answer.{Answer}
+use Rattle.answer.specs.declared.Answer.the-variants as answer
+use Rattle.answer.specs.declared.Tally.{Tally}
 use Rattle.answer.specs.declared.Volts.{Volts}
 use Rattle.formant_osc.proofs.Either.{tick-either, unless-either}
+use Rattle.formant_osc.proofs.Held.{block-accepts}
 use Rattle.formant_osc.specs.Calls.{Call, Tick, Play, Reset, SetSampleRate, after, NoReset, Later}
-use Rattle.formant_osc.specs.FormantOsc.{coefMemoOf, formantRung, formantSoundOf, formantTickOf, formantBlockOf, rated, formantSetSampleRateOf}
-use Rattle.formant_osc.specs.Promises.{Sum-marks, Clean-finite, Spoiled, Stays-spoiled}
+use Rattle.formant_osc.specs.FormantOsc.{coefMemoOf, formantRung, formantRefusalOf, formantSoundOf, formantTickOf, formantAnswerOf, formantNextOf, formantBlockOf, rated, formantSetSampleRateOf}
+use Rattle.formant_osc.specs.Promises.{Sum-marks, Clean-finite, Spoiled, Stays-spoiled, Blocks-spoiled}
 use Rattle.formant_osc.specs.Sound.{glottalPulse, resonateOf, plus, rungOf}
 use Rattle.formant_osc.specs.declared.FormantControls.{FormantControls}
 use Rattle.formant_osc.specs.declared.FormantOsc.{FormantOsc}
 use Rattle.formant_osc.specs.declared.FormantTicked.{FormantTicked}
 use Rattle.laws.proofs.Always.{always}
 use Rattle.laws.proofs.Number.{add-nan-l, add-nan-r, mul-nan-l, mul-nan-r}
+use Rattle.laws.proofs.Over.{tab-ext}
 use Rattle.laws.specs.Float.{isFin}
+use Rattle.laws.specs.Lists.{tab}
 
 -- ---- the mark
 unfinished : (v : Volts) (sums phases : Bool) → sums ≡ false → markNumber (markOf v false sums phases) ≡ 2
@@ -105,3 +112,35 @@ spoiled-later s p = always Spoiled (λ t e. subst Spoiled (sym e) p) spoiled-aft
 
 pub stays-spoiled : Stays-spoiled
 stays-spoiled s t p h c = sum-marks t c (spoiled-sum t c (spoiled-later s p h))
+
+-- ---- and so do its blocks
+two-told : (a : Answer) → markNumber a ≡ 2 → hostNumber a ≡ 12
+unfolding markNumber hostNumber accepted
+two-told (answer.Clean v) h = absurd (omega arith)
+two-told (answer.Cleared v) h = absurd (omega arith)
+two-told (answer.NotFinite v) h = refl
+two-told (answer.Lost v) h = absurd (omega arith)
+two-told (answer.Refused n) h = absurd (omega arith)
+
+-- a block that is taken, each of whose ticks is notfinite
+pub unfinished-marks : (s : FormantOsc) (c : FormantControls) (t : Tally) (o : List Float) (m : List ℕ) → formantBlockOf s c t o m .refused ≡ 0
+    → ((i : ℕ) → markNumber (answerAt (formantAnswerOf c) (formantNextOf c) s i) ≡ 2) → formantBlockOf s c t o m .marks ≡ tab (λ i. 12) (length m)
+unfolding formantBlockOf blockOf ticksOf
+unfinished-marks s c t o m r h =
+    let e = sym (block-refusal 1 (formantRefusalOf s) (formantAnswerOf c) (formantNextOf c) s t o m) ∙ r in
+    simp e (tab-ext (markAt (formantAnswerOf c) (formantNextOf c) s) (λ i. 12) (length m) (λ i l. two-told (answerAt (formantAnswerOf c) (formantNextOf c) s i) (h i)))
+
+-- its first tick isn't refused
+pub block-taken : (s : FormantOsc) (c : FormantControls) (t : Tally) (o : List Float) (m : List ℕ) → formantBlockOf s c t o m .refused ≡ 0
+    → formantRefusalOf s ≡ 0
+unfolding formantBlockOf
+block-taken s c t o m r = block-fits 1 (formantRefusalOf s) t o m _ (block-refusal 1 (formantRefusalOf s) (formantAnswerOf c) (formantNextOf c) s t o m) r .1
+
+pub blocks-spoiled : Blocks-spoiled
+unfolding answerAt
+blocks-spoiled s t p h c y o m r =
+    unfinished-marks t c y o m r
+    (λ i.
+    let u = afterTicks (formantNextOf c) i t in
+    let k = ticks-keep Spoiled (formantNextOf c) (spoiled-tick c) t (spoiled-later s p h) i in
+    sum-marks u c (spoiled-sum u c k) (block-accepts t c (block-taken t c y o m r) i))

@@ -21,6 +21,7 @@ use Rattle.formant_osc.specs.declared.FormantMade.{FormantMade}
 use Rattle.formant_osc.specs.declared.FormantOsc.{FormantOsc}
 use Rattle.formant_osc.specs.declared.FormantTicked.{FormantTicked}
 use Rattle.laws.specs.Float.{zer, isFin}
+use Rattle.laws.specs.Lists.{tab}
 use Rattle.laws.specs.Machine.{Settles}
 use Rattle.numeric.specs.Power.{exp2Of}
 
@@ -30,7 +31,8 @@ pub record Accepting (s : FormantOsc) : Type 0 where
   pub phase : phaseOk (s .phase) ≡ true
   pub «vibrato_phase» : phaseOk (s .«vibrato_phase») ≡ true
   pub ticks : (c : FormantControls) → accepted (formantTickOf s c .answer) ≡ true
-  pub plays : (c : FormantControls) (t : Tally) (o : List Float) (m : List ℕ) → formantBlockOf s c t o m .refused ≡ blockRefusalOf (eqb (length o) (1 * length m)) 0 t (length m)
+  pub plays : (c : FormantControls) (t : Tally) (o : List Float) (m : List ℕ)
+      → formantBlockOf s c t o m .refused ≡ blockRefusalOf (eqb (length o) (1 * length m)) 0 t (length m)
   pub resets : reply s Reset ≡ Told 0
   pub rates : (r : Hertz) → reply s (SetSampleRate r) ≡ Told (cond (rateOk r) 0 1)
 
@@ -54,6 +56,11 @@ abbrev pub Stays-spoiled : Type 0
 Stays-spoiled = (s t : FormantOsc) → Spoiled s → Later s t → (c : FormantControls) → accepted (formantTickOf t c .answer) ≡ true
     → markNumber (formantTickOf t c .answer) ≡ 2
 
+-- and each tick of a block is, whose marks are then all 12
+abbrev pub Blocks-spoiled : Type 0
+Blocks-spoiled = (s t : FormantOsc) → Spoiled s → Later s t → (c : FormantControls) (y : Tally) (o : List Float) (m : List ℕ)
+    → formantBlockOf t c y o m .refused ≡ 0 → formantBlockOf t c y o m .marks ≡ tab (λ i. 12) (length m)
+
 -- ---- a shift that kills the pitch: where its factor is 0 or NaN the tick is notfinite, and leaves a spoiled resonator
 abbrev pub shiftFactor : FormantControls → Float
 shiftFactor c = exp2Of (div binary64 (c .«formant_shift») five)
@@ -61,6 +68,12 @@ shiftFactor c = exp2Of (div binary64 (c .«formant_shift») five)
 abbrev pub Dead-shift : Type 0
 Dead-shift = (s : FormantOsc) → ReachedFormant s → (c : FormantControls) → FitCall (Tick c) → (shiftFactor c ≡ zer) ⊎ (shiftFactor c ≡ nan)
     → (markNumber (formantTickOf s c .answer) ≡ 2) × Spoiled (formantTickOf s c .formant)
+
+-- so are the ticks of a block
+abbrev pub Blocks-dead : Type 0
+Blocks-dead = (s : FormantOsc) → ReachedFormant s → (c : FormantControls) → FitCall (Tick c) → (shiftFactor c ≡ zer) ⊎ (shiftFactor c ≡ nan)
+    → (t : Tally) (o : List Float) (m : List ℕ) → formantBlockOf s c t o m .refused ≡ 0 → 0 < length m
+    → (formantBlockOf s c t o m .marks ≡ tab (λ i. 12) (length m)) × Spoiled (formantBlockOf s c t o m .state)
 
 -- ---- no tick of a block is refused whose first isn't, and a tally with room takes each of their answers
 abbrev pub Block-accepts : Type 0

@@ -28,6 +28,11 @@ pub accepts : (s : Lfo) → lfoRefusalOf s ≡ 0 → (rateOk (s .«sample_rate»
 unfolding lfoRefusalOf
 accepts s h = accepted-state (rateOk (s .«sample_rate»)) (phaseOk (s .phase)) h
 
+-- its tick is the Rust's
+pub sounds : (s : Lfo) (c : LfoControls) (wanted : ℕ) → lfoRefusalOf s ≡ 0 → lfoTickOf s c wanted ≡ lfoSoundOf s c wanted
+unfolding lfoTickOf
+sounds s c wanted h = simp h
+
 -- a small depth in an accepted tick: every output is finite
 pub sound-finite : (s : Lfo) (edge small : Bool) (p : Turns) (wanted : ℕ) (depth : Float) (v : Volts) → lfoRefusalOf s ≡ 0
     → p ≡ restartOf (s .phase) edge → v ≡ lfoOutputsOf wanted (p .0) depth → small ≡ isSmall depth → small ≡ true → allFinite v ≡ true

@@ -21,9 +21,9 @@ use Rattle.common.proofs.PhaseLaws.{wrap-in, restart-in}
 use Rattle.common.specs.declared.Turns.{Turns}
 use Rattle.laws.specs.Float.{isFin}
 use Rattle.lfo.specs.Held.{heldAnswer, heldNext}
-use Rattle.lfo.proofs.Accepted.{accepts}
+use Rattle.lfo.proofs.Accepted.{accepts, sounds}
 use Rattle.lfo.specs.Consts.{ten}
-use Rattle.lfo.specs.Lfo.{lfoRefusalOf, lfoOutputsOf, lfoSoundOf, lfoTickOf, lfoAnswerOf, lfoNextOf}
+use Rattle.lfo.specs.Lfo.{lfoRefusalOf, lfoOutputsOf, lfoSoundOf, lfoAnswerOf, lfoNextOf}
 use Rattle.lfo.specs.Waves.{rateToHz}
 use Rattle.lfo.specs.Promises.{Block-accepts, Block-tallies}
 use Rattle.lfo.specs.declared.Lfo.{Lfo}
@@ -60,10 +60,6 @@ state-accepted : (s : Lfo) (c : LfoControls) (p : Turns) → lfoRefusalOf s ≡ 
 unfolding lfoRefusalOf
 state-accepted s c p h k = simp (accepts s h .0, k)
 
-tick-sounds : (s : Lfo) (c : LfoControls) (wanted : ℕ) → lfoRefusalOf s ≡ 0 → lfoTickOf s c wanted ≡ lfoSoundOf s c wanted
-unfolding lfoTickOf
-tick-sounds s c wanted h = simp h
-
 -- in such a state a tick takes no edge and finds its rate in the memo
 held-sound : (s : Lfo) (c : LfoControls) (wanted : ℕ) (p : Turns)
     → lfoSoundOf (stateOf s c p) c wanted ≡ record { answer = heldAnswer wanted (div binary64 (c .depth) ten) (stepOf s c) p; lfo = stateOf s c (heldNext (stepOf s c) p) }
@@ -75,11 +71,11 @@ pub holds : (s : Lfo) (c : LfoControls) (wanted : ℕ) → lfoRefusalOf s ≡ 0
 holds s c wanted h =
     record {
       good = restart-in (s .phase) (risingOf (s .«reset_edge») (c .reset) .rising) (accepts s h .1);
-      first = unfold lfoSoundOf heldAnswer in ap (λ (t : LfoTicked). t .answer) (tick-sounds s c wanted h);
-      second = unfold lfoSoundOf heldNext in ap (λ (t : LfoTicked). t .lfo) (tick-sounds s c wanted h);
+      first = unfold lfoSoundOf heldAnswer in ap (λ (t : LfoTicked). t .answer) (sounds s c wanted h);
+      second = unfold lfoSoundOf heldNext in ap (λ (t : LfoTicked). t .lfo) (sounds s c wanted h);
       stays = λ p k. unfold heldNext in wrap-in _ (add-fits binary64 _ _);
-      answers = λ p k. ap (λ (t : LfoTicked). t .answer) (tick-sounds (stateOf s c p) c wanted (state-accepted s c p h k) ∙ held-sound s c wanted p);
-      moves = λ p k. ap (λ (t : LfoTicked). t .lfo) (tick-sounds (stateOf s c p) c wanted (state-accepted s c p h k) ∙ held-sound s c wanted p);
+      answers = λ p k. ap (λ (t : LfoTicked). t .answer) (sounds (stateOf s c p) c wanted (state-accepted s c p h k) ∙ held-sound s c wanted p);
+      moves = λ p k. ap (λ (t : LfoTicked). t .lfo) (sounds (stateOf s c p) c wanted (state-accepted s c p h k) ∙ held-sound s c wanted p);
     }
 
 -- ---- so none of them is refused

@@ -18,6 +18,7 @@ use Rattle.common.specs.Promises.{Coherent1}
 use Rattle.common.specs.Tests.{rateOk, phaseOk}
 use Rattle.laws.proofs.Always.{always}
 use Rattle.laws.specs.Float.{F64}
+use Rattle.lfo.proofs.Accepted.{sounds}
 use Rattle.lfo.specs.Calls.{Call, after, reply, FitCall, First, ReachedLfo, Tick, Play, Reset, SetSampleRate, Told}
 use Rattle.lfo.specs.Lfo.{newLfo, lfoRefusalOf, lfoNewOf, lfoSoundOf, lfoTickOf, lfoBlockOf, madeNumber, madeOr, madeUnless, lfoResetOf}
 use Rattle.lfo.specs.Lfo.{rated, lfoSetSampleRateOf}
@@ -40,8 +41,7 @@ unfolding lfoRefusalOf
 unrefused s g = simp (g .rate, g .phase)
 
 pub tick-sounds : (s : Lfo) (c : LfoControls) (w : ℕ) → Good s → lfoTickOf s c w ≡ lfoSoundOf s c w
-unfolding lfoTickOf
-tick-sounds s c w g = simp (unrefused s g)
+tick-sounds s c w g = sounds s c w (unrefused s g)
 
 pub sound-accepted : (s : Lfo) (c : LfoControls) (w : ℕ) → accepted (lfoSoundOf s c w .answer) ≡ true
 unfolding lfoSoundOf

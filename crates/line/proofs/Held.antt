@@ -1,4 +1,5 @@
--- What the walks over a `Reader` share: its type and laws, and what it owns, taken apart for a callee that takes the text and the place, and put together.
+-- What the walks over a `Reader` share, of this crate and of those above: its type and laws, and what it owns, taken apart for a callee that takes the text
+-- and the place, and put together.
 -- The laws take `Given`. The rest assumes nothing.
 use mathlib.Core.Path.{_≡_, refl}
 use Prim.Native.Nat.{ℕ, _<_, _^_}
@@ -12,7 +13,7 @@ use base.Fml.{Lft, Share, Fml, ftrue, flft}
 use prog.Wp.{Heap}
 use ghost.Atoms.{Atoms, sem}
 use contract.Lifetimes.{Lfts}
-use types.Kit.{Given, ‵, _⊛_, given, ⋆, _$_, _∵_, !, qed, by, move, drop, use1, split, join, learn, fsplit, fjoin, frame, done}
+use types.Kit.{Given, ‵, _⊛_, given, ⋆, _$_, _∵_, !, qed, move, drop, use1, split, join, learn, fsplit, fjoin, frame, done}
 use denote.RattleType.{RattleType, owns}
 use denote.Laws.{Is}
 use denote.Plain.{uint-makes}
@@ -62,24 +63,32 @@ module _ {M : Type 1} (𝓤 : URA M) (H : Heap 𝓤) (A : Atoms 𝓤) (W : Given
     pub twice : ent 𝓤 (sem 𝓤 H A (Own κ d)) (⋆ 𝓤 H A (‵ (Own κ d) ∷ ‵ (Own κ d) ∷ []))
     twice = LL.copy (D (κ, tt)) (T′.the-copy (namedLft 1 0 tt (κ, tt))) 𝓤 H A W .twice d (T′.lowered d ∷ [])
 
-    -- what the reader owns gives what the callee asks, and is kept
+    -- what the reader owns gives what its text owns, and is kept
+    pub text-out : ent 𝓤 (sem 𝓤 H A (Own κ d)) (⋆ 𝓤 H A (‵ (OwnText κ (d .text)) ∷ ‵ (Own κ d) ∷ []))
+    text-out =
+        qed W (‵ (Own κ d) ∷ []) ∵ use1 W (‵ (Own κ d) ⊛ ‵ (Own κ d)) twice $ split ! $
+        use1 W (given (T′.lowered d ∷ [] ≡ T′.lowered d ∷ []) (‵ (all-own (D (κ, tt) .parts) (L (κ, tt)) vd)))
+        (own-open 𝓤 H A W (D (κ, tt)) (L (κ, tt)) vd (T′.lowered d)) $ learn ! (λ _.
+        use1 W (‵ (ownAt (D (κ, tt) .parts) (L (κ, tt)) 0 (d .text)) ⊛ ‵ (rest (D (κ, tt) .parts) (L (κ, tt)) 0 vd))
+        (own-out 𝓤 H A W (D (κ, tt) .parts) (L (κ, tt)) 0 vd) $ split ! $
+        -- [what text owns; what at owns; what the reader owns]
+        move ! (1 ∷ []) $ drop ! $ frame ! $ done !)
+
+    -- the same for a callee that takes the text and the place
     pub apart : (q : Share) → d .at < 2 ^ 64 → ent 𝓤 (⋆ 𝓤 H A ((‵ (flft κ q) ⊛ ‵ ftrue) ∷ ‵ (owns (B (κ, tt) ∷ []) (d, tt) (T′.lowered d ∷ [], tt)) ∷ []))
-        (sep 𝓤 (⋆ 𝓤 H A ((‵ (flft κ q) ⊛ ‵ ftrue) ∷ ‵ (owns (ShrSlice (named 0) κ u8 ∷ usize ∷ []) (d .text, (d .at, tt)) (slice (d .text) ∷ [], (vint w64 (d .at) ∷ [], tt))) ∷ [])) (sem 𝓤 H A (Own κ d)))
+        (sep 𝓤 (⋆ 𝓤 H A ((‵ (flft κ q) ⊛ ‵ ftrue) ∷ ‵
+        (owns (ShrSlice (named 0) κ u8 ∷ usize ∷ []) (d .text, (d .at, tt)) (slice (d .text) ∷ [], (vint w64 (d .at) ∷ [], tt))) ∷ []))
+        (sem 𝓤 H A (Own κ d)))
     apart q fits =
         qed W ((‵ (flft κ q) ⊛ ‵ ftrue) ∷ ‵ (owns (B (κ, tt) ∷ []) (d, tt) (T′.lowered d ∷ [], tt)) ∷ []) ∵
-        move ! (1 ∷ []) $ fsplit ! $ move ! (1 ∷ []) $ drop ! $ use1 W (‵ (Own κ d) ⊛ ‵ (Own κ d)) twice $ split ! $
-        use1 W (given (T′.lowered d ∷ [] ≡ T′.lowered d ∷ []) (‵ (all-own (D (κ, tt) .parts) (L (κ, tt)) vd))) (own-open 𝓤 H A W (D (κ, tt)) (L (κ, tt)) vd (T′.lowered d)) $ learn ! (λ _.
-        use1 W (‵ (ownAt (D (κ, tt) .parts) (L (κ, tt)) 0 (d .text)) ⊛ ‵ (rest (D (κ, tt) .parts) (L (κ, tt)) 0 vd)) (own-out 𝓤 H A W (D (κ, tt) .parts) (L (κ, tt)) 0 vd) $ split ! $
-        -- [what text owns; what at owns; what the reader owns; the token]
-        move ! (1 ∷ []) $ drop ! $ nothing ! $ owned ! usize (Is usize) (uint-makes 𝓤 H A W w64) (d .at) _ (refl, fits) $ fjoin ! $ move ! (1 ∷ 0 ∷ []) $ fjoin ! $
-        move ! (2 ∷ 0 ∷ []) $ join ! $ frame ! $ done !)
+        move ! (1 ∷ []) $ fsplit ! $ move ! (1 ∷ []) $ drop ! $ use1 W (‵ (OwnText κ (d .text)) ⊛ ‵ (Own κ d)) text-out $ split ! $
+        -- [what text owns; what the reader owns; the token]
+        nothing ! $ owned ! usize (Is usize) (uint-makes 𝓤 H A W w64) (d .at) _ (refl, fits) $ fjoin ! $ move ! (1 ∷ 0 ∷ []) $ fjoin ! $
+        move ! (2 ∷ 0 ∷ []) $ join ! $ frame ! $ done !
 
-  -- what a text owns, with a place, gives what a reader of the two owns, and is kept
-  pub together : (s : RefT (List ℕ)) (n : ℕ) (q : Share) → n < 2 ^ 64 → ent 𝓤 (⋆ 𝓤 H A ((‵ (flft κ q) ⊛ ‵ ftrue) ∷ ‵ (owns (ShrSlice (named 0) κ u8 ∷ usize ∷ []) (s, (n, tt)) (slice s ∷ [], (vint w64 n ∷ [], tt))) ∷ []))
-      (sep 𝓤 (⋆ 𝓤 H A ((‵ (flft κ q) ⊛ ‵ ftrue) ∷ ‵ (owns (B (κ, tt) ∷ []) (made s n, tt) (T′.lowered (made s n) ∷ [], tt)) ∷ [])) (sem 𝓤 H A (OwnText κ s)))
-  together s n q fits =
-      qed W ((‵ (flft κ q) ⊛ ‵ ftrue) ∷ ‵ (owns (ShrSlice (named 0) κ u8 ∷ usize ∷ []) (s, (n, tt)) (slice s ∷ [], (vint w64 n ∷ [], tt))) ∷ []) ∵
-      move ! (1 ∷ []) $ fsplit ! $ move ! (1 ∷ []) $ drop ! $ use1 W (‵ (OwnText κ s) ⊛ ‵ (OwnText κ s)) (shr-slice-copy 𝓤 H A W (named 0) κ u8 .twice s (slice s ∷ [])) $ split ! $
+  -- what a text owns gives what a reader of it at a place owns, and is kept
+  pub reader-in : (s : RefT (List ℕ)) (n : ℕ) → n < 2 ^ 64 → ent 𝓤 (sem 𝓤 H A (OwnText κ s)) (⋆ 𝓤 H A (‵ (Own κ (made s n)) ∷ ‵ (OwnText κ s) ∷ []))
+  reader-in s n fits =
+      qed W (‵ (OwnText κ s) ∷ []) ∵ use1 W (‵ (OwnText κ s) ⊛ ‵ (OwnText κ s)) (shr-slice-copy 𝓤 H A W (named 0) κ u8 .twice s (slice s ∷ [])) $ split ! $
       nothing ! $ owned ! usize (Is usize) (uint-makes 𝓤 H A W w64) n _ (refl, fits) $ fjoin ! $ move ! (1 ∷ 0 ∷ []) $ fjoin ! $
-      use1 W (‵ (Own κ (made s n))) (own-shut 𝓤 H A W (D (κ, tt)) (L (κ, tt)) (s, (n, tt))) $ nothing ! $ move ! (1 ∷ 0 ∷ []) $ fjoin ! $
-      move ! (2 ∷ 0 ∷ []) $ join ! $ frame ! $ done !
+      use1 W (‵ (Own κ (made s n))) (own-shut 𝓤 H A W (D (κ, tt)) (L (κ, tt)) (s, (n, tt))) $ frame ! $ done !

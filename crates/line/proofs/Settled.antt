@@ -1,15 +1,13 @@
 -- Every contract is one equation, and one equation settles an answer.
-use Rattle.laws.proofs.Settled.{settled}
+use Rattle.laws.proofs.Settled as laws
 use Rattle.line.specs.Settled.{Settled}
 
-pub line-settled : Settled
-line-settled =
+pub settled : Settled
+settled =
     record {
-      same = λ a b. settled _;
-      «is_line» = λ text at key. settled _;
-      reader-value = λ r. settled _;
-      reader-next = λ r. settled _;
-      «value_at» = λ text at. settled _;
-      «next_at» = λ text at. settled _;
-      «number_of» = λ v. settled _;
+      same = λ a b. laws.settled _;
+      reader-is-line = λ r key. laws.settled _;
+      reader-value = λ r. laws.settled _;
+      reader-next = λ r. laws.settled _;
+      «number_of» = λ v. laws.settled _;
     }

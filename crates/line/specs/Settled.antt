@@ -8,16 +8,14 @@ use lib.ListN.{drop}
 use denote.Ref.{now}
 use Rattle.laws.specs.Machine.{Settles}
 use Rattle.line.specs.Bytes.{sameOf}
-use Rattle.line.specs.Line.{valueOf, isLine, nextOf, movedOn}
+use Rattle.line.specs.Line.{valueOf, isLine, movedOn}
 use Rattle.line.specs.Number.{numberOf}
 use Rattle.line.specs.declared.Number.{Number}
 use Rattle.line.specs.declared.Reader.{Reader}
 
 pub record Settled : Type 0 where
   pub same : (a b : List ℕ) → Settles (λ (r : Bool). r ≡ sameOf a b)
-  pub «is_line» : (text : List ℕ) (at : ℕ) (key : List ℕ) → Settles (λ (r : Bool). r ≡ isLine key (drop at text))
+  pub reader-is-line : (r : Reader) (key : List ℕ) → Settles (λ (b : Bool). b ≡ isLine key (drop (r .at) (now (r .text))))
   pub reader-value : (r : Reader) → Settles (λ (v : List ℕ). v ≡ valueOf (drop (r .at) (now (r .text))))
   pub reader-next : (r : Reader) → Settles (λ (s : Reader). s ≡ movedOn r)
-  pub «value_at» : (text : List ℕ) (at : ℕ) → Settles (λ (v : List ℕ). v ≡ valueOf (drop at text))
-  pub «next_at» : (text : List ℕ) (at : ℕ) → Settles (λ (r : ℕ). r ≡ nextOf text at)
   pub «number_of» : (v : List ℕ) → Settles (λ (r : Number). r ≡ numberOf v)

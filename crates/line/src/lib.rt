@@ -66,7 +66,7 @@ pub fn same(a: &[u8], b: &[u8]) -> bool
 // ---- the line at a place
 
 // Whether a line of this key stands at `at`.
-pub fn is_line(text: &[u8], at: usize, key: &[u8]) -> bool
+fn is_line(text: &[u8], at: usize, key: &[u8]) -> bool
     ensures { λ r. ⌜ r ≡ isLine (now (key .entry)) (drop at (now (text .entry))) ⌝ }
 {
     let rest = from(text, at);
@@ -104,6 +104,13 @@ pub struct Reader<'a> {
 }
 
 impl<'a> Reader<'a> {
+    // Whether the line here is one of this key.
+    pub fn is_line(self, key: &[u8]) -> bool
+        ensures { λ r. ⌜ r ≡ isLine (now (key .entry)) (drop (self .entry .at) (now (self .entry .text))) ⌝ }
+    {
+        is_line(self.text, self.at, key)
+    }
+
     // The value of the line here, a part of the text.
     pub fn value(self) -> &'a [u8]
         ensures { λ v. ⌜ now v ≡ valueOf (drop (self .entry .at) (now (self .entry .text))) ⌝ }
@@ -121,19 +128,6 @@ impl<'a> Reader<'a> {
             at,
         }
     }
-}
-
-// What a reader hands out at a place, and where it is next. Whoever calls these needs no reader.
-pub fn value_at(text: &[u8], at: usize) -> &[u8]
-    ensures { λ v. ⌜ now v ≡ valueOf (drop at (now (text .entry))) ⌝ }
-{
-    Reader { text, at }.value()
-}
-
-pub fn next_at(text: &[u8], at: usize) -> usize
-    ensures { λ r. ⌜ r ≡ nextOf (now (text .entry)) at ⌝ }
-{
-    Reader { text, at }.next().at
 }
 
 // ---- numbers

@@ -1,5 +1,5 @@
 -- A block of frames is those frames: the voice's ticks, their tally, and the texts that samples and marks stand for.
-use mathlib.Core.Bool.{Bool, true, false, cond}
+use mathlib.Core.Bool.{Bool, true, false, cond, false≢true}
 use mathlib.Core.List.{List, [], _∷_, _++_}
 use mathlib.Core.Logic.{⊎-elim}
 use mathlib.Core.Path.{_≡_, refl, sym, ap, _∙_}
@@ -18,10 +18,11 @@ use Rattle.line.specs.Bytes.{ascii}
 use Rattle.text.specs.Promises.{Put}
 use Rattle.text.specs.Put.{placeOf}
 use Rattle.text.proofs.PutLaws.{after}
-use Rattle.answer.specs.Answer.{markNumber, voltsOf}
+use Rattle.answer.specs.Answer.{markNumber, hostNumber, voltsOf, accepted}
 use Rattle.answer.specs.Answer as marks
+use Rattle.answer.specs.Promises.{AllAccepted}
 use Rattle.answer.specs.Block.{Block, block, manyTo, countedTo, grownBy, roomFor, afterTicks, portsOf, joined, blockRefusalOf, answerAt, markAt, frameAt, ticksOf, blockOf}
-use Rattle.answer.specs.Tally.{sumOf, addsUp, oneIf, counted, tallyOf}
+use Rattle.answer.specs.Tally.{sumOf, addsUp, oneIf, counted, tallyOf, tallyOr}
 use Rattle.answer.specs.declared.Volts.{Volts}
 use Rattle.answer.specs.declared.Answer.{Answer}
 use Rattle.answer.specs.declared.Answer.the-variants as answer
@@ -29,21 +30,25 @@ use Rattle.answer.specs.declared.Tally.{Tally}
 use Rattle.answer.proofs.Blocks.{block-fits, room-says, many-most, joined-length, one-port, two-ports, four-ports, five-ports}
 use Rattle.score.specs.declared.Osc.{Osc}
 use Rattle.score.specs.declared.Osc.the-variants as osc
+use Rattle.vco.proofs.Held as vco-held
 use Rattle.vco.specs.Vco.{vcoBlockOf}
 use Rattle.vco.specs.declared.Vco.{Vco}
 use Rattle.vco.specs.declared.VcoControls.{VcoControls}
+use Rattle.lfo.proofs.Held as lfo-held
 use Rattle.lfo.specs.Lfo.{lfoBlockOf}
 use Rattle.lfo.specs.declared.Lfo.{Lfo}
 use Rattle.lfo.specs.declared.LfoControls.{LfoControls}
+use Rattle.supersaw.proofs.Held as supersaw-held
 use Rattle.supersaw.specs.Supersaw.{supersawBlockOf}
 use Rattle.supersaw.specs.declared.Supersaw.{Supersaw}
 use Rattle.supersaw.specs.declared.SupersawControls.{SupersawControls}
+use Rattle.formant_osc.proofs.Held as formant-held
 use Rattle.formant_osc.specs.FormantOsc.{formantBlockOf}
 use Rattle.formant_osc.specs.declared.FormantOsc.{FormantOsc}
 use Rattle.formant_osc.specs.declared.FormantControls.{FormantControls}
 use Rattle.frame.specs.Frame.{countLine, wordLine, sampleLine, wavesText, outputsText, markedText, frameText}
-use Rattle.player.specs.Block.{portsIn, voiceAnswer, voiceNext, framesOf, outputAt, voltsAt, markedOf, frameAtOf, blockText}
-use Rattle.player.specs.Player.{kindOf, soundOf, keptBy, answerOf, frameOf, nextOf, textOf, afterOf, playedOf}
+use Rattle.player.specs.Block.{portsIn, voiceAnswer, voiceNext, framesOf, AllPlayed, outputAt, voltsAt, frameAtOf, blockText}
+use Rattle.player.specs.Player.{kindOf, soundOf, answerOf, frameOf, nextOf, textOf, afterOf, playedOf}
 use Rattle.player.specs.declared.Controls.the-variants as controls
 use Rattle.player.specs.declared.Voices.{Voices}
 use Rattle.player.specs.declared.Player.{Player}
@@ -55,12 +60,16 @@ module _ {S : Type 0} (ports number : ℕ) (answer : S → Answer) (next : S →
   number-of : ℕ
   number-of = blockRefusalOf (eqb (length o) (ports * length m)) number t (length m)
 
-  accepted-says : block r s′ t′ o′ m′ ≡ blockOf ports number answer next s t o m → r ≡ 0 → (roomFor t (length m) ≡ true) × (block 0 s′ t′ o′ m′ ≡ ticksOf ports answer next (length m) s t)
+  accepted-says : block r s′ t′ o′ m′ ≡ blockOf ports number answer next s t o m → r ≡ 0
+      → (number ≡ 0) × (roomFor t (length m) ≡ true) × (block 0 s′ t′ o′ m′ ≡ ticksOf ports answer next (length m) s t)
   unfolding blockOf number-of
   accepted-says e z = go (eqb number-of 0) refl e
     where
-      go : (b : Bool) → eqb number-of 0 ≡ b → block r s′ t′ o′ m′ ≡ cond b (ticksOf ports answer next (length m) s t) (block number-of s t o m) → (roomFor t (length m) ≡ true) × (block 0 s′ t′ o′ m′ ≡ ticksOf ports answer next (length m) s t)
-      go true q e = (block-fits ports number t o m number-of refl (eqb-true number-of 0 q) .2, ap (λ (k : ℕ). block k s′ t′ o′ m′) (sym z) ∙ e)
+      go : (b : Bool) → eqb number-of 0 ≡ b → block r s′ t′ o′ m′ ≡ cond b (ticksOf ports answer next (length m) s t) (block number-of s t o m)
+          → (number ≡ 0) × (roomFor t (length m) ≡ true) × (block 0 s′ t′ o′ m′ ≡ ticksOf ports answer next (length m) s t)
+      go true q e =
+          let fits = block-fits ports number t o m number-of refl (eqb-true number-of 0 q) in
+          (fits .1, fits .2, ap (λ (k : ℕ). block k s′ t′ o′ m′) (sym z) ∙ e)
       go false q e = absurd (eqb-false number-of 0 q (sym (ap (λ (b : Block S). b .refused) e) ∙ z))
 
 module _ {S U : Type 0} (answer : S → Answer) (next : S → S) (told : U → Answer) (step : U → U) (embed : S → U) (ea : (s : S) → told (embed s) ≡ answer s) (en : (s : S) → step (embed s) ≡ embed (next s)) where
@@ -76,14 +85,18 @@ module _ {S U : Type 0} (answer : S → Answer) (next : S → S) (told : U → A
   ticks-carried : (ports n : ℕ) (s : S) (t : Tally) → block 0 (embed (ticksOf ports answer next n s t .state)) (ticksOf ports answer next n s t .tally) (ticksOf ports answer next n s t .samples) (ticksOf ports answer next n s t .marks) ≡ ticksOf ports told step n (embed s) t
   unfolding ticksOf
   ticks-carried ports n s t =
-      λ i. block 0 (sym (after-carried n s) i) (countedTo t (λ (k : ℕ). markNumber (answer-carried s k i)) n) (joined (λ (k : ℕ). portsOf ports (voltsOf (answer-carried s k i))) n) (tab (λ (k : ℕ). markNumber (answer-carried s k i)) n)
+      λ i. block 0 (sym (after-carried n s) i) (countedTo t (λ (k : ℕ). hostNumber (answer-carried s k i)) n) (joined (λ (k : ℕ). portsOf ports (voltsOf (answer-carried s k i))) n) (tab (λ (k : ℕ). hostNumber (answer-carried s k i)) n)
 
   pub heard : (ports number : ℕ) (s : S) (t : Tally) (o : List Float) (m : List ℕ) (r : ℕ) (s′ : S) (t′ : Tally) (o′ : List Float) (m′ : List ℕ)
+      → (number ≡ 0 → AllAccepted answer next s)
       → block r s′ t′ o′ m′ ≡ blockOf ports number answer next s t o m → r ≡ 0
-      → (roomFor t (length m) ≡ true) × (block 0 (embed s′) t′ o′ m′ ≡ ticksOf ports told step (length m) (embed s) t)
-  heard ports number s t o m r s′ t′ o′ m′ e z =
-      let k = accepted-says ports number answer next s t o m r s′ t′ o′ m′ e z in
-      (k .0, ap (λ (b : Block S). block 0 (embed (b .state)) (b .tally) (b .samples) (b .marks)) (k .1) ∙ ticks-carried ports (length m) s t)
+      → (roomFor t (length m) ≡ true) × AllAccepted told step (embed s) × (block 0 (embed s′) t′ o′ m′ ≡ ticksOf ports told step (length m) (embed s) t)
+  heard ports number s t o m r s′ t′ o′ m′ all e z =
+      let k = accepted-says ports number answer next s t o m r s′ t′ o′ m′ e z in (
+        k .1,
+        λ i. ap accepted (sym (answer-carried s i)) ∙ all (k .0) i,
+        ap (λ (b : Block S). block 0 (embed (b .state)) (b .tally) (b .samples) (b .marks)) (k .2) ∙ ticks-carried ports (length m) s t,
+      )
 
 -- ---- the tally
 -- one answer more
@@ -100,9 +113,10 @@ module _ (t : Tally) (clean cleared notfinite lost : ℕ) (s : t .begun ≡ sumO
   room = ne-eqb (grown .begun) 4294967295 (λ e. omega arith)
 
   abbrev more : ℕ → Tally
-  more n = grownBy t (clean + oneIf n 4) (cleared + oneIf n 1) (notfinite + oneIf n 2) (lost + oneIf n 3)
+  more n = grownBy t (clean + oneIf n 14) (cleared + oneIf n 11) (notfinite + oneIf n 12) (lost + oneIf n 13)
 
-  counted-more : (n : ℕ) → oneIf n 4 + oneIf n 1 + oneIf n 2 + oneIf n 3 ≡ 1 → counted grown n ≡ more n
+  counted-more : (n : ℕ) → oneIf n 4 + oneIf n 1 + oneIf n 2 + oneIf n 3 ≡ 1
+      → counted grown n ≡ grownBy t (clean + oneIf n 4) (cleared + oneIf n 1) (notfinite + oneIf n 2) (lost + oneIf n 3)
   unfolding counted grownBy
   counted-more n one = let (b, f, d, k, l) = sums (oneIf n 4) (oneIf n 1) (oneIf n 2) (oneIf n 3) one in λ i. record { begun = b i; finished = f i; cleared = d i; notfinite = k i; lost = l i }
     where
@@ -111,17 +125,13 @@ module _ (t : Tally) (clean cleared notfinite lost : ℕ) (s : t .begun ≡ sumO
           × (t .finished + clean + x ≡ t .finished + (clean + x)) × (t .cleared + cleared + y ≡ t .cleared + (cleared + y)) × (t .notfinite + notfinite + z ≡ t .notfinite + (notfinite + z)) × (t .lost + lost + w ≡ t .lost + (lost + w))
       sums x y z w one = (omega arith, omega arith, omega arith, omega arith, omega arith)
 
-  none-more : grown ≡ more 0
-  unfolding grownBy oneIf
-  none-more = rw (add-zero clean, add-zero cleared, add-zero notfinite, add-zero lost) refl
-
-  kept-more : (a : Answer) → keptBy grown (tallyOf grown a) ≡ more (markNumber a)
-  unfolding tallyOf keptBy markNumber oneIf
-  kept-more (answer.Clean v) = simp (adds, room) (counted-more 4 refl)
-  kept-more (answer.Cleared v) = simp (adds, room) (counted-more 1 refl)
-  kept-more (answer.NotFinite v) = simp (adds, room) (counted-more 2 refl)
-  kept-more (answer.Lost v) = simp (adds, room) (counted-more 3 refl)
-  kept-more (answer.Refused n) = simp adds none-more
+  kept-more : (a : Answer) → accepted a ≡ true → tallyOr grown (tallyOf grown a) ≡ more (hostNumber a)
+  unfolding tallyOf tallyOr markNumber hostNumber accepted oneIf
+  kept-more (answer.Clean v) h = simp (adds, room) (counted-more 4 refl)
+  kept-more (answer.Cleared v) h = simp (adds, room) (counted-more 1 refl)
+  kept-more (answer.NotFinite v) h = simp (adds, room) (counted-more 2 refl)
+  kept-more (answer.Lost v) h = simp (adds, room) (counted-more 3 refl)
+  kept-more (answer.Refused n) h = absurd (false≢true h)
 
 -- ---- the player after k frames, as a block has it
 blockAfter : Player → ℕ → Player
@@ -134,13 +144,13 @@ blockAfter p k =
       frames = p .frames;
     }
 
-module _ (p : Player) (sum : p .tally .begun ≡ sumOf (p .tally)) where
+module _ (p : Player) (sum : p .tally .begun ≡ sumOf (p .tally)) (all : AllAccepted (voiceAnswer (p .controls)) (voiceNext (p .controls)) (p .voices)) where
   block-next : (k : ℕ) → p .tally .begun + k < 4294967295 → nextOf (blockAfter p k) ≡ blockAfter p (suc k)
   unfolding nextOf blockAfter afterTicks countedTo manyTo answerOf answerAt
   block-next k h =
       let f = markAt (voiceAnswer (p .controls)) (voiceNext (p .controls)) (p .voices) in
       let most = many-most f k in
-      let counts = kept-more (p .tally) (manyTo 4 f k) (manyTo 1 f k) (manyTo 2 f k) (manyTo 3 f k) sum (omega arith) (voiceAnswer (p .controls) (afterTicks (voiceNext (p .controls)) k (p .voices))) in
+      let counts = kept-more (p .tally) (manyTo 14 f k) (manyTo 11 f k) (manyTo 12 f k) (manyTo 13 f k) sum (omega arith) _ (all k) in
       let number = one-suc (p .frame) k in
       λ i. record { controls = p .controls; voices = afterTicks (voiceNext (p .controls)) (suc k) (p .voices); tally = counts i; frame = number i; frames = p .frames }
     where
@@ -195,28 +205,29 @@ outputs-at osc.Lfo l i w h =
 outputs-at osc.Supersaw l i w h = λ k. sampleLine (ascii "out=") (h 0 (lit≤ tt) k) ++ sampleLine (ascii "sub=") (h 1 (lit≤ tt) k)
 outputs-at osc.Formant l i w h = λ k. sampleLine (ascii "out=") (h 0 (lit≤ tt) k)
 
-frame-same : (o : Osc) (k : ℕ) (a : Answer) (w : Volts) → outputsText o w ≡ outputsText o (voltsOf a) → frameText o k (markedOf (markNumber a) w) ≡ frameText o k a
-unfolding frameText markedText markedOf marks.answerOf markNumber voltsOf
-frame-same o k (answer.Clean v) w h = ap (λ (t : List ℕ). countLine (ascii "n=") k ++ wordLine (ascii "mark=") (ascii "clean") ++ t) h
-frame-same o k (answer.Cleared v) w h = ap (λ (t : List ℕ). countLine (ascii "n=") k ++ wordLine (ascii "mark=") (ascii "cleared") ++ t) h
-frame-same o k (answer.NotFinite v) w h = ap (λ (t : List ℕ). countLine (ascii "n=") k ++ wordLine (ascii "mark=") (ascii "notfinite") ++ t) h
-frame-same o k (answer.Lost v) w h = ap (λ (t : List ℕ). countLine (ascii "n=") k ++ wordLine (ascii "mark=") (ascii "lost") ++ t) h
-frame-same o k (answer.Refused n) w h = refl
+frame-same : (o : Osc) (k : ℕ) (a : Answer) (w : Volts) → accepted a ≡ true → outputsText o w ≡ outputsText o (voltsOf a) → frameText o k (marks.answerOf (hostNumber a) w) ≡ frameText o k a
+unfolding frameText markedText marks.answerOf hostNumber accepted markNumber voltsOf
+frame-same o k (answer.Clean v) w t h = ap (λ (t : List ℕ). countLine (ascii "n=") k ++ wordLine (ascii "mark=") (ascii "clean") ++ t) h
+frame-same o k (answer.Cleared v) w t h = ap (λ (t : List ℕ). countLine (ascii "n=") k ++ wordLine (ascii "mark=") (ascii "cleared") ++ t) h
+frame-same o k (answer.NotFinite v) w t h = ap (λ (t : List ℕ). countLine (ascii "n=") k ++ wordLine (ascii "mark=") (ascii "notfinite") ++ t) h
+frame-same o k (answer.Lost v) w t h = ap (λ (t : List ℕ). countLine (ascii "n=") k ++ wordLine (ascii "mark=") (ascii "lost") ++ t) h
+frame-same o k (answer.Refused n) w t h = absurd (false≢true t)
 
 module _ (p : Player) (n : ℕ) (l : List Float) (m : List ℕ) (room : roomFor (p .tally) n ≡ true)
+    (all : AllAccepted (voiceAnswer (p .controls)) (voiceNext (p .controls)) (p .voices))
     (el : l ≡ joined (frameAt (portsIn (kindOf (p .controls))) (voiceAnswer (p .controls)) (voiceNext (p .controls)) (p .voices)) n)
     (em : m ≡ tab (markAt (voiceAnswer (p .controls)) (voiceNext (p .controls)) (p .voices)) n) where
   told : ℕ → Answer
   told k = answerAt (voiceAnswer (p .controls)) (voiceNext (p .controls)) (p .voices) k
 
   player-at : (k : ℕ) → k ≤ n → afterOf k p ≡ blockAfter p k
-  player-at k h = let r = room-says (p .tally) n room in after-block p (r .0) k (omega (arith, r .1))
+  player-at k h = let r = room-says (p .tally) n room in after-block p (r .0) all k (omega (arith, r .1))
 
   frame-at : (k : ℕ) → k ≤ n → frameOf (afterOf k p) ≡ frameText (kindOf (p .controls)) (p .frame + k) (told k)
   unfolding frameOf answerOf blockAfter answerAt told
   frame-at k h = ap frameOf (player-at k h)
 
-  mark-at : (k : ℕ) → k < n → getD m k 0 ≡ markNumber (told k)
+  mark-at : (k : ℕ) → k < n → getD m k 0 ≡ hostNumber (told k)
   unfolding told
   mark-at k h = ap (λ (x : List ℕ). getD x k 0) em ∙ getD-tab 0 (markAt (voiceAnswer (p .controls)) (voiceNext (p .controls)) (p .voices)) n k h
 
@@ -231,8 +242,8 @@ module _ (p : Player) (n : ℕ) (l : List Float) (m : List ℕ) (room : roomFor 
   frame-is : (k : ℕ) → k < n → frameAtOf (kindOf (p .controls)) (p .frame) l m k ≡ frameOf (afterOf k p)
   frame-is k h =
       let o = kindOf (p .controls) in
-      ap (λ (x : ℕ). frameText o (p .frame + k) (markedOf x (voltsAt (portsIn o) l k))) (mark-at k h)
-      ∙ frame-same o (p .frame + k) (told k) (voltsAt (portsIn o) l k) (outputs-told k h)
+      ap (λ (x : ℕ). frameText o (p .frame + k) (marks.answerOf x (voltsAt (portsIn o) l k))) (mark-at k h)
+      ∙ frame-same o (p .frame + k) (told k) (voltsAt (portsIn o) l k) (unfold told in all k) (outputs-told k h)
       ∙ sym (frame-at k (omega arith))
 
   text-is : (k : ℕ) → k ≤ n → blockText (kindOf (p .controls)) (p .frame) l m k ≡ textOf k p
@@ -241,7 +252,10 @@ module _ (p : Player) (n : ℕ) (l : List Float) (m : List ℕ) (room : roomFor 
   text-is (suc k) h = (λ i. text-is k (omega arith) i ++ frame-is k (omega arith) i) ∙ sym (text-last p k) ∙ ap (λ (x : ℕ). textOf x p) (add-one k)
 
 -- ---- a block of frames, from what it calls
-module _ (p : Player) (n : ℕ) (v : Voices) (t : Tally) (l : List Float) (m : List ℕ) (o : Osc) (eo : o ≡ kindOf (p .controls)) (e : block 0 v t l m ≡ framesOf (p .controls) (p .voices) (p .tally) n) where
+module _ (p : Player) (n : ℕ) (v : Voices) (t : Tally) (l : List Float) (m : List ℕ) (o : Osc) (eo : o ≡ kindOf (p .controls)) (played : AllPlayed (p .controls) (p .voices) (p .tally) n (block 0 v t l m)) where
+  e : block 0 v t l m ≡ framesOf (p .controls) (p .voices) (p .tally) n
+  e = played .frames
+
   same-samples : l ≡ joined (frameAt (portsIn (kindOf (p .controls))) (voiceAnswer (p .controls)) (voiceNext (p .controls)) (p .voices)) n
   unfolding framesOf ticksOf
   same-samples = ap (λ (b : Block Voices). b .samples) e
@@ -259,25 +273,25 @@ module _ (p : Player) (n : ℕ) (v : Voices) (t : Tally) (l : List Float) (m : L
   pub block-sizes : p .frame + n ≤ 4294967295 → (p .frame + length m ≤ 4294967295) × (length l ≡ portsIn o * length m)
   block-sizes h = (omega (arith, marks-size), rw (marks-size, eo) samples-size)
 
-  same-player : roomFor (p .tally) n ≡ true → _≡_ {A = Player} (record { controls = p .controls; voices = v; tally = t; frame = p .frame + n; frames = p .frames }) (afterOf n p)
+  same-player : _≡_ {A = Player} (record { controls = p .controls; voices = v; tally = t; frame = p .frame + n; frames = p .frames }) (afterOf n p)
   unfolding framesOf ticksOf blockAfter
-  same-player room = (λ i. record { controls = p .controls; voices = e i .state; tally = e i .tally; frame = p .frame + n; frames = p .frames }) ∙ sym (player-at p n l m room same-samples same-marks n (omega arith))
+  same-player = (λ i. record { controls = p .controls; voices = e i .state; tally = e i .tally; frame = p .frame + n; frames = p .frames }) ∙ sym (player-at p n l m (played .room) (played .taken) same-samples same-marks n (omega arith))
 
-  pub block-played : (out q : List ℕ) (at to : ℕ) → roomFor (p .tally) n ≡ true → Put out at (blockText o (p .frame) l m (length m)) to q
+  pub block-played : (out q : List ℕ) (at to : ℕ) → Put out at (blockText o (p .frame) l m (length m)) to q
       → Done out at (textOf n p) (afterOf n p) (record { player = record { controls = p .controls; voices = v; tally = t; frame = p .frame + n; frames = p .frames }; to = to }) q
   unfolding playedOf
-  block-played out q at to room put =
-      let same : blockText o (p .frame) l m (length m) ≡ textOf n p = rw (eo, marks-size) (text-is p n l m room same-samples same-marks n (omega arith)) in
+  block-played out q at to put =
+      let same : blockText o (p .frame) l m (length m) ≡ textOf n p = rw (eo, marks-size) (text-is p n l m (played .room) (played .taken) same-samples same-marks n (omega arith)) in
       let place = put .0 ∙ ap (placeOf out at) same in
-      let who = same-player room in
+      let who = same-player in
       (λ i. record { player = who i; to = place i }, put .1 ∙ ap (sets out at) same)
 
 -- ---- one frame's text after those before it
-pub frame-put : (o : Osc) (first : ℕ) (l : List Float) (m : List ℕ) (i ports : ℕ) (v : Volts) (a : Answer) (out q r : List ℕ) (at to end : ℕ) → ports ≡ portsIn o → v ≡ voltsAt ports l i → a ≡ markedOf (getD m i 0) v
+pub frame-put : (o : Osc) (first : ℕ) (l : List Float) (m : List ℕ) (i ports : ℕ) (v : Volts) (a : Answer) (out q r : List ℕ) (at to end : ℕ) → ports ≡ portsIn o → v ≡ voltsAt ports l i → a ≡ marks.answerOf (getD m i 0) v
     → Put out at (blockText o first l m i) to q → Put q to (frameText o (first + i) a) end r → Put out at (blockText o first l m (i + 1)) end r
 unfolding blockText
 frame-put o first l m i ports v a out q r at to end ep ev ea before put =
-    let e : a ≡ markedOf (getD m i 0) (voltsAt (portsIn o) l i) = ea ∙ ap (markedOf (getD m i 0)) (ev ∙ ap (λ (n : ℕ). voltsAt n l i) ep) in
+    let e : a ≡ marks.answerOf (getD m i 0) (voltsAt (portsIn o) l i) = ea ∙ ap (marks.answerOf (getD m i 0)) (ev ∙ ap (λ (n : ℕ). voltsAt n l i) ep) in
     rw (more i) (after out at (joined (frameAtOf o first l m) i) (frameAtOf o first l m i) before (rw e at put))
   where
     more : (i : ℕ) → joined (frameAtOf o first l m) (i + 1) ≡ joined (frameAtOf o first l m) i ++ frameAtOf o first l m i
@@ -305,21 +319,29 @@ taken-room a n most l h k = omega (arith, length-take n l)
 -- ---- each voice
 module _ (v : Voices) (t u : Tally) (samples after : List Float) (marks marked : List ℕ) (r : ℕ) where
   pub vco-heard : (c : VcoControls) (s : Vco) → block r s u after marked ≡ vcoBlockOf (v .vco) c 15 t samples marks → r ≡ 0
-      → (roomFor t (length marks) ≡ true) × (block 0 (record { vco = s; lfo = v .lfo; supersaw = v .supersaw; formant = v .formant }) u after marked ≡ framesOf (controls.Vco c) v t (length marks))
+      → AllPlayed (controls.Vco c) v t (length marks) (block 0 (record { vco = s; lfo = v .lfo; supersaw = v .supersaw; formant = v .formant }) u after marked)
   unfolding vcoBlockOf framesOf kindOf portsIn soundOf
-  vco-heard c s = heard _ _ (voiceAnswer (controls.Vco c)) (voiceNext (controls.Vco c)) (λ (s : Vco). record { vco = s; lfo = v .lfo; supersaw = v .supersaw; formant = v .formant }) (λ s. refl) (λ s. refl) 4 _ (v .vco) t samples marks r s u after marked
+  vco-heard c s e z =
+      let k = heard _ _ (voiceAnswer (controls.Vco c)) (voiceNext (controls.Vco c)) (λ (s : Vco). record { vco = s; lfo = v .lfo; supersaw = v .supersaw; formant = v .formant }) (λ s. refl) (λ s. refl) 4 _ (v .vco) t samples marks r s u after marked (vco-held.block-accepts (v .vco) c 15) e z in
+      record { room = k .0; taken = k .1; frames = k .2 }
 
   pub lfo-heard : (c : LfoControls) (s : Lfo) → block r s u after marked ≡ lfoBlockOf (v .lfo) c 31 t samples marks → r ≡ 0
-      → (roomFor t (length marks) ≡ true) × (block 0 (record { vco = v .vco; lfo = s; supersaw = v .supersaw; formant = v .formant }) u after marked ≡ framesOf (controls.Lfo c) v t (length marks))
+      → AllPlayed (controls.Lfo c) v t (length marks) (block 0 (record { vco = v .vco; lfo = s; supersaw = v .supersaw; formant = v .formant }) u after marked)
   unfolding lfoBlockOf framesOf kindOf portsIn soundOf
-  lfo-heard c s = heard _ _ (voiceAnswer (controls.Lfo c)) (voiceNext (controls.Lfo c)) (λ (s : Lfo). record { vco = v .vco; lfo = s; supersaw = v .supersaw; formant = v .formant }) (λ s. refl) (λ s. refl) 5 _ (v .lfo) t samples marks r s u after marked
+  lfo-heard c s e z =
+      let k = heard _ _ (voiceAnswer (controls.Lfo c)) (voiceNext (controls.Lfo c)) (λ (s : Lfo). record { vco = v .vco; lfo = s; supersaw = v .supersaw; formant = v .formant }) (λ s. refl) (λ s. refl) 5 _ (v .lfo) t samples marks r s u after marked (lfo-held.block-accepts (v .lfo) c 31) e z in
+      record { room = k .0; taken = k .1; frames = k .2 }
 
   pub supersaw-heard : (c : SupersawControls) (s : Supersaw) → block r s u after marked ≡ supersawBlockOf (v .supersaw) c t samples marks → r ≡ 0
-      → (roomFor t (length marks) ≡ true) × (block 0 (record { vco = v .vco; lfo = v .lfo; supersaw = s; formant = v .formant }) u after marked ≡ framesOf (controls.Supersaw c) v t (length marks))
+      → AllPlayed (controls.Supersaw c) v t (length marks) (block 0 (record { vco = v .vco; lfo = v .lfo; supersaw = s; formant = v .formant }) u after marked)
   unfolding supersawBlockOf framesOf kindOf portsIn soundOf
-  supersaw-heard c s = heard _ _ (voiceAnswer (controls.Supersaw c)) (voiceNext (controls.Supersaw c)) (λ (s : Supersaw). record { vco = v .vco; lfo = v .lfo; supersaw = s; formant = v .formant }) (λ s. refl) (λ s. refl) 2 _ (v .supersaw) t samples marks r s u after marked
+  supersaw-heard c s e z =
+      let k = heard _ _ (voiceAnswer (controls.Supersaw c)) (voiceNext (controls.Supersaw c)) (λ (s : Supersaw). record { vco = v .vco; lfo = v .lfo; supersaw = s; formant = v .formant }) (λ s. refl) (λ s. refl) 2 _ (v .supersaw) t samples marks r s u after marked (supersaw-held.block-accepts (v .supersaw) c) e z in
+      record { room = k .0; taken = k .1; frames = k .2 }
 
   pub formant-heard : (c : FormantControls) (s : FormantOsc) → block r s u after marked ≡ formantBlockOf (v .formant) c t samples marks → r ≡ 0
-      → (roomFor t (length marks) ≡ true) × (block 0 (record { vco = v .vco; lfo = v .lfo; supersaw = v .supersaw; formant = s }) u after marked ≡ framesOf (controls.Formant c) v t (length marks))
+      → AllPlayed (controls.Formant c) v t (length marks) (block 0 (record { vco = v .vco; lfo = v .lfo; supersaw = v .supersaw; formant = s }) u after marked)
   unfolding formantBlockOf framesOf kindOf portsIn soundOf
-  formant-heard c s = heard _ _ (voiceAnswer (controls.Formant c)) (voiceNext (controls.Formant c)) (λ (s : FormantOsc). record { vco = v .vco; lfo = v .lfo; supersaw = v .supersaw; formant = s }) (λ s. refl) (λ s. refl) 1 _ (v .formant) t samples marks r s u after marked
+  formant-heard c s e z =
+      let k = heard _ _ (voiceAnswer (controls.Formant c)) (voiceNext (controls.Formant c)) (λ (s : FormantOsc). record { vco = v .vco; lfo = v .lfo; supersaw = v .supersaw; formant = s }) (λ s. refl) (λ s. refl) 1 _ (v .formant) t samples marks r s u after marked (formant-held.block-accepts (v .formant) c) e z in
+      record { room = k .0; taken = k .1; frames = k .2 }

@@ -3,7 +3,7 @@ use Prim.Native.Nat.{ℕ, _+_}
 use mathlib.Core.List.{List}
 use mathlib.Core.Path.{_≡_, sym, ap, _∙_}
 use lib.Seq.{sets}
-use Rattle.answer.specs.Tally.{tallyOf}
+use Rattle.answer.specs.Tally.{tallyOf, tallyOr}
 use Rattle.answer.specs.declared.Answer.{Answer}
 use Rattle.answer.specs.declared.Tally.{Tally}
 use Rattle.answer.specs.declared.Tallied.{Tallied}
@@ -12,7 +12,7 @@ use Rattle.text.specs.Promises.{Put}
 use Rattle.text.specs.Put.{placeOf}
 use Rattle.text.proofs.PutLaws.{after}
 use Rattle.frame.specs.Frame.{frameText}
-use Rattle.player.specs.Player.{kindOf, soundOf, keptBy, answerOf, frameOf, nextOf, textOf, afterOf, playedOf}
+use Rattle.player.specs.Player.{kindOf, soundOf, answerOf, frameOf, nextOf, textOf, afterOf, playedOf}
 use Rattle.player.specs.declared.Player.{Player}
 use Rattle.player.specs.declared.Played.{Played}
 use Rattle.player.specs.declared.Sounded.{Sounded}
@@ -24,7 +24,7 @@ Done out at t p r q = (r ≡ playedOf out at t p) × (q ≡ sets out at t)
 
 -- ---- a step, from what it calls
 module _ (out q : List ℕ) (at to : ℕ) (p : Player) (s : Sounded) (o : Osc) (u : Tallied) (t : Tally)
-    (es : s ≡ soundOf (p .controls) (p .voices)) (eo : o ≡ kindOf (p .controls)) (eu : u ≡ tallyOf (p .tally) (s .answer)) (et : t ≡ keptBy (p .tally) u)
+    (es : s ≡ soundOf (p .controls) (p .voices)) (eo : o ≡ kindOf (p .controls)) (eu : u ≡ tallyOf (p .tally) (s .answer)) (et : t ≡ tallyOr (p .tally) u)
     (put : Put out at (frameText o (p .frame) (s .answer)) to q) where
   same-answer : s .answer ≡ answerOf p
   unfolding answerOf
@@ -36,7 +36,7 @@ module _ (out q : List ℕ) (at to : ℕ) (p : Player) (s : Sounded) (o : Osc) (
 
   same-tally : t ≡ nextOf p .tally
   unfolding nextOf
-  same-tally = et ∙ ap (keptBy (p .tally)) (eu ∙ ap (tallyOf (p .tally)) same-answer)
+  same-tally = et ∙ ap (tallyOr (p .tally)) (eu ∙ ap (tallyOf (p .tally)) same-answer)
 
   pub stepped : Done out at (frameOf p) (nextOf p) (record { player = record { controls = p .controls; voices = s .voices; tally = t; frame = p .frame + 1; frames = p .frames }; to = to }) q
   unfolding playedOf nextOf

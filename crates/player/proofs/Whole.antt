@@ -5,7 +5,7 @@ use mathlib.Core.Path.{_≡_, refl, sym, ap, _∙_}
 use native.Mathlib.Numerals.{add-one}
 use native.Mathlib.Omega.{arith}
 use lib.ListN.{length, length-append}
-use Rattle.answer.specs.Tally.{tallyOf, Run, settle, run}
+use Rattle.answer.specs.Tally.{tallyOf, Run, settle, run, talliedNumber, tallyOr}
 use Rattle.answer.specs.declared.Answer.{Answer}
 use Rattle.answer.specs.declared.Tally.{Tally}
 use Rattle.answer.specs.declared.Tallied.{Tallied}
@@ -17,7 +17,7 @@ use Rattle.frame.specs.Frame.{frameText}
 use Rattle.frame.proofs.Lengths.{frame-length}
 use Rattle.player.specs.Begin.{rateOf}
 use Rattle.player.specs.Play.{answers, heardFrom, heardOf, oscOf, framesText, tallyFrom, playOf}
-use Rattle.player.specs.Player.{controlsOf, voicesAt, beginOf, kindOf, soundOf, keptBy, answerOf, frameOf, nextOf, textOf, afterOf, finishOf}
+use Rattle.player.specs.Player.{controlsOf, voicesAt, beginOf, kindOf, soundOf, answerOf, frameOf, nextOf, textOf, afterOf, finishOf}
 use Rattle.player.specs.Promises.{Plays, Piece-length}
 use Rattle.player.specs.declared.Controls.{Controls}
 use Rattle.player.specs.declared.Voices.{Voices}
@@ -39,8 +39,8 @@ unfolding textOf framesText answersFrom answers
 text-frames zero p = refl
 text-frames (suc k) p = ap (λ (t : List ℕ). frameOf p ++ t) (text-frames k (nextOf p)) ∙ frames-next k p
 
-settle-kept : (r : Run) (a : Answer) (u : Tallied) → settle r a u .tally ≡ keptBy (r .tally) u
-unfolding settle keptBy
+settle-kept : (r : Run) (a : Answer) (u : Tallied) → settle r a u .tally ≡ tallyOr (r .tally) u
+unfolding settle talliedNumber tallyOr
 settle-kept r a (tallied.Taken t) = refl
 settle-kept r a (tallied.Refused n) = refl
 

@@ -1,16 +1,17 @@
 -- Frames played by a block: what n ticks of a voice leave, and the texts that samples and marks stand for.
-use mathlib.Core.Bool.{cond}
+use mathlib.Core.Bool.{true, cond}
 use mathlib.Core.List.{List}
+use mathlib.Core.Path.{_≡_}
 use Prim.Native.Nat.{ℕ, _+_, _*_}
-use lib.Dec.{eqb, ltb}
+use lib.Dec.{ltb}
 use lib.Ieee.{Float, nan}
 use lib.ListN.{getD}
 use Rattle.laws.specs.Float.{zer}
 use Rattle.answer.specs.Answer.{answerOf}
-use Rattle.answer.specs.Block.{Block, joined, ticksOf}
+use Rattle.answer.specs.Block.{Block, roomFor, joined, ticksOf}
+use Rattle.answer.specs.Promises.{AllAccepted}
 use Rattle.answer.specs.declared.Volts.{Volts}
 use Rattle.answer.specs.declared.Answer.{Answer}
-use Rattle.answer.specs.declared.Answer.the-variants as answer
 use Rattle.answer.specs.declared.Tally.{Tally}
 use Rattle.score.specs.declared.Osc.{Osc}
 use Rattle.score.specs.declared.Osc.the-variants.{Vco, Lfo, Supersaw, Formant}
@@ -36,6 +37,12 @@ voiceNext c v = soundOf c v .voices
 unfoldable pub framesOf : Controls → Voices → Tally → ℕ → Block Voices
 framesOf c v t n = ticksOf (portsIn (kindOf c)) (voiceAnswer c) (voiceNext c) n v t
 
+-- what an accepted block of them is: its tally had room, none was refused, and it left what they leave
+pub record AllPlayed (c : Controls) (v : Voices) (t : Tally) (n : ℕ) (b : Block Voices) : Type 0 where
+  pub room : roomFor t n ≡ true
+  pub taken : AllAccepted (voiceAnswer c) (voiceNext c) v
+  pub frames : b ≡ framesOf c v t n
+
 -- ---- what samples and marks stand for
 -- output j of frame i; 0.0 where there is no such output
 unfoldable pub outputAt : ℕ → List Float → ℕ → ℕ → Float
@@ -51,12 +58,8 @@ voltsAt ports samples i =
       p14 = outputAt ports samples i 4;
     }
 
--- the answer that a mark's number stands for; a refused tick's is 0
-unfoldable pub markedOf : ℕ → Volts → Answer
-markedOf n v = cond (eqb n 0) (answer.Refused 0) (answerOf n v)
-
 abbrev pub frameAtOf : Osc → ℕ → List Float → List ℕ → ℕ → List ℕ
-frameAtOf o first samples marks i = frameText o (first + i) (markedOf (getD marks i 0) (voltsAt (portsIn o) samples i))
+frameAtOf o first samples marks i = frameText o (first + i) (answerOf (getD marks i 0) (voltsAt (portsIn o) samples i))
 
 -- the texts of the first k frames, numbered from `first` on
 unfoldable pub blockText : Osc → ℕ → List Float → List ℕ → ℕ → List ℕ

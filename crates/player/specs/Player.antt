@@ -1,11 +1,9 @@
 -- A player: where the playing of a score stands. It gives the texts of k frames at a time.
 use Prim.Native.Nat.{ℕ, zero, suc, _+_, _-_, min}
 use mathlib.Core.List.{List, [], _++_}
-use Rattle.answer.specs.Tally.{newTally, tallyOf}
+use Rattle.answer.specs.Tally.{newTally, tallyOf, tallyOr}
 use Rattle.answer.specs.declared.Answer.{Answer}
 use Rattle.answer.specs.declared.Tally.{Tally}
-use Rattle.answer.specs.declared.Tallied.{Tallied}
-use Rattle.answer.specs.declared.Tallied.the-variants as tallied
 use Rattle.common.specs.declared.Hertz.{Hertz}
 use Rattle.score.specs.declared.Osc.{Osc}
 use Rattle.score.specs.declared.Osc.the-variants as osc
@@ -52,12 +50,7 @@ soundOf (Lfo c) v = let t = lfoTickOf (v .lfo) c 31 in record { answer = t .answ
 soundOf (Supersaw c) v = let t = supersawTickOf (v .supersaw) c in record { answer = t .answer; voices = record { vco = v .vco; lfo = v .lfo; supersaw = t .supersaw; formant = v .formant } }
 soundOf (Formant c) v = let t = formantTickOf (v .formant) c in record { answer = t .answer; voices = record { vco = v .vco; lfo = v .lfo; supersaw = v .supersaw; formant = t .formant } }
 
--- an answer that the tally refuses leaves it
-unfoldable pub keptBy : Tally → Tallied → Tally
-keptBy t (tallied.Taken u) = u
-keptBy t (tallied.Refused n) = t
-
--- the next frame: its answer, its text, and the player after it
+-- the next frame; an answer that the tally refuses leaves it: its answer, its text, and the player after it
 unfoldable pub answerOf : Player → Answer
 answerOf p = soundOf (p .controls) (p .voices) .answer
 
@@ -69,7 +62,7 @@ nextOf p =
     record {
       controls = p .controls;
       voices = soundOf (p .controls) (p .voices) .voices;
-      tally = keptBy (p .tally) (tallyOf (p .tally) (answerOf p));
+      tally = tallyOr (p .tally) (tallyOf (p .tally) (answerOf p));
       frame = p .frame + 1;
       frames = p .frames;
     }

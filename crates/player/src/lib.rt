@@ -1,6 +1,5 @@
 // A score is played in blocks of frames, so many at a time.
 use answer::Answer;
-use answer::Tallied;
 use answer::Tally;
 use answer::Volts;
 use common::EdgeDetector;
@@ -25,19 +24,18 @@ use supersaw::SupersawControls;
 use vco::Vco;
 use vco::VcoControls;
 ghost use mathlib.Core.Path.{_≡_};
-ghost use mathlib.Core.Bool.{true};
 ghost use Prim.Native.Nat.{_<_, _≤_, _+_, _*_, min};
 ghost use lib.ListN.{length};
 ghost use lib.Seq.{sets};
-ghost use Rattle.answer.specs.Block.{roomFor, block};
+ghost use Rattle.answer.specs.Block.{block};
 ghost use Rattle.text.specs.Put.{placeOf};
 ghost use Rattle.vco.specs.Vco.{newVco};
 ghost use Rattle.lfo.specs.Lfo.{newLfo};
 ghost use Rattle.supersaw.specs.Supersaw.{newSupersaw};
 ghost use Rattle.formant_osc.specs.FormantOsc.{newFormantOsc};
 ghost use Rattle.player.specs.Begin.{rateOf, vcoControls, lfoControls, supersawControls, formantControls};
-ghost use Rattle.player.specs.Player.{controlsOf, voicesAt, beginOf, kindOf, soundOf, keptBy, frameOf, nextOf, textOf, afterOf, turnsOf, playedOf, finishOf};
-ghost use Rattle.player.specs.Block.{portsIn, framesOf, outputAt, voltsAt, markedOf, blockText};
+ghost use Rattle.player.specs.Player.{controlsOf, voicesAt, beginOf, kindOf, soundOf, frameOf, nextOf, textOf, afterOf, turnsOf, playedOf, finishOf};
+ghost use Rattle.player.specs.Block.{portsIn, AllPlayed, outputAt, voltsAt, blockText};
 
 // The inputs in volts, which say what is played.
 pub enum Controls {
@@ -263,16 +261,6 @@ fn sound(controls: Controls, mut voices: Voices) -> Sounded
     }
 }
 
-// The tally after an answer; one that refuses it stays as it stood.
-fn kept(tally: Tally, tallied: Tallied) -> Tally
-    ensures { λ r. ⌜ r ≡ keptBy tally tallied ⌝ }
-{
-    match tallied {
-        Tallied::Taken(t) => t,
-        Tallied::Refused(_) => tally,
-    }
-}
-
 // One frame: a tick, its text, and the tally of its answer.
 fn step(out: &mut [u8], at: usize, player: Player) -> Played
     requires { ⌜ player .frame < 4294967295 ⌝ }
@@ -290,7 +278,7 @@ fn step(out: &mut [u8], at: usize, player: Player) -> Played
         player: Player {
             controls,
             voices,
-            tally: kept(tally, tally.take(answer)),
+            tally: tally.take(answer).or(tally),
             frame: player.frame + 1,
             frames: player.frames,
         },
@@ -339,7 +327,7 @@ fn hear(
     samples: &mut [f64],
     marks: &mut [u32],
 ) -> Heard
-    ensures { λ r. ⌜ (r .refused ≡ 0 → (roomFor tally (length (now (marks .entry))) ≡ true) × (block 0 (r .voices) (r .tally) (now (samples .exit)) (now (marks .exit)) ≡ framesOf controls voices tally (length (now (marks .entry))))) ⌝ }
+    ensures { λ r. ⌜ (r .refused ≡ 0 → AllPlayed controls voices tally (length (now (marks .entry))) (block 0 (r .voices) (r .tally) (now (samples .exit)) (now (marks .exit)))) ⌝ }
 {
     match controls {
         Controls::Vco(c) => {
@@ -418,17 +406,6 @@ fn volts_at(ports: usize, samples: &[f64], i: usize) -> Volts
     }
 }
 
-// The answer that a mark's number stands for; a refused tick's is 0.
-fn marked(mark: u32, v: Volts) -> Answer
-    ensures { λ r. ⌜ r ≡ markedOf mark v ⌝ }
-{
-    if mark == 0 {
-        Answer::Refused(0)
-    } else {
-        answer::answer_of(mark, v)
-    }
-}
-
 // The texts of a block's frames, numbered from `first` on.
 fn put_frames(
     out: &mut [u8],
@@ -446,7 +423,7 @@ fn put_frames(
     let mut to = at;
     let mut i = 0;
     while i < marks.len() {
-        let heard = marked(marks[i], volts_at(ports, samples, i));
+        let heard = answer::answer_of(marks[i], volts_at(ports, samples, i));
         to = frame::put_frame(&mut *out, to, osc, first + (i as u32), heard);
         i += 1;
     }

@@ -1,6 +1,6 @@
 -- Every contract is one equation, and one equation settles an answer.
-use Rattle.laws.proofs.Settled.{settled}
+use Rattle.laws.proofs.Settled as laws
 use Rattle.score.specs.Settled.{Settled}
 
-pub score-settled : Settled
-score-settled = record { volts = λ c. settled _; read = λ text. settled _ }
+pub settled : Settled
+settled = record { volts = λ c. laws.settled _; read = λ text. laws.settled _ }

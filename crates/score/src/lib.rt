@@ -2,10 +2,11 @@
 ghost use mathlib.Core.Path.{_≡_};
 ghost use lib.ListN.{drop};
 ghost use Rattle.score.specs.Control.{voltsOf};
-ghost use Rattle.score.specs.Lines.{oscOf, withinOf, controlOf, oscLine, wholeLine, controlLine};
+ghost use Rattle.score.specs.Lines.{oscOf, withinOf, controlOf};
 ghost use Rattle.score.specs.Score.{endOf, vcoOf, lfoOf, supersawOf, formantOf, inputsOf, framesOf, hzOf, scoreOf};
-ghost use Rattle.score.specs.Places.{from, beginOf, takeOf};
+ghost use Rattle.score.specs.Places.{lineOf, lineAt, oscIn, wholeIn, controlIn, from, beginOf, takenOf, takeOf};
 use line::Number;
+use line::Reader;
 
 // ---- what a score says
 
@@ -157,31 +158,60 @@ fn control_of(n: Number) -> ControlLine
     }
 }
 
-fn osc_line(text: &[u8], at: usize) -> OscLine
-    ensures { λ r. ⌜ r ≡ oscLine (drop at (now (text .entry))) ⌝ }
+// A line: whether it is the one asked for, its value as an oscillator's name and as a number, and the place of the next line.
+struct Line {
+    asked: bool,
+    osc: OscLine,
+    number: Number,
+    next: usize,
+}
+
+fn line_of(asked: bool, value: &[u8], next: usize) -> Line
+    ensures { λ r. ⌜ r ≡ lineOf asked (now (value .entry)) next ⌝ }
 {
-    if line::is_line(text, at, b"osc") {
-        osc_of(line::value_at(text, at))
+    Line {
+        asked,
+        osc: osc_of(value),
+        number: line::number_of(value),
+        next,
+    }
+}
+
+// The line at `at`, where one of this key is asked for: a reader stands there, answers all of it and moves on.
+fn line_at(text: &[u8], at: usize, key: &[u8]) -> Line
+    ensures { λ r. ⌜ r ≡ lineAt (now (text .entry)) at (now (key .entry)) ⌝ }
+{
+    let reader = Reader { text, at };
+    line_of(reader.is_line(key), reader.value(), reader.next().at)
+}
+
+fn osc_in(line: Line) -> OscLine
+    ensures { λ r. ⌜ r ≡ oscIn line ⌝ }
+{
+    if line.asked {
+        line.osc
     } else {
         OscLine::Refused(21)
     }
 }
 
-fn whole_line(text: &[u8], at: usize, key: &[u8], least: u32, most: u32) -> WholeLine
-    ensures { λ r. ⌜ r ≡ wholeLine (now (key .entry)) least most (drop at (now (text .entry))) ⌝ }
+fn whole_in(line: Line, least: u32, most: u32) -> WholeLine
+    ensures { λ r. ⌜ r ≡ wholeIn least most line ⌝ }
 {
-    if line::is_line(text, at, key) {
-        within(line::number_of(line::value_at(text, at)), least, most)
+    if line.asked {
+        let number = line.number;
+        within(number, least, most)
     } else {
         WholeLine::Refused(21)
     }
 }
 
-fn control_line(text: &[u8], at: usize, key: &[u8]) -> ControlLine
-    ensures { λ r. ⌜ r ≡ controlLine (now (key .entry)) (drop at (now (text .entry))) ⌝ }
+fn control_in(line: Line) -> ControlLine
+    ensures { λ r. ⌜ r ≡ controlIn line ⌝ }
 {
-    if line::is_line(text, at, key) {
-        control_of(line::number_of(line::value_at(text, at)))
+    if line.asked {
+        let number = line.number;
+        control_of(number)
     } else {
         ControlLine::Refused(21)
     }
@@ -209,22 +239,28 @@ fn begin(at: usize) -> Taken
     }
 }
 
+fn taken_of(line: Line) -> Taken
+    ensures { λ r. ⌜ r ≡ takenOf (controlIn line) (line .next) ⌝ }
+{
+    match control_in(line) {
+        ControlLine::Read(control) => Taken {
+            control,
+            place: Place::At(line.next),
+        },
+        ControlLine::Refused(n) => Taken {
+            control: Control::Nan,
+            place: Place::Refused(n),
+        },
+    }
+}
+
 // The line after the one that was taken before.
 fn take(text: &[u8], key: &[u8], before: Taken) -> Taken
     ensures { λ r. ⌜ r ≡ takeOf (now (text .entry)) (now (key .entry)) (before .place) ⌝ }
 {
     let place = before.place;
     match place {
-        Place::At(at) => match control_line(text, at, key) {
-            ControlLine::Read(control) => Taken {
-                control,
-                place: Place::At(line::next_at(text, at)),
-            },
-            ControlLine::Refused(n) => Taken {
-                control: Control::Nan,
-                place: Place::Refused(n),
-            },
-        },
+        Place::At(at) => taken_of(line_at(text, at, key)),
         Place::Refused(n) => Taken {
             control: Control::Nan,
             place: Place::Refused(n),
@@ -333,8 +369,9 @@ fn read_inputs(text: &[u8], at: usize, osc: Osc, hz: u32, frames: u32) -> Readin
 fn read_frames(text: &[u8], at: usize, osc: Osc, hz: u32) -> Reading
     ensures { λ r. ⌜ r ≡ framesOf osc hz (drop at (now (text .entry))) ⌝ }
 {
-    match whole_line(text, at, b"frames", 1, 480000) {
-        WholeLine::Read(frames) => read_inputs(text, line::next_at(text, at), osc, hz, frames),
+    let line = line_at(text, at, b"frames");
+    match whole_in(line, 1, 480000) {
+        WholeLine::Read(frames) => read_inputs(text, line.next, osc, hz, frames),
         WholeLine::Refused(n) => Reading::Refused(n),
     }
 }
@@ -342,8 +379,9 @@ fn read_frames(text: &[u8], at: usize, osc: Osc, hz: u32) -> Reading
 fn read_hz(text: &[u8], at: usize, osc: Osc) -> Reading
     ensures { λ r. ⌜ r ≡ hzOf osc (drop at (now (text .entry))) ⌝ }
 {
-    match whole_line(text, at, b"hz", 1000, 192000) {
-        WholeLine::Read(hz) => read_frames(text, line::next_at(text, at), osc, hz),
+    let line = line_at(text, at, b"hz");
+    match whole_in(line, 1000, 192000) {
+        WholeLine::Read(hz) => read_frames(text, line.next, osc, hz),
         WholeLine::Refused(n) => Reading::Refused(n),
     }
 }
@@ -355,8 +393,9 @@ pub fn read(text: &[u8]) -> Reading
     if 1024 < text.len() {
         return Reading::Refused(20);
     }
-    match osc_line(text, 0) {
-        OscLine::Read(osc) => read_hz(text, line::next_at(text, 0), osc),
+    let line = line_at(text, 0, b"osc");
+    match osc_in(line) {
+        OscLine::Read(osc) => read_hz(text, line.next, osc),
         OscLine::Refused(n) => Reading::Refused(n),
     }
 }

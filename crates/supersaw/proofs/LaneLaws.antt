@@ -8,7 +8,7 @@ use native.Mathlib.Nat.{le-of-suc-le-suc, eq-or-lt-of-le}
 use native.Mathlib.Omega.{arith}
 use lib.Dec.{T, lit<}
 use lib.ListN.{length, List·getD-append}
-use lib.Ieee.{Float, nan, binary64, round, add, sub, mul, div, lt, le, ofBits}
+use lib.Ieee.{Float, nan, binary64, round, add, sub, mul, lt, le, ofBits}
 use lib.Ieee.Bits.{is-true}
 use Rattle.common.proofs.PhaseLaws.{accepted-state}
 use Rattle.laws.proofs.Over.{length-tab, tab-ext, getD-tab}
@@ -28,7 +28,8 @@ use Rattle.common.specs.declared.Memo1.{Memo1}
 use Rattle.supersaw.proofs.Sign.{small, one-plus}
 use Rattle.supersaw.proofs.StepLaws.{Steady, steady-law}
 use Rattle.supersaw.specs.Consts.{detuneRatios, mixLevels}
-use Rattle.supersaw.specs.Lanes.{lanesOf, incsOf, sawsOf, sumsOf, wrapsOf, lanesFinite, mixTo, totalMix, blendOf, movedOf, steppedOf, advancedOf, steadyOf, lanesSteady, quietOf, rampsOf, rampedOf}
+use Rattle.supersaw.specs.Lanes.{lanesOf, incsOf, sawsOf, sumsOf, wrapsOf, lanesFinite, mixTo, totalMix}
+use Rattle.supersaw.specs.Lanes.{blendOf, movedOf, steppedOf, advancedOf, steadyOf, lanesSteady, quietOf, rampsOf, rampedOf}
 use Rattle.supersaw.specs.Supersaw.{phasesOk, supersawRefusalOf, supersawSoundOf}
 use Rattle.supersaw.specs.Voices.{at, freqOf, dtOf, sawOf, subDtOf, Voices, voiceOf, voicesOf}
 use Rattle.supersaw.specs.declared.Supersaw.{Supersaw}

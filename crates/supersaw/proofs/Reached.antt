@@ -2,7 +2,7 @@
 use mathlib.Core.Bool.{Bool, true, false, cond}
 use mathlib.Core.List.{List}
 use mathlib.Core.Path.{_≡_, refl, sym, ap, _∙_, subst}
-use Prim.Native.Nat.{ℕ, zero, suc, _≤_, _<_}
+use Prim.Native.Nat.{ℕ, zero, suc, _*_, _≤_, _<_}
 use native.Mathlib.Nat.{le-refl, le-of-lt}
 use native.Mathlib.Omega.{arith}
 use lib.Dec.{eqb}
@@ -17,12 +17,15 @@ use Rattle.common.proofs.PhaseLaws.{wrap-in, zero-in}
 use Rattle.common.specs.Phase.{turns}
 use Rattle.common.specs.Tests.{rateOk, phaseOk}
 use Rattle.common.specs.declared.Hertz.{Hertz}
+use Rattle.answer.proofs.Blocks.{block-keeps, block-refusal}
 use Rattle.answer.proofs.Laws.{mark-says}
-use Rattle.answer.specs.Answer.{accepted}
+use Rattle.answer.specs.Answer.{accepted, outcomeNumber}
+use Rattle.answer.specs.Block.{blockRefusalOf}
 use Rattle.laws.proofs.All.{all-at, all-of}
-use Rattle.supersaw.specs.Calls.{Call, Tick, Reset, SetSampleRate, Done, Refused, replyOf, after, reply, First, ReachedSupersaw}
+use Rattle.supersaw.specs.Calls.{Call, Tick, Play, Reset, SetSampleRate, Reply, Told, after, reply, First, ReachedSupersaw}
 use Rattle.supersaw.specs.Promises.{Never-refused}
-use Rattle.supersaw.specs.Supersaw.{startPhases, phasesOk, newSupersaw, supersawRefusalOf, madeUnless, supersawNewOf, supersawSoundOf, supersawTickOf, restarted, supersawResetOf, rated, supersawSetSampleRateOf}
+use Rattle.supersaw.specs.Supersaw.{startPhases, phasesOk, newSupersaw, supersawRefusalOf, madeUnless, supersawNewOf}
+use Rattle.supersaw.specs.Supersaw.{supersawSoundOf, supersawTickOf, supersawBlockOf, restarted, supersawResetOf, rated, supersawSetSampleRateOf}
 use Rattle.supersaw.specs.Voices.{at, voiceOf, voicesOf}
 use Rattle.supersaw.specs.declared.Supersaw.{Supersaw}
 use Rattle.supersaw.specs.declared.SupersawControls.{SupersawControls}
@@ -109,10 +112,15 @@ first-good s f = go (rateOk (f .0)) refl (f .1)
     go false e h = absurd (let k : outcome.Refused 1 ≡ outcome.Done = ap (λ (m : SupersawMade). m .outcome) h in let z : _≡_ {A = ℕ} 0 1 = cc in omega arith)
 
 -- ---- so it stays one
+good-tick : (s : Supersaw) → Good s → (c : SupersawControls) → Good (supersawTickOf s c .supersaw)
+good-tick s h c = subst (λ (t : SupersawTicked). Good (t .supersaw)) (sym (tick-is s h c)) (good-sound s h c)
+
 good-after : (s : Supersaw) (c : Call) → Good s → Good (after s c)
 unfolding after
-good-after s (Tick c) h = subst (λ (t : SupersawTicked). Good (t .supersaw)) (sym (tick-is s h c)) (good-sound s h c)
-good-after s Reset h = subst (λ (m : SupersawMade). Good (m .supersaw)) (sym (reset-is s h)) (record { rate = h .rate; phases = start; low = zero-in })
+good-after s (Tick c) h = good-tick s h c
+good-after s (Play c t o m) h = unfold supersawBlockOf in block-keeps 2 _ _ _ Good (λ r g. good-tick r g c) s h t o m
+good-after s Reset h =
+    subst (λ (m : SupersawMade). Good (m .supersaw)) (sym (reset-is s h)) (record { rate = h .rate; phases = start; low = zero-in })
 good-after s (SetSampleRate r) h = subst (λ (m : SupersawMade). Good (m .supersaw)) (sym (rate-is s h r)) (go (rateOk r) refl)
   where
     go : (b : Bool) → rateOk r ≡ b → Good (cond b (done (rated s r)) (refused 1 s) .supersaw)
@@ -134,10 +142,15 @@ never-refused s h =
       phases = g .phases .ok;
       «sub_phase» = g .low;
       ticks = λ c. ap (λ (t : SupersawTicked). accepted (t .answer)) (tick-is s g c) ∙ sound-accepted s c;
-      resets = ap (λ (m : SupersawMade). replyOf (m .outcome)) (reset-is s g) ∙ (unfold replyOf in refl);
-      rates = λ r. ap (λ (m : SupersawMade). replyOf (m .outcome)) (rate-is s g r) ∙ told r (rateOk r);
+      plays = λ c t o m. unfold supersawBlockOf in
+          block-refusal 2 _ _ _ s t o m ∙ ap (λ (n : ℕ). blockRefusalOf (eqb (length o) (2 * length m)) n t (length m)) (not-refused s g);
+      resets = ap told (reset-is s g) ∙ (unfold outcomeNumber in refl);
+      rates = λ r. ap told (rate-is s g r) ∙ by-rate r (rateOk r);
     }
   where
-    told : (r : Hertz) (b : Bool) → replyOf (cond b (done (rated s r)) (refused 1 s) .outcome) ≡ cond b Done (Refused 1)
-    told r true = unfold replyOf in refl
-    told r false = unfold replyOf in refl
+    told : SupersawMade → Reply
+    told m = Told (outcomeNumber (m .outcome))
+
+    by-rate : (r : Hertz) (b : Bool) → told (cond b (done (rated s r)) (refused 1 s)) ≡ Told (cond b 0 1)
+    by-rate r true = unfold outcomeNumber in refl
+    by-rate r false = unfold outcomeNumber in refl

@@ -2,7 +2,8 @@
 use mathlib.Core.Path.{_≡_}
 use mathlib.Core.Bool.{true, cond}
 use mathlib.Core.List.{List}
-use Prim.Native.Nat.{ℕ, _<_}
+use Prim.Native.Nat.{ℕ, _*_, _<_}
+use lib.Dec.{eqb}
 use lib.Ieee.{Float}
 use lib.ListN.{length}
 use Rattle.laws.specs.Machine.{Settles}
@@ -10,12 +11,12 @@ use Rattle.common.specs.Phase.{turns}
 use Rattle.common.specs.Tests.{rateOk, phaseOk}
 use Rattle.common.specs.declared.Hertz.{Hertz}
 use Rattle.answer.specs.Answer.{accepted}
-use Rattle.answer.specs.Block.{Block}
+use Rattle.answer.specs.Block.{Block, blockRefusalOf}
 use Rattle.answer.specs.Promises.{AllAccepted, AllTaken}
 use Rattle.answer.specs.declared.Tally.{Tally}
 use Rattle.supersaw.specs.Voices.{at}
 use Rattle.supersaw.specs.Supersaw.{supersawNewOf, supersawTickOf, supersawBlockOf, supersawResetOf, supersawSetSampleRateOf, supersawRefusalOf, supersawAnswerOf, supersawNextOf}
-use Rattle.supersaw.specs.Calls.{Done, Refused, Reset, SetSampleRate, reply, ReachedSupersaw}
+use Rattle.supersaw.specs.Calls.{Told, Reset, SetSampleRate, reply, ReachedSupersaw}
 use Rattle.supersaw.specs.declared.Supersaw.{Supersaw}
 use Rattle.supersaw.specs.declared.SupersawControls.{SupersawControls}
 use Rattle.supersaw.specs.declared.SupersawTicked.{SupersawTicked}
@@ -26,8 +27,11 @@ pub record Accepting (s : Supersaw) : Type 0 where
   pub phases : (i : ℕ) → i < 7 → phaseOk (turns (at (s .phases) i)) ≡ true
   pub «sub_phase» : phaseOk (s .«sub_phase») ≡ true
   pub ticks : (c : SupersawControls) → accepted (supersawTickOf s c .answer) ≡ true
-  pub resets : reply s Reset ≡ Done
-  pub rates : (r : Hertz) → reply s (SetSampleRate r) ≡ cond (rateOk r) Done (Refused 1)
+  -- by its buffers' 52 and its tally's 7 alone
+  pub plays : (c : SupersawControls) (t : Tally) (o : List Float) (m : List ℕ)
+      → supersawBlockOf s c t o m .refused ≡ blockRefusalOf (eqb (length o) (2 * length m)) 0 t (length m)
+  pub resets : reply s Reset ≡ Told 0
+  pub rates : (r : Hertz) → reply s (SetSampleRate r) ≡ Told (cond (rateOk r) 0 1)
 
 abbrev pub Never-refused : Type 0
 Never-refused = (s : Supersaw) → ReachedSupersaw s → Accepting s

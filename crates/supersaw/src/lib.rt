@@ -23,8 +23,10 @@ ghost use Rattle.laws.specs.Lists.{tab};
 ghost use Rattle.answer.specs.Answer.{hostNumber, voltsOf};
 ghost use Rattle.answer.specs.Block.{afterTicks, portsOf, joined, block, markAt, frameAt};
 ghost use Rattle.supersaw.specs.Voices.{freqOf, sawOf, subDtOf};
-ghost use Rattle.supersaw.specs.Supersaw.{startPhases, phasesOk, supersawRefusalOf, supersawNewOf, supersawSoundOf, supersawTickOf, supersawAnswerOf, supersawNextOf, supersawBlockOf, supersawResetOf, supersawSetSampleRateOf};
-ghost use Rattle.supersaw.specs.Lanes.{lanesOf, incsOf, sawsOf, rampsOf, sumsOf, wrapsOf, lanesFinite, steadyOf, lanesSteady, mixTo, blendOf, movedOf, steppedOf, rampedOf, quietOf, advancedOf};
+ghost use Rattle.supersaw.specs.Supersaw.{startPhases, phasesOk, supersawRefusalOf, supersawNewOf, supersawSoundOf};
+ghost use Rattle.supersaw.specs.Supersaw.{supersawTickOf, supersawAnswerOf, supersawNextOf, supersawBlockOf, supersawResetOf, supersawSetSampleRateOf};
+ghost use Rattle.supersaw.specs.Lanes.{lanesOf, incsOf, sawsOf, rampsOf, sumsOf, wrapsOf, lanesFinite, steadyOf};
+ghost use Rattle.supersaw.specs.Lanes.{lanesSteady, mixTo, blendOf, movedOf, steppedOf, rampedOf, quietOf, advancedOf};
 ghost use Rattle.supersaw.specs.Held.{heldAnswer, heldNext};
 
 pub struct Supersaw {
@@ -234,7 +236,8 @@ fn fits(samples: usize, n: usize) -> bool
 // What tick i of a block answers.
 fn put(a: Answer, i: usize, samples: &mut [f64], marks: &mut [u32])
     requires { ⌜ (i < length (now marks)) × (length (now samples) ≡ 2 * length (now marks)) ⌝ }
-    ensures { λ _. ⌜ (now (samples .exit) ≡ sets (now (samples .entry)) (2 * i) (portsOf 2 (voltsOf a))) × (now (marks .exit) ≡ set (now (marks .entry)) i (hostNumber a)) ⌝ }
+    ensures { λ _. ⌜ now (samples .exit) ≡ sets (now (samples .entry)) (2 * i) (portsOf 2 (voltsOf a)) ⌝ }
+    ensures { λ _. ⌜ now (marks .exit) ≡ set (now (marks .entry)) i (hostNumber a) ⌝ }
 {
     let v = answer::samples(a);
     let at = 2 * i;
@@ -500,7 +503,8 @@ impl Supersaw {
         samples: &mut [f64],
         marks: &mut [u32],
     ) -> [f64; 8]
-        requires { ⌜ ((t : List Float) → quietOf «base_freq» t dt ≡ true → rampedOf t dt mix ≡ steppedOf t dt mix) × (length (now samples) ≡ 2 * length (now marks)) ⌝ }
+        requires { ⌜ ((t : List Float) → quietOf «base_freq» t dt ≡ true → rampedOf t dt mix ≡ steppedOf t dt mix) ⌝ }
+        requires { ⌜ length (now samples) ≡ 2 * length (now marks) ⌝ }
         ensures { λ r. ⌜ r ≡ afterTicks (heldNext dt mix) (length (now (marks .entry))) first ⌝ }
         ensures { λ r. ⌜ now (samples .exit) ≡ joined (frameAt 2 (heldAnswer dt mix) (heldNext dt mix) first) (length (now (marks .entry))) ⌝ }
         ensures { λ r. ⌜ now (marks .exit) ≡ tab (markAt (heldAnswer dt mix) (heldNext dt mix) first) (length (now (marks .entry))) ⌝ }

@@ -10,6 +10,7 @@ use Rattle.laws.specs.Machine.{replies}
 use Rattle.common.specs.Consts.{gateThreshold}
 use Rattle.common.specs.Edge.{risesAbove, crossedAboveOf, crossedOf}
 use Rattle.common.specs.Memo.{newMemo3, filled3, recall3}
+use Rattle.common.specs.Phase.{restartOf}
 use Rattle.common.proofs.EdgeLaws.{rises-new, gate-above, rises-five}
 use Rattle.common.proofs.MemoLaws.{recall3-is}
 use Rattle.answer.specs.Answer.{voltsOf}
@@ -17,7 +18,7 @@ use Rattle.answer.specs.Mark.{markOf}
 use Rattle.answer.proofs.Blocks.{block-meets}
 use Rattle.answer.proofs.Laws.{mark-says}
 use Rattle.answer.specs.declared.Volts.{Volts}
-use Rattle.vco.specs.Vco.{newVco, frequencyOf, restartOf, vcoVoltsOf, vcoAnswerOf, vcoSoundOf, vcoToldOf, vcoNextOf, vcoBlockOf}
+use Rattle.vco.specs.Vco.{newVco, vcoNewOf, frequencyOf, crossesOf, vcoVoltsOf, vcoAnswerOf, vcoSoundOf, vcoToldOf, vcoNextOf, vcoBlockOf}
 use Rattle.vco.specs.Calls.{Tick, Fit, after, reply}
 use Rattle.vco.specs.Promises.{taken, Forgets, Block-forgets, Edge-comes}
 use Rattle.vco.proofs.Reached.{Good, good-unrefused, good-new, after-tick, Remembers, reached, good-tick, tick-sound, accepted-sound, good-accepts}
@@ -37,7 +38,7 @@ fresh c f = recall3-is frequencyOf newMemo3 (inl refl) (c .voct .0) (c .fm .0) (
 
 -- the tick from the edge's parts: a coherent memo and an edge leave no trace of the state
 struck : (s : Vco) → Remembers s → (c : VcoControls) (wanted : ℕ) → Fit c → taken s c ≡ true → vcoSoundOf s c wanted .vco ≡ vcoSoundOf (newVco (s .«sample_rate»)) c wanted .vco
-unfolding vcoSoundOf newVco crossedOf crossedAboveOf restartOf
+unfolding vcoSoundOf newVco crossedOf crossedAboveOf crossesOf restartOf
 struck s h c wanted f e =
     let n : risesAbove gateThreshold zer (c .sync) ≡ true = edge-new s c e in
     simp (memo s h c f, fresh c f, e, n)
@@ -52,13 +53,13 @@ volts-mark : (v : Volts) (cleared sums phases : Bool) → voltsOf (markOf v clea
 volts-mark v cleared sums phases = mark-says v cleared sums phases .volts
 
 struck-sin : (s : Vco) (c : VcoControls) (wanted : ℕ) → taken s c ≡ true → voltsOf (vcoSoundOf s c wanted .answer) .p10 ≡ voltsOf (vcoSoundOf (newVco (s .«sample_rate»)) c wanted .answer) .p10
-unfolding vcoSoundOf vcoAnswerOf vcoVoltsOf newVco crossedOf crossedAboveOf restartOf
+unfolding vcoSoundOf vcoAnswerOf vcoVoltsOf newVco crossedOf crossedAboveOf crossesOf restartOf
 struck-sin s c wanted e =
     let n : risesAbove gateThreshold zer (c .sync) ≡ true = edge-new s c e in
     simp (volts-mark, e, n)
 
 struck-tri : (s : Vco) → Remembers s → (c : VcoControls) (wanted : ℕ) → Fit c → taken s c ≡ true → voltsOf (vcoSoundOf s c wanted .answer) .p11 ≡ voltsOf (vcoSoundOf (newVco (s .«sample_rate»)) c wanted .answer) .p11
-unfolding vcoSoundOf vcoAnswerOf vcoVoltsOf newVco crossedOf crossedAboveOf restartOf
+unfolding vcoSoundOf vcoAnswerOf vcoVoltsOf newVco crossedOf crossedAboveOf crossesOf restartOf
 struck-tri s h c wanted f e =
     let n : risesAbove gateThreshold zer (c .sync) ≡ true = edge-new s c e in
     simp (volts-mark, memo s h c f, fresh c f, e, n)
@@ -70,6 +71,7 @@ forgets s h c wanted f a e =
     let r = s .«sample_rate» in
     let n = good-new r (g .rate) in
     record {
+      new = unfold vcoNewOf in simp (g .rate);
       accepts = rw (tick-sound (newVco r) n c wanted) (accepted-sound (newVco r) c wanted);
       sin = rw (tick-sound s g c wanted, tick-sound (newVco r) n c wanted) (struck-sin s c wanted e);
       tri = rw (tick-sound s g c wanted, tick-sound (newVco r) n c wanted) (struck-tri s (k .1) c wanted f e);

@@ -12,7 +12,7 @@ use Rattle.numeric.proofs.PowerLaws.{exp2-whole}
 use Rattle.numeric.proofs.TrigLaws.{sin-zero}
 use Rattle.common.specs.Consts.{c4, five, half, tau}
 use Rattle.common.specs.Pitch.{voctToHz}
-use Rattle.common.specs.Phase.{polyblepOf, polyblampOf}
+use Rattle.common.specs.Phase.{polyblepOf, polyblampOf, incrementOf, restartOf}
 use Rattle.common.specs.Memo.{hits3, filled3, recall3}
 use Rattle.common.specs.Edge.{risesAbove, crossedAboveOf, crossedOf}
 use Rattle.common.specs.Tests.{rateOk}
@@ -23,7 +23,7 @@ use Rattle.answer.specs.declared.Volts.{Volts}
 use Rattle.answer.specs.declared.Answer.the-variants as answer
 use Rattle.vco.specs.Consts.{pwLow, pwHigh}
 use Rattle.vco.specs.Waves.{outOf, sineOf, sawOf, levelOf, pwEdgeOf, sqrOf, cornerHalfOf, triOf, steppedOf}
-use Rattle.vco.specs.Vco.{newVco, frequencyOf, restartOf, vcoVoltsOf, vcoAnswerOf, vcoSoundOf}
+use Rattle.vco.specs.Vco.{newVco, frequencyOf, crossesOf, vcoVoltsOf, vcoAnswerOf, vcoSoundOf}
 use Rattle.vco.specs.Promises.{frameRate, frameControls, First-frame}
 use Rattle.vco.proofs.Reached.{good-new, tick-sound}
 use Rattle.vco.specs.declared.VcoTicked.{VcoTicked}
@@ -47,7 +47,7 @@ no-step = refl
 
 -- so the tick is one without an edge, from phase 0 by 0
 frame-answer : vcoSoundOf (newVco frameRate) frameControls 15 .answer ≡ vcoAnswerOf Nowhere zer zer (clampOf half pwLow pwHigh) zer 15
-unfolding vcoSoundOf newVco crossedOf crossedAboveOf restartOf recall3 hits3 filled3
+unfolding vcoSoundOf newVco crossedOf crossedAboveOf crossesOf restartOf incrementOf recall3 hits3 filled3
 frame-answer = let n : risesAbove (ofBits binary64 0x4004000000000000) zer zer ≡ false = unfold risesAbove lt ofBits in refl in simp (n, still, no-step)
 
 silent : sineOf true zer ≡ zer

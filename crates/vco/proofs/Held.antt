@@ -4,13 +4,13 @@ use mathlib.Core.Path.{_≡_, refl, sym, ap, _∙_}
 use Prim.Native.Nat.{ℕ, zero, suc, _+_, _<_}
 use native.Mathlib.Numerals.{add-one}
 use native.Mathlib.Omega.{arith}
-use lib.Ieee.{Float, binary64, add, div}
+use lib.Ieee.{Float, binary64, add}
 use lib.Ieee.Fits.{add-fits}
 use Rattle.answer.specs.Block.{afterTicks, answerAt}
 use Rattle.answer.proofs.Blocks.{Holds, held-after, held-accepted, all-taken}
 use Rattle.answer.proofs.Laws.{mark-says}
 use Rattle.answer.specs.declared.Answer.{Answer}
-use Rattle.common.specs.Phase.{turns, wrapOf}
+use Rattle.common.specs.Phase.{turns, wrapOf, incrementOf}
 use Rattle.common.specs.Edge.{crossedOf, crossedAboveOf}
 use Rattle.common.specs.Memo.{recall3}
 use Rattle.common.specs.Tests.{phaseOk}
@@ -24,7 +24,7 @@ use Rattle.common.specs.declared.Crossing.{Crossing}
 use Rattle.common.specs.declared.Crossing.the-variants.{Nowhere, At}
 use Rattle.numeric.specs.Basic.{clampOf}
 use Rattle.vco.specs.Consts.{pwLow, pwHigh}
-use Rattle.vco.specs.Vco.{frequencyOf, restartOf, vcoAnswerOf, vcoSoundOf, vcoRefusalOf, vcoToldOf, vcoNextOf}
+use Rattle.vco.specs.Vco.{frequencyOf, syncedOf, vcoAnswerOf, vcoSoundOf, vcoRefusalOf, vcoToldOf, vcoNextOf}
 use Rattle.vco.specs.Held.{Held, held, heldAnswer, heldNext}
 use Rattle.vco.proofs.StateLaws.{unrefused}
 use Rattle.vco.proofs.Reached.{tick-sound}
@@ -35,12 +35,12 @@ use Rattle.vco.specs.declared.VcoTicked.{VcoTicked}
 
 -- ---- a turn of the loop
 pub heard-now : (wanted : ℕ) (pw : Float) (dt : Turns) (start : Held) (i : ℕ) (p q : Turns) (at : Crossing) (a : Answer) → a ≡ vcoAnswerOf at (q .0) (p .0) pw (dt .0) wanted
-    → q ≡ restartOf p at → held p at ≡ afterTicks (heldNext dt) i start → a ≡ answerAt (heldAnswer wanted pw dt) (heldNext dt) start i
+    → q ≡ syncedOf p at → held p at ≡ afterTicks (heldNext dt) i start → a ≡ answerAt (heldAnswer wanted pw dt) (heldNext dt) start i
 unfolding answerAt heldAnswer
 heard-now wanted pw dt start i p q at a e r z = simp (e, r, ← z)
 
-pub moved : (dt : Turns) (start : Held) (i : ℕ) (p q r : Turns) (at : Crossing) → r ≡ turns (wrapOf (add binary64 (q .0) (dt .0))) → q ≡ restartOf p at → held p at ≡ afterTicks (heldNext dt) i start
-    → held r Nowhere ≡ afterTicks (heldNext dt) (i + 1) start
+pub moved : (dt : Turns) (start : Held) (i : ℕ) (p q r : Turns) (at : Crossing) → r ≡ turns (wrapOf (add binary64 (q .0) (dt .0)))
+    → q ≡ syncedOf p at → held p at ≡ afterTicks (heldNext dt) i start → held r Nowhere ≡ afterTicks (heldNext dt) (i + 1) start
 unfolding afterTicks heldNext
 moved dt start i p q r at e w z = rw add-one (simp (e, w, ← z))
 
@@ -50,7 +50,7 @@ module _ (s : Vco) (c : VcoControls) where
   heldMemo = recall3 frequencyOf (s .«freq_memo») (c .voct .0) (c .fm .0) (c .«fm_lin»)
 
   abbrev pub stepOf : Turns
-  stepOf = turns (div binary64 (heldMemo .val .0) (s .«sample_rate» .0))
+  stepOf = incrementOf (heldMemo .val) (s .«sample_rate»)
 
   abbrev pub startOf : Held
   startOf = held (s .phase) (crossedOf (s .«sync_edge») (c .sync) .at)

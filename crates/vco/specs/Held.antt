@@ -7,7 +7,7 @@ use Rattle.common.specs.Phase.{turns, wrapOf}
 use Rattle.common.specs.declared.Turns.{Turns}
 use Rattle.common.specs.declared.Crossing.{Crossing}
 use Rattle.common.specs.declared.Crossing.the-variants.{Nowhere}
-use Rattle.vco.specs.Vco.{restartOf, vcoAnswerOf}
+use Rattle.vco.specs.Vco.{syncedOf, vcoAnswerOf}
 
 -- the phase before the hard sync, and where this tick takes the edge
 pub record Held : Type 0 where
@@ -18,7 +18,7 @@ abbrev pub held : Turns → Crossing → Held
 held p at = record { phase = p; at = at }
 
 unfoldable pub heldAnswer : ℕ → Float → Turns → Held → Answer
-heldAnswer wanted pw dt h = vcoAnswerOf (h .at) (restartOf (h .phase) (h .at) .0) (h .phase .0) pw (dt .0) wanted
+heldAnswer wanted pw dt h = vcoAnswerOf (h .at) (syncedOf (h .phase) (h .at) .0) (h .phase .0) pw (dt .0) wanted
 
 unfoldable pub heldNext : Turns → Held → Held
-heldNext dt h = held (turns (wrapOf (add binary64 (restartOf (h .phase) (h .at) .0) (dt .0)))) Nowhere
+heldNext dt h = held (turns (wrapOf (add binary64 (syncedOf (h .phase) (h .at) .0) (dt .0)))) Nowhere

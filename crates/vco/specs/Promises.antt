@@ -23,6 +23,7 @@ use Rattle.vco.specs.declared.Vco.{Vco}
 use Rattle.vco.specs.declared.VcoControls.{VcoControls}
 use Rattle.vco.specs.declared.VcoTicked.{VcoTicked}
 use Rattle.vco.specs.declared.VcoMade.{VcoMade}
+use Rattle.vco.specs.declared.VcoMade.the-variants as made
 
 -- ---- no call refuses but for its own input
 pub record Accepts (s : Vco) : Type 0 where
@@ -44,7 +45,8 @@ taken s c = risesAbove gateThreshold (s .«sync_edge» .prev) (c .sync)
 
 -- what a new one at this rate does, fed this tick first
 pub record Forgotten (s : Vco) (c : VcoControls) (wanted : ℕ) : Type 0 where
-  -- it accepts the tick
+  -- it is to be had and accepts the tick
+  pub new : vcoNewOf (s .«sample_rate») ≡ made.Made (newVco (s .«sample_rate»))
   pub accepts : accepted (vcoTickOf (newVco (s .«sample_rate»)) c wanted .answer) ≡ true
   -- in the edge tick: all but saw, square and mark
   pub sin : voltsOf (vcoTickOf s c wanted .answer) .p10 ≡ voltsOf (vcoTickOf (newVco (s .«sample_rate»)) c wanted .answer) .p10

@@ -10,7 +10,7 @@ use Rattle.numeric.specs.Basic.{fabsOf, clampOf}
 use Rattle.numeric.specs.Power.{exp2Of}
 use Rattle.common.specs.Consts.{four, five}
 use Rattle.common.specs.Pitch.{voctToHz}
-use Rattle.common.specs.Phase.{turns, wrapOf, polyblepOf, polyblampOf}
+use Rattle.common.specs.Phase.{turns, wrapOf, polyblepOf, polyblampOf, incrementOf, restartOf}
 use Rattle.common.specs.Memo.{newMemo3, recall3}
 use Rattle.common.specs.Edge.{newEdge, crossedOf}
 use Rattle.common.specs.Tests.{rateOk, phaseOk}
@@ -42,10 +42,13 @@ frequencyOf voct fm fmLin =
     let base = voctToHz (record { 0 = voct }) .0 in
     record { 0 = add binary64 (mul binary64 base (exp2Of fm)) (mul binary64 (div binary64 fmLin five) base) }
 
--- the phase after the hard sync
-unfoldable pub restartOf : Turns → Crossing → Turns
-restartOf p Nowhere = p
-restartOf p (At frac) = turns zer
+-- whether the sync has an edge, and the phase after the hard sync
+unfoldable pub crossesOf : Crossing → Bool
+crossesOf Nowhere = false
+crossesOf (At frac) = true
+
+abbrev pub syncedOf : Turns → Crossing → Turns
+syncedOf p at = restartOf p (crossesOf at)
 
 -- wanted & bit != 0
 abbrev pub wants : ℕ → ℕ → Bool
@@ -88,12 +91,13 @@ unfoldable pub vcoSoundOf : Vco → VcoControls → ℕ → VcoTicked
 vcoSoundOf s c wanted =
     let memo = recall3 frequencyOf (s .«freq_memo») (c .voct .0) (c .fm .0) (c .«fm_lin») in
     let pw = clampOf (c .pw) pwLow pwHigh in
-    let dt = div binary64 (memo .val .0) (s .«sample_rate» .0) in
+    let dt = incrementOf (memo .val) (s .«sample_rate») in
     let crossed = crossedOf (s .«sync_edge») (c .sync) in
-    let phase = restartOf (s .phase) (crossed .at) in
+    let phase = syncedOf (s .phase) (crossed .at) in
+    let next = add binary64 (phase .0) (dt .0) in
     record {
-      answer = vcoAnswerOf (crossed .at) (phase .0) (s .phase .0) pw dt wanted;
-      vco = record { phase = turns (wrapOf (add binary64 (phase .0) dt)); «sample_rate» = s .«sample_rate»; «sync_edge» = crossed .edge; «freq_memo» = memo };
+      answer = vcoAnswerOf (crossed .at) (phase .0) (s .phase .0) pw (dt .0) wanted;
+      vco = record { phase = turns (wrapOf next); «sample_rate» = s .«sample_rate»; «sync_edge» = crossed .edge; «freq_memo» = memo };
     }
 
 -- what refuses a state: 1 its rate, 2 its phase; else 0

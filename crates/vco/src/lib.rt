@@ -13,7 +13,7 @@ ghost use mathlib.Core.Path.{_≡_};
 ghost use mathlib.Core.Bool.{true};
 ghost use Prim.Native.Nat.{_<_, _*_};
 ghost use lib.Dec.{eqb};
-ghost use lib.Ieee.{binary64, add, div};
+ghost use lib.Ieee.{binary64, add};
 ghost use lib.ListN.{length, set};
 ghost use lib.Seq.{sets};
 ghost use Rattle.laws.specs.Lists.{tab};
@@ -21,11 +21,12 @@ ghost use Rattle.numeric.specs.Basic.{fabsOf, clampOf};
 ghost use Rattle.common.specs.Phase.{turns, wrapOf};
 ghost use Rattle.common.specs.Memo.{recall3};
 ghost use Rattle.common.specs.Tests.{phaseOk};
-ghost use Rattle.answer.specs.Answer.{markNumber, voltsOf};
+ghost use Rattle.answer.specs.Answer.{hostNumber, voltsOf};
 ghost use Rattle.answer.specs.Block.{afterTicks, portsOf, joined, block, markAt, frameAt};
 ghost use Rattle.vco.specs.Consts.{pwLow, pwHigh};
 ghost use Rattle.vco.specs.Waves.{outOf, sineOf, sawOf, levelOf, Width, pwEdgeOf, sqrOf, cornerHalfOf, triOf, steppedOf, Quiet};
-ghost use Rattle.vco.specs.Vco.{frequencyOf, restartOf, wants, plainVolts, vcoAnswerOf, vcoSoundOf, vcoRefusalOf, vcoRateRefusalOf, vcoNewOf, vcoTickOf, vcoToldOf, vcoNextOf, vcoBlockOf, vcoResetOf, vcoSetSampleRateOf};
+ghost use Rattle.vco.specs.Vco.{frequencyOf, crossesOf, wants, plainVolts, vcoAnswerOf, vcoSoundOf, vcoRefusalOf, vcoRateRefusalOf};
+ghost use Rattle.vco.specs.Vco.{vcoNewOf, vcoTickOf, vcoToldOf, vcoNextOf, vcoBlockOf, vcoResetOf, vcoSetSampleRateOf};
 ghost use Rattle.vco.specs.Held.{held, heldAnswer, heldNext};
 
 pub struct Vco {
@@ -67,8 +68,8 @@ fn frequency(voct: VoltsPerOctave, fm: VoltsPerOctave, fm_lin: f64) -> Hertz
     ensures { λ r. ⌜ r ≡ frequencyOf (voct .0) (fm .0) «fm_lin» ⌝ }
 {
     let base_freq = common::voct_to_hz(voct);
-    let freq = base_freq.0 * numeric::exp2(fm.0);
-    Hertz(freq + fm_lin / 5.0 * base_freq.0)
+    let freq = Hertz(base_freq.0 * numeric::exp2(fm.0));
+    Hertz(freq.0 + fm_lin / 5.0 * base_freq.0)
 }
 
 // The Rust's get_or_compute([voct, fm, fm_lin], ..); its answer is the new memo's val.
@@ -83,13 +84,6 @@ fn tuned(memo: Memo3, voct: VoltsPerOctave, fm: VoltsPerOctave, fm_lin: f64) -> 
     }
 }
 
-// What the phase moves by in a tick.
-fn increment(freq: Hertz, sample_rate: Hertz) -> Turns
-    ensures { λ r. ⌜ r ≡ turns (div binary64 (freq .0) («sample_rate» .0)) ⌝ }
-{
-    Turns(freq.0 / sample_rate.0)
-}
-
 // The pulse width, away from 0 and from 1. The clamp lets a NaN pass.
 fn width(pw: f64) -> f64
     ensures { λ r. ⌜ r ≡ clampOf pw pwLow pwHigh ⌝ }
@@ -101,25 +95,25 @@ fn width(pw: f64) -> f64
 fn advance(phase: Turns, dt: Turns) -> Turns
     ensures { λ r. ⌜ r ≡ turns (wrapOf (add binary64 (phase .0) (dt .0))) ⌝ }
 {
-    let next = phase.0 + dt.0;
-    if next > 0.0 {
-        if next < 1.0 {
-            Turns(next)
+    let next = Turns(phase.0 + dt.0);
+    if next.0 > 0.0 {
+        if next.0 < 1.0 {
+            next
         } else {
-            common::wrap_phase(Turns(next))
+            common::wrap_phase(next)
         }
     } else {
-        common::wrap_phase(Turns(next))
+        common::wrap_phase(next)
     }
 }
 
-// The phase that the waveforms see: a sync edge puts it to 0.
-fn restart(phase: Turns, at: Crossing) -> Turns
-    ensures { λ r. ⌜ r ≡ restartOf phase at ⌝ }
+// Whether a sync edge is taken: the phase that the waveforms see starts again there.
+fn crosses(at: Crossing) -> bool
+    ensures { λ r. ⌜ r ≡ crossesOf at ⌝ }
 {
     match at {
-        Crossing::At(_) => Turns(0.0),
-        Crossing::Nowhere => phase,
+        Crossing::At(_) => true,
+        Crossing::Nowhere => false,
     }
 }
 
@@ -158,8 +152,8 @@ fn pw_edge(phase: Turns, pw: f64) -> Turns
     requires { ⌜ (phaseOk phase ≡ true) × Width pw ⌝ }
     ensures { λ r. ⌜ r ≡ turns (pwEdgeOf (phase .0) pw) ⌝ }
 {
-    let x = phase.0 + (1.0 - pw);
-    if x < 1.0 { Turns(x) } else { Turns(x - 1.0) }
+    let x = Turns(phase.0 + (1.0 - pw));
+    if x.0 < 1.0 { x } else { Turns(x.0 - 1.0) }
 }
 
 // A pulse, smoothed at the wrap and at its falling edge.
@@ -173,8 +167,8 @@ fn square(phase: Turns, pw: f64, wrap: f64, fall: f64) -> f64
 fn corner_half(phase: Turns) -> Turns
     ensures { λ r. ⌜ r ≡ turns (cornerHalfOf (phase .0)) ⌝ }
 {
-    let x = phase.0 - 0.5;
-    if x < 0.0 { Turns(x + 1.0) } else { Turns(x) }
+    let x = Turns(phase.0 - 0.5);
+    if x.0 < 0.0 { Turns(x.0 + 1.0) } else { x }
 }
 
 // Two slopes, smoothed at both corners.
@@ -206,9 +200,9 @@ fn quiet(at: Crossing, phase: Turns, edge: Turns, dt_abs: Turns) -> bool
     match at {
         Crossing::At(_) => false,
         Crossing::Nowhere => {
-            let half = numeric::fabs(phase.0 - 0.5);
-            if half >= dt_abs.0 {
-                if half < 0.5 - dt_abs.0 {
+            let half = Turns(numeric::fabs(phase.0 - 0.5));
+            if half.0 >= dt_abs.0 {
+                if half.0 < 0.5 - dt_abs.0 {
                     edge.0 >= dt_abs.0 && edge.0 <= 1.0 - dt_abs.0
                 } else {
                     false
@@ -238,7 +232,7 @@ fn fits(samples: usize, n: usize) -> bool
     }
 }
 
-// The samples of tick i of a block and the number of its mark.
+// The samples of tick i of a block, and the number that a host is told of it.
 fn put(v: Volts, mark: u32, i: usize, samples: &mut [f64], marks: &mut [u32])
     requires { ⌜ (i < length (now marks)) × (length (now samples) ≡ 4 * length (now marks)) ⌝ }
     ensures { λ _. ⌜ (now (samples .exit) ≡ sets (now (samples .entry)) (4 * i) (portsOf 4 v)) × (now (marks .exit) ≡ set (now (marks .entry)) i mark) ⌝ }
@@ -355,7 +349,7 @@ impl Vco {
         }
     }
 
-    // The same, put to tick i of a block.
+    // The same, put to tick i of a block. A quiet tick is clean: 14.
     fn put_heard(
         at: Crossing,
         phase: Turns,
@@ -368,16 +362,16 @@ impl Vco {
         marks: &mut [u32],
     )
         requires { ⌜ (phaseOk phase ≡ true) × Width pw × (i < length (now marks)) × (length (now samples) ≡ 4 * length (now marks)) ⌝ }
-        ensures { λ _. ⌜ (now (samples .exit) ≡ sets (now (samples .entry)) (4 * i) (portsOf 4 (voltsOf (vcoAnswerOf at (phase .0) («p_old» .0) pw (dt .0) wanted)))) × (now (marks .exit) ≡ set (now (marks .entry)) i (markNumber (vcoAnswerOf at (phase .0) («p_old» .0) pw (dt .0) wanted))) ⌝ }
+        ensures { λ _. ⌜ (now (samples .exit) ≡ sets (now (samples .entry)) (4 * i) (portsOf 4 (voltsOf (vcoAnswerOf at (phase .0) («p_old» .0) pw (dt .0) wanted)))) × (now (marks .exit) ≡ set (now (marks .entry)) i (hostNumber (vcoAnswerOf at (phase .0) («p_old» .0) pw (dt .0) wanted))) ⌝ }
     {
         let sin = Self::sin(wanted, phase);
         if calm(at, phase, pw, dt) {
-            put(Self::plain(sin, phase, pw, wanted), 4, i, samples, marks);
+            put(Self::plain(sin, phase, pw, wanted), 14, i, samples, marks);
         } else {
             let a = Self::smoothed(sin, at, phase, p_old, pw, dt, wanted);
             put(
                 answer::samples(a),
-                answer::mark_number(a),
+                answer::host_number(a),
                 i,
                 samples,
                 marks,
@@ -398,11 +392,11 @@ impl Vco {
         let fm = c.fm;
         let freq_memo = tuned(memo, voct, fm, c.fm_lin);
         let freq = freq_memo.val;
-        let dt = increment(freq, sample_rate);
+        let dt = common::increment(freq, sample_rate);
         let crossed = edge.rising_frac(c.sync);
         let at = crossed.at;
         let sync_edge = crossed.edge;
-        let phase = restart(p_old, at);
+        let phase = common::restart(p_old, crosses(at));
         VcoTicked {
             answer: Self::heard(at, phase, p_old, width(c.pw), dt, wanted),
             vco: Vco {
@@ -447,7 +441,7 @@ impl Vco {
         let mut at = edge;
         let mut i = 0;
         while i < marks.len() {
-            let phase = restart(p_old, at);
+            let phase = common::restart(p_old, crosses(at));
             Self::put_heard(
                 at,
                 phase,
@@ -481,7 +475,7 @@ impl Vco {
         let fm = c.fm;
         let freq_memo = tuned(memo, voct, fm, c.fm_lin);
         let freq = freq_memo.val;
-        let dt = increment(freq, sample_rate);
+        let dt = common::increment(freq, sample_rate);
         let crossed = edge.rising_frac(c.sync);
         let at = crossed.at;
         let sync_edge = crossed.edge;
@@ -518,7 +512,7 @@ impl Vco {
                 VcoBlock {
                     refused: 0,
                     vco,
-                    tally: tally.take_marks(marks),
+                    tally: tally.take_marks(marks).or(tally),
                 }
             }
         } else {

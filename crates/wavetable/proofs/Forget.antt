@@ -58,8 +58,10 @@ block-forgets s h c t bank o m f z l e =
     let fits = sym (block-refusal 1 (wavetableTickRefusalOf s (length bank)) (wavetableAnswerOf c bank) (wavetableNextOf c bank) s t o m) ∙ z in
     let b = bank-sized s (length bank) (block-fits 1 _ t o m _ refl fits .1) in
     let q = struck-tick s c bank g f (eq-eqb _ _ b) e in
+    let same = ap (λ (x : WavetableTicked). x .answer) q in
+    let leaves = ap (λ (x : WavetableTicked). x .wavetable) q in
     let k = refused-sized s (length bank) g ∙ sym (refused-sized new (length bank) (good-new (s .«sample_rate») (g .rate))) in
-    block-same (wavetableNextOf c bank) s new (ap (λ (x : WavetableTicked). x .wavetable) q) 1 _ (wavetableAnswerOf c bank) t o m (ap (λ (x : WavetableTicked). x .answer) q) (fits, l)
+    block-same (wavetableNextOf c bank) s new leaves 1 _ (wavetableAnswerOf c bank) t o m same (fits, l)
     ∙ ap (λ (n : ℕ). blockOf 1 n (wavetableAnswerOf c bank) (wavetableNextOf c bank) new t o m) k
 
 -- ---- an edge can be had

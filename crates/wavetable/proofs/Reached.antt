@@ -118,7 +118,10 @@ never-refused s h =
     record {
       phase = g .phase;
       ticks = λ c bank. tick-accepted s c bank g;
-      plays = λ c t bank o m. unfold wavetableBlockOf in block-refusal 1 _ _ _ s t o m ∙ ap (λ (n : ℕ). blockRefusalOf (eqb (length o) (1 * length m)) n t (length m)) (refused-sized s (length bank) g);
+      plays =
+          λ c t bank o m. unfold wavetableBlockOf in
+          block-refusal 1 _ _ _ s t o m
+          ∙ ap (λ (n : ℕ). blockRefusalOf (eqb (length o) (1 * length m)) n t (length m)) (refused-sized s (length bank) g);
       resets = unfold wavetableResetOf madeUnless in simp (unrefused s g);
       rates = λ r. unfold wavetableSetSampleRateOf madeUnless in rates r (rateOk r);
     }

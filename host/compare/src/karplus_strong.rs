@@ -110,6 +110,9 @@ impl Pair for KarplusStrong {
     const CONTROLS: &'static [Control] = &[PITCH, GATE, UNIT, UNIT, BOTH_WAYS];
     const PORTS: usize = 1;
     const MASKED: bool = false;
+    const MARKS: &'static [Mark] = &[Mark::Cleared, Mark::Clean];
+    const REFUSALS: &'static [u32] = &[1, 2, 3, 5, 6, 7, 52];
+    const STRUCK: bool = true;
     type Floats = [f64; 6];
     type Wholes = [u64; 4];
 

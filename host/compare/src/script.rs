@@ -2,6 +2,7 @@
 use crate::draw::{Control, Draw};
 use gruttisol::answer::{Mark, Refused};
 use gruttisol::tally::Tally;
+use std::collections::BTreeMap;
 use std::fmt;
 
 /// One oscillator on both sides.
@@ -11,6 +12,11 @@ pub trait Pair: Sized {
     const PORTS: usize;
     /// Whether a tick takes a mask of wanted outputs; else all are wanted.
     const MASKED: bool;
+    /// The marks that its ticks can get and the numbers that refuse its calls: a run must meet all of them.
+    const MARKS: &'static [Mark] = &[Mark::NotFinite, Mark::Lost, Mark::Clean];
+    const REFUSALS: &'static [u32] = &[1, 2, 7, 52];
+    /// Whether it is struck, and a rate change may strand its write position.
+    const STRUCK: bool = false;
     type Floats: AsRef<[f64]> + Copy;
     type Wholes: AsRef<[u64]> + Copy;
 
@@ -86,7 +92,8 @@ pub struct Counts {
     pub rate_changes: u64,
     /// States of a caller's own making that were taken.
     pub states: u64,
-    pub refused: u64,
+    /// Refused calls, by the number that refused them.
+    pub refused: BTreeMap<u32, u64>,
     /// Ticks that struck the string.
     pub strikes: u64,
     /// Write positions that a rate change left past the line's end, which ours puts to 0 and the Rust doesn't.
@@ -97,6 +104,23 @@ impl Counts {
     pub fn ticks(&self) -> u64 {
         self.marks.iter().sum()
     }
+
+    /// What a run of this oscillator must meet and hasn't met once: marks, refusals and kinds of calls.
+    fn unmet<P: Pair>(&self) -> Vec<String> {
+        let marks =
+            P::MARKS.iter().map(|&mark| (mark.word().into(), self.marks[mark as usize - Mark::ALL[0] as usize]));
+        let refusals = P::REFUSALS.iter().map(|n| (format!("refused by {n}"), *self.refused.get(n).unwrap_or(&0)));
+        let calls = [
+            ("block", self.blocks),
+            ("reset", self.resets),
+            ("rate change", self.rate_changes),
+            ("state put in", self.states),
+        ];
+        let struck = [("strike", self.strikes), ("write position repaired", self.repaired)];
+        let struck = struck.into_iter().filter(|_| P::STRUCK);
+        let calls = calls.into_iter().chain(struck).map(|(call, n)| (call.to_string(), n));
+        marks.chain(refusals).chain(calls).filter(|&(_, n)| n == 0).map(|(what, _)| what).collect()
+    }
 }
 
 impl fmt::Display for Counts {
@@ -105,7 +129,8 @@ impl fmt::Display for Counts {
         for (mark, n) in Mark::ALL.into_iter().zip(self.marks) {
             write!(f, "{n} {}{}", mark.word(), if mark == Mark::Clean { ")" } else { ", " })?;
         }
-        let Counts { blocks, resets, rate_changes, states, refused, .. } = self;
+        let Counts { blocks, resets, rate_changes, states, .. } = self;
+        let refused: u64 = self.refused.values().sum();
         write!(f, ", {blocks} blocks, {resets} resets, {rate_changes} rate changes, {states} states put in, {refused} refused calls")?;
         if self.strikes > 0 {
             write!(f, ", {} strikes, {} write positions repaired", self.strikes, self.repaired)?;
@@ -114,7 +139,8 @@ impl fmt::Display for Counts {
     }
 }
 
-/// Runs scripts from a seed until there were that many ticks. The error is the first difference.
+/// Runs scripts from a seed until there were that many ticks. The error is the first difference, or what the run never met: it would
+/// have compared nothing of that.
 pub fn run<P: Pair>(seed: u64, ticks: u64) -> Result<Counts, String> {
     let mut draw = Draw::new(seed);
     let mut counts = Counts::default();
@@ -122,7 +148,12 @@ pub fn run<P: Pair>(seed: u64, ticks: u64) -> Result<Counts, String> {
         scene::<P>(&mut draw, &mut counts)
             .map_err(|said| format!("{}, seed {seed}, tick {}: {said}", P::NAME, counts.ticks()))?;
     }
-    Ok(counts)
+    let unmet = counts.unmet::<P>();
+    if unmet.is_empty() {
+        Ok(counts)
+    } else {
+        Err(format!("{}, seed {seed}, {} ticks: never met: {}", P::NAME, counts.ticks(), unmet.join(", ")))
+    }
 }
 
 /// So many ticks from a seed, in the words of the list that the program `replay` runs: a state, controls, the mask and what is
@@ -467,7 +498,7 @@ pub fn unchanged<P: Pair>(
 
 fn refused(answer: Result<(), Refused>, number: u32, counts: &mut Counts) -> Result<(), String> {
     if answer == Err(Refused(number)) {
-        counts.refused += 1;
+        *counts.refused.entry(number).or_default() += 1;
         Ok(())
     } else {
         Err(format!("answered {answer:?}, and document 01 refuses it by {number}"))

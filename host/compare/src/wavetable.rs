@@ -39,6 +39,7 @@ impl Pair for Wavetable {
     const CONTROLS: &'static [Control] = &[PITCH, UNIT, UNIT, GATE];
     const PORTS: usize = 1;
     const MASKED: bool = false;
+    const REFUSALS: &'static [u32] = &[1, 2, 4, 7, 52];
     both!(ours::Wavetable, 4, 2);
 
     fn new(sample_rate: f64, draw: &mut Draw) -> Result<Self, Refused> {

@@ -71,5 +71,17 @@ fn a_nan_for_a_memos_key() {
         assert_eq!(ticked.mark, Mark::Lost);
         assert!(ours.parts().0[3].is_nan());
         println!("the Rust hits and goes on at 1 Hz, ours misses and is lost");
+
+        // the other way round: the key is ours of every NaN, and the control is another NaN
+        let (floats, wholes) = ([0.0, 48000.0, 0.0, 1.0], [0x7ff8_0000_0000_0000, 1]);
+        let mut theirs = rust::Lfo::new(48000.0);
+        theirs.put_flat(&floats, &wholes);
+        theirs.body(&[rate, 10.0, 0.0], u32::MAX, &mut samples);
+        assert!(theirs.flat().0[3].is_nan());
+        let mut ours = Lfo::of_parts(floats, wholes);
+        let ticked = ours.tick(&Controls { rate, depth: 10.0, reset: 0.0 }, Lfo::WANT_ALL).unwrap();
+        assert_eq!(ticked.mark, Mark::Clean);
+        assert_eq!(ours.parts().0, [1.0 / 48000.0, 48000.0, 0.0, 1.0]);
+        println!("ours hits and goes on at 1 Hz, the Rust misses");
     }
 }

@@ -5,7 +5,7 @@
 macro_rules! exported {
     ($($(#[$doc:meta])* fn $name:ident($($input:ident: $kind:ty),*) -> $answer:ty;)*) => {
         mod archive {
-            // SAFETY: these are the functions of the crate `exports`, with the types that it gives them. They take
+            // SAFETY: these are functions of the archive, with the types that their crates give them. They take
             // numbers alone and have no `requires`, so each returns for every input and touches no memory of its caller.
             unsafe extern "C" {
                 $(#[link_name = concat!("gruttisol_", stringify!($name))]
@@ -18,4 +18,9 @@ macro_rules! exported {
             archive::$name($($input),*)
         })*
     };
+}
+
+exported! {
+    /// `KarplusStrong::cells`
+    fn karplus_strong_cells(sample_rate: f64) -> u64;
 }

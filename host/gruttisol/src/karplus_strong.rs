@@ -1,5 +1,6 @@
 //! The plucked string: noise that goes round a line which its caller keeps.
 use crate::answer::{done, ticked, Refused, Ticked};
+use crate::exported::karplus_strong_cells;
 use crate::lent::{
     karplus_strong_block, karplus_strong_new, karplus_strong_reset, karplus_strong_set_sample_rate, karplus_strong_tick,
 };
@@ -37,9 +38,9 @@ pub struct KarplusStrong {
 }
 
 impl KarplusStrong {
-    /// The cells that a line needs at a sample rate; more are left alone.
+    /// The cells that a line needs at a sample rate, more being left alone; 0 of a rate that is refused by 1.
     pub fn cells(sample_rate: f64) -> usize {
-        (sample_rate / 20.0) as usize + 12
+        karplus_strong_cells(sample_rate) as usize
     }
 
     /// A new one, its line zeroed; refused by 1 and 3.
@@ -120,5 +121,28 @@ impl KarplusStrong {
             samples,
             marks,
         ))
+    }
+}
+
+#[cfg(test)]
+mod tests {
+    use super::*;
+
+    #[test]
+    fn so_many_cells_are_enough_and_fewer_are_not() {
+        for rate in [1000.0, 8000.0, 44100.0, 48000.0, 191999.9, 192000.0] {
+            let cells = KarplusStrong::cells(rate);
+            assert_eq!(cells, (rate / 20.0) as usize + 12);
+            assert!(KarplusStrong::new(rate, &mut vec![0.0; cells]).is_ok());
+            assert_eq!(KarplusStrong::new(rate, &mut vec![0.0; cells - 1]).err(), Some(Refused(3)));
+        }
+    }
+
+    #[test]
+    fn a_rate_that_is_refused_has_no_cells() {
+        for rate in [0.0, -1.0, 999.9, 192000.1, f64::MAX, f64::INFINITY, f64::NEG_INFINITY, f64::NAN] {
+            assert_eq!(KarplusStrong::cells(rate), 0);
+            assert_eq!(KarplusStrong::new(rate, &mut vec![0.0; 10000]).err(), Some(Refused(1)));
+        }
     }
 }

@@ -24,6 +24,15 @@ impl fmt::Display for Counts {
     }
 }
 
+impl Counts {
+    /// What was never met: a score, or a refusal.
+    pub fn unmet(&self) -> Vec<String> {
+        let refused = (20..).zip(self.refused).map(|(number, n)| (format!("refused={number}"), n));
+        let met = [("a score".to_string(), self.read)].into_iter().chain(refused);
+        met.filter(|&(_, n)| n == 0).map(|(what, _)| what).collect()
+    }
+}
+
 /// What the proved reader finds, as the reference says it.
 fn ours(text: &[u8]) -> Result<Score, u32> {
     let score = gruttisol::score::read(text).map_err(|Refused(number)| number)?;

@@ -12,9 +12,14 @@ pub struct Counts {
     pub played: u64,
     pub claimed: u64,
     pub frames: u64,
+    /// Frames of each mark that a score can get.
+    pub marks: [u64; 3],
     /// Scores refused by 20, 21, 22 and 23.
     pub refused: [u64; 4],
 }
+
+/// The marks that a score can get; only the string clears its line, and no score plays it.
+const MARKS: [&str; 3] = ["notfinite", "lost", "clean"];
 
 impl Counts {
     fn take(&mut self, text: &[u8]) {
@@ -24,13 +29,40 @@ impl Counts {
             self.played += 1;
             self.claimed += u64::from(text.ends_with(b"claimed=yes\n"));
             self.frames += text.windows(3).filter(|start| start == b"\nn=").count() as u64 + 1;
+            for (n, mark) in self.marks.iter_mut().zip(MARKS) {
+                let line = format!("\nmark={mark}\n");
+                *n += text.windows(line.len()).filter(|start| start == &line.as_bytes()).count() as u64;
+            }
         }
+    }
+
+    /// Both counts as one.
+    pub fn with(self, other: &Counts) -> Counts {
+        Counts {
+            played: self.played + other.played,
+            claimed: self.claimed + other.claimed,
+            frames: self.frames + other.frames,
+            marks: std::array::from_fn(|i| self.marks[i] + other.marks[i]),
+            refused: std::array::from_fn(|i| self.refused[i] + other.refused[i]),
+        }
+    }
+
+    /// What scores that are played must meet and haven't met once: claims of both kinds, and marks.
+    pub fn unplayed(&self) -> Vec<String> {
+        let claims = [("claimed=yes", self.claimed), ("claimed=no", self.played - self.claimed)];
+        let met = claims.into_iter().chain(MARKS.into_iter().zip(self.marks));
+        met.filter(|&(_, n)| n == 0).map(|(what, _)| what.to_string()).collect()
+    }
+
+    /// The refusals that were never met.
+    pub fn unrefused(&self) -> Vec<String> {
+        (20..).zip(self.refused).filter(|&(_, n)| n == 0).map(|(number, _)| format!("refused={number}")).collect()
     }
 }
 
 impl fmt::Display for Counts {
     fn fmt(&self, f: &mut fmt::Formatter<'_>) -> fmt::Result {
-        let Counts { played, claimed, frames, refused: [a, b, c, d] } = self;
+        let Counts { played, claimed, frames, refused: [a, b, c, d], .. } = self;
         let all = played + a + b + c + d;
         write!(f, "{all} scores: {played} played ({claimed} claimed, {frames} frames), ")?;
         write!(f, "refused by 20 {a}, by 21 {b}, by 22 {c}, by 23 {d}")

@@ -7,7 +7,7 @@ fn drawn_texts() {
     match reference::fuzz::run(1, 200_000) {
         Ok(counts) => {
             println!("{counts}; no difference");
-            assert!(counts.read > 0 && counts.refused.iter().all(|&n| n > 0), "a kind of text was never drawn");
+            assert_eq!(counts.unmet(), [""; 0], "never met");
         }
         Err(difference) => panic!("{difference}"),
     }

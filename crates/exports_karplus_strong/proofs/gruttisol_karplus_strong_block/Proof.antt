@@ -1,25 +1,40 @@
-use Rattle.answer.proofs.Flat.{block-sized}
-use Rattle.exports_karplus_strong.specs.Calls.{karplusStrongBlockAt}
-use Rattle.exports_karplus_strong.proofs.CallLaws.{block-rung}
-use borrow.Author.Tests.{ne-eqb}
 use borrow.Author.Needs.{needs}
+use borrow.Author.Tests.{ne-eqb}
+use Rattle.answer.proofs.Flat.{sized, five-counts}
+use Rattle.exports_karplus_strong.specs.Calls.{karplusStrongBlockAt}
+use Rattle.exports_karplus_strong.proofs.CallLaws.{block-rung, counts-refused}
 use Rattle.exports_karplus_strong.proofs.gruttisol_karplus_strong_block.Statement.{statement}
 use Rattle.exports_karplus_strong.proofs.gruttisol_karplus_strong_block.Tie as tie
 
-block-sizes-requires : tie.Need-block-sizes-requires
-block-sizes-requires c κs = search needs
+sizes-requires : tie.Need-sizes-requires
+sizes-requires c κs = search needs
 
 from-counts-requires : tie.Need-from-counts-requires
 from-counts-requires c κs = search needs
 
+enum-known-given : tie.Need-enum-known-given
+enum-known-given c = search needs
+
 state-requires : tie.Need-state-requires
-state-requires c κs = let z = block-sized _ _ _ _ _ _ (c .before .before .before .before .before .block-sizes .ensures) (c .before .before .before .before .if1 .taken) in (z .0, z .1)
+state-requires c κs =
+    let tested = c .before .before .before .before .before .before .before in
+    let measured = tested .before in
+    sized _ _ _ _ _ (measured .sizes .ensures) (tested .if1 .taken)
 
 block-requires : tie.Need-block-requires
 block-requires c κs = search needs
 
 put-block-requires : tie.Need-put-block-requires
-put-block-requires c κs = block-sized _ _ _ _ _ _ (c .before .before .before .before .before .before .before .before .before .before .before .before .before .before .before .before .before .before .before .block-sizes .ensures) (c .before .before .before .before .before .before .before .before .before .before .before .before .before .before .before .before .before .before .if1 .taken)
+put-block-requires c κs =
+    let taken = c .before .before .before .before .before .before .before .before .before .before .before .before .before .before .before .before .before in
+    let read = taken .before .before in
+    let tested = read .before .before in
+    let measured = tested .before in
+    let z = sized _ _ _ _ _ (measured .sizes .ensures) (tested .if1 .taken) in
+    (z .0, z .1, five-counts _ _ _ (read .from-counts .ensures) (taken .given .given .1))
+
+enum-known-given-2 : tie.Need-enum-known-given-2
+enum-known-given-2 c = search needs
 
 same-length : tie.Need-same-length
 same-length c = search needs
@@ -40,7 +55,16 @@ same-length-6 : tie.Need-same-length-6
 same-length-6 c = search needs
 
 returns : tie.Need-returns
-returns c = block-rung _ _ _ _ _ _ _ _ (c .before .before .before .before .before .before .before .before .before .before .before .before .before .before .before .before .before .before .before .before .before .before .before .before .before .before .block-sizes .ensures) (c .before .before .before .before .before .before .before .before .before .before .before .before .before .before .before .before .before .before .before .before .before .before .before .before .before .if1 .taken) _ _ _ _ _ _ _ _ _ (c .before .before .before .before .before .before .before .before .before .before .before .before .before .before .before .before .before .before .before .before .state .ensures) (c .before .before .before .before .before .before .before .before .before .before .before .before .before .before .before .before .before .before .before .before .before .before .before .from-counts .ensures) (c .before .before .before .before .before .before .before .before .before .before .before .before .before .before .before .before .block .ensures) (c .before .before .before .before .before .before .put-block .ensures _ _ _)
+returns c =
+    let stored = c .before .before .before .before .before .before in
+    let played = stored .before .before .before .before .before .before .before .before .before .before in
+    let loaded = played .before .before .before .before in
+    let taken = loaded .before .before .before .before in
+    let read = taken .before .before in
+    let tested = read .before .before in
+    let measured = tested .before in
+    block-rung _ _ _ _ _ _ _ _ (measured .sizes .ensures) _ (read .from-counts .ensures) (tested .if1 .taken) _ _ _ _ _ _ _ _ _
+    (loaded .state .ensures) (taken .given .given .1) (played .block .ensures) (stored .put-block .ensures _ _ _)
 
 same-length-7 : tie.Need-same-length-7
 same-length-7 c = search needs
@@ -52,18 +76,34 @@ same-length-9 : tie.Need-same-length-9
 same-length-9 c = search needs
 
 returns-2 : tie.Need-returns-2
+returns-2 c =
+    let refused = c .before in
+    let read = refused .before .before in
+    let tested = read .before .before in
+    let measured = tested .before in
+    counts-refused _ _ _ _ _ _ _ _ (measured .sizes .ensures) _ (read .from-counts .ensures) (tested .if1 .taken) _ _ _ _ _ _ (refused .given2 .given .1)
+
+same-length-10 : tie.Need-same-length-10
+same-length-10 c = search needs
+
+same-length-11 : tie.Need-same-length-11
+same-length-11 c = search needs
+
+returns-3 : tie.Need-returns-3
 unfolding karplusStrongBlockAt
-returns-2 c = simp (← c .before .block-sizes .ensures, ne-eqb _ _ (c .if1 .left))
+returns-3 c = simp (← c .before .sizes .ensures, ne-eqb _ _ (c .if1 .left))
 
 pub gruttisol-karplus-strong-block-spec : {M : Type 1} → statement M
 gruttisol-karplus-strong-block-spec =
     tie.close
     (tie.spec
-    block-sizes-requires
+    sizes-requires
     from-counts-requires
+    enum-known-given
     state-requires
     block-requires
     put-block-requires
+    enum-known-given-2
     same-length
     same-length-2
     same-length-3
@@ -74,4 +114,7 @@ gruttisol-karplus-strong-block-spec =
     same-length-7
     same-length-8
     same-length-9
-    returns-2)
+    returns-2
+    same-length-10
+    same-length-11
+    returns-3)

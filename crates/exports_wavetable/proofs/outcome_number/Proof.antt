@@ -1,5 +1,5 @@
 use borrow.Author.Needs.{needs}
-use Rattle.exports_wavetable.specs.Calls.{outcomeNumber}
+use Rattle.answer.specs.Answer.{outcomeNumber}
 use Rattle.exports_wavetable.proofs.outcome_number.Statement.{statement}
 use Rattle.exports_wavetable.proofs.outcome_number.Tie as tie
 

@@ -67,13 +67,18 @@ loop-less c = omega arith
 
 loop-again : tie.Need-loop-again Inv-loop μ-loop
 loop-again c =
-    let s = c .before .before .before .before .before .before .before .before .before .before .before .loop .inv in
-    let l = c .before .before .before .before .before .before .before .before .before .before .before .before .before .before .pre in
-    let w = pulse-turn _ _ _ _ _ _ _ _ _ _ _ _ _ _ (omega arith) (omega arith) (s .3) (s .4) (s .5) (c .before .before .before .before .before .before .before .before .kept-turns .ensures) (c .wrap-phase .ensures) (c .before .before .before .before .is-finite .ensures) (c .before .before .both .ensures) (c .before .kept-mark .ensures) in (
+    let l = c .before .before .before .before .before .before .before .before .before .before .before in
+    let s = l .loop .inv in
+    let z = l .before .before .before .pre in
+    let k = c .before .before .before .before .before .before .before .before .kept-turns .ensures in
+    let f = c .before .before .before .before .is-finite .ensures in
+    let b = c .before .before .both .ensures in
+    let g = c .before .before .before .before .before .glottal-pulse .ensures in
+    let w = pulse-turn _ _ _ _ _ _ _ _ _ _ _ _ _ _ (omega arith) (omega arith) (s .3) (s .4) (s .5) k (c .wrap-phase .ensures) f b (c .before .kept-mark .ensures) in (
       omega arith,
       simp length-set (s .1),
       simp length-set (s .2),
-      over-more _ _ _ _ _ (omega arith) (s .3) (c .before .before .before .before .before .glottal-pulse .ensures ∙ ap (λ (p : Turns). glottalPulse (p .0)) (s .5)),
+      over-more _ _ _ _ _ (omega arith) (s .3) (g ∙ ap (λ (p : Turns). glottalPulse (p .0)) (s .5)),
       over-more _ _ _ _ _ (omega arith) (s .4) (w .1),
       w .0,
     )

@@ -80,12 +80,12 @@ loop-again : tie.Need-loop-again Inv-loop μ-loop
 unfolding eq ne
 loop-again c =
     let s = c .before .before .before .before .before .before .before .before .before .before .before .before .loop .inv in
-    let a = c .before .before .before .before .before .before .before .before .before .before .before .before .before .before .before .before .before .before .before .before .before .args in
     let p = c .before .before .before .before .before .before .before .before .before .before .before .before .before .before .before .before .before .before .before .before .before .pre in
-    let f = of-true (fits binary64 (a .v-oct .0)) (c .before .before .before .before .before .before .before .before .before .before .before .before .before .before .before .before .before .before .before .before .before .good .1 .0 .1 .1 .0 .1) in
+    let f = of-true (fits binary64 (c .before .before .before .before .before .before .before .before .before .before .before .before .before .before .before .before .before .before .before .before .before .args .v-oct .0)) (c .before .before .before .before .before .before .before .before .before .before .before .before .before .before .before .before .before .before .before .before .before .good .1 .0 .1 .1 .0 .1) in
     let t = c .before .before .before .before .before .before .before .before .tuned .ensures in
     let k = c .before .before .before .before .before .keep-turns .ensures in
     let v = c .before .before .before .before .before .before .before .before .before .before .before .before .before .before .increment2 .ensures in
+    let b = c .before .before .before .before .before .before .before .before .before .before .before .before .before .before .before .before .both .ensures in
     let x = stridden _ _ _ _ _ _ _ _ _ t (c .before .before .before .before .before .before .before .stride .ensures) (s .5) (s .6) in
     let n = swayed-mark _ _ _ _ _ _ _ _ _ v (c .before .before .is-finite .ensures) (c .before .kept-mark .ensures) (s .5) in
     let w = swung _ _ _ _ _ _ _ _ _ _ t v (c .wrap-phase .ensures) (s .5) (s .6) in (
@@ -97,7 +97,7 @@ loop-again c =
       w .0,
       w .1,
       rw (c .wrap-phase .ensures) (wrap-in _ (add-fits binary64 _ _)),
-      still-memo _ _ _ _ _ _ _ (still-tuned _ _ _ _ _ _ _ f (c .before .before .before .before .before .before .before .before .before .before .before .before .before .before .before .before .both .ensures) (p .0) (s .7) (p .1) (s .8)) t (s .8),
+      still-memo _ _ _ _ _ _ _ (still-tuned _ _ _ _ _ _ _ f b (p .0) (s .7) (p .1) (s .8)) t (s .8),
     )
 
 same-length : tie.Need-same-length Inv-loop μ-loop

@@ -20,7 +20,7 @@ put-frames-requires c κs =
     let a = c .before .before .before .before .before .before .before .before .before .before .before .before .before .before .before .before .before .before .before .before .args in
     let p = c .before .before .before .before .before .before .before .before .before .before .before .before .before .before .before .before .before .before .before .before .pre in
     let h = c .before .before .before .before .before .before .before .before .before .before .before .before .hear .ensures (c .before .before .before .before .before .before .if1 .taken) in
-    let z = block-sizes (a .player) (length (a .marks .now)) _ _ _ _ _ (c .before .before .kind-of .ensures) (h .1) (p .1) in
+    let z = block-sizes (a .player) (length (a .marks .now)) _ _ _ _ _ (c .before .before .kind-of .ensures) h (p .1) in
     (p .0, z .0, z .1)
 
 add-t28 : tie.Need-add-t28
@@ -42,7 +42,7 @@ returns : tie.Need-returns
 returns c =
     let a = c .before .before .before .before .before .before .before .before .before .before .before .before .before .before .before .before .before .before .before .before .before .before .before .before .args in
     let h = c .before .before .before .before .before .before .before .before .before .before .before .before .before .before .before .before .hear .ensures (c .before .before .before .before .before .before .before .before .before .before .if1 .taken) in
-    block-played (a .player) (length (a .marks .now)) _ _ _ _ _ (c .before .before .before .before .before .before .kind-of .ensures) (h .1) _ _ _ _ (h .0) (c .before .before .before .put-frames .ensures)
+    block-played (a .player) (length (a .marks .now)) _ _ _ _ _ (c .before .before .before .before .before .before .kind-of .ensures) h _ _ _ _ (c .before .before .before .put-frames .ensures)
 
 same-length-4 : tie.Need-same-length-4
 same-length-4 c = search needs

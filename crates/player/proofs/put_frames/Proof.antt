@@ -27,17 +27,17 @@ loop-holds : tie.Need-loop-holds Inv-loop μ-loop
 unfolding blockText joined placeOf
 loop-holds c = let p = c .before .before .before .before .pre in (omega arith, p .1, p .2, c .ports-of .ensures, (omega (arith, p .0), refl))
 
-mul-marked : tie.Need-mul-marked Inv-loop μ-loop
-mul-marked c = omega arith
+mul-answer-of : tie.Need-mul-answer-of Inv-loop μ-loop
+mul-answer-of c = omega arith
 
-shared-slice-read-marked : tie.Need-shared-slice-read-marked Inv-loop μ-loop
-shared-slice-read-marked c = omega arith
+shared-slice-read-answer-of : tie.Need-shared-slice-read-answer-of Inv-loop μ-loop
+shared-slice-read-answer-of c = omega arith
 
 volts-at-requires : tie.Need-volts-at-requires Inv-loop μ-loop
 volts-at-requires c κs = let s = c .before .before .loop .inv in frame-inside _ _ _ _ _ (s .3) (s .2) (c .before .loop-test .taken)
 
-marked-requires : tie.Need-marked-requires Inv-loop μ-loop
-marked-requires c κs = tt
+answer-of-requires : tie.Need-answer-of-requires Inv-loop μ-loop
+answer-of-requires c κs = tt
 
 cast-put-frame : tie.Need-cast-put-frame Inv-loop μ-loop
 cast-put-frame c = let s = c .before .before .before .before .before .loop .inv in let t = c .before .before .before .before .loop-test .taken in omega arith
@@ -58,7 +58,7 @@ loop-again : tie.Need-loop-again Inv-loop μ-loop
 loop-again c =
     let s = c .before .before .before .before .before .before .before .before .loop .inv in
     let t = c .before .before .before .before .before .before .before .loop-test .taken in
-    (omega arith, s .1, s .2, s .3, frame-put _ _ _ _ _ _ _ _ _ _ _ _ _ _ (s .3) (c .before .before .before .before .before .volts-at .ensures) (c .before .before .before .before .marked .ensures) (s .4) (c .before .before .put-frame .ensures))
+    (omega arith, s .1, s .2, s .3, frame-put _ _ _ _ _ _ _ _ _ _ _ _ _ _ (s .3) (c .before .before .before .before .before .volts-at .ensures) (c .before .before .before .before .answer-of .ensures) (s .4) (c .before .before .put-frame .ensures))
 
 same-length : tie.Need-same-length Inv-loop μ-loop
 same-length c = within _ _ _ (c .before .loop .inv .4) .1
@@ -77,10 +77,10 @@ put-frames-spec =
     μ-loop
     ports-of-requires
     loop-holds
-    mul-marked
-    shared-slice-read-marked
+    mul-answer-of
+    shared-slice-read-answer-of
     volts-at-requires
-    marked-requires
+    answer-of-requires
     cast-put-frame
     add-put-frame
     put-frame-requires

@@ -17,8 +17,8 @@ put-frame-requires c κs = search needs
 take-requires : tie.Need-take-requires
 take-requires c κs = search needs
 
-kept-requires : tie.Need-kept-requires
-kept-requires c κs = search needs
+or-requires : tie.Need-or-requires
+or-requires c κs = search needs
 
 add-t16 : tie.Need-add-t16
 add-t16 c = omega (arith, c .before .before .before .before .before .before .before .before .before .before .before .before .before .pre)
@@ -27,7 +27,7 @@ same-length : tie.Need-same-length
 same-length c = search needs
 
 returns : tie.Need-returns
-returns c = stepped _ _ _ _ (c .before .before .before .before .before .before .before .before .before .before .before .before .before .args .player) _ _ _ _ (c .before .before .before .before .before .before .before .before .before .sound .ensures) (c .before .before .before .before .before .before .kind-of .ensures) (c .before .before .take .ensures) (c .before .kept .ensures) (c .before .before .before .before .before .put-frame .ensures)
+returns c = stepped _ _ _ _ (c .before .before .before .before .before .before .before .before .before .before .before .before .before .args .player) _ _ _ _ (c .before .before .before .before .before .before .before .before .before .sound .ensures) (c .before .before .before .before .before .before .kind-of .ensures) (c .before .before .take .ensures) (c .before .or .ensures) (c .before .before .before .before .before .put-frame .ensures)
 
 pub step-spec : {M : Type 1} → statement M
 step-spec =
@@ -37,7 +37,7 @@ step-spec =
     kind-of-requires
     put-frame-requires
     take-requires
-    kept-requires
+    or-requires
     add-t16
     same-length
     returns)

@@ -1,22 +1,22 @@
 -- `score::read_hz` meets its contract. Assumes nothing.
-use mathlib.Core.Path.{sym, _∙_}
+use mathlib.Core.Path.{_∙_}
 use borrow.Author.Needs.{needs}
-use Rattle.line.proofs.Laws.{after-line}
 use Rattle.score.specs.Score.{whole, hzOf}
+use Rattle.score.proofs.Steps.{whole-at, text-after}
 use Rattle.score.proofs.read_hz.Statement.{statement}
 use Rattle.score.proofs.read_hz.Tie as tie
 
-slice-aggregate-whole-line : tie.Need-slice-aggregate-whole-line
-slice-aggregate-whole-line c = search needs
+slice-aggregate-line-at : tie.Need-slice-aggregate-line-at
+slice-aggregate-line-at c = search needs
 
-whole-line-requires : tie.Need-whole-line-requires
-whole-line-requires c κs = search needs
+line-at-requires : tie.Need-line-at-requires
+line-at-requires c κs = search needs
+
+whole-in-requires : tie.Need-whole-in-requires
+whole-in-requires c κs = search needs
 
 enum-known-hz : tie.Need-enum-known-hz
 enum-known-hz c = search needs
-
-next-at-requires : tie.Need-next-at-requires
-next-at-requires c κs = search needs
 
 read-frames-requires : tie.Need-read-frames-requires
 read-frames-requires c κs = search needs
@@ -26,20 +26,27 @@ enum-known-n c = search needs
 
 returns : tie.Need-returns
 unfolding hzOf whole
-returns c = simp (sym (c .before .before .before .before .before .whole-line .ensures) ∙ c .before .before .before .hz .given .1, after-line _ _ _ (c .before .next-at .ensures), c .read-frames .ensures)
+returns c = simp (
+  whole-at _ _ _ _ (c .before .before .before .before .before .line-at .ensures) _ _ _
+      (c .before .before .before .before .whole-in .ensures) ∙ c .before .before .hz .given .1,
+  text-after _ _ _ _
+      (c .before .before .before .before .before .line-at .ensures),
+  c .read-frames .ensures,
+)
 
 returns-2 : tie.Need-returns-2
 unfolding hzOf whole
-returns-2 c = simp (sym (c .before .before .before .whole-line .ensures) ∙ c .before .n .given .1)
+returns-2 c = simp (whole-at _ _ _ _ (c .before .before .before .before .line-at .ensures) _ _ _ (c .before .before .before .whole-in .ensures)
+    ∙ c .before .n .given .1)
 
 pub read-hz-spec : {M : Type 1} → statement M
 read-hz-spec =
     tie.close
     (tie.spec
-    slice-aggregate-whole-line
-    whole-line-requires
+    slice-aggregate-line-at
+    line-at-requires
+    whole-in-requires
     enum-known-hz
-    next-at-requires
     read-frames-requires
     enum-known-n
     returns

@@ -14,7 +14,7 @@ wrap-phase-requires-2 : tie.Need-wrap-phase-requires-2
 wrap-phase-requires-2 c κs = search needs
 
 returns : tie.Need-returns
-returns c = ap turns (sym (wrap-unit _ (add-fits binary64 _ _) (c .before .if1 .taken) (c .if2 .taken)))
+returns c = ap turns (sym (wrap-unit _ (add-fits binary64 _ _) (c .before .before .if1 .taken) (c .if2 .taken)))
 
 returns-2 : tie.Need-returns-2
 returns-2 c = search needs

@@ -4,7 +4,7 @@ use Rattle.vco.proofs.corner_half.Tie as tie
 
 returns : tie.Need-returns
 unfolding cornerHalfOf
-returns c = simp (c .if1 .taken)
+returns c = simp (c .before .if1 .taken)
 
 returns-2 : tie.Need-returns-2
 unfolding cornerHalfOf

@@ -11,7 +11,7 @@ exp2-requires c κs = search needs
 
 returns : tie.Need-returns
 unfolding frequencyOf
-returns c = simp (c .before .before .exp2 .ensures, c .before .before .before .voct-to-hz .ensures)
+returns c = simp (c .before .before .before .exp2 .ensures, c .before .before .before .before .voct-to-hz .ensures)
 
 pub frequency-spec : {M : Type 1} → statement M
 frequency-spec = tie.close (tie.spec voct-to-hz-requires exp2-requires returns)

@@ -21,10 +21,16 @@ returns c e = absurd (false≢true e)
 
 returns-2 : tie.Need-returns-2
 returns-2 c e =
-    let s = c .before .before .before .before .before .before .before .before .before .before .before .before .before in
-    let f = c .before .before .before .before .before .before .before .before .before .fabs .ensures in
-    quiet-of (s .args .at) (s .args .phase .0) (s .args .edge .0) (s .args .dt-abs .0) (of-true (fits binary64 (s .args .phase .0)) (search needs)) (of-true (fits binary64 (s .args .dt-abs .0)) (search needs)) (s .pre .0) (s .pre .1) (c .before .before .before .before .before .before .before .before .before .before .before .enum-told2 .given .1)
-    (simp f at (c .before .before .before .before .before .before .before .if1 .taken)) (simp f at (c .before .before .before .before .before .if2 .taken)) (c .before .before .if3 .taken) e
+    let second = c .before .before .before .before .before in
+    let first = second .before .before .before in
+    let x = first .before .before .before in
+    let s = x .before .before .before .before in
+    let p = of-true (fits binary64 (s .args .phase .0)) (search needs) in
+    let w = of-true (fits binary64 (s .args .dt-abs .0)) (search needs) in
+    let near = simp (x .fabs .ensures) at (first .if1 .taken) in
+    let far = simp (x .fabs .ensures) at (second .if2 .taken) in
+    let at = x .before .before .enum-told2 .given .1 in
+    quiet-of (s .args .at) (s .args .phase .0) (s .args .edge .0) (s .args .dt-abs .0) p w (s .pre .0) (s .pre .1) at near far (c .before .before .if3 .taken) e
 
 returns-3 : tie.Need-returns-3
 returns-3 c e = absurd (false≢true (sym (c .if3 .left) ∙ e))

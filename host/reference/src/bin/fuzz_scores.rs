@@ -2,7 +2,7 @@
 //!
 //! `cargo run --offline --release --bin fuzz_scores -- SEED TEXTS`
 //!
-//! The status is 0 only when there was no difference.
+//! The status is 0 only when there was no difference, and scores and every refusal were met.
 use std::process::ExitCode;
 
 #[cfg(quiver)]
@@ -18,7 +18,11 @@ fn main() -> ExitCode {
     match reference::fuzz::run(seed, texts) {
         Ok(counts) => {
             println!("{counts}; no difference; {:.0} s", start.elapsed().as_secs_f64());
-            ExitCode::SUCCESS
+            let unmet = counts.unmet();
+            if !unmet.is_empty() {
+                println!("never met: {}", unmet.join(", "));
+            }
+            ExitCode::from(u8::from(!unmet.is_empty()))
         }
         Err(difference) => {
             println!("{difference}");

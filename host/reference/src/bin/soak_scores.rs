@@ -3,7 +3,7 @@
 //! `cargo run --offline --release --bin soak_scores -- SEED SCORES`
 //!
 //! Of ten scores one is good and nine are damaged. Each core has a share of them. The status is 0 only when there was no
-//! difference.
+//! difference, and every mark, claim and refusal was met.
 use std::process::ExitCode;
 
 #[cfg(quiver)]
@@ -24,10 +24,13 @@ fn main() -> ExitCode {
         thread::spawn(move || soak::run(seed.wrapping_add(i << 32), share, drawn, program::render))
     });
     let shares: Vec<_> = shares.collect();
-    let mut differences = 0;
+    let (mut differences, mut all) = (0, soak::Counts::default());
     for share in shares {
         match share.join().unwrap() {
-            Ok(counts) => println!("{counts}; no difference"),
+            Ok(counts) => {
+                println!("{counts}; no difference");
+                all = all.with(&counts);
+            }
             Err(difference) => {
                 println!("{difference}");
                 differences += 1;
@@ -36,7 +39,11 @@ fn main() -> ExitCode {
     }
     let seconds = start.elapsed().as_secs_f64();
     println!("differences: {differences}; {seconds:.0} s, {:.0} scores a second", scores as f64 / seconds);
-    ExitCode::from(u8::from(differences > 0))
+    let unmet = [all.unplayed(), all.unrefused()].concat();
+    if !unmet.is_empty() {
+        println!("never met: {}", unmet.join(", "));
+    }
+    ExitCode::from(u8::from(differences > 0 || !unmet.is_empty()))
 }
 
 #[cfg(not(quiver))]

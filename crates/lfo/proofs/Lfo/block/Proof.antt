@@ -37,7 +37,14 @@ same-length-2 c = search needs
 
 returns-2 : tie.Need-returns-2
 unfolding lfoBlockOf
-returns-2 c = let a = c .before .before .before .before .before .before .before .before .before .before .before .before .before .before .before .before .before .args in let r = c .before .before .before .before .before .before .before .run .ensures in block-done 5 _ _ _ (a .self) (a .tally) (a .samples .now) (a .marks .now) _ (rw (c .before .before .before .before .before .before .before .before .before .before .before .before .before .before .fits2 .ensures, c .before .before .before .before .before .before .before .before .before .before .before .before .before .refusal .ensures) at (c .before .before .before .before .before .before .before .before .before .before .before .before .block-refusal .ensures)) (c .before .before .before .before .before .before .before .before .before .before .before .if1 .taken) _ _ _ _ (r .0) (r .1 .0) (r .1 .1) (c .or .ensures ∙ ap (tallyOr (a .tally)) (c .before .take-marks .ensures))
+returns-2 c =
+    let t = c .before .before .before .before .before .before .before in
+    let i = t .before .before .before .before in
+    let a = i .before .before .before .before .before .before .args in
+    let r = t .run .ensures in
+    let e = rw (i .before .before .before .fits2 .ensures, i .before .before .refusal .ensures) at (i .before .block-refusal .ensures) in
+    let u = c .or .ensures ∙ ap (tallyOr (a .tally)) (c .before .take-marks .ensures) in
+    block-done 5 _ _ _ (a .self) (a .tally) (a .samples .now) (a .marks .now) _ e (i .if1 .taken) _ _ _ _ (r .0) (r .1 .0) (r .1 .1) u
 
 returns-3 : tie.Need-returns-3
 unfolding lfoBlockOf

@@ -21,7 +21,9 @@ increment-requires : tie.Need-increment-requires
 increment-requires c κs = search needs
 
 glide-requires : tie.Need-glide-requires
-glide-requires c κs = (rw (c .before .before .before .before .restart .ensures) (restart-in _ _ (accepts _ (c .before .before .before .before .before .before .before .before .before .before .before .before .before .before .before .pre .0) .1)), c .before .before .before .before .before .before .before .before .before .before .before .before .before .before .before .pre .2)
+glide-requires c κs =
+    let p = c .before .before .before .before .before .before .before .before .before .before .before .before .before .before .before .pre in
+    (rw (c .before .before .before .before .restart .ensures) (restart-in _ _ (accepts _ (p .0) .1)), p .2)
 
 same-length : tie.Need-same-length
 same-length c = search needs

@@ -38,11 +38,14 @@ same-length-2 c = search needs
 returns-2 : tie.Need-returns-2
 unfolding supersawBlockOf
 returns-2 c =
-    let a = c .before .before .before .before .before .before .before .before .before .before .before .before .before .before .before .before .before .args in
-    let r = c .before .before .before .before .before .before .before .run .ensures in
+    let ran = c .before .before .before .before .before .before .before in
+    let asked = ran .before .before .before .before .before in
+    let a = asked .before .before .before .before .before .args in
+    let r = ran .run .ensures in
     block-done 2 _ _ _ (a .self) (a .tally) (a .samples .now) (a .marks .now) _
-    (rw (c .before .before .before .before .before .before .before .before .before .before .before .before .before .before .fits2 .ensures, c .before .before .before .before .before .before .before .before .before .before .before .before .before .refusal .ensures) at (c .before .before .before .before .before .before .before .before .before .before .before .before .block-refusal .ensures))
-    (c .before .before .before .before .before .before .before .before .before .before .before .if1 .taken) _ _ _ _ (r .0) (r .1 .0) (r .1 .1) (c .or .ensures ∙ ap (tallyOr (a .tally)) (c .before .take-marks .ensures))
+    (rw (asked .before .before .fits2 .ensures, asked .before .refusal .ensures) at (asked .block-refusal .ensures))
+    (ran .before .before .before .before .if1 .taken) _ _ _ _ (r .0) (r .1 .0) (r .1 .1)
+    (c .or .ensures ∙ ap (tallyOr (a .tally)) (c .before .take-marks .ensures))
 
 returns-3 : tie.Need-returns-3
 unfolding supersawBlockOf

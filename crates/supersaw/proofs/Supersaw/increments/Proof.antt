@@ -1,6 +1,6 @@
 use borrow.Author.Needs.{needs}
 use Rattle.supersaw.proofs.Loops.{seven-more, seven-done}
-use mathlib.Core.Path.{_≡_, refl}
+use mathlib.Core.Path.{_≡_}
 use Prim.Native.Nat.{ℕ, _≤_, _-_}
 use native.Mathlib.Omega.{arith}
 use lib.ListN.{replicate}
@@ -12,7 +12,8 @@ use Rattle.supersaw.proofs.Supersaw.increments.Statement.{statement}
 use Rattle.supersaw.proofs.Supersaw.increments.Tie as tie
 
 abbrev Inv-loop : tie.InvT-loop
-Inv-loop detune base-freq sample-rate dt₀ i₀ dt i = (i ≤ 7) × (dt ≡ over (λ (k : ℕ). dtOf k detune base-freq sample-rate .0) i (replicate 8 (subDtOf base-freq sample-rate .0)))
+Inv-loop detune base-freq sample-rate dt₀ i₀ dt i =
+    (i ≤ 7) × (dt ≡ over (λ (k : ℕ). dtOf k detune base-freq sample-rate .0) i (replicate 8 (subDtOf base-freq sample-rate .0)))
 
 abbrev μ-loop : tie.MeasureT-loop
 μ-loop detune base-freq sample-rate dt₀ i₀ dt i = 7 - i
@@ -43,7 +44,11 @@ loop-less c = omega arith
 
 loop-again : tie.Need-loop-again Inv-loop μ-loop
 unfolding dtOf
-loop-again c = (omega arith, seven-more _ _ _ _ _ (c .before .before .loop-test .taken) (c .before .before .before .loop .inv .1) (simp (c .increment .ensures, c .before .detuned .ensures)))
+loop-again c = (
+  omega arith,
+  seven-more _ _ _ _ _ (c .before .before .loop-test .taken) (c .before .before .before .loop .inv .1)
+      (simp (c .increment .ensures, c .before .detuned .ensures)),
+)
 
 returns : tie.Need-returns Inv-loop μ-loop
 unfolding incsOf

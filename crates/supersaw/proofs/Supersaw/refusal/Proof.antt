@@ -14,11 +14,31 @@ phase-ok-requires c κs = search needs
 
 returns : tie.Need-returns
 unfolding supersawRefusalOf
-returns c = simp (c .if3 .taken, ← c .before .phase-ok .ensures, c .before .before .if2 .taken, ← c .before .before .before .phases-ok .ensures, c .before .before .before .before .if1 .taken, ← c .before .before .before .before .before .rate-ok .ensures)
+returns c =
+    let seven = c .before .before in
+    let rate = seven .before .before in
+    simp (
+      c .if3 .taken,
+      ← c .before .phase-ok .ensures,
+      seven .if2 .taken,
+      ← seven .before .phases-ok .ensures,
+      rate .if1 .taken,
+      ← rate .before .rate-ok .ensures,
+    )
 
 returns-2 : tie.Need-returns-2
 unfolding supersawRefusalOf
-returns-2 c = simp (c .if3 .left, ← c .before .phase-ok .ensures, c .before .before .if2 .taken, ← c .before .before .before .phases-ok .ensures, c .before .before .before .before .if1 .taken, ← c .before .before .before .before .before .rate-ok .ensures)
+returns-2 c =
+    let seven = c .before .before in
+    let rate = seven .before .before in
+    simp (
+      c .if3 .left,
+      ← c .before .phase-ok .ensures,
+      seven .if2 .taken,
+      ← seven .before .phases-ok .ensures,
+      rate .if1 .taken,
+      ← rate .before .rate-ok .ensures,
+    )
 
 returns-3 : tie.Need-returns-3
 unfolding supersawRefusalOf

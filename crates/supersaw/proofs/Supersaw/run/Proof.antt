@@ -22,7 +22,10 @@ increments-requires : tie.Need-increments-requires
 increments-requires c κs = search needs
 
 glide-requires : tie.Need-glide-requires
-glide-requires c κs = (quiet-held (c .before .before .before .before .before .before .before .before .before .before .before .before .before .before .args .self) (c .before .before .before .before .before .before .before .before .before .before .before .before .before .before .args .c) _ _ _ _ (c .before .before .before .before .before .before .before .before .before .before .before .before .before .before .pre .0) (c .before .before .before .before .before .before .before .clamp .ensures) (c .before .before .increments .ensures), c .before .before .before .before .before .before .before .before .before .before .before .before .before .before .pre .2)
+glide-requires c κs =
+    let clamped = c .before .before .before .before .before .before .before in
+    let begun = clamped .before .before .before .before .before .before .before in
+    (quiet-held (begun .args .self) (begun .args .c) _ _ _ _ (begun .pre .0) (clamped .clamp .ensures) (c .before .before .increments .ensures), begun .pre .2)
 
 advanced-requires : tie.Need-advanced-requires
 advanced-requires c κs = search needs
@@ -34,7 +37,41 @@ same-length-2 : tie.Need-same-length-2
 same-length-2 c = search needs
 
 returns : tie.Need-returns
-returns c = let a = c .before .before .before .before .before .before .before .before .before .before .before .before .before .before .before .before .before .before .before .before .args in let p = c .before .before .before .before .before .before .before .before .before .before .before .before .before .before .before .before .before .before .before .before .pre in let g = c .before .before .before .before .before .glide .ensures in let w = holds (a .self) (a .c) (p .0) (c .before .before .before .before .before .before .before .before .before .lanes .ensures .1) in let n = length (a .marks .now) in (simp (c .advanced .ensures, g .0, c .before .before .before .before .before .before .before .before .increments .ensures, c .before .before .before .before .before .before .before .before .before .lanes .ensures .0, c .before .before .before .before .before .before .before .before .before .before .before .voct-to-hz .ensures, c .before .before .before .before .before .before .before .before .before .before .before .before .clamp2 .ensures, c .before .before .before .before .before .before .before .before .before .before .before .before .before .clamp .ensures) (sym (held-after _ _ _ _ _ _ _ _ w n (p .1))), (g .1 .0 ∙ simp (c .before .before .before .before .before .before .before .before .increments .ensures, c .before .before .before .before .before .before .before .before .before .lanes .ensures .0, c .before .before .before .before .before .before .before .before .before .before .before .voct-to-hz .ensures, c .before .before .before .before .before .before .before .before .before .before .before .before .clamp2 .ensures, c .before .before .before .before .before .before .before .before .before .before .before .before .before .clamp .ensures) (sym (held-frames _ _ _ _ _ _ _ _ w 2 n)), g .1 .1 ∙ simp (c .before .before .before .before .before .before .before .before .increments .ensures, c .before .before .before .before .before .before .before .before .before .lanes .ensures .0, c .before .before .before .before .before .before .before .before .before .before .before .voct-to-hz .ensures, c .before .before .before .before .before .before .before .before .before .before .before .before .clamp2 .ensures, c .before .before .before .before .before .before .before .before .before .before .before .before .before .clamp .ensures) (sym (held-marks _ _ _ _ _ _ _ _ w n))))
+returns c =
+    let glided = c .before .before .before .before .before in
+    let ready = glided .before .before .before in
+    let pitch = ready .before .before .before in
+    let begun = pitch .before .before .before .before .before .before .before .before .before in
+    let a = begun .args in
+    let g = glided .glide .ensures in
+    let n = length (a .marks .now) in
+    let w = holds (a .self) (a .c) (begun .pre .0) (ready .before .lanes .ensures .1) in (
+      simp (
+        c .advanced .ensures,
+        g .0,
+        ready .increments .ensures,
+        ready .before .lanes .ensures .0,
+        pitch .voct-to-hz .ensures,
+        pitch .before .clamp2 .ensures,
+        pitch .before .before .clamp .ensures,
+      ) (sym (held-after _ _ _ _ _ _ _ _ w n (begun .pre .1))),
+      (
+        g .1 .0 ∙ simp (
+          ready .increments .ensures,
+          ready .before .lanes .ensures .0,
+          pitch .voct-to-hz .ensures,
+          pitch .before .clamp2 .ensures,
+          pitch .before .before .clamp .ensures,
+        ) (sym (held-frames _ _ _ _ _ _ _ _ w 2 n)),
+        g .1 .1 ∙ simp (
+          ready .increments .ensures,
+          ready .before .lanes .ensures .0,
+          pitch .voct-to-hz .ensures,
+          pitch .before .clamp2 .ensures,
+          pitch .before .before .clamp .ensures,
+        ) (sym (held-marks _ _ _ _ _ _ _ _ w n)),
+      ),
+    )
 
 pub run-spec : {M : Type 1} → statement M
 run-spec =

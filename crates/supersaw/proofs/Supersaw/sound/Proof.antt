@@ -82,11 +82,22 @@ loop-less c = omega arith
 loop-again : tie.Need-loop-again Inv-loop μ-loop
 unfolding voicesOf voiceOf dtOf
 loop-again c =
-    let h = c .before .before .before .before .before .before .before .before .before .before .loop .inv in (
+    let mixed = c .before .before .before .before in
+    let stepped = mixed .before .before .before in
+    let h = stepped .before .before .before .loop .inv in (
       omega arith,
       simp length-set (h .1),
       h .2,
-      simp (c .wrap-phase .ensures, c .before .still-finite .ensures, c .before .before .before .before .center .ensures, c .before .before .before .before .before .saw .ensures, c .before .before .before .before .before .before .before .increment .ensures, c .before .before .before .before .before .before .before .before .detuned .ensures, add-one, ← h .3),
+      simp (
+        c .wrap-phase .ensures,
+        c .before .still-finite .ensures,
+        mixed .center .ensures,
+        mixed .before .saw .ensures,
+        stepped .increment .ensures,
+        stepped .before .detuned .ensures,
+        add-one,
+        ← h .3,
+      ),
     )
 
 sub-increment-requires : tie.Need-sub-increment-requires Inv-loop μ-loop
@@ -106,12 +117,21 @@ mark-requires c κs = search needs
 
 returns : tie.Need-returns Inv-loop μ-loop
 returns c =
-    let a = c .before .before .before .before .before .before .before .before .before .before .before .before .before .before .before .before .args in
-    let l = c .before .before .before .before .before .before .before .before .loop in
-    simp (c .mark .ensures, c .before .still-finite2 .ensures, c .before .before .wrap-phase2 .ensures, c .before .before .before .before .before .saw2 .ensures, c .before .before .before .before .before .before .sub-increment .ensures, l .inv .2)
+    let low = c .before .before .before .before .before in
+    let l = low .before .before .before .loop in
+    let pitch = low .before .before .before .before .before in
+    let a = pitch .before .before .before .before .before .before .args in
+    simp (
+      c .mark .ensures,
+      c .before .still-finite2 .ensures,
+      c .before .before .wrap-phase2 .ensures,
+      low .saw2 .ensures,
+      low .before .sub-increment .ensures,
+      l .inv .2,
+    )
     (sound-done (a .self) (a .c) (l .supersaw) _ _ _ (l .sum) (l .total-mix) (l .center-saw) (l .finite) (l .i)
-    (c .before .before .before .before .before .before .before .before .before .before .before .before .clamp .ensures) (c .before .before .before .before .before .before .before .before .before .before .before .clamp2 .ensures) (c .before .before .before .before .before .before .before .before .before .before .voct-to-hz .ensures)
-    (l .inv .0) (c .before .before .before .before .before .before .before .loop-test .left) (l .inv .3))
+    (pitch .before .before .clamp .ensures) (pitch .before .clamp2 .ensures) (pitch .voct-to-hz .ensures)
+    (l .inv .0) (low .before .before .loop-test .left) (l .inv .3))
 
 pub sound-spec : {M : Type 1} → statement M
 sound-spec =

@@ -1,6 +1,6 @@
 use mathlib.Core.Bool.{true}
 use mathlib.Core.Path.{_≡_, refl, sym, ap, _∙_}
-use Prim.Native.Nat.{ℕ, _+_, _*_, _-_, _≤_, _<_}
+use Prim.Native.Nat.{ℕ, _-_, _≤_}
 use native.Mathlib.Nat.{le-antisymm}
 use native.Mathlib.Omega.{arith}
 use lib.Ieee.{binary64}
@@ -11,10 +11,10 @@ use Rattle.laws.specs.Lists.{over}
 use Rattle.laws.proofs.Over.{over-none}
 use Rattle.answer.specs.Block.{afterTicks, markAt, frameAt, joined}
 use Rattle.answer.proofs.Blocks.{four-ports, joined-none, frames-more, frames-done, marks-more, marks-done}
+use Rattle.common.specs.Phase.{restartOf}
 use Rattle.common.specs.Tests.{phaseOk}
-use Rattle.common.proofs.PhaseLaws.{wrap-in}
+use Rattle.common.proofs.PhaseLaws.{wrap-in, restart-in}
 use Rattle.vco.specs.Held.{Held, held, heldAnswer, heldNext}
-use Rattle.vco.proofs.StateLaws.{restart-ok}
 use Rattle.vco.proofs.Held.{heard-now, moved}
 use Rattle.vco.proofs.Vco.glide.Statement.{statement}
 use Rattle.vco.proofs.Vco.glide.Tie as tie
@@ -30,11 +30,16 @@ loop-holds : tie.Need-loop-holds Inv-loop μ-loop
 unfolding afterTicks
 loop-holds c = (omega arith, refl, refl, joined-none _ _, over-none _ _, refl, c .before .before .pre .0)
 
+crosses-requires : tie.Need-crosses-requires Inv-loop μ-loop
+crosses-requires c κs = tt
+
 restart-requires : tie.Need-restart-requires Inv-loop μ-loop
 restart-requires c κs = tt
 
 put-heard-requires : tie.Need-put-heard-requires Inv-loop μ-loop
-put-heard-requires c κs = (rw (c .before .before .restart .ensures) (restart-ok _ _ (c .before .before .before .before .loop .inv .6)), c .before .before .before .before .before .before .before .pre .1, omega arith, omega arith)
+put-heard-requires c κs =
+    let l = c .before .before .before .before .before in
+    (rw (c .before .before .restart .ensures) (restart-in _ _ (l .loop .inv .6)), l .before .before .before .pre .1, omega arith, omega arith)
 
 advance-requires : tie.Need-advance-requires Inv-loop μ-loop
 advance-requires c κs = tt
@@ -47,8 +52,9 @@ loop-less c = omega arith
 
 loop-again : tie.Need-loop-again Inv-loop μ-loop
 loop-again c =
-    let s = c .before .before .before .before .before .before .before .before .before .before .loop .inv in
-    let r = c .before .before .before .before .before .before .before .before .restart .ensures in
+    let s = c .before .before .before .before .before .before .before .before .before .before .before .loop .inv in
+    let x = c .before .before .before .before .before .before .before .before in
+    let r = x .restart .ensures ∙ ap (restartOf _) (x .before .crosses .ensures) in
     let a = heard-now _ _ _ _ _ _ _ _ _ refl r (s .5) in
     let p = c .before .before .before .before .before .put-heard .ensures in
     (omega arith, simp (p .0, length-sets) (s .1), simp (p .1, length-set) (s .2), rw (p .0) (frames-more 4 four-ports _ _ _ _ _ _ _ (s .3) a), rw (p .1) (marks-more 4 four-ports _ _ _ _ _ _ _ (omega arith) (s .4) a), moved _ _ _ _ _ _ _ (c .advance .ensures) r (s .5), rw (c .advance .ensures) (wrap-in _ (add-fits binary64 _ _)))
@@ -73,6 +79,7 @@ glide-spec =
     Inv-loop
     μ-loop
     loop-holds
+    crosses-requires
     restart-requires
     put-heard-requires
     advance-requires

@@ -1,4 +1,4 @@
-use Rattle.answer.specs.Answer.{voltsOf, markNumber}
+use Rattle.answer.specs.Answer.{voltsOf, markNumber, hostNumber, accepted}
 use Rattle.vco.proofs.CalmLaws.{quiet-answer}
 use borrow.Author.Needs.{needs}
 use Rattle.vco.proofs.Vco.put_heard.Statement.{statement}
@@ -22,8 +22,8 @@ smoothed-requires c κs = search needs
 samples-requires : tie.Need-samples-requires
 samples-requires c κs = search needs
 
-mark-number-requires : tie.Need-mark-number-requires
-mark-number-requires c κs = search needs
+host-number-requires : tie.Need-host-number-requires
+host-number-requires c κs = search needs
 
 put-requires-2 : tie.Need-put-requires-2
 put-requires-2 c κs = search needs
@@ -35,7 +35,7 @@ same-length-2 : tie.Need-same-length-2
 same-length-2 c = search needs
 
 returns : tie.Need-returns
-unfolding voltsOf markNumber
+unfolding voltsOf hostNumber markNumber accepted
 returns c =
     let s = c .before .before .before .before .before .before .before .before .before .before .before .before .before in
     let e = quiet-answer (s .args .at) (s .args .phase .0) (s .args .p-old .0) (s .args .pw) (s .args .dt .0) (s .args .wanted) (s .pre .0) (c .before .before .before .before .before .before .before .before .before .calm .ensures (c .before .before .before .before .before .before .before .before .if1 .taken)) in
@@ -49,7 +49,11 @@ same-length-4 : tie.Need-same-length-4
 same-length-4 c = search needs
 
 returns-2 : tie.Need-returns-2
-returns-2 c = let p = c .before .before .before .before .put2 .ensures in (simp (p .0, c .before .before .before .before .before .before .before .before .samples2 .ensures, c .before .before .before .before .before .before .before .before .before .smoothed .ensures), simp (p .1, c .before .before .before .before .before .before .before .mark-number .ensures, c .before .before .before .before .before .before .before .before .before .smoothed .ensures))
+returns-2 c =
+    let p = c .before .before .before .before .put2 .ensures in
+    let m = c .before .before .before .before .before .before .before in
+    let h = m .before .before .smoothed .ensures in
+    (simp (p .0, m .before .samples2 .ensures, h), simp (p .1, m .host-number .ensures, h))
 
 pub put-heard-spec : {M : Type 1} → statement M
 put-heard-spec =
@@ -61,7 +65,7 @@ put-heard-spec =
     put-requires
     smoothed-requires
     samples-requires
-    mark-number-requires
+    host-number-requires
     put-requires-2
     same-length
     same-length-2

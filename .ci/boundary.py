@@ -1,0 +1,77 @@
+"""The functions that hosts call: as the crates export them, as the C header declares them, and as the safe crate does.
+
+A function is what it answers and its inputs in order, each a name and a kind: `f64`, or, of a lent slice, `mut f64` or `const f64`.
+In C and in the archive a slice is two arguments, the address of its first cell and its length.
+"""
+import re
+
+HEADER = "host/c/gruttisol.h"
+HOST = "host/gruttisol/src/"
+KINDS = {"double": "f64", "uint8_t": "u8", "uint32_t": "u32", "uint64_t": "u64", "bool": "bool"}
+LACKS = " without a length"
+
+
+def parts(text):
+    """What commas part, without spaces around it."""
+    return [part.strip() for part in text.split(",") if part.strip()]
+
+
+def exported(files):
+    """What the crates export, as {name: (answer, inputs)}."""
+    found = {}
+    for path, text in files.items():
+        if re.match(r"crates/\w+/src/.*\.rt$", path):
+            text = re.sub(r"//.*", "", text)
+            for m in re.finditer(r"\bextern\s+\"C\"\s+fn\s+(\w+)\s*\(([^)]*)\)\s*(?:->\s*(\w+))?", text):
+                inputs = [re.split(r"\s*:\s*", part) for part in parts(m[2])]
+                slices = {"&mut [": "mut ", "&[": "const "}
+                for given in inputs:
+                    for lent, kind in slices.items():
+                        if given[1].startswith(lent):
+                            given[1] = kind + given[1].removeprefix(lent).rstrip("]")
+                found[m[1]] = m[3], [tuple(given) for given in inputs]
+    return found
+
+
+def in_header(text):
+    """What the header declares, likewise; an input that it can't read has the kind '?'."""
+    found = {}
+    for m in re.finditer(r"(\w+)\s+\**(gruttisol_\w+)\s*\(([^)]*)\)\s*;", re.sub(r"/\*.*?\*/", "", text, flags=re.S)):
+        inputs = []
+        for part in parts(m[3]):
+            given = re.fullmatch(r"(const\s+)?(\w+)\s*(\*?)\s*(\w+)", part)
+            if given and given[3]:
+                inputs.append((given[4], ("const " if given[1] else "mut ") + KINDS.get(given[2], "?") + LACKS))
+            elif given and given[2] == "size_t" and inputs and f"{inputs[-1][0]}_len" == given[4]:
+                inputs[-1] = inputs[-1][0], inputs[-1][1].removesuffix(LACKS)
+            elif part != "void":
+                inputs.append((given[4], KINDS.get(given[2], "?")) if given and not given[1] else (part, "?"))
+        found[m[2]] = KINDS.get(m[1], "?"), inputs
+    return found
+
+
+def in_host(files):
+    """What the safe crate declares by its macros `exported` and `lent`, likewise."""
+    found = {}
+    for path, text in files.items():
+        if not path.startswith(HOST):
+            continue
+        text = re.sub(r"//.*", "", text)
+        for block in re.finditer(r"^\s*(exported|lent)! \{\n(.*?)^\s*\}", text, re.M | re.S):
+            for m in re.finditer(r"\bfn (\w+)\(([^;)]*)(;[^)]*)?\)(?: -> (\w+))?;", block[2]):
+                inputs = [tuple(re.split(r"\s*:\s*", part)) for part in parts(m[2]) + parts((m[3] or "").lstrip(";"))]
+                found[f"gruttisol_{m[1]}"] = m[4] or "u32", inputs
+    return found
+
+
+def differences(files):
+    """Every exported function is in the header and in the safe crate, with its types and order, and nothing else is."""
+    crates = exported(files)
+    for place, declared in [(HEADER, in_header(files[HEADER])), (HOST, in_host(files))]:
+        for name in sorted(crates.keys() | declared.keys()):
+            if crates.get(name) != declared.get(name):
+                yield f"{place}: {name} is {declared.get(name)}, exported {crates.get(name)}"
+    for path, text in files.items():
+        foreign = re.search(r"extern\s+\"C\"", re.sub(r"//.*", "", text)) if path.startswith("host/") and path.endswith(".rs") else None
+        if foreign and path not in (HOST + "exported.rs", HOST + "lent.rs"):
+            yield f"{path}: declares functions of C itself"

@@ -1,0 +1,11 @@
+//! A run that never meets some mark, refusal or kind of call fails, for it compares nothing of that.
+
+#[test]
+#[cfg_attr(not(quiver), ignore = "skipped: QUIVER_SRC not found")]
+fn a_short_run() {
+    #[cfg(quiver)]
+    {
+        let said = compare::script::run::<compare::karplus_strong::KarplusStrong>(1, 1).unwrap_err();
+        assert!(said.contains("never met: cleared"), "{said}");
+    }
+}
