@@ -51,13 +51,18 @@ alike-over f g n l m h e k = record {
   cells = λ i q. getD-over f n l i q ∙ k i q ∙ sym (getD-over g n m i q);
 }
 
-pub alike-blank : (a n : ℕ) (l m : List Float) → n ≤ length l → length l ≡ length m → ((i : ℕ) → i < a → getD l i nan ≡ getD m i nan) → Alike n (blankOf a n l) (blankOf a n m)
+pub blank-cells : (a n : ℕ) (l m : List Float) → ((i : ℕ) → i < a → getD l i nan ≡ getD m i nan)
+    → (i : ℕ) → i < n → getD (blankOf a n l) i nan ≡ getD (blankOf a n m) i nan
 unfolding blankOf blankAt
-alike-blank a n l m h e k = alike-over (blankAt a l) (blankAt a m) n l m h e (λ i q. go i (ltb i a) refl)
+blank-cells a n l m k i q = getD-over (blankAt a l) n l i q ∙ go (ltb i a) refl ∙ sym (getD-over (blankAt a m) n m i q)
   where
-    go : (i : ℕ) (b : Bool) → ltb i a ≡ b → cond (ltb i a) (getD l i nan) zer ≡ cond (ltb i a) (getD m i nan) zer
-    go i true t = ap (λ (x : Float). cond (ltb i a) x zer) (k i (ltb-true i a t))
-    go i false t = rw t
+    go : (b : Bool) → ltb i a ≡ b → cond (ltb i a) (getD l i nan) zer ≡ cond (ltb i a) (getD m i nan) zer
+    go true t = ap (λ (x : Float). cond (ltb i a) x zer) (k i (ltb-true i a t))
+    go false t = rw t
+
+pub alike-blank : (a n : ℕ) (l m : List Float) → n ≤ length l → length l ≡ length m → ((i : ℕ) → i < a → getD l i nan ≡ getD m i nan)
+    → Alike n (blankOf a n l) (blankOf a n m)
+alike-blank a n l m h e k = record { size = length-blank a n l h ∙ e ∙ sym (length-blank a n m (omega arith)); cells = blank-cells a n l m k }
 
 sum-alike : (l m : List Float) (n : ℕ) → ((i : ℕ) → i < n → getD l i nan ≡ getD m i nan) → sumTo l n ≡ sumTo m n
 unfolding sumTo

@@ -15,4 +15,5 @@ pub mod Untouched
 pub mod Unstretched
 pub mod Same
 pub mod Forget
+pub mod Lent
 pub mod Settled

@@ -1,14 +1,14 @@
 -- Two strings that are equal, over lines that are alike below their length: no call tells them apart, and each leaves them so.
 use mathlib.Core.Bool.{Bool, true, false, cond}
 use mathlib.Core.List.{List, [], _∷_, _++_}
-use mathlib.Core.Path.{_≡_, refl, sym, ap, subst}
-use Prim.Native.Nat.{ℕ, zero, suc, _*_, _≤_, _<_, min}
+use mathlib.Core.Path.{_≡_, refl, ap, subst}
+use Prim.Native.Nat.{ℕ, zero, suc, _*_, _<_, min}
 use native.Mathlib.Nat.{not-suc-le-zero}
 use native.Mathlib.Omega.{arith}
 use lib.Dec.{eqb}
 use lib.Ieee.{Float, nan}
 use lib.ListN.{length, getD, drop}
-use Rattle.laws.proofs.Over.{over-same, tab-ext}
+use Rattle.laws.proofs.Over.{tab-ext}
 use Rattle.laws.specs.Lists.{tab, over}
 use Rattle.laws.specs.Machine.{replies}
 use Rattle.common.specs.Edge.{newEdge}
@@ -22,14 +22,13 @@ use Rattle.karplus_strong.specs.Step.{restOf}
 use Rattle.karplus_strong.specs.KarplusStrong.{maxLenOf, roomOf, karplusStrongRefusalOf, rateRefusalOf, Making, madeNumber, madeOr, madeUnless, karplusStrongResetOf, resizedString, karplusStrongSetSampleRateOf, karplusStrongTickOf, Strung, strung}
 use Rattle.karplus_strong.specs.Blocks.{firstRefusalOf, karplusStrongAnswerOf, karplusStrongNextOf, karplusStrongBlockOf}
 use Rattle.karplus_strong.specs.Calls.{Call, Tick, Play, Reset, SetSampleRate, Lend, Ticked, Played, Told, strungAfter, lentOf, unstrung, after, reply}
-use Rattle.karplus_strong.specs.Promises.{Alike, SameTick, Same, Same-replies, Any-line}
+use Rattle.karplus_strong.specs.Promises.{Alike, SameTick, Same, Same-replies}
 use Rattle.karplus_strong.specs.declared.KarplusStrong.{KarplusStrong}
 use Rattle.karplus_strong.specs.declared.KarplusStrongControls.{KarplusStrongControls}
 use Rattle.karplus_strong.specs.declared.KarplusStrongTicked.{KarplusStrongTicked}
 use Rattle.karplus_strong.specs.declared.KarplusStrongMade.the-variants as made
-use Rattle.karplus_strong.proofs.Parts.{accepted, rate-accepted, room-of}
+use Rattle.karplus_strong.proofs.Parts.{accepted, rate-accepted}
 use Rattle.karplus_strong.proofs.Alike.{alike-blank, only-its-cells}
-use Rattle.karplus_strong.proofs.Reached.{reached-good}
 
 -- what holds of one string over two such lines holds of both strings
 of-lines : (P : Strung → Strung → Type 0) → ((s : KarplusStrong) (l m : List Float) → Alike (s .len) l m → P (strung s l) (strung s m))
@@ -192,11 +191,3 @@ pub same-replies : Same-replies
 unfolding replies
 same-replies x y e [] = refl
 same-replies x y e (c ∷ cs) = let r = same-call c x y e in (λ j. r .said j ∷ same-replies (after x c) (after y c) (r .state) cs j)
-
--- ---- another line
-pub any-line : Any-line
-unfolding after lentOf
-any-line x h l e k = simp e (ap (strung (x .string)) (sym (over-same nan (λ i. getD (x .line) i nan) l (x .string .len) room k)))
-  where
-    room : x .string .len ≤ length l
-    room = let g = reached-good x h in let q = g .sound .most in let r = room-of (x .string .«sample_rate») (length l) e in omega arith

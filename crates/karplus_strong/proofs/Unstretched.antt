@@ -2,7 +2,7 @@
 use mathlib.Core.Bool.{Bool, true, false, cond, not, true≢false}
 use mathlib.Core.List.{List}
 use mathlib.Core.Logic.{⊎-elim}
-use mathlib.Core.Path.{_≡_, refl, sym, subst}
+use mathlib.Core.Path.{_≡_, refl, sym, subst, _∙_}
 use Prim.Native.Nat.{ℕ, zero, suc, _+_, _-_, _*_, _/_, _%_, _^_, _≤_, _<_, min}
 use native.Mathlib.Decide.{ℕ-discrete}
 use native.Mathlib.Nat.{le-trans, le-of-eq, le-of-suc-le-suc, eq-or-lt-of-le, add-le-add, mod-lt, mul-le-mul-right, mul-one, mul-pos, not-suc-le-zero}
@@ -17,6 +17,7 @@ use lib.Ieee.Fits.{cond-fits, sub-fits}
 use lib.Ieee.Positive.{positive, above, above-of-le}
 use borrow.Author.Tests.{ltb-true}
 use Rattle.laws.proofs.Always.{always}
+use Rattle.laws.specs.Machine.{Reached}
 use Rattle.laws.proofs.Interval.{Under, Within, part-of, round-sized, sized-mul, sum-under, unit-within, within-add, within-finite, within-minus, within-mul, within-of, within-to}
 use Rattle.laws.proofs.Order.{le-of-lt-true, float-le-trans}
 use Rattle.laws.proofs.Tests.{both-true, of-true}
@@ -34,22 +35,23 @@ use Rattle.common.specs.Memo.{recall1, voctToHzAt}
 use Rattle.common.specs.Tests.{rateOk}
 use Rattle.common.specs.declared.Hertz.{Hertz}
 use Rattle.common.specs.declared.Memo1.{Memo1}
-use Rattle.answer.proofs.Blocks.{block-keeps}
+use Rattle.answer.proofs.Blocks.{ticks-keep, block-keeps, block-refusal, block-fits}
+use Rattle.answer.specs.Block.{afterTicks, answerAt}
 use Rattle.answer.specs.Answer.{markNumber, accepted}
 use Rattle.answer.specs.declared.Answer.{Answer}
 use Rattle.karplus_strong.specs.Consts.{loopLeak}
 use Rattle.karplus_strong.specs.Line.{blankAt, blankOf, impulseOf, pulseOf, excitedAt, excitedOf, sumTo, meanOf, levelAt, levelOf, struckOf, drawsOk}
 use Rattle.karplus_strong.specs.Step.{filterCoefOf, apCoefOf, filterDelayOf, apDelayOf, targetDelayOf, offsetOne, offsetTwo, tapOf, filteredOf, stretchedOf, Ticking, restOf, stepOf}
-use Rattle.karplus_strong.specs.Blocks.{triggerRefusalOf, karplusStrongNextOf, karplusStrongBlockOf}
+use Rattle.karplus_strong.specs.Blocks.{triggerRefusalOf, firstRefusalOf, karplusStrongNextOf, karplusStrongBlockOf}
 use Rattle.karplus_strong.specs.KarplusStrong.{maxLenOf, karplusStrongRefusalOf, roomOf, rateRefusalOf, madeOr, madeUnless, karplusStrongResetOf, resizedString, karplusStrongSetSampleRateOf, finiteOr, periodOf, struckLen, drawsRefusalOf, strikeOf, strikeIf, heardString, tickUnless, karplusStrongTickOf, Strung, strung}
 use Rattle.karplus_strong.specs.Calls.{Call, Tick, Play, Reset, SetSampleRate, Lend, strungAfter, lentOf, after, FitCall, First}
-use Rattle.karplus_strong.specs.Promises.{periodAt, risesAt, NoStretch, Unstretched, Never-cleared}
+use Rattle.karplus_strong.specs.Promises.{periodAt, risesAt, NoStretch, Unstretched, Never-cleared, Block-never-cleared}
 use Rattle.karplus_strong.specs.declared.KarplusStrong.{KarplusStrong}
 use Rattle.karplus_strong.specs.declared.KarplusStrongControls.{KarplusStrongControls}
 use Rattle.karplus_strong.specs.declared.KarplusStrongMade.the-variants as made
 use Rattle.karplus_strong.proofs.Alike.{getD-over, length-struck}
 use Rattle.karplus_strong.proofs.Parts.{Sound, damped, delay-range, heard-clean, memo-number, struck-room}
-use Rattle.karplus_strong.proofs.Promised.{struck-short}
+use Rattle.karplus_strong.proofs.Promised.{struck-short, block-accepts}
 use Rattle.karplus_strong.proofs.Reached.{Good, tick-good, first-is, first-good, after-good}
 use Rattle.karplus_strong.proofs.Ticks.{struckStep, good-tick}
 use Rattle.karplus_strong.proofs.Weights.{tap-weights, filter-weights, exact-upto}
@@ -407,6 +409,18 @@ first-calm x f =
     let i = first-is x f in
     rw (i .2, i .3) (record { cells = blank-within 0 (maxLenOf (f .rate)) (f .lent) (λ j q. absurd (not-suc-le-zero q)); lp = zero-within; x1 = zero-within; y1 = zero-within })
 
+reached-quiet : (x : Strung) → Reached First Unstretched after x → Quiet x
+reached-quiet x h = always Quiet (λ y i. (first-good y i, first-calm y i)) (λ y c p u. (after-good y c (p .0) (fit c u), after-calm y c (p .0) u (p .1))) h
+
 pub never-cleared : Never-cleared
-never-cleared x h c draws f = let k = always Quiet (λ (y : Strung) (i : First y). (first-good y i, first-calm y i)) (λ (y : Strung) (c : Call) (p : Quiet y) (u : Unstretched c). (after-good y c (p .0) (fit c u), after-calm y c (p .0) u (p .1))) h in
-    tick-calm (x .string) c draws (x .line) (k .0) (f .1) (k .1) .mark
+never-cleared x h c draws f = let k = reached-quiet x h in tick-calm (x .string) c draws (x .line) (k .0) (f .1) (k .1) .mark
+
+pub block-never-cleared : Block-never-cleared
+unfolding answerAt
+block-never-cleared x h c draws t o m f e i q =
+    let k = ticks-keep Quiet (karplusStrongNextOf c draws) (tick-quiet c draws (f .0) (f .1)) x (reached-quiet x h) i in
+    let y = afterTicks (karplusStrongNextOf c draws) i x in
+    tick-calm (y .string) c draws (y .line) (k .0) (f .1) (k .1) .mark (unfold answerAt in block-accepts x c draws (length m) (omega arith) first i)
+  where
+    first : firstRefusalOf (x .string) c draws (length (x .line)) (length m) ≡ 0
+    first = unfold karplusStrongBlockOf in block-fits 1 _ t o m _ refl (sym (block-refusal 1 _ _ _ x t o m) ∙ e) .1

@@ -1,13 +1,14 @@
 -- What a call leaves alone: the cells from the string's length on, and the draws that it doesn't need.
 use mathlib.Core.Bool.{Bool, true, false, cond}
 use mathlib.Core.List.{List, _++_}
-use mathlib.Core.Path.{_≡_, refl, ap, _∙_}
-use Prim.Native.Nat.{ℕ, zero, suc, _+_, _-_, _≤_, _<_, min}
+use mathlib.Core.Path.{_≡_, refl, sym, ap, subst, _∙_}
+use Prim.Native.Nat.{ℕ, zero, suc, _+_, _-_, _*_, _≤_, _<_, min}
 use native.Mathlib.Omega.{arith}
+use lib.Dec.{eqb}
 use lib.ListN.{length, getD, drop, length-set}
 use lib.Seq.{getD-append-add, getD-drop, getD-set-other}
 use lib.Ieee.{Float, nan, binary64, mul, neg}
-use borrow.Author.Tests.{le-leb}
+use borrow.Author.Tests.{eqb-true, le-leb}
 use Rattle.laws.proofs.Over.{length-tab, length-over, tab-ext}
 use Rattle.laws.specs.Float.{zer, one, isFin}
 use Rattle.laws.specs.Lists.{tab, over}
@@ -16,16 +17,21 @@ use Rattle.common.specs.Consts.{half}
 use Rattle.common.specs.Edge.{risingOf}
 use Rattle.common.specs.Memo.{recall1, voctToHzAt}
 use Rattle.common.specs.Tests.{rateOk}
+use Rattle.answer.specs.Block.{Block, block, blockOf, blockRefusalOf, ticksOf, afterTicks}
+use Rattle.answer.specs.declared.Tally.{Tally}
+use Rattle.answer.proofs.Blocks.{ticks-keep, held-after, block-fits}
 use Rattle.karplus_strong.specs.Consts.{loopLeak}
 use Rattle.karplus_strong.specs.Line.{blankAt, blankOf, excitedAt, excitedOf, meanOf, levelAt, levelOf, struckOf, drawsOk}
 use Rattle.karplus_strong.specs.Step.{filterCoefOf, apCoefOf, targetDelayOf, tapOf, filteredOf, stretchedOf, Ticking, restOf, wroteOf, clearedOf, stepOf}
-use Rattle.karplus_strong.specs.Blocks.{triggerRefusalOf}
-use Rattle.karplus_strong.specs.KarplusStrong.{maxLenOf, roomOf, karplusStrongRefusalOf, rateRefusalOf, madeUnless, newKarplusStrong, karplusStrongNewOf, karplusStrongResetOf, resizedString, karplusStrongSetSampleRateOf, finiteOr, struckLen, drawsRefusalOf, strikeOf, strikeIf, heardString, tickUnless, karplusStrongSoundOf, karplusStrongTickOf}
-use Rattle.karplus_strong.specs.Promises.{periodAt, SamePast, Past-untouched, Only-its-draws}
+use Rattle.karplus_strong.specs.Held.{tuningOf, turnOf, heldNext}
+use Rattle.karplus_strong.specs.Blocks.{triggerRefusalOf, firstRefusalOf, karplusStrongAnswerOf, karplusStrongNextOf, karplusStrongBlockOf}
+use Rattle.karplus_strong.specs.KarplusStrong.{maxLenOf, roomOf, karplusStrongRefusalOf, rateRefusalOf, madeUnless, newKarplusStrong, karplusStrongNewOf, karplusStrongResetOf, resizedString, karplusStrongSetSampleRateOf, finiteOr, struckLen, drawsRefusalOf, strikeOf, strikeIf, heardString, tickUnless, karplusStrongSoundOf, karplusStrongTickOf, Strung, strung}
+use Rattle.karplus_strong.specs.Promises.{periodAt, risesAt, SamePast, Past-untouched, Only-its-draws}
 use Rattle.karplus_strong.specs.declared.KarplusStrong.{KarplusStrong}
 use Rattle.karplus_strong.specs.declared.KarplusStrongControls.{KarplusStrongControls}
 use Rattle.karplus_strong.specs.declared.KarplusStrongMade.the-variants as made
-use Rattle.karplus_strong.proofs.Parts.{Sound, accepted, rate-accepted, memo-number, struck-room}
+use Rattle.karplus_strong.proofs.Parts.{Sound, accepted, rate-accepted, memo-number, struck-room, turn-is}
+use Rattle.karplus_strong.proofs.Held.{Held, tuneOf, struckBy, holds, turned-ready, first-none}
 use Rattle.karplus_strong.proofs.Reached.{new-taken}
 use Rattle.karplus_strong.proofs.Ticks.{struckStep, tick-is}
 
@@ -126,6 +132,83 @@ past-tick s c draws l = pick (karplusStrongRefusalOf s (length l)) refl
     pick zero z = let a = accepted s (length l) z in past-sound s c draws l (a .0) (a .1)
     pick (suc k) z = past-none (s .len) l
 
+-- ---- the block
+past-strike : (rising : Bool) (t : KarplusStrong) (p b : Float) (draws : List ℕ) (l : List Float) → let u = strikeIf rising t p b draws l in
+    u .out .len ≤ length l → SamePast (u .out .len) l (u .line)
+unfolding strikeIf strikeOf
+past-strike true t p b draws l h = past-struck (struckLen p) b draws l h
+past-strike false t p b draws l h = past-none (t .len) l
+
+turn-past : (s : KarplusStrong) (p d t : Float) (l : List Float) → s .«write_pos» < s .len → s .len ≤ length l → PastTick l (turnOf s (tuningOf p d t) l)
+turn-past s p d t l h k = subst (PastTick l) (sym (turn-is s p d t l)) (past-step s p d t l h k)
+
+module _ (s : KarplusStrong) (c : KarplusStrongControls) (draws : List ℕ) (l : List Float)
+    (h : karplusStrongRefusalOf s (length l) ≡ 0) (k : triggerRefusalOf s c draws ≡ 0) where
+  abbrev start : Strung
+  start = strung (struckBy s c draws l .out) (struckBy s c draws l .line)
+
+  -- from its first turn on the string's length stays
+  record Ringing (y : Strung) : Type 0 where
+    held : Held s c y
+    len : y .string .len ≡ start .string .len
+    past : SamePast (start .string .len) l (y .line)
+
+  first-ringing : Ringing start
+  first-ringing = record { held = g; len = refl; past = past-strike (risesAt s c) _ _ _ draws l room }
+    where
+      g : Held s c start
+      g = holds s c draws l h k .good
+
+      room : start .string .len ≤ length l
+      room = omega (arith, accepted s (length l) h .1, rw (g .rate) at (g .sound .most))
+
+  next-ringing : (y : Strung) → Ringing y → Ringing (heldNext (tuneOf s c) y)
+  unfolding heldNext
+  next-ringing y r = record {
+    held = holds s c draws l h k .stays y (r .held);
+    len = same ∙ r .len;
+    past = past-both (start .string .len) l (y .line) (t .line) (r .past) (subst (λ (n : ℕ). SamePast n (y .line) (t .line)) (same ∙ r .len) turned);
+  }
+    where
+      t : Ticking
+      t = turnOf (y .string) (tuneOf s c) (y .line)
+
+      same : t .out .«karplus_strong» .len ≡ y .string .len
+      same = turned-ready (y .string) (tuneOf s c) (y .line) _ refl (r .held .sound .place) .1
+
+      turned : PastTick (y .line) t
+      turned = turn-past (y .string) _ _ _ (y .line) (r .held .sound .place) (omega (arith, r .held .sound .most, r .held .room))
+
+  past-ringing : (n : ℕ) → 0 < n → let y = afterTicks (karplusStrongNextOf c draws) n (strung s l) in SamePast (y .string .len) l (y .line)
+  past-ringing n z =
+      let r = ticks-keep Ringing (heldNext (tuneOf s c)) next-ringing start first-ringing n in
+      rw (held-after _ _ _ _ _ _ _ _ (holds s c draws l h k) n z, r .len) (r .past)
+
+past-ticks : (x : Strung) (c : KarplusStrongControls) (draws : List ℕ) (n : ℕ) → firstRefusalOf (x .string) c draws (length (x .line)) n ≡ 0
+    → let y = afterTicks (karplusStrongNextOf c draws) n x in SamePast (y .string .len) (x .line) (y .line)
+past-ticks x c draws zero e = unfold afterTicks in past-none (x .string .len) (x .line)
+past-ticks x c draws (suc n) e =
+    let k = first-none (x .string) c draws (length (x .line)) (suc n) e (λ z. omega arith) in
+    past-ringing (x .string) c draws (x .line) (k .0) (k .1) (suc n) (omega arith)
+
+past-block : (x : Strung) (c : KarplusStrongControls) (draws : List ℕ) (t : Tally) (o : List Float) (m : List ℕ)
+    → let y = karplusStrongBlockOf x c draws t o m .state in SamePast (y .string .len) (x .line) (y .line)
+unfolding karplusStrongBlockOf blockOf
+past-block x c draws t o m = go (eqb n 0) (eqb-true n 0)
+  where
+    number : ℕ
+    number = firstRefusalOf (x .string) c draws (length (x .line)) (length m)
+
+    n : ℕ
+    n = blockRefusalOf (eqb (length o) (1 * length m)) number t (length m)
+
+    ticks : Block Strung
+    ticks = ticksOf 1 (karplusStrongAnswerOf c draws) (karplusStrongNextOf c draws) (length m) x t
+
+    go : (b : Bool) → (b ≡ true → n ≡ 0) → let y = cond b ticks (block n x t o m) .state in SamePast (y .string .len) (x .line) (y .line)
+    go true h = unfold ticksOf in past-ticks x c draws (length m) (block-fits 1 number t o m n refl (h refl) .1)
+    go false h = past-none (x .string .len) (x .line)
+
 -- ---- the other calls
 past-made : (k n : ℕ) (t : KarplusStrong) (l m : List Float) → (k ≡ 0 → SamePast n l m) → SamePast n l (madeUnless k (record { out = made.Made t; line = m }) l .line)
 unfolding madeUnless
@@ -137,6 +220,7 @@ past-untouched =
     record {
       new = λ rate l. unfold karplusStrongNewOf in past-made (cond (rateOk rate) (roomOf rate (length l)) 1) (maxLenOf rate) (newKarplusStrong rate) l (blankOf 0 (maxLenOf rate) l) (λ e. let h = new-taken rate (length l) e .1 in past-blank 0 (maxLenOf rate) l (omega arith));
       tick = past-tick;
+      block = past-block;
       reset = λ s l. unfold karplusStrongResetOf in past-made (karplusStrongRefusalOf s (length l)) (s .len) _ l (blankOf 0 (s .len) l) (λ e. let a = accepted s (length l) e in let q = a .0 .most in let h = a .1 in past-blank 0 (s .len) l (omega arith));
       «set_sample_rate» = λ s rate l. unfold karplusStrongSetSampleRateOf in past-made (rateRefusalOf s rate (length l)) (maxLenOf rate) (resizedString s rate (maxLenOf rate)) l (blankOf (min (s .len) (maxLenOf rate)) (maxLenOf rate) l) (λ e. let h = rate-accepted s rate (length l) e .2 in past-blank (min (s .len) (maxLenOf rate)) (maxLenOf rate) l (omega arith));
     }

@@ -3,7 +3,7 @@ use mathlib.Core.Bool.{Bool, true, false, cond}
 use mathlib.Core.List.{List}
 use mathlib.Core.Logic.{_⊎_}
 use mathlib.Core.Path.{_≡_}
-use Prim.Native.Nat.{ℕ, _*_, _≤_, _<_}
+use Prim.Native.Nat.{ℕ, _*_, _≤_, _<_, min}
 use lib.Dec.{eqb, leb}
 use lib.ListN.{length, getD}
 use lib.Ieee.{Float, nan, eq, le, neg}
@@ -16,14 +16,14 @@ use Rattle.common.specs.Memo.{recall1, voctToHzAt}
 use Rattle.common.specs.Tests.{rateOk}
 use Rattle.common.specs.declared.Hertz.{Hertz}
 use Rattle.answer.specs.Answer.{markNumber, voltsOf, refusalOf, accepted}
-use Rattle.answer.specs.Block.{Block, blockRefusalOf}
+use Rattle.answer.specs.Block.{Block, blockRefusalOf, answerAt}
 use Rattle.answer.specs.Promises.{AllAccepted, AllTaken}
 use Rattle.answer.specs.declared.Tally.{Tally}
 use Rattle.karplus_strong.specs.Line.{blankOf, drawsOk}
 use Rattle.karplus_strong.specs.Step.{Ticking, outOf}
 use Rattle.karplus_strong.specs.KarplusStrong.{Making, maxLenOf, roomOf, karplusStrongCellsOf, karplusStrongRefusalOf, madeNumber, newKarplusStrong, finiteOr, periodOf, struckLen, karplusStrongNewOf, karplusStrongTickOf, karplusStrongResetOf, karplusStrongSetSampleRateOf, Strung, strung}
 use Rattle.karplus_strong.specs.Blocks.{triggerRefusalOf, karplusStrongBlockOf, firstRefusalOf, karplusStrongAnswerOf, karplusStrongNextOf}
-use Rattle.karplus_strong.specs.Calls.{Call, Tick, Play, Reset, SetSampleRate, Lend, Told, after, reply, FitCall, First, ReachedString}
+use Rattle.karplus_strong.specs.Calls.{Call, Tick, Play, Reset, SetSampleRate, Lend, Told, strungAfter, after, reply, FitCall, First, ReachedString}
 use Rattle.karplus_strong.specs.declared.KarplusStrong.{KarplusStrong}
 use Rattle.karplus_strong.specs.declared.KarplusStrongControls.{KarplusStrongControls}
 
@@ -125,6 +125,12 @@ abbrev pub Any-line : Type 0
 Any-line = (x : Strung) → ReachedString x → (l : List Float) → roomOf (x .string .«sample_rate») (length l) ≡ 0
     → ((i : ℕ) → i < x .string .len → getD (x .line) i nan ≡ getD l i nan) → after x (Lend l) ≡ strung (x .string) l
 
+-- and a rate change any line that has room for the new rate and the cells that the string keeps: it stays a reached one
+abbrev pub Rate-line : Type 0
+Rate-line = (x : Strung) → ReachedString x → (r : Hertz) → rateOk r ≡ true → (l : List Float) → roomOf r (length l) ≡ 0
+    → ((i : ℕ) → i < min (x .string .len) (maxLenOf r) → getD (x .line) i nan ≡ getD l i nan)
+    → let m = karplusStrongSetSampleRateOf (x .string) r l in (madeNumber (m .out) ≡ 0) × ReachedString (strungAfter (x .string) m)
+
 -- and nothing is written from cell n on
 pub record SamePast (n : ℕ) (l m : List Float) : Type 0 where
   pub size : length m ≡ length l
@@ -134,6 +140,8 @@ pub record SamePast (n : ℕ) (l m : List Float) : Type 0 where
 pub record Past-untouched : Type 0 where
   pub new : (rate : Hertz) (l : List Float) → SamePast (maxLenOf rate) l (karplusStrongNewOf rate l .line)
   pub tick : (s : KarplusStrong) (c : KarplusStrongControls) (draws : List ℕ) (l : List Float) → SamePast (karplusStrongTickOf s c draws l .out .«karplus_strong» .len) l (karplusStrongTickOf s c draws l .line)
+  pub block : (x : Strung) (c : KarplusStrongControls) (draws : List ℕ) (t : Tally) (o : List Float) (m : List ℕ)
+      → let y = karplusStrongBlockOf x c draws t o m .state in SamePast (y .string .len) (x .line) (y .line)
   pub reset : (s : KarplusStrong) (l : List Float) → SamePast (s .len) l (karplusStrongResetOf s l .line)
   pub «set_sample_rate» : (s : KarplusStrong) (rate : Hertz) (l : List Float) → SamePast (maxLenOf rate) l (karplusStrongSetSampleRateOf s rate l .line)
 
@@ -163,6 +171,12 @@ Unstretched (Lend l) = Unit
 
 abbrev pub Never-cleared : Type 0
 Never-cleared = (x : Strung) → Reached First Unstretched after x → (c : KarplusStrongControls) (draws : List ℕ) → Unstretched (Tick c draws) → accepted (karplusStrongTickOf (x .string) c draws (x .line) .out .answer) ≡ true → markNumber (karplusStrongTickOf (x .string) c draws (x .line) .out .answer) ≡ 4
+
+-- nor in any tick of a block that isn't refused
+abbrev pub Block-never-cleared : Type 0
+Block-never-cleared = (x : Strung) → Reached First Unstretched after x → (c : KarplusStrongControls) (draws : List ℕ) (t : Tally) (o : List Float) (m : List ℕ)
+    → Unstretched (Play c draws t o m) → karplusStrongBlockOf x c draws t o m .refused ≡ 0
+    → (i : ℕ) → i < length m → markNumber (answerAt (karplusStrongAnswerOf c draws) (karplusStrongNextOf c draws) x i) ≡ 4
 
 -- a refused tick leaves string and line as they stood
 abbrev pub Refused-leaves : Type 0

@@ -332,11 +332,11 @@ module _ (v : Voices) (t u : Tally) (samples after : List Float) (marks marked :
       let k = heard _ _ (voiceAnswer (controls.Lfo c)) (voiceNext (controls.Lfo c)) (λ (s : Lfo). record { vco = v .vco; lfo = s; supersaw = v .supersaw; formant = v .formant }) (λ s. refl) (λ s. refl) 5 _ (v .lfo) t samples marks r s u after marked (lfo-held.block-accepts (v .lfo) c 31) e z in
       record { room = k .0; taken = k .1; frames = k .2 }
 
-  pub supersaw-heard : (c : SupersawControls) (s : Supersaw) → block r s u after marked ≡ supersawBlockOf (v .supersaw) c t samples marks → r ≡ 0
+  pub supersaw-heard : length (v .supersaw .phases) ≡ 7 → (c : SupersawControls) (s : Supersaw) → block r s u after marked ≡ supersawBlockOf (v .supersaw) c t samples marks → r ≡ 0
       → AllPlayed (controls.Supersaw c) v t (length marks) (block 0 (record { vco = v .vco; lfo = v .lfo; supersaw = s; formant = v .formant }) u after marked)
   unfolding supersawBlockOf framesOf kindOf portsIn soundOf
-  supersaw-heard c s e z =
-      let k = heard _ _ (voiceAnswer (controls.Supersaw c)) (voiceNext (controls.Supersaw c)) (λ (s : Supersaw). record { vco = v .vco; lfo = v .lfo; supersaw = s; formant = v .formant }) (λ s. refl) (λ s. refl) 2 _ (v .supersaw) t samples marks r s u after marked (supersaw-held.block-accepts (v .supersaw) c) e z in
+  supersaw-heard size c s e z =
+      let k = heard _ _ (voiceAnswer (controls.Supersaw c)) (voiceNext (controls.Supersaw c)) (λ (s : Supersaw). record { vco = v .vco; lfo = v .lfo; supersaw = s; formant = v .formant }) (λ s. refl) (λ s. refl) 2 _ (v .supersaw) t samples marks r s u after marked (supersaw-held.block-accepts (v .supersaw) c size) e z in
       record { room = k .0; taken = k .1; frames = k .2 }
 
   pub formant-heard : (c : FormantControls) (s : FormantOsc) → block r s u after marked ≡ formantBlockOf (v .formant) c t samples marks → r ≡ 0

@@ -8,7 +8,7 @@ use lib.Dec.{eqb}
 use lib.ListN.{length}
 use borrow.Author.Tests.{eq-eqb, ne-eqb, eqb-true}
 use Rattle.answer.specs.Answer.{markNumber}
-use Rattle.answer.specs.Tally.{sumOf, addsUp, oneIf, counted, tallyOf, Run, settle, run, newRun, many}
+use Rattle.answer.specs.Tally.{sumOf, addsUp, oneIf, counted, talliedNumber, tallyOr, tallyOf, Run, settle, run, newRun, many}
 use Rattle.answer.specs.declared.Answer.{Answer}
 use Rattle.answer.specs.declared.Answer.the-variants as answer
 use Rattle.answer.specs.declared.Tally.{Tally}
@@ -58,7 +58,7 @@ record Takes-many (t u : Tally) (xs : List Answer) : Type 0 where
   finished : u .finished ≡ t .finished + many 4 xs
 
 settled : (r : Run) (a : Answer) (xs : List Answer) (k : Takes (r .tally) a) → run r (a ∷ xs) .tally ≡ run (record { tally = k .after; took = a ∷ r .took }) xs .tally
-unfolding run settle
+unfolding run settle talliedNumber tallyOr
 settled r a xs k = ap (λ (u : Tallied). run (settle r a u) xs .tally) (k .taken)
 
 takes-one-more : (t u : Tally) (a : Answer) (xs : List Answer) (k : Takes t a) → Takes-many (k .after) u xs → Takes-many t u (a ∷ xs)

@@ -1,9 +1,11 @@
 -- A run of all frames, with the end, is what is printed of the score.
 use Prim.Native.Nat.{ℕ, zero, suc, _+_, _≤_, _<_}
+use mathlib.Core.Bool.{Bool, true, false, cond}
 use mathlib.Core.List.{List, [], _∷_, _++_}
 use mathlib.Core.Path.{_≡_, refl, sym, ap, _∙_}
 use native.Mathlib.Numerals.{add-one}
 use native.Mathlib.Omega.{arith}
+use lib.Dec.{eqb}
 use lib.ListN.{length, length-append}
 use Rattle.answer.specs.Tally.{tallyOf, Run, settle, run, talliedNumber, tallyOr}
 use Rattle.answer.specs.declared.Answer.{Answer}
@@ -42,7 +44,11 @@ text-frames (suc k) p = ap (λ (t : List ℕ). frameOf p ++ t) (text-frames k (n
 settle-kept : (r : Run) (a : Answer) (u : Tallied) → settle r a u .tally ≡ tallyOr (r .tally) u
 unfolding settle talliedNumber tallyOr
 settle-kept r a (tallied.Taken t) = refl
-settle-kept r a (tallied.Refused n) = refl
+settle-kept r a (tallied.Refused n) = go (eqb n 0)
+  where
+    go : (b : Bool) → cond b (record { tally = r .tally; took = a ∷ r .took }) r .tally ≡ r .tally
+    go true = refl
+    go false = refl
 
 tally-after : (k : ℕ) (p : Player) (xs : List Answer) → afterOf k p .tally ≡ run (record { tally = p .tally; took = xs }) (answersFrom (p .controls) k (p .voices)) .tally
 unfolding afterOf answersFrom answers run

@@ -11,7 +11,7 @@ use Rattle.line.specs.Number.{digitsFrom, digitsOf, negativeOf, signedOf, numbe
 use Rattle.text.specs.Decimal.{decimalFrom, decimalText}
 use Rattle.text.specs.Hex.{glyph, hexFrom, hexText}
 use Rattle.answer.specs.Answer.{markNumber}
-use Rattle.answer.specs.Tally.{addsUp, oneIf, counted, tallyOf, settle, run}
+use Rattle.answer.specs.Tally.{addsUp, oneIf, counted, talliedNumber, tallyOr, tallyOf, settle, run}
 use Rattle.answer.specs.declared.Answer.{Answer}
 use Rattle.answer.specs.declared.Answer.the-variants as answer
 use Rattle.answer.specs.declared.Volts.{Volts}
@@ -72,7 +72,7 @@ unfolding playOf printed score
 is-printed = ap printed is-heard
 
 text : printed (answer.Clean volts ∷ []) ≡ ascii "n=0\nmark=clean\nsin=0000000000000000\ntri=C014000000000000\nsaw=C014000000000000\nsqr=4014000000000000\nbegun=1\nfinished=1\ncleared=0\nnotfinite=0\nlost=0\nclaimed=yes\n"
-unfolding printed volts framesText frameText markedText outputsText wavesText sampleLine wordLine countLine decimalText decimalFrom glyph hexText hexFrom toBits ofBits endText countsText claimedOf tallyFrom run settle tallyOf addsUp counted oneIf markNumber
+unfolding printed volts framesText frameText markedText outputsText wavesText sampleLine wordLine countLine decimalText decimalFrom glyph hexText hexFrom toBits ofBits endText countsText claimedOf tallyFrom run settle talliedNumber tallyOr tallyOf addsUp counted oneIf markNumber
 text = refl
 
 pub worked : Worked

@@ -66,6 +66,6 @@ wavetableWords w =
 unfoldable pub karplusStrongWords : (ℕ → ℕ) → List ℕ
 karplusStrongWords w =
     let t =
-    karplusStrongTickAt (floatAt w 10) (floatAt w 11) (floatAt w 12) (floatAt w 13) (floatAt w 14) (floatsAt w 0 6) (wholesAt w 6 4) (replicate 1 zer)
-    (floatsAt w 15 62) (wholesAt w 77 62) in
+    karplusStrongTickAt (floatAt w 10) (floatAt w 11) (floatAt w 12) (floatAt w 13) (floatAt w 14) (floatsAt w 0 6) (wholesAt w 6 4)
+    (floatsAt w 15 62) (wholesAt w 77 62) (replicate 1 zer) in
     strungWords (t .heard .code) (t .heard .floats) (t .heard .wholes) (t .heard .samples) (t .line)

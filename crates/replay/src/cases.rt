@@ -256,8 +256,8 @@ pub fn wavetable_tick(k: usize, words: &[u8]) -> Verdict
         real(words, 9),
         &mut floats,
         &mut wholes,
-        &mut samples,
         &bank,
+        &mut samples,
     );
     heard(k, words, 10, code, &floats, &wholes, &samples)
 }
@@ -312,9 +312,9 @@ pub fn karplus_strong_tick(k: usize, words: &[u8]) -> Verdict
         real(words, 14),
         &mut floats,
         &mut wholes,
-        &mut samples,
         &mut line,
         &draws,
+        &mut samples,
     );
     strung(k, words, 139, code, &floats, &wholes, &samples, &line)
 }

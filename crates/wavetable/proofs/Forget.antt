@@ -22,14 +22,14 @@ use Rattle.wavetable.proofs.Accepted.{bank-sized}
 use Rattle.wavetable.proofs.Reached.{Good, refused-sized, tick-sounds, tick-accepted, good-new, good, never-refused}
 use Rattle.wavetable.specs.Calls.{after, reply, Tick, Ticked}
 use Rattle.wavetable.specs.Promises.{takesEdge, Forgets, Block-forgets, Edge-comes}
-use Rattle.wavetable.specs.Wavetable.{newWavetable, wavetableTickRefusalOf, wavetableNewOf, wavetableSoundOf, wavetableTickOf, wavetableAnswerOf, wavetableNextOf, wavetableBlockOf}
+use Rattle.wavetable.specs.Wavetable.{wavetableAtRest, newWavetable, wavetableTickRefusalOf, wavetableNewOf, wavetableSoundOf, wavetableTickOf, wavetableAnswerOf, wavetableNextOf, wavetableBlockOf}
 use Rattle.wavetable.specs.declared.Wavetable.{Wavetable}
 use Rattle.wavetable.specs.declared.WavetableControls.{WavetableControls}
 use Rattle.wavetable.specs.declared.WavetableTicked.{WavetableTicked}
 
 struck : (s : Wavetable) (c : WavetableControls) (bank : List Float) → Good s → F64 (c .«v_oct» .0) → takesEdge s c ≡ true
     → wavetableSoundOf s c bank ≡ wavetableSoundOf (newWavetable (s .«sample_rate»)) c bank
-unfolding wavetableSoundOf newWavetable restartOf
+unfolding wavetableSoundOf newWavetable wavetableAtRest restartOf
 struck s c bank g f e =
     simp (recall1-is voctToHzAt (s .«freq_memo») (g .memo) (c .«v_oct» .0) f, recall1-is voctToHzAt newMemo1 (inl refl) (c .«v_oct» .0) f, e, rises-new gateThreshold (s .«prev_sync») (c .sync) gate-above e)
 

@@ -23,7 +23,7 @@ use Rattle.laws.proofs.Always.{always}
 use Rattle.laws.specs.Float.{F64}
 use Rattle.wavetable.specs.Calls.{Call, after, reply, FitCall, First, ReachedWavetable, Tick, Play, Reset, SetSampleRate, Told}
 use Rattle.wavetable.specs.Promises.{Never-refused}
-use Rattle.wavetable.specs.Wavetable.{newWavetable, wavetableRefusalOf, wavetableTickRefusalOf, wavetableNewOf, wavetableSoundOf, wavetableTickOf, wavetableBlockOf, madeNumber, madeOr, madeUnless, wavetableResetOf, rated, wavetableSetSampleRateOf}
+use Rattle.wavetable.specs.Wavetable.{wavetableAtRest, newWavetable, wavetableRefusalOf, wavetableTickRefusalOf, wavetableNewOf, wavetableSoundOf, wavetableTickOf, wavetableBlockOf, madeNumber, madeOr, madeUnless, wavetableResetOf, rated, wavetableSetSampleRateOf}
 use Rattle.answer.specs.declared.Answer.the-variants as answer
 use Rattle.common.specs.declared.Hertz.{Hertz}
 use Rattle.wavetable.specs.declared.Wavetable.{Wavetable}
@@ -74,7 +74,7 @@ tick-accepted s c bank g = rw (tick-sized s c bank g) (sized-accepted (eqb (leng
 
 -- ---- it stays good
 pub good-new : (r : Hertz) → rateOk r ≡ true → Good (newWavetable r)
-unfolding newWavetable
+unfolding newWavetable wavetableAtRest
 good-new r h = record { rate = h; phase = zero-in; memo = inl refl }
 
 first-good : (s : Wavetable) → First s → Good s
@@ -100,7 +100,7 @@ after-good : (s : Wavetable) (c : Call) → Good s → FitCall c → Good (after
 unfolding after
 after-good s (Tick c bank) g f = tick-good c bank f s g
 after-good s (Play c t bank o m) g f = unfold wavetableBlockOf in block-keeps 1 _ _ _ Good (tick-good c bank f) s g t o m
-after-good s Reset g f = unfold wavetableResetOf madeUnless in simp (unrefused s g) (record { rate = g .rate; phase = zero-in; memo = g .memo })
+after-good s Reset g f = unfold wavetableResetOf wavetableAtRest madeUnless in simp (unrefused s g) (record { rate = g .rate; phase = zero-in; memo = g .memo })
 after-good s (SetSampleRate r) g f = unfold wavetableSetSampleRateOf madeUnless in go (rateOk r) refl
   where
     go : (b : Bool) → rateOk r ≡ b → Good (madeOr s (cond b (madeUnless (wavetableRefusalOf s) (rated s r)) (made.Refused 1)))

@@ -15,6 +15,7 @@ use Rattle.common.specs.Tests.{rateOk, phaseOk}
 use Rattle.laws.specs.Float.{zer, isFin}
 use Rattle.wavetable.specs.Reads.{tablePosOf, tableIndexOf, blendOf, mixOf}
 use Rattle.common.specs.declared.Hertz.{Hertz}
+use Rattle.common.specs.declared.Memo1.{Memo1}
 use Rattle.answer.specs.declared.Volts.{Volts}
 use Rattle.answer.specs.declared.Answer.{Answer}
 use Rattle.answer.specs.declared.Answer.the-variants as answer
@@ -25,9 +26,13 @@ use Rattle.wavetable.specs.declared.WavetableTicked.{WavetableTicked}
 use Rattle.wavetable.specs.declared.WavetableMade.{WavetableMade}
 use Rattle.wavetable.specs.declared.WavetableMade.the-variants as made
 
+-- phase and last sync sample at 0, with this rate and this memo
+unfoldable pub wavetableAtRest : Hertz → Memo1 → Wavetable
+wavetableAtRest r memo = record { phase = turns zer; «prev_sync» = zer; «sample_rate» = r; «freq_memo» = memo }
+
 -- Wavetable::new; the bank isn't the state's
 unfoldable pub newWavetable : Hertz → Wavetable
-newWavetable r = record { phase = turns zer; «prev_sync» = zer; «sample_rate» = r; «freq_memo» = newMemo1 }
+newWavetable r = wavetableAtRest r newMemo1
 
 -- 0, or what refuses a state: 1 its rate, 2 its phase
 unfoldable pub wavetableRefusalOf : Wavetable → ℕ
@@ -93,7 +98,7 @@ madeUnless n s = cond (eqb n 0) (made.Made s) (made.Refused n)
 
 -- reset: the rate and the memo stay
 unfoldable pub wavetableResetOf : Wavetable → WavetableMade
-wavetableResetOf s = madeUnless (wavetableRefusalOf s) (record { phase = turns zer; «prev_sync» = zer; «sample_rate» = s .«sample_rate»; «freq_memo» = s .«freq_memo» })
+wavetableResetOf s = madeUnless (wavetableRefusalOf s) (wavetableAtRest (s .«sample_rate») (s .«freq_memo»))
 
 -- set_sample_rate: all but the rate stays
 abbrev pub rated : Wavetable → Hertz → Wavetable

@@ -28,7 +28,7 @@ ghost use Rattle.wavetable.specs.Harmonics.{maxHarmonic};
 ghost use Rattle.wavetable.specs.Levels.{levelWithin};
 ghost use Rattle.wavetable.specs.Reads.{allowedOf, startOf, between, tablePosOf, tableIndexOf, blendOf};
 ghost use Rattle.wavetable.specs.Held.{PairFits, pairOf, mixAt, heldAnswer, heldNext};
-ghost use Rattle.wavetable.specs.Wavetable.{wavetableRefusalOf, wavetableTickRefusalOf, wavetableNewOf, outVolts, wavetableSoundOf, wavetableTickOf, wavetableAnswerOf, wavetableNextOf, wavetableBlockOf, wavetableResetOf, wavetableSetSampleRateOf};
+ghost use Rattle.wavetable.specs.Wavetable.{wavetableRefusalOf, wavetableTickRefusalOf, wavetableAtRest, wavetableNewOf, outVolts, wavetableSoundOf, wavetableTickOf, wavetableAnswerOf, wavetableNextOf, wavetableBlockOf, wavetableResetOf, wavetableSetSampleRateOf};
 
 pub struct Wavetable {
     pub phase: Turns,
@@ -232,16 +232,22 @@ fn put(a: Answer, i: usize, samples: &mut [f64], marks: &mut [u32])
 }
 
 impl Wavetable {
+    fn at_rest(sample_rate: Hertz, freq_memo: Memo1) -> Self
+        ensures { λ r. ⌜ r ≡ wavetableAtRest «sample_rate» «freq_memo» ⌝ }
+    {
+        Wavetable {
+            phase: Turns(0.0),
+            prev_sync: 0.0,
+            sample_rate,
+            freq_memo,
+        }
+    }
+
     pub fn new(sample_rate: Hertz) -> WavetableMade
         ensures { λ r. ⌜ r ≡ wavetableNewOf «sample_rate» ⌝ }
     {
         if common::rate_ok(sample_rate) {
-            WavetableMade::Made(Wavetable {
-                phase: Turns(0.0),
-                prev_sync: 0.0,
-                sample_rate,
-                freq_memo: Memo1::new(),
-            })
+            WavetableMade::Made(Wavetable::at_rest(sample_rate, Memo1::new()))
         } else {
             WavetableMade::Refused(1)
         }
@@ -408,12 +414,7 @@ impl Wavetable {
         if n == 0 {
             let sample_rate = self.sample_rate;
             let freq_memo = self.freq_memo;
-            WavetableMade::Made(Wavetable {
-                phase: Turns(0.0),
-                prev_sync: 0.0,
-                sample_rate,
-                freq_memo,
-            })
+            WavetableMade::Made(Wavetable::at_rest(sample_rate, freq_memo))
         } else {
             WavetableMade::Refused(n)
         }

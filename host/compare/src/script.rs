@@ -381,7 +381,8 @@ fn block<P: Pair>(pair: &mut P, controls: &[f64], draw: &mut Draw, counts: &mut 
         pair.lend(controls, draw, counts).map_err(told)?;
     }
     let full = u32::MAX - n as u32;
-    for bad in [[full + 1, full + 1, 0, 0, 0], [5, 1, 1, 1, 1]] {
+    let over = full.saturating_add(1); // for no ticks there is always room
+    for bad in [[over, over, 0, 0, 0], [5, 1, 1, 1, 1]] {
         if (n > 0 || bad[0] == 5) && draw.one_in(4) {
             unused_block(pair, counts, 7, bad, controls, P::PORTS * n, n).map_err(told)?;
         }
@@ -396,7 +397,9 @@ fn block<P: Pair>(pair: &mut P, controls: &[f64], draw: &mut Draw, counts: &mut 
     for i in 0..n {
         let mut theirs = [f64::from_bits(UNWRITTEN); 5];
         let their_mark = pair.theirs_tick(controls, wanted, &mut theirs[..P::PORTS]);
-        let Some(mark) = Mark::of_number(marks[i]) else { return Err(told(format!("tick {i} is marked {}", marks[i]))) };
+        let Some(mark) = Mark::of_number(marks[i]) else {
+            return Err(told(format!("tick {i} is marked {}", marks[i])));
+        };
         let ours = &samples[P::PORTS * i..P::PORTS * (i + 1)];
         same_sound(wanted, (mark, ours), (their_mark, &theirs[..P::PORTS]))
             .map_err(|said| told(format!("tick {i}: {said}")))?;

@@ -1,5 +1,7 @@
 -- `player::hear`: the block of the voice that the controls are for.
 use Rattle.player.proofs.Blocks.{vco-heard, lfo-heard, supersaw-heard, formant-heard}
+use mathlib.Core.Path.{_≡_}
+use lib.ListN.{length}
 use borrow.Author.Needs.{needs}
 use Rattle.player.proofs.hear.Statement.{statement}
 use Rattle.player.proofs.hear.Tie as tie
@@ -53,7 +55,12 @@ same-length-6 : tie.Need-same-length-6
 same-length-6 c = search needs
 
 returns-3 : tie.Need-returns-3
-returns-3 c = rw (c .before .before .before .before .before .before .before .before .before .before .before .controls3 .given .1) (supersaw-heard (c .before .before .before .before .before .before .before .before .before .before .before .before .before .before .before .args .voices) _ _ _ _ _ _ _ _ _ (c .before .before .before .before .before .before .block3 .ensures))
+returns-3 c =
+    let played = c .before .before .before .before .before .before in
+    let chosen = played .before .before .before .before .before in
+    let begun = chosen .before .before .before .before in
+    let size : length (begun .args .voices .supersaw .phases) ≡ 7 = search (needs, begun .good .1 .0 .1 .1 .1 .1 .0 .1 .1 .0) in
+    rw (chosen .controls3 .given .1) (supersaw-heard (begun .args .voices) _ _ _ _ _ _ _ size _ _ (played .block3 .ensures))
 
 same-length-7 : tie.Need-same-length-7
 same-length-7 c = search needs
