@@ -15,7 +15,7 @@ use Rattle.laws.proofs.Tests.{eqb-iff}
 use Rattle.laws.specs.Lists.{tab, over}
 use Rattle.laws.proofs.Slices.{stored, sets-append}
 use Rattle.laws.proofs.Over.{getD-tab, length-tab, tab-ext, over-more, over-done}
-use Rattle.answer.specs.Answer.{markNumber, hostNumber, refusalOf, voltsOf, accepted, answerOf}
+use Rattle.answer.specs.Answer.{markNumber, hostNumber, voltsOf, accepted}
 use Rattle.answer.specs.Block.{manyTo, countedTo, cellsOf, roomFor, marksTaken, joined, afterTicks, answerAt, markAt, frameAt, portsOf, block, blockRefusalOf, ticksOf, blockOf, grownBy}
 use Rattle.answer.specs.Tally.{addsUp, oneIf, sumOf, counted, tallyOf, tallyOr}
 use Rattle.answer.specs.declared.Volts.{Volts}
@@ -316,15 +316,6 @@ module _ {S : Type 0} (next : S → S) (s r : S) (e : next s ≡ next r) where
           let frames = joined-ext (frameAt ports answer next s) (frameAt ports answer next r) (length m) same-frames in
           let marks = tab-ext (markAt answer next s) (markAt answer next r) (length m) (λ i l. same-marks i) in
           simp (h .0, ticks-meet (length m) (h .1), same-many 11, same-many 12, same-many 13, same-many 14, frames, marks)
-
--- ---- a tick as a block of one
-pub answer-back : (a : Answer) → accepted a ≡ true → answerOf (hostNumber a) (voltsOf a) ≡ a
-unfolding answerOf hostNumber markNumber voltsOf accepted
-answer-back (answer.Clean v) h = refl
-answer-back (answer.Cleared v) h = refl
-answer-back (answer.NotFinite v) h = refl
-answer-back (answer.Lost v) h = refl
-answer-back (answer.Refused n) h = absurd (false≢true h)
 
 -- ---- the tally of a block is the one that is given each answer
 -- one more answer that a host was told by the number n

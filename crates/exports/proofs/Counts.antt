@@ -5,7 +5,7 @@ use Prim.Native.Nat.{ℕ}
 use borrow.Author.Tests.{eq-eqb}
 use Rattle.answer.proofs.Flat.{five-counts}
 use Rattle.answer.specs.Answer.{answerOf}
-use Rattle.answer.specs.Flat.{tallyFrom, countsOf, countsPut}
+use Rattle.answer.specs.Flat.{tallyFrom, countsPut}
 use Rattle.answer.specs.Tally.{tallyOf}
 use Rattle.answer.specs.declared.Answer.{Answer}
 use Rattle.answer.specs.declared.Tally.{Tally}

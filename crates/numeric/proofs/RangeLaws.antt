@@ -3,10 +3,10 @@ use mathlib.Core.Bool.{Bool, cond, false, not, true, true≢false}
 use mathlib.Core.Logic.{_⊎_, inl, inr}
 use mathlib.Core.Path.{_∙_, _≡_, ap, refl, subst, sym}
 use Prim.Native.Nat.{_%_, _*_, _+_, _-_, _/_, _<_, _^_, _≤_, min, suc, zero, zero-le, ℕ}
-use native.Mathlib.Nat.{div-add-mod', div-lt-iff-lt-mul, div-one, le-of-eq, le-refl, le-trans, lt-of-le-of-lt, min-le-left, min-le-right, mul-le-mul-right, mul-one, not-suc-le-zero, suc-le-suc-iff, zero-div}
+use native.Mathlib.Nat.{div-add-mod', div-lt-iff-lt-mul, div-one, le-of-eq, le-refl, le-trans, lt-of-le-of-lt, min-le-left, min-le-right, mul-le-mul-right, mul-one, not-suc-le-zero, zero-div}
 use native.Mathlib.Omega.{arith}
 use lib.Dec.{T, eqb, eqb→eq, le→leb, lit<, lit≤, ltb→lt}
-use lib.Ieee.{Float, binary64, div, down, eq, fin, inFloat, inf, isNan, le, lt, mul, nan, ofBits, ofInt, round, sub, toUnsigned, up}
+use lib.Ieee.{Float, binary64, div, down, eq, fin, inFloat, inf, isNan, le, lt, nan, ofBits, ofInt, round, sub, toUnsigned, up}
 use lib.Ieee.Back.{unsigned-back, whole-unique}
 use lib.Ieee.Bits.{is-false}
 use lib.Ieee.Casts.{toUnsigned-lt}
@@ -16,8 +16,7 @@ use lib.Ieee.Nearest.{div-mono}
 use lib.Ieee.Order.{le-of-values}
 use lib.Ieee.Positive.{between}
 use lib.IntN.{pos}
-use Rattle.laws.proofs.Interval.{below-one}
-use Rattle.laws.proofs.Monotone.{div-le, mul-le}
+use Rattle.laws.proofs.Monotone.{div-le}
 use Rattle.laws.proofs.Number.{div-number, le-numbers}
 use Rattle.laws.proofs.Order.{float-le-refl, le-below, le-of-lt-false, le-of-lt-true, lt-by-values, lt-nan, nan-lt, inf-not-below}
 use Rattle.laws.proofs.Tests.{of-false, zero-of}
@@ -205,20 +204,6 @@ rate-whole x l h = (
 -- and such a rate over a number is a number
 pub rate-number : (x y : Float) → T (le lowest x) → T (le x highest) → T (not (isNan y)) → T (not (isNan (div binary64 x y)))
 rate-number x y l h q = div-number x y (between lowest x highest (unfold ofBits in tt) (unfold ofBits in tt) l h) q
-
--- a phase below 1, over 256 cells
-pub turn-whole : (x : Float) → F64 x → T (lt x one) → wholeOf (mul binary64 x (ofBits binary64 0x4070000000000000)) < 256
-turn-whole x t h =
-    le-trans (suc-le-suc-iff .1 (whole-monotone (mul binary64 x cells) (mul binary64 last cells) (mul-le cells (unfold ofBits in tt) x last (below-one x t h)))) (le-of-eq (ap suc most))
-  where
-    cells : Float
-    cells = ofBits binary64 0x4070000000000000
-
-    last : Float
-    last = ofBits binary64 0x3fefffffffffffff
-
-    most : wholeOf (mul binary64 last cells) ≡ 255
-    most = unfold mul ofBits toUnsigned in refl
 
 -- ---- the floor of a number from 0 up is its whole part
 pub floor-cast : (x : Float) (a c : ℕ) → 0 < c → F64 x → HasValue x false a c → a ≤ 2 ^ 53 * c → floorOf x ≡ realOf (wholeOf x)
