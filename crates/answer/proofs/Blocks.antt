@@ -48,7 +48,8 @@ one-of : (n : ℕ) → oneIf n 14 + oneIf n 11 + oneIf n 12 + oneIf n 13 ≤ 1
 unfolding oneIf
 one-of n = go (eqb n 14) (eqb n 11) (eqb n 12) (eqb n 13) (eqb-true n 14) (eqb-true n 11) (eqb-true n 12) (eqb-true n 13)
   where
-    go : (a b c d : Bool) → (a ≡ true → n ≡ 14) → (b ≡ true → n ≡ 11) → (c ≡ true → n ≡ 12) → (d ≡ true → n ≡ 13) → cond a 1 0 + cond b 1 0 + cond c 1 0 + cond d 1 0 ≤ 1
+    go : (a b c d : Bool) → (a ≡ true → n ≡ 14) → (b ≡ true → n ≡ 11) → (c ≡ true → n ≡ 12) → (d ≡ true → n ≡ 13)
+        → cond a 1 0 + cond b 1 0 + cond c 1 0 + cond d 1 0 ≤ 1
     go true true c d p q r s = let x = p refl in let y = q refl in absurd (omega arith)
     go true false true d p q r s = let x = p refl in let y = r refl in absurd (omega arith)
     go true false false true p q r s = let x = p refl in let y = s refl in absurd (omega arith)
@@ -83,7 +84,9 @@ counted-tab t f n h = go (length-tab f n)
     same : (k : ℕ) → manyTo k (cellsOf (tab f n)) n ≡ manyTo k f n
     same k = many-ext k (cellsOf (tab f n)) f n (λ i l. getD-tab 0 f n i l)
 
-    go : length (tab f n) ≡ n → tallyOr t (cond (roomFor t (length (tab f n))) (tallied.Taken (countedTo t (cellsOf (tab f n)) (length (tab f n)))) (tallied.Refused 7)) ≡ countedTo t f n
+    go : length (tab f n) ≡ n
+        → tallyOr t (cond (roomFor t (length (tab f n))) (tallied.Taken (countedTo t (cellsOf (tab f n)) (length (tab f n)))) (tallied.Refused 7))
+        ≡ countedTo t f n
     go e = simp (e, h, same 11, same 12, same 13, same 14)
 
 -- ---- frames
@@ -320,7 +323,14 @@ module _ {S : Type 0} (next : S → S) (s r : S) (e : next s ≡ next r) where
 -- ---- the tally of a block is the one that is given each answer
 -- one more answer that a host was told by the number n
 abbrev counted-by : Tally → ℕ → Tally
-counted-by t n = record { begun = t .begun + 1; finished = t .finished + oneIf n 14; cleared = t .cleared + oneIf n 11; notfinite = t .notfinite + oneIf n 12; lost = t .lost + oneIf n 13 }
+counted-by t n =
+    record {
+      begun = t .begun + 1;
+      finished = t .finished + oneIf n 14;
+      cleared = t .cleared + oneIf n 11;
+      notfinite = t .notfinite + oneIf n 12;
+      lost = t .lost + oneIf n 13;
+    }
 
 -- one of the four counts grows, and it is the one that the tick's mark has
 record Marks-one (a : Answer) : Type 0 where
@@ -357,7 +367,9 @@ module _ (t : Tally) (a : ℕ → Answer) (h : (i : ℕ) → accepted (a i) ≡ 
   unfolding countedTo grownBy manyTo
   one-more i =
       let q = mark-one (a i) (h i) .one in
-      let b : t .begun + (manyTo 14 marks i + manyTo 11 marks i + manyTo 12 marks i + manyTo 13 marks i) + 1 ≡ t .begun + (manyTo 14 marks i + oneIf (marks i) 14 + (manyTo 11 marks i + oneIf (marks i) 11) + (manyTo 12 marks i + oneIf (marks i) 12) + (manyTo 13 marks i + oneIf (marks i) 13)) = omega arith in
+      let b : t .begun + (manyTo 14 marks i + manyTo 11 marks i + manyTo 12 marks i + manyTo 13 marks i) + 1
+      ≡ t .begun
+      + (manyTo 14 marks i + oneIf (marks i) 14 + (manyTo 11 marks i + oneIf (marks i) 11) + (manyTo 12 marks i + oneIf (marks i) 12) + (manyTo 13 marks i + oneIf (marks i) 13)) = omega arith in
       let f : t .finished + manyTo 14 marks i + oneIf (marks i) 14 ≡ t .finished + (manyTo 14 marks i + oneIf (marks i) 14) = omega arith in
       let c : t .cleared + manyTo 11 marks i + oneIf (marks i) 11 ≡ t .cleared + (manyTo 11 marks i + oneIf (marks i) 11) = omega arith in
       let n : t .notfinite + manyTo 12 marks i + oneIf (marks i) 12 ≡ t .notfinite + (manyTo 12 marks i + oneIf (marks i) 12) = omega arith in
@@ -369,7 +381,13 @@ module _ (t : Tally) (a : ℕ → Answer) (h : (i : ℕ) → accepted (a i) ≡ 
   taken-at i n r l =
       let w = room-says t n r in
       let b = begun-at i in
-      simp (eq-eqb (countedTo t marks i .begun) (sumOf (countedTo t marks i)) (sums i (w .0)), mark-one (a i) (h i) .marked, ne-eqb (countedTo t marks i .begun) 4294967295 (λ z. omega arith), mark-one (a i) (h i) .same, one-more i)
+      simp (
+        eq-eqb (countedTo t marks i .begun) (sumOf (countedTo t marks i)) (sums i (w .0)),
+        mark-one (a i) (h i) .marked,
+        ne-eqb (countedTo t marks i .begun) 4294967295 (λ z. omega arith),
+        mark-one (a i) (h i) .same,
+        one-more i,
+      )
 
 pub block-counts : Block-counts
 block-counts t a n h r i l = takes _ (a i) _ (rw add-one (taken-at t a h i n r l))

@@ -36,7 +36,8 @@ pub at-most-one : (r n k : ℕ) → r ≡ oneIf n k → r ≤ 1
 at-most-one r n k e = subst (λ (z : ℕ). z ≤ 1) (sym e) (one-most n k)
 
 -- ---- marks
-rule-says : (v : Volts) (a b c : Bool) → (accepted (answerOf (10 + ruleOf a b c) v) ≡ true) × (voltsOf (answerOf (10 + ruleOf a b c) v) ≡ v) × (markNumber (answerOf (10 + ruleOf a b c) v) ≡ ruleOf a b c)
+rule-says : (v : Volts) (a b c : Bool)
+    → (accepted (answerOf (10 + ruleOf a b c) v) ≡ true) × (voltsOf (answerOf (10 + ruleOf a b c) v) ≡ v) × (markNumber (answerOf (10 + ruleOf a b c) v) ≡ ruleOf a b c)
 unfolding ruleOf answerOf accepted voltsOf markNumber
 rule-says v true b c = (refl, refl, refl)
 rule-says v false true true = (refl, refl, refl)

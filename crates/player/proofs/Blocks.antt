@@ -85,7 +85,8 @@ module _ {S U : Type 0} (answer : S → Answer) (next : S → S) (told : U → A
   ticks-carried : (ports n : ℕ) (s : S) (t : Tally) → block 0 (embed (ticksOf ports answer next n s t .state)) (ticksOf ports answer next n s t .tally) (ticksOf ports answer next n s t .samples) (ticksOf ports answer next n s t .marks) ≡ ticksOf ports told step n (embed s) t
   unfolding ticksOf
   ticks-carried ports n s t =
-      λ i. block 0 (sym (after-carried n s) i) (countedTo t (λ (k : ℕ). hostNumber (answer-carried s k i)) n) (joined (λ (k : ℕ). portsOf ports (voltsOf (answer-carried s k i))) n) (tab (λ (k : ℕ). hostNumber (answer-carried s k i)) n)
+      λ i. block 0 (sym (after-carried n s) i) (countedTo t (λ (k : ℕ). hostNumber (answer-carried s k i)) n)
+      (joined (λ (k : ℕ). portsOf ports (voltsOf (answer-carried s k i))) n) (tab (λ (k : ℕ). hostNumber (answer-carried s k i)) n)
 
   pub heard : (ports number : ℕ) (s : S) (t : Tally) (o : List Float) (m : List ℕ) (r : ℕ) (s′ : S) (t′ : Tally) (o′ : List Float) (m′ : List ℕ)
       → (number ≡ 0 → AllAccepted answer next s)
@@ -205,7 +206,8 @@ outputs-at osc.Lfo l i w h =
 outputs-at osc.Supersaw l i w h = λ k. sampleLine (ascii "out=") (h 0 (lit≤ tt) k) ++ sampleLine (ascii "sub=") (h 1 (lit≤ tt) k)
 outputs-at osc.Formant l i w h = λ k. sampleLine (ascii "out=") (h 0 (lit≤ tt) k)
 
-frame-same : (o : Osc) (k : ℕ) (a : Answer) (w : Volts) → accepted a ≡ true → outputsText o w ≡ outputsText o (voltsOf a) → frameText o k (marks.answerOf (hostNumber a) w) ≡ frameText o k a
+frame-same : (o : Osc) (k : ℕ) (a : Answer) (w : Volts) → accepted a ≡ true → outputsText o w ≡ outputsText o (voltsOf a)
+    → frameText o k (marks.answerOf (hostNumber a) w) ≡ frameText o k a
 unfolding frameText markedText marks.answerOf hostNumber accepted markNumber voltsOf
 frame-same o k (answer.Clean v) w t h = ap (λ (t : List ℕ). countLine (ascii "n=") k ++ wordLine (ascii "mark=") (ascii "clean") ++ t) h
 frame-same o k (answer.Cleared v) w t h = ap (λ (t : List ℕ). countLine (ascii "n=") k ++ wordLine (ascii "mark=") (ascii "cleared") ++ t) h
@@ -252,7 +254,8 @@ module _ (p : Player) (n : ℕ) (l : List Float) (m : List ℕ) (room : roomFor 
   text-is (suc k) h = (λ i. text-is k (omega arith) i ++ frame-is k (omega arith) i) ∙ sym (text-last p k) ∙ ap (λ (x : ℕ). textOf x p) (add-one k)
 
 -- ---- a block of frames, from what it calls
-module _ (p : Player) (n : ℕ) (v : Voices) (t : Tally) (l : List Float) (m : List ℕ) (o : Osc) (eo : o ≡ kindOf (p .controls)) (played : AllPlayed (p .controls) (p .voices) (p .tally) n (block 0 v t l m)) where
+module _ (p : Player) (n : ℕ) (v : Voices) (t : Tally) (l : List Float) (m : List ℕ) (o : Osc) (eo : o ≡ kindOf (p .controls))
+    (played : AllPlayed (p .controls) (p .voices) (p .tally) n (block 0 v t l m)) where
   e : block 0 v t l m ≡ framesOf (p .controls) (p .voices) (p .tally) n
   e = played .frames
 
@@ -275,19 +278,23 @@ module _ (p : Player) (n : ℕ) (v : Voices) (t : Tally) (l : List Float) (m : L
 
   same-player : _≡_ {A = Player} (record { controls = p .controls; voices = v; tally = t; frame = p .frame + n; frames = p .frames }) (afterOf n p)
   unfolding framesOf ticksOf blockAfter
-  same-player = (λ i. record { controls = p .controls; voices = e i .state; tally = e i .tally; frame = p .frame + n; frames = p .frames }) ∙ sym (player-at p n l m (played .room) (played .taken) same-samples same-marks n (omega arith))
+  same-player =
+      (λ i. record { controls = p .controls; voices = e i .state; tally = e i .tally; frame = p .frame + n; frames = p .frames })
+      ∙ sym (player-at p n l m (played .room) (played .taken) same-samples same-marks n (omega arith))
 
   pub block-played : (out q : List ℕ) (at to : ℕ) → Put out at (blockText o (p .frame) l m (length m)) to q
       → Done out at (textOf n p) (afterOf n p) (record { player = record { controls = p .controls; voices = v; tally = t; frame = p .frame + n; frames = p .frames }; to = to }) q
   unfolding playedOf
   block-played out q at to put =
-      let same : blockText o (p .frame) l m (length m) ≡ textOf n p = rw (eo, marks-size) (text-is p n l m (played .room) (played .taken) same-samples same-marks n (omega arith)) in
+      let frames = text-is p n l m (played .room) (played .taken) same-samples same-marks n (omega arith) in
+      let same : blockText o (p .frame) l m (length m) ≡ textOf n p = rw (eo, marks-size) frames in
       let place = put .0 ∙ ap (placeOf out at) same in
       let who = same-player in
       (λ i. record { player = who i; to = place i }, put .1 ∙ ap (sets out at) same)
 
 -- ---- one frame's text after those before it
-pub frame-put : (o : Osc) (first : ℕ) (l : List Float) (m : List ℕ) (i ports : ℕ) (v : Volts) (a : Answer) (out q r : List ℕ) (at to end : ℕ) → ports ≡ portsIn o → v ≡ voltsAt ports l i → a ≡ marks.answerOf (getD m i 0) v
+pub frame-put : (o : Osc) (first : ℕ) (l : List Float) (m : List ℕ) (i ports : ℕ) (v : Volts) (a : Answer) (out q r : List ℕ) (at to end : ℕ)
+    → ports ≡ portsIn o → v ≡ voltsAt ports l i → a ≡ marks.answerOf (getD m i 0) v
     → Put out at (blockText o first l m i) to q → Put q to (frameText o (first + i) a) end r → Put out at (blockText o first l m (i + 1)) end r
 unfolding blockText
 frame-put o first l m i ports v a out q r at to end ep ev ea before put =
@@ -322,26 +329,39 @@ module _ (v : Voices) (t u : Tally) (samples after : List Float) (marks marked :
       → AllPlayed (controls.Vco c) v t (length marks) (block 0 (record { vco = s; lfo = v .lfo; supersaw = v .supersaw; formant = v .formant }) u after marked)
   unfolding vcoBlockOf framesOf kindOf portsIn soundOf
   vco-heard c s e z =
-      let k = heard _ _ (voiceAnswer (controls.Vco c)) (voiceNext (controls.Vco c)) (λ (s : Vco). record { vco = s; lfo = v .lfo; supersaw = v .supersaw; formant = v .formant }) (λ s. refl) (λ s. refl) 4 _ (v .vco) t samples marks r s u after marked (vco-held.block-accepts (v .vco) c 15) e z in
+      let among : Vco → Voices = λ s. record { vco = s; lfo = v .lfo; supersaw = v .supersaw; formant = v .formant } in
+      let k =
+      heard _ _ (voiceAnswer (controls.Vco c)) (voiceNext (controls.Vco c)) among (λ s. refl) (λ s. refl) 4 _ (v .vco) t samples marks r s u after marked
+      (vco-held.block-accepts (v .vco) c 15) e z in
       record { room = k .0; taken = k .1; frames = k .2 }
 
   pub lfo-heard : (c : LfoControls) (s : Lfo) → block r s u after marked ≡ lfoBlockOf (v .lfo) c 31 t samples marks → r ≡ 0
       → AllPlayed (controls.Lfo c) v t (length marks) (block 0 (record { vco = v .vco; lfo = s; supersaw = v .supersaw; formant = v .formant }) u after marked)
   unfolding lfoBlockOf framesOf kindOf portsIn soundOf
   lfo-heard c s e z =
-      let k = heard _ _ (voiceAnswer (controls.Lfo c)) (voiceNext (controls.Lfo c)) (λ (s : Lfo). record { vco = v .vco; lfo = s; supersaw = v .supersaw; formant = v .formant }) (λ s. refl) (λ s. refl) 5 _ (v .lfo) t samples marks r s u after marked (lfo-held.block-accepts (v .lfo) c 31) e z in
+      let among : Lfo → Voices = λ s. record { vco = v .vco; lfo = s; supersaw = v .supersaw; formant = v .formant } in
+      let k =
+      heard _ _ (voiceAnswer (controls.Lfo c)) (voiceNext (controls.Lfo c)) among (λ s. refl) (λ s. refl) 5 _ (v .lfo) t samples marks r s u after marked
+      (lfo-held.block-accepts (v .lfo) c 31) e z in
       record { room = k .0; taken = k .1; frames = k .2 }
 
-  pub supersaw-heard : length (v .supersaw .phases) ≡ 7 → (c : SupersawControls) (s : Supersaw) → block r s u after marked ≡ supersawBlockOf (v .supersaw) c t samples marks → r ≡ 0
+  pub supersaw-heard : length (v .supersaw .phases) ≡ 7 → (c : SupersawControls) (s : Supersaw)
+      → block r s u after marked ≡ supersawBlockOf (v .supersaw) c t samples marks → r ≡ 0
       → AllPlayed (controls.Supersaw c) v t (length marks) (block 0 (record { vco = v .vco; lfo = v .lfo; supersaw = s; formant = v .formant }) u after marked)
   unfolding supersawBlockOf framesOf kindOf portsIn soundOf
   supersaw-heard size c s e z =
-      let k = heard _ _ (voiceAnswer (controls.Supersaw c)) (voiceNext (controls.Supersaw c)) (λ (s : Supersaw). record { vco = v .vco; lfo = v .lfo; supersaw = s; formant = v .formant }) (λ s. refl) (λ s. refl) 2 _ (v .supersaw) t samples marks r s u after marked (supersaw-held.block-accepts (v .supersaw) c size) e z in
+      let among : Supersaw → Voices = λ s. record { vco = v .vco; lfo = v .lfo; supersaw = s; formant = v .formant } in
+      let k =
+      heard _ _ (voiceAnswer (controls.Supersaw c)) (voiceNext (controls.Supersaw c)) among (λ s. refl) (λ s. refl) 2 _ (v .supersaw) t samples marks r s u after marked
+      (supersaw-held.block-accepts (v .supersaw) c size) e z in
       record { room = k .0; taken = k .1; frames = k .2 }
 
   pub formant-heard : (c : FormantControls) (s : FormantOsc) → block r s u after marked ≡ formantBlockOf (v .formant) c t samples marks → r ≡ 0
       → AllPlayed (controls.Formant c) v t (length marks) (block 0 (record { vco = v .vco; lfo = v .lfo; supersaw = v .supersaw; formant = s }) u after marked)
   unfolding formantBlockOf framesOf kindOf portsIn soundOf
   formant-heard c s e z =
-      let k = heard _ _ (voiceAnswer (controls.Formant c)) (voiceNext (controls.Formant c)) (λ (s : FormantOsc). record { vco = v .vco; lfo = v .lfo; supersaw = v .supersaw; formant = s }) (λ s. refl) (λ s. refl) 1 _ (v .formant) t samples marks r s u after marked (formant-held.block-accepts (v .formant) c) e z in
+      let among : FormantOsc → Voices = λ s. record { vco = v .vco; lfo = v .lfo; supersaw = v .supersaw; formant = s } in
+      let k =
+      heard _ _ (voiceAnswer (controls.Formant c)) (voiceNext (controls.Formant c)) among (λ s. refl) (λ s. refl) 1 _ (v .formant) t samples marks r s u after marked
+      (formant-held.block-accepts (v .formant) c) e z in
       record { room = k .0; taken = k .1; frames = k .2 }

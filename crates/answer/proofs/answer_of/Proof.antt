@@ -17,11 +17,17 @@ returns-3 c = simp (eq-eqb _ _ (c .if3 .taken), ne-eqb _ _ (c .before .if2 .left
 
 returns-4 : tie.Need-returns-4
 unfolding answerOf
-returns-4 c = simp (eq-eqb _ _ (c .if4 .taken), ne-eqb _ _ (c .before .if3 .left), ne-eqb _ _ (c .before .before .if2 .left), ne-eqb _ _ (c .before .before .before .if1 .left))
+returns-4 c =
+    let third = c .before in
+    let second = third .before in
+    simp (eq-eqb _ _ (c .if4 .taken), ne-eqb _ _ (third .if3 .left), ne-eqb _ _ (second .if2 .left), ne-eqb _ _ (second .before .if1 .left))
 
 returns-5 : tie.Need-returns-5
 unfolding answerOf
-returns-5 c = simp (ne-eqb _ _ (c .if4 .left), ne-eqb _ _ (c .before .if3 .left), ne-eqb _ _ (c .before .before .if2 .left), ne-eqb _ _ (c .before .before .before .if1 .left))
+returns-5 c =
+    let third = c .before in
+    let second = third .before in
+    simp (ne-eqb _ _ (c .if4 .left), ne-eqb _ _ (third .if3 .left), ne-eqb _ _ (second .if2 .left), ne-eqb _ _ (second .before .if1 .left))
 
 pub answer-of-spec : {M : Type 1} → statement M
 answer-of-spec = tie.close (tie.spec returns returns-2 returns-3 returns-4 returns-5)

@@ -27,7 +27,9 @@ same-length c = search needs
 
 returns : tie.Need-returns
 unfolding countsOutcome countsPut countsOf
-returns c = (simp (eq-eqb _ _ (c .if1 .taken)), simp (eq-eqb _ _ (c .if1 .taken)) (stored (c .before .args .counts .now) (countsOf (c .before .args .self)) (c .if1 .taken)))
+returns c =
+    let all = stored (c .before .args .counts .now) (countsOf (c .before .args .self)) (c .if1 .taken) in
+    (simp (eq-eqb _ _ (c .if1 .taken)), simp (eq-eqb _ _ (c .if1 .taken)) all)
 
 returns-2 : tie.Need-returns-2
 unfolding countsOutcome countsPut

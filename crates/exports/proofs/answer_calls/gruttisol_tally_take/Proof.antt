@@ -37,14 +37,27 @@ same-length c = search needs
 
 returns : tie.Need-returns
 returns c =
-    taken _ _ _ (c .before .before .before .before .before .before .before .before .before .before .before .before .before .from-counts .ensures) _ (c .before .before .before .before .before .before .before .before .before .before .before .given .given .1) _ (c .before .before .before .before .before .before .before .before .answer-of .ensures ∙ ap (answerOf _) (c .before .before .before .before .before .before .before .before .before .silent .ensures)) _ (c .before .before .before .before .before .before .before .take .ensures) _ _ (c .before .before .before .before .before .taken .given .1) (c .before .before .put-counts .ensures .1)
+    let put = c .before .before in
+    let taken-in = put .before .before .before in
+    let asked = taken-in .before .before in
+    let made = asked .before in
+    let given-in = made .before .before .before in
+    let read = given-in .before .before in
+    taken _ _ _ (read .from-counts .ensures) _ (given-in .given .given .1) _ (made .answer-of .ensures ∙ ap (answerOf _) (made .before .silent .ensures)) _
+    (asked .take .ensures) _ _ (taken-in .taken .given .1) (put .put-counts .ensures .1)
 
 same-length-2 : tie.Need-same-length-2
 same-length-2 c = search needs
 
 returns-2 : tie.Need-returns-2
 returns-2 c =
-    refused _ _ _ (c .before .before .before .before .before .before .before .before .before .from-counts .ensures) _ (c .before .before .before .before .before .before .before .given .given .1) _ (c .before .before .before .before .answer-of .ensures ∙ ap (answerOf _) (c .before .before .before .before .before .silent .ensures)) _ (c .before .before .before .take .ensures) _ (c .before .taken2 .given .1)
+    let refused-in = c .before in
+    let asked = refused-in .before .before in
+    let made = asked .before in
+    let given-in = made .before .before .before in
+    let read = given-in .before .before in
+    refused _ _ _ (read .from-counts .ensures) _ (given-in .given .given .1) _ (made .answer-of .ensures ∙ ap (answerOf _) (made .before .silent .ensures)) _
+    (asked .take .ensures) _ (refused-in .taken2 .given .1)
 
 same-length-3 : tie.Need-same-length-3
 same-length-3 c = search needs
