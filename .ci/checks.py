@@ -299,7 +299,7 @@ WITHOUT_BOTH = {
     "laws": "it has no code",
     "examples": "it has no code",
     "values": "it states nothing: a program that prints, held to its file stdout",
-    **dict.fromkeys(["exports", "exports_score", "line", "replay"], "it states nothing but Settled, which any definition fulfils"),
+    **dict.fromkeys(["exports", "exports_score", "replay"], "it states nothing but Settled, which any definition fulfils"),
 }
 
 

@@ -1,4 +1,5 @@
 pub mod Bytes
 pub mod Line
 pub mod Number
+pub mod Promises
 pub mod Settled

@@ -1,9 +1,8 @@
 -- The one form of a number: digits with no leading zero, at most 12 of them, and a minus sign before one that isn't 0; or `nan`.
 -- Assumes nothing.
 use Prim.Native.Nat.{ℕ, zero, suc, _+_, _-_, _*_, _/_, _%_}
-use mathlib.Core.Path.{_≡_}
 use mathlib.Core.List.{List, [], _∷_, _++_}
-use mathlib.Core.Bool.{Bool, true, false, cond}
+use mathlib.Core.Bool.{true, false, cond}
 use lib.ListN.{length, drop, getD}
 use lib.Dec.{ltb, eqb}
 use Rattle.line.specs.Bytes.{ascii, sameOf}
@@ -44,7 +43,3 @@ unfoldable pub numberText : Number → List ℕ
 numberText (Whole minus size) = cond minus (45 ∷ decimalOf 12 size) (decimalOf 12 size)
 numberText Nan = ascii "nan"
 numberText Malformed = []
-
--- a value that is a number is the text of that number, so no two texts are the same number
-abbrev pub Number-text : Type 0
-Number-text = (v : List ℕ) → (numberOf v ≡ Malformed → ⊥) → numberText (numberOf v) ≡ v
