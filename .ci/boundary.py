@@ -5,6 +5,8 @@ In C and in the archive a slice is two arguments, the address of its first cell 
 """
 import re
 
+from texts import blanked
+
 HEADER = "host/c/gruttisol.h"
 HOST = "host/gruttisol/src/"
 KINDS = {"double": "f64", "uint8_t": "u8", "uint32_t": "u32", "uint64_t": "u64", "bool": "bool"}
@@ -21,7 +23,7 @@ def exported(files):
     found = {}
     for path, text in files.items():
         if re.match(r"crates/\w+/src/.*\.rt$", path):
-            text = re.sub(r"//.*", "", text)
+            text = blanked(path, text)
             for m in re.finditer(r"\bextern\s+\"C\"\s+fn\s+(\w+)\s*\(([^)]*)\)\s*(?:->\s*(\w+))?", text):
                 inputs = [re.split(r"\s*:\s*", part) for part in parts(m[2])]
                 slices = {"&mut [": "mut ", "&[": "const "}
@@ -56,7 +58,7 @@ def in_host(files):
     for path, text in files.items():
         if not path.startswith(HOST):
             continue
-        text = re.sub(r"//.*", "", text)
+        text = blanked(path, text)
         for block in re.finditer(r"^\s*(exported|lent)! \{\n(.*?)^\s*\}", text, re.M | re.S):
             for m in re.finditer(r"\bfn (\w+)\(([^;)]*)(;[^)]*)?\)(?: -> (\w+))?;", block[2]):
                 inputs = [tuple(re.split(r"\s*:\s*", part)) for part in parts(m[2]) + parts((m[3] or "").lstrip(";"))]
@@ -72,6 +74,6 @@ def differences(files):
             if crates.get(name) != declared.get(name):
                 yield f"{place}: {name} is {declared.get(name)}, exported {crates.get(name)}"
     for path, text in files.items():
-        foreign = re.search(r"extern\s+\"C\"", re.sub(r"//.*", "", text)) if path.startswith("host/") and path.endswith(".rs") else None
+        foreign = re.search(r"extern\s+\"C\"", blanked(path, text)) if path.startswith("host/") and path.endswith(".rs") else None
         if foreign and path not in (HOST + "exported.rs", HOST + "lent.rs"):
             yield f"{path}: declares functions of C itself"

@@ -19,6 +19,7 @@ import counts
 import edits
 import statements
 import tests
+from texts import APART, blanked, line, past
 
 ROOT = pathlib.Path(__file__).resolve().parent.parent
 
@@ -46,50 +47,6 @@ def of_crates(files, folders, endings):
             yield path, parts[1], text
 
 
-BLANK = {
-    # quoted texts, in which no comment begins, and comments; in antt a name may have -- inside, and block comments stand in each other
-    ".antt": re.compile(r"\"(?:\\.|[^\"\\])*\"|(?<![^\s(){}.;,@\"«»])--.*|\{-|-\}"),
-    ".rt": re.compile(r"b?\"(?:\\.|[^\"\\])*\"|b?'(?:\\.|[^'\\])'|//.*|/\*(?s:.*?)\*/"),
-}
-
-
-def blanked(path, text):
-    """The text with its comments blanked, so that every place keeps its line."""
-    spaces = lambda part: re.sub(r"[^\n]", " ", part)
-    if not path.endswith(".antt"):
-        return BLANK[".rt"].sub(lambda m: spaces(m[0]) if m[0].startswith("/") else m[0], text)
-    found, at, depth = [], 0, 0
-    while m := BLANK[".antt"].search(text, at):
-        between = text[at : m.start()]
-        found.append(spaces(between) if depth else between)
-        if m[0] == "{-":
-            depth += 1
-        elif m[0] == "-}":
-            depth = max(depth - 1, 0)
-        elif depth:  # in a block comment only its ends mean anything
-            found.append(spaces(text[m.start() : m.start() + 1]))
-            at = m.start() + 1
-            continue
-        found.append(m[0] if m[0].startswith('"') else spaces(m[0]))
-        at = m.end()
-    found.append(spaces(text[at:]) if depth else text[at:])
-    return "".join(found)
-
-
-def line(text, at):
-    return text.count("\n", 0, at) + 1
-
-
-def past(text, at):
-    """The place after the bracket that closes the one at `at`."""
-    depth = 0
-    for i in range(at, len(text)):
-        depth += (text[i] in "([{") - (text[i] in ")]}")
-        if depth == 0:
-            return i + 1
-    return len(text)
-
-
 # ---- what the crates above may know of sine and powers
 
 PROMISED = {"sinOf", "cosOf", "exp2Of", "pow3000Of"}
@@ -110,7 +67,6 @@ def entries(text, at):
             start = i + 1
 
 
-APART = statements.APART
 TACTICS = "simp|rw|rw⁻¹|grw|search|cc|omega"
 
 
@@ -188,28 +144,15 @@ def only_promises(files):
 
 # ---- contracts
 
-def clauses(text, at):
-    """The words of a function's clauses, which stand between its parameters, the first bracket after `at`, and its body."""
-    at = past(text, text.index("(", at))
-    while True:
-        head = re.compile(r"[^{]*").match(text, at)
-        word = re.search(r"\b(requires|ensures)\s*$", head[0])
-        if not word:
-            return
-        yield word[1]
-        at = past(text, head.end())
-
-
 def settled(files):
     """Every public function has an `ensures` and no `requires`."""
     for path, _, text in of_crates(files, ["src"], ".rt"):
-        text = blanked(path, text)
-        for m in re.finditer(r"\bpub\s+(?:extern\s+\"C\"\s+)?fn\s+(\w+)", text):
-            words = list(clauses(text, m.end()))
+        for at, name, _, _, clauses in contracts.functions(text):
+            words = [word for word, _ in clauses]
             if "ensures" not in words:
-                yield f"{path}:{line(text, m.start())}: {m[1]} has no ensures"
+                yield f"{path}:{line(text, at)}: {name} has no ensures"
             if "requires" in words:
-                yield f"{path}:{line(text, m.start())}: {m[1]} has a requires"
+                yield f"{path}:{line(text, at)}: {name} has a requires"
 
 
 def called(field, function):
@@ -222,8 +165,8 @@ def instances(files):
     """Every public function has its instance of Settles in the crate's record Settled, which is proved."""
     functions, fields, proved = {}, {}, set()
     for path, crate, text in of_crates(files, ["src"], ".rt"):
-        for m in re.finditer(r"\bpub\s+(?:extern\s+\"C\"\s+)?fn\s+(\w+)", blanked(path, text)):
-            functions.setdefault(crate, []).append((f"{path}:{line(text, m.start())}", m[1]))
+        for at, name, *_ in contracts.functions(text):
+            functions.setdefault(crate, []).append((f"{path}:{line(text, at)}", name))
     for path, crate, text in of_crates(files, ["specs"], ".antt"):
         for record in re.findall(r"^pub record Settled : Type 0 where\n((?:  .*\n)+)", text, re.M):
             fields[crate] = path, re.findall(r"^  pub (\S+) :(?:.*|.*\n    .*)\b(?:Settles|Put-settles)\b", record, re.M)
@@ -415,6 +358,8 @@ def settling(contract, equation, binders):
     }
 
 
+KEPT = "pub record Kept : Type 0 where\n"
+
 CHECKS = {
     only_promises: [
         {"crates/x/proofs/A.antt": "a : A\nunfolding lt sinOf\na = refl\n"},
@@ -457,8 +402,8 @@ CHECKS = {
     ],
     proved: [
         {"crates/lfo/specs/Promises.antt": "abbrev pub Never-lost : Type 0\nNever-lost = Type 0\n"},
-        {"crates/x/specs/Promises.antt": "pub record Kept : Type 0 where\n", "crates/x/proofs/A.antt": "use Rattle.x.specs.Promises.{Kept}\n\nkept : Kept\n"},
-        {"crates/x/specs/Promises.antt": "pub record Kept : Type 0 where\n", "crates/x/proofs/A.antt": "abbrev Kept : Type 0\n\npub kept : Kept\n"},
+        {"crates/x/specs/Promises.antt": KEPT, "crates/x/proofs/A.antt": "use Rattle.x.specs.Promises.{Kept}\n\nkept : Kept\n"},
+        {"crates/x/specs/Promises.antt": KEPT, "crates/x/proofs/A.antt": "abbrev Kept : Type 0\n\npub kept : Kept\n"},
         {"crates/x/specs/Promises.antt": "pub record Keeping (n : ℕ) : Type 0 where\n"},
     ],
     boundary_holds: [

@@ -8,8 +8,10 @@ called by its name (`now (x .entry)` is `x`), an escaped name is the bare one, a
 """
 import re
 
+from texts import APART, blanked, past
+
 KIT = {"toBits", "ofBits", "sets"}
-NAME = r"[^\s(){}.;,@\"«»]+"
+NAME = f"{APART}+"
 TOKEN = re.compile(rf"[(){{}};,@]|«[^»]*»|\.(?:{NAME}|«[^»]*»)|(?:{NAME}\.)*{NAME}|\.|\S")
 
 
@@ -85,26 +87,16 @@ def equations(term):
     return [tuple(sides) for sides in found] if all(len(sides) == 2 for sides in found) else None
 
 
-def bracket(text, at):
-    """The place after the bracket that closes the one at `at`."""
-    depth = 0
-    for i in range(at, len(text)):
-        depth += (text[i] in "([{") - (text[i] in ")]}")
-        if depth == 0:
-            return i + 1
-    return len(text)
-
-
 def functions(text):
     """The public functions of a source, as (place, name, inputs, type of the answer, clauses)."""
-    text = re.sub(r"//.*", lambda m: " " * len(m[0]), text)
+    text = blanked(".rt", text)
     for m in re.finditer(r"\bpub\s+(?:extern\s+\"C\"\s+)?fn\s+(\w+)\s*(?=\()", text):
-        end = bracket(text, m.end())
+        end = past(text, m.end())
         inputs = [[part.strip() for part in given.split(":")] for given in text[m.end() + 1 : end - 1].split(",") if given.strip()]
         answer = re.compile(r"\s*->\s*([^{]*?)\s*(?=\b(?:ensures|requires)\b|\{)").match(text, end)
         at, clauses = answer.end() if answer else end, []
         while clause := re.compile(r"\s*(ensures|requires)\s*(?=\{)").match(text, at):
-            at = bracket(text, clause.end())
+            at = past(text, clause.end())
             clauses.append((clause[1], text[clause.end() + 1 : at - 1]))
         yield m.start(), m[1], inputs, answer[1] if answer else None, clauses
 
@@ -129,7 +121,7 @@ def definitions(files):
     found = {}
     for path, text in files.items():
         if re.match(r"crates/\w+/specs/", path):
-            text = re.sub(r"--.*", "", text)
+            text = blanked(path, text)
             for m in re.finditer(rf"^(?:unfoldable |abbrev )+pub ({NAME}|«[^»]*») :", text, re.M):
                 name = m[1].strip("«»")
                 clauses = re.findall(rf"^{re.escape(m[1])}((?: {NAME})*) =((?:.*\n)(?:[ \t].*\n)*)", text, re.M)
@@ -186,7 +178,7 @@ def bound_by(groups):
 
 def fields(text, defined):
     """The fields of the record Settled, as (name, variables, equations or None)."""
-    text = re.sub(r"--.*", "", text)
+    text = blanked(".antt", text)
     for record in re.findall(r"^pub record Settled : Type 0 where\n((?:  .*\n|\s*\n)+)", text, re.M):
         for m in re.finditer(r"^  pub (\S+) :((?:.*\n)(?:    .*\n)*)", record, re.M):
             *binders, body = parted(tree(m[2]), "→")

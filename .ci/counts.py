@@ -6,8 +6,8 @@
 
 Columns: lines of definitions and of statements in specs/, without blank lines, comments, `use` and `pub mod`; a statement file is
 Promises, Settled or Examples, and all of the crate examples. Public functions in src/; those of them that an instance of `Settles` is
-stated for; edits that the prover must refuse, of must-fail/ and wrong/. Axioms of a program are those that the prover named when it last proved it, in target/log;
-where it has not, those of the page.
+stated for; edits that the prover must refuse, of must-fail/ and wrong/. Axioms of a program are those that the prover named when it last
+proved it, in target/log; where it has not, those of the page.
 """
 import pathlib
 import re

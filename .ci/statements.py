@@ -7,18 +7,14 @@ parameters is a part of statements: some other declaration of specs/ must name i
 """
 import re
 
+from texts import APART, blanked
+
 FILES = ("Promises.antt", "Settled.antt", "Examples.antt")
-APART = r"[^\s(){}.;,@\"«»]"  # what a name is made of
 
 
 def is_statement_file(path):
     found = re.fullmatch(r"crates/(\w+)/specs/([\w-]+\.antt)", path)
     return found is not None and (found[1] == "examples" or found[2] in FILES)
-
-
-def bare(text):
-    """The text without its comments."""
-    return re.sub(r"--.*", "", text)
 
 
 def declarations(text):
@@ -38,7 +34,7 @@ def types(files):
     """The types that statement files declare, abbreviations and records, as (path, name, whether it is closed)."""
     for path, text in files.items():
         if is_statement_file(path):
-            for name, part in declarations(bare(text)):
+            for name, part in declarations(blanked(path, text)):
                 head = re.match(r"(?:abbrev pub|unfoldable pub|pub record) \S+ ?(.*)", part)
                 if head and re.search(r"(?:→ |: )Type 0(?: where)?$", head[1]):
                     yield path, name, re.fullmatch(r": Type 0(?: where)?", head[1]) is not None
@@ -53,7 +49,7 @@ def stated(files):
 
 def unclaimed(files):
     """The types with parameters that nothing else names, as (path, name)."""
-    specs = {path: list(declarations(bare(text))) for path, text in files.items() if re.match(r"crates/\w+/specs/", path)}
+    specs = {path: list(declarations(blanked(path, text))) for path, text in files.items() if re.match(r"crates/\w+/specs/", path)}
     for path, name, closed in types(files):
         others = (part for there, parts in specs.items() for label, part in parts if (there, label) != (path, name))
         if not closed and not any(names(part, name) for part in others):
