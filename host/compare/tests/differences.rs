@@ -81,7 +81,7 @@ fn a_nan_for_a_memos_key() {
         let mut ours = Lfo::of_parts(floats, wholes);
         let ticked = ours.tick(&Controls { rate, depth: 10.0, reset: 0.0 }, Lfo::WANT_ALL).unwrap();
         assert_eq!(ticked.mark, Mark::Clean);
-        assert_eq!(ours.parts().0, [1.0 / 48000.0, 48000.0, 0.0, 1.0]);
+        assert_eq!(*ours.parts().0, [1.0 / 48000.0, 48000.0, 0.0, 1.0]);
         println!("ours hits and goes on at 1 Hz, the Rust misses");
     }
 }
