@@ -308,10 +308,12 @@ def edits_stand(files):
     found = {path.split("/")[1]: [] for path in files if re.match("crates/[^/]+/(src|specs)/", path)}
     for path, crate, text in of_crates(files, {"must-fail", "wrong"}, ".edit"):
         found.setdefault(crate, []).append(path)
-        for file, old, _ in edits.changes(text):
-            times = files.get(f"crates/{crate}/{file}", "").count(old)
-            if times != 1:
-                yield f"{path}: what it takes out stands {times} times in crates/{crate}/{file}"
+        edited = {}  # as the changes before left it
+        for file, old, new in edits.changes(text):
+            before = edited.get(file, files.get(f"crates/{crate}/{file}", ""))
+            if before.count(old) != 1:
+                yield f"{path}: what it takes out stands {before.count(old)} times in crates/{crate}/{file}"
+            edited[file] = before.replace(old, new)
     for crate, paths in found.items():
         if not 3 <= len(paths) <= 8:
             yield f"crates/{crate}/must-fail/: {len(paths)} edits, with those of wrong/"
@@ -428,6 +430,7 @@ CHECKS = {
         {".ci/harness": HARNESS.replace("ok a\\n", "")},
     ],
     edits_stand: [
+        {"crates/laws/must-fail/x.edit": "file: specs/Lists.antt\nold: pub\nnew: y\n"},
         {"crates/laws/must-fail/x.edit": "file: specs/Lists.antt\nold: no such text\nnew: y\n"},
         {"crates/lfo/must-fail/": "", "crates/lfo/must-fail/y.edit": "file: crates.txt\nold: y\nnew: z\n"},
         {"crates/laws/must-fail/": "", "crates/laws/wrong/y.edit": "file: crates.txt\nold: y\nnew: z\n"},
