@@ -308,10 +308,10 @@ def edits_stand(files):
     found = {path.split("/")[1]: [] for path in files if re.match("crates/[^/]+/(src|specs)/", path)}
     for path, crate, text in of_crates(files, {"must-fail", "wrong"}, ".edit"):
         found.setdefault(crate, []).append(path)
-        for file, old, _ in edits.changes(text):
-            times = files.get(f"crates/{crate}/{file}", "").count(old)
-            if times != 1:
-                yield f"{path}: what it takes out stands {times} times in crates/{crate}/{file}"
+        try:
+            edits.applied(text, lambda file: files.get(f"crates/{crate}/{file}", ""))
+        except ValueError as wrong:
+            yield f"{path}: {wrong}"
     for crate, paths in found.items():
         if not 3 <= len(paths) <= 8:
             yield f"crates/{crate}/must-fail/: {len(paths)} edits, with those of wrong/"
@@ -429,6 +429,7 @@ CHECKS = {
     ],
     edits_stand: [
         {"crates/laws/must-fail/x.edit": "file: specs/Lists.antt\nold: no such text\nnew: y\n"},
+        {"crates/x/src/lib.rt": "y\n", "crates/x/wrong/y.edit": "file: src/lib.rt\nold: y\nnew: z\nold: z\nnew: v\nold: y\nnew: w\n"},
         {"crates/lfo/must-fail/": "", "crates/lfo/must-fail/y.edit": "file: crates.txt\nold: y\nnew: z\n"},
         {"crates/laws/must-fail/": "", "crates/laws/wrong/y.edit": "file: crates.txt\nold: y\nnew: z\n"},
         {

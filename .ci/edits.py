@@ -50,6 +50,17 @@ def changes(edit):
             yield file, old, row.removeprefix("new:").removeprefix(" ")
 
 
+def applied(edit, read):
+    """What an edit makes of its files, {file: text}: its changes one after another, as rt makes them. `read` gives a file as it stands."""
+    made = {}
+    for file, old, new in changes(edit):
+        text = made[file] if file in made else read(file)
+        if text.count(old) != 1:
+            raise ValueError(f"what it takes out stands {text.count(old)} times in {file}")
+        made[file] = text.replace(old, new)
+    return made
+
+
 def both(edit):
     """Whether an edit's text changes a definition and the code together."""
     folders = {file.split("/")[0] for file, _, _ in changes(edit)}
@@ -127,12 +138,8 @@ def room(work, name, edit):
     for part in ("src", "specs", "proofs"):
         if (ROOT / "crates" / name / part).is_dir():
             shutil.copytree(ROOT / "crates" / name / part, work / "crates" / name / part)
-    for file, old, new in changes(edit):
-        path = work / "crates" / name / file
-        text = path.read_text()
-        if text.count(old) != 1:
-            raise ValueError(f"what it takes out stands {text.count(old)} times in {file}")
-        path.write_text(text.replace(old, new))
+    for file, text in applied(edit, lambda file: (work / "crates" / name / file).read_text()).items():
+        (work / "crates" / name / file).write_text(text)
     (work / "target" / "log").mkdir(parents=True)
     for part in ("rlib", "stamp"):
         (work / "target" / part).symlink_to(TARGET / part)
