@@ -428,6 +428,7 @@ CHECKS = {
         {".ci/harness": HARNESS.replace("ok a\\n", "")},
     ],
     edits_stand: [
+        {"crates/laws/must-fail/x.edit": "file: specs/Lists.antt\nold: pub\nnew: y\n"},
         {"crates/laws/must-fail/x.edit": "file: specs/Lists.antt\nold: no such text\nnew: y\n"},
         {"crates/x/src/lib.rt": "y\n", "crates/x/wrong/y.edit": "file: src/lib.rt\nold: y\nnew: z\nold: z\nnew: v\nold: y\nnew: w\n"},
         {"crates/lfo/must-fail/": "", "crates/lfo/must-fail/y.edit": "file: crates.txt\nold: y\nnew: z\n"},

@@ -1,5 +1,5 @@
 -- The mark of an accepted tick: document 01, "Marks and tally".
-use mathlib.Core.Bool.{Bool, true, false, cond, _&&_}
+use mathlib.Core.Bool.{Bool, cond, _&&_}
 use Prim.Native.Nat.{ℕ, _+_}
 use Rattle.laws.specs.Float.{isFin}
 use Rattle.answer.specs.Answer.{answerOf}

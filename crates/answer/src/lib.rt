@@ -27,7 +27,7 @@ pub enum Answer {
     Refused(u32),
 }
 
-// What a call without samples says of itself: of a state with an array, beside it, for an enum with one needs proofs by hand.
+// What a call without samples says of itself. It stands beside a state that has an array: an enum that holds one needs proofs by hand.
 pub enum Outcome {
     Done,
     Refused(u32),

@@ -1,5 +1,5 @@
 -- wrap_phase, polyblep and polyblamp, written from common.rs; and two lines that the oscillators share.
-use mathlib.Core.Bool.{Bool, true, false, cond}
+use mathlib.Core.Bool.{Bool, cond}
 use lib.Ieee.{Float, binary64, add, sub, mul, div, neg, lt, le}
 use Rattle.laws.specs.Float.{zer, one, two, isFin}
 use Rattle.numeric.specs.Floor.{floorOf}

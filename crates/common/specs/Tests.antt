@@ -1,5 +1,5 @@
 -- The tests behind document 01's refusals 1 and 2.
-use mathlib.Core.Bool.{Bool, true, false, _&&_}
+use mathlib.Core.Bool.{Bool, _&&_}
 use lib.Ieee.{lt, le}
 use Rattle.laws.specs.Float.{zer, one}
 use Rattle.common.specs.Consts.{rateLow, rateHigh}

@@ -49,7 +49,7 @@ soundOf (Lfo c) v = let t = lfoTickOf (v .lfo) c 31 in record { answer = t .answ
 soundOf (Supersaw c) v = let t = supersawTickOf (v .supersaw) c in record { answer = t .answer; voices = record { vco = v .vco; lfo = v .lfo; supersaw = t .supersaw; formant = v .formant } }
 soundOf (Formant c) v = let t = formantTickOf (v .formant) c in record { answer = t .answer; voices = record { vco = v .vco; lfo = v .lfo; supersaw = v .supersaw; formant = t .formant } }
 
--- the next frame; an answer that the tally refuses leaves it: its answer, its text, and the player after it
+-- the next frame: its answer, its text, and the player after it. An answer that the tally refuses leaves the tally.
 unfoldable pub answerOf : Player → Answer
 answerOf p = soundOf (p .controls) (p .voices) .answer
 
