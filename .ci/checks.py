@@ -19,7 +19,7 @@ import counts
 import edits
 import statements
 import tests
-from texts import APART, blanked, line, past
+from texts import APART, blanked, brings, line, past
 
 ROOT = pathlib.Path(__file__).resolve().parent.parent
 
@@ -189,17 +189,23 @@ def repeated(files):
     return contracts.differences(files)
 
 
+def proves(text, module, name, proof):
+    """Whether a proof file has a proof of a module's statement."""
+    return brings(text, module, name) and re.search(rf"^pub {re.escape(proof)} : {re.escape(name)} *$", text, re.M)
+
+
 def proved(files):
     """Each statement of Promises, Settled and Examples has a proof of its name and type, and each part of one is part of some."""
+    modules = {}
+    for path, crate, text in of_crates(files, ["proofs"], "/proofs/Lib.antt"):
+        for module in re.findall(r"^pub mod (\S+)", blanked(path, text), re.M):  # the prover reads no others
+            there = path.replace("Lib", module)
+            modules.setdefault(crate, []).append(blanked(there, files.get(there, "")))
     for path, name in statements.unclaimed(files):
         yield f"{path}: no statement names {name}"
     for path, name, proof in statements.stated(files):
         crate, module = path.split("/")[1], path.split("/")[3].removesuffix(".antt")
-        for _, _, text in (given for given in of_crates(files, ["proofs"], ".antt") if given[1] == crate):
-            brought = re.findall(rf"^use Rattle\.{crate}\.specs\.{module}\.\{{([^}}]*)\}}", text, re.M)
-            if any(name in re.split(r"[\s,]+", names) for names in brought) and re.search(rf"^pub {re.escape(proof)} : {re.escape(name)}$", text, re.M):
-                break
-        else:
+        if not any(proves(text, f"Rattle.{crate}.specs.{module}", name, proof) for text in modules.get(crate, [])):
             yield f"{path}: proofs/ has no `pub {proof} : {name}`"
 
 
@@ -358,7 +364,17 @@ def settling(contract, equation, binders):
     }
 
 
-KEPT = "pub record Kept : Type 0 where\n"
+KEPT = "use Rattle.x.specs.Promises.{Kept}\n"
+
+
+def keeping(proof, listed="pub mod A\n"):
+    """A crate with one statement and a proof file."""
+    return {
+        "crates/x/specs/Promises.antt": "pub record Kept : Type 0 where\n",
+        "crates/x/proofs/Lib.antt": listed,
+        "crates/x/proofs/A.antt": proof,
+    }
+
 
 CHECKS = {
     only_promises: [
@@ -402,8 +418,13 @@ CHECKS = {
     ],
     proved: [
         {"crates/lfo/specs/Promises.antt": "abbrev pub Never-lost : Type 0\nNever-lost = Type 0\n"},
-        {"crates/x/specs/Promises.antt": KEPT, "crates/x/proofs/A.antt": "use Rattle.x.specs.Promises.{Kept}\n\nkept : Kept\n"},
-        {"crates/x/specs/Promises.antt": KEPT, "crates/x/proofs/A.antt": "abbrev Kept : Type 0\n\npub kept : Kept\n"},
+        keeping(f"{KEPT}\nkept : Kept\n"),
+        keeping("abbrev Kept : Type 0\n\npub kept : Kept\n"),
+        keeping(f"{KEPT}\n{{-\npub kept : Kept\n-}}\n"),
+        keeping(f"{KEPT}\npub kept : Kept\n", "-- pub mod A\n"),
+        keeping(f"{KEPT}\nabbrev Kept : Type 0\npub kept : Kept\n"),
+        keeping("use Rattle.x.specs.Promises.{Kept as Other}\nuse lib.Any.{Any as Kept}\npub kept : Kept\n"),
+        keeping(f"{KEPT}use lib.Any.{{Any as Kept}}\npub kept : Kept\n"),
         {"crates/x/specs/Promises.antt": "pub record Keeping (n : ℕ) : Type 0 where\n"},
     ],
     boundary_holds: [
