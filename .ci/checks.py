@@ -418,6 +418,9 @@ CHECKS = {
     ],
     proved: [
         {"crates/lfo/specs/Promises.antt": "abbrev pub Never-lost : Type 0\nNever-lost = Type 0\n"},
+        {"crates/lfo/specs/Promises.antt": "abbrev pub Never-lost : Type 0\nNever-lost = Type 0\n-- List Never-lost\n"},
+        {"crates/lfo/specs/Promises.antt": "pub Never-lost : Type 0\nNever-lost = Type 0\n"},
+        {"crates/lfo/specs/Promises.antt": "abbrev pub Never-lost\n  : Type 0\nNever-lost = Type 0\n"},
         keeping(f"{KEPT}\nkept : Kept\n"),
         keeping("abbrev Kept : Type 0\n\npub kept : Kept\n"),
         keeping(f"{KEPT}\n{{-\npub kept : Kept\n-}}\n"),
