@@ -155,12 +155,6 @@ def settled(files):
                 yield f"{path}:{line(text, at)}: {name} has a requires"
 
 
-def called(field, function):
-    """Whether a field is called after a function: one name may have a crate's or a type's before it."""
-    field = field.strip("«»").replace("-", "_")
-    return f"_{function}".endswith(f"_{field}") or f"_{field}".endswith(f"_{function}")
-
-
 def instances(files):
     """Every public function has its instance of Settles in the crate's record Settled, which is proved."""
     functions, fields, proved = {}, {}, set()
@@ -175,7 +169,7 @@ def instances(files):
             proved.add(crate)
     for crate, found in functions.items():
         for place, name in found:
-            if not any(called(field, name) for field in fields.get(crate, ("", []))[1]):
+            if not any(contracts.named_after(field, name) for field in fields.get(crate, ("", []))[1]):
                 yield f"{place}: {name} has no instance of Settles"
     for crate, (path, given) in fields.items():
         if len(given) != len(functions.get(crate, [])):
@@ -356,11 +350,14 @@ def tests_counted(files):
 
 # ---- the checks, each with examples that it must refuse
 
-def settling(contract, equation, binders):
+SETTLES = "use Rattle.laws.specs.Machine.{Settles}\n"
+
+
+def settling(contract, equation, binders, brought=SETTLES):
     """A crate with one function and what its record Settled says of it."""
     return {
         "crates/x/src/lib.rt": f"pub fn f(x: f64, y: f64, z: f64) -> f64\n    ensures {{ λ r. ⌜ {contract} ⌝ }}\n{{ x }}\n",
-        "crates/x/specs/Settled.antt": f"pub record Settled : Type 0 where\n  pub f : {binders}Settles (λ (a : Float). {equation})\n",
+        "crates/x/specs/Settled.antt": f"{brought}\npub record Settled : Type 0 where\n  pub f : {binders}Settles (λ (a : Float). {equation})\n",
     }
 
 
@@ -401,6 +398,8 @@ CHECKS = {
     settled: [
         {"crates/x/src/lib.rt": "pub fn f(x: [u8; 2]) -> [u8; 2] // ensures { x }\n{\n    x\n}\n"},
         {"crates/x/src/lib.rt": 'pub extern "C" fn f(x: u8) -> u8\n    ensures { x }\n    requires { x }\n{ x }\n'},
+        {"crates/x/src/lib.rt": "pub(crate) fn f(x: u8) -> u8\n{\n    x\n}\n"},
+        {"crates/x/src/lib.rt": "pub const unsafe fn f<'a>(x: u8) -> u8\n{\n    x\n}\n"},
     ],
     instances: [
         {"crates/x/src/lib.rt": "pub fn f(x: u8) -> u8\n    ensures { x }\n{ x }\n"},
@@ -415,6 +414,12 @@ CHECKS = {
         settling("r ≡ sinOf x", "a ≡ a", "(b : Float) → "),
         settling("r ≡ clampOf x x x", "a ≡ clampOf b c d", "(b c d : Float) → b ≡ c → "),
         settling("r ≡ clampOf x y z", "a ≡ clampOf b b c", "(b c : Float) → "),
+        settling("r ≡ sinOf x", "a ≡ sinOf b", "(b : Float) (no : ⊥) → "),
+        settling("r ≡ wrapOf (x .0)", "a ≡ wrapOf (b .0)", "(b : Float × ⊥) → "),
+        settling("r ≡ sinOf x", "a ≡ sinOf b", "(b : Float) → ", ""),
+        settling("r ≡ sinOf x", "a ≡ sinOf b", "(b : Float) → ", "use Rattle.x.specs.Weak.{Settles}\n"),
+        settling("r ≡ sinOf x", "a ≡ sinOf b", "(b : Float) → ", f"{SETTLES}abbrev pub Settles : (Float → Type 0) → Type 0\n"),
+        {"crates/x/specs/Weak.antt": "abbrev pub Settles : (Float → Type 0) → Type 0\nSettles P = ⊤\n"},
     ],
     proved: [
         {"crates/lfo/specs/Promises.antt": "abbrev pub Never-lost : Type 0\nNever-lost = Type 0\n"},
