@@ -322,6 +322,24 @@ def edits_stand(files):
             yield f"crates/{crate}/must-fail/: {inside} edits of {len(paths)}"
 
 
+STATED = {"crates/x/specs/Promises.antt": "abbrev pub Kept : Type 0\nKept = Type 0\n\npub record Settled : Type 0 where\n"}
+# what the prover says where a law fails, a promise that rests on it and a function that cites it
+REFUSAL = f"""/x/crates/x/proofs/Laws.antt:3:5: error: `small`: the two types differ
+/x/crates/x/proofs/Promises.antt:9:5: error: `kept`: `small` {edits.FOLLOWS}
+/x/crates/x/proofs/X/f/Proof.antt:5:5: error: `returns`: `small` {edits.FOLLOWS}
+fn x::X::f: not proved
+fn x::g: not proved; it calls `x::X::f`, which is not proved
+logic=not-proved modules=3
+"""
+
+
+def refusals_judged(files):
+    """A refusal of an edit of definition and code counts where a fact and a promise fail, and no function's own proof."""
+    wrong = edits.judge(files.get(".ci/refusal", REFUSAL), edits.promised(STATED))
+    if wrong:
+        yield f".ci/refusal: {wrong}"
+
+
 # ---- the count of the host's tests
 
 # a harness of three tests of which each ends in another way; one prints what a harness would say
@@ -455,6 +473,19 @@ CHECKS = {
         {".ci/harness": HARNESS.replace("failed b", "ok b")},
         {".ci/harness": HARNESS.replace("exit 101", "exit 0")},
         {".ci/harness": HARNESS.replace("ok a\\n", "")},
+    ],
+    refusals_judged: [
+        {".ci/refusal": ""},
+        {".ci/refusal": "logic=proved modules=3\n"},  # a comment was edited
+        {".ci/refusal": "logic=not-proved modules=3\n"},
+        {".ci/refusal": REFUSAL.replace("the two types differ", "`smal` is not in scope")},
+        {".ci/refusal": REFUSAL.replace("the two types differ", "`X` has no field `y`")},
+        {".ci/refusal": REFUSAL.replace("the two types differ", f"`less` {edits.FOLLOWS}")},
+        {".ci/refusal": REFUSAL.replace("proofs/Laws.antt", "specs/Laws.antt")},
+        {".ci/refusal": REFUSAL.replace("proofs/Laws.antt", "proofs/X/f/Proof.antt")},
+        {".ci/refusal": REFUSAL.replace("`kept`", "`large`")},
+        {".ci/refusal": REFUSAL.replace("`kept`", "`settled`")},
+        {".ci/refusal": REFUSAL.replace("fn x::g: not proved;", "fn x::h: not proved\nfn x::g: not proved;")},
     ],
     edits_stand: [
         {"crates/laws/must-fail/x.edit": "file: specs/Lists.antt\nold: pub\nnew: y\n"},
