@@ -204,7 +204,7 @@ def proved(files):
 
 
 def boundary_holds(files):
-    """Every exported function is in the C header and in the safe crate, with its types and order, and nothing else is."""
+    """Every exported function is in the C header and in the safe crate, with its types and order, and nothing else is; the header's numbers are the crates'."""
     return boundary.differences(files)
 
 
@@ -379,6 +379,11 @@ def settling(contract, equation, binders, brought=SETTLES):
     }
 
 
+def header(old, new):
+    """The C header with one change."""
+    return {boundary.HEADER: (ROOT / boundary.HEADER).read_text().replace(old, new)}
+
+
 KEPT = "use Rattle.x.specs.Promises.{Kept}\n"
 
 
@@ -455,7 +460,11 @@ CHECKS = {
     ],
     boundary_holds: [
         {"crates/x/src/lib.rt": 'pub extern "C" fn gruttisol_more(x: f64) -> f64\n', "host/": ""},
-        {"host/c/gruttisol.h": "double gruttisol_sin(double y);\n"},
+        header("gruttisol_sin(double x)", "gruttisol_sin(double y)"),
+        header("GRUTTISOL_VCO_FLOATS 4", "GRUTTISOL_VCO_FLOATS 3"),
+        header("GRUTTISOL_CLEAN = 14", "GRUTTISOL_CLEAN = 13"),
+        header("#define GRUTTISOL_COUNTS 5", ""),
+        header("#define GRUTTISOL_COUNTS 5", "#define GRUTTISOL_COUNTS 5\n#define GRUTTISOL_MORE 5"),
         {"host/gruttisol/src/more.rs": 'unsafe extern "C" {\n'},
         {"host/gruttisol/src/": "", "host/gruttisol/src/more.rs": "exported! {\n    fn sin(x: f32) -> f64;\n}\n"},
     ],
