@@ -18,7 +18,6 @@ import contracts
 import counts
 import edits
 import statements
-import tests
 from texts import APART, blanked, brings, line, past
 
 ROOT = pathlib.Path(__file__).resolve().parent.parent
@@ -352,18 +351,36 @@ exit 101
 """
 
 
+def counted_by_runner(harness):
+    """The status, and the counts passed, failed and ignored, that .ci/tests.py has of a harness."""
+    with tempfile.TemporaryDirectory() as folder:
+        program, noted = pathlib.Path(folder) / "harness", pathlib.Path(folder) / "noted"
+        program.write_text(harness)
+        program.chmod(0o755)
+        ran = subprocess.run([sys.executable, ROOT / ".ci" / "tests.py", program], capture_output=True, env={**os.environ, "GRUTTISOL_COUNTS": str(noted)})
+        return ran.returncode, noted.read_text().split()
+
+
 def tests_counted(files):
     """The host's tests are counted by what their harness notes, and not by what they print."""
-    with tempfile.TemporaryDirectory() as folder:
-        program = pathlib.Path(folder) / "harness"
-        program.write_text(files.get(".ci/harness", HARNESS))
-        program.chmod(0o755)
-        ran = subprocess.run(
-            [sys.executable, "-c", "import sys, tests; print(*tests.counts(sys.argv[1], []), file=sys.stderr)", program],
-            cwd=ROOT / ".ci", capture_output=True, text=True, env={**os.environ, "PYTHONDONTWRITEBYTECODE": "1"},
-        )
-    if ran.stderr.split() != ["101", "1", "1", "1"]:
-        yield f".ci/harness: counted as {ran.stderr.strip()}"
+    found = counted_by_runner(files.get(".ci/harness", HARNESS))
+    if found != (101, ["1", "1", "1"]):
+        yield f".ci/harness: counted as {found}"
+
+
+def skips_fail(files):
+    """A skipped test makes the gate fail, unless GRUTTISOL_MAY_SKIP is 1, and a failed one does in any case."""
+    verdict = re.search(r"^verdict\(\) \{.*?^\}", files[".ci/run"], re.M | re.S)[0]
+    skipping = counted_by_runner(HARNESS.replace("failed b", "ok b").replace("exit 101", "exit 0"))[1]
+    for counts_said, may, good in [
+        (skipping, None, False), (skipping, "", False), (skipping, "0", False), (skipping, "1", True),
+        (["3", "1", "0"], "1", False), (["3", "0", "0"], None, True), (["3", "0", "0"], "0", True),
+    ]:
+        environment = {name: value for name, value in os.environ.items() if name != "GRUTTISOL_MAY_SKIP"}
+        environment.update({} if may is None else {"GRUTTISOL_MAY_SKIP": may})
+        ran = subprocess.run(["bash", "-c", f'{verdict}\nverdict "$@"', "verdict", *counts_said], capture_output=True, env=environment)
+        if (ran.returncode == 0) != good:
+            yield f".ci/run: status {ran.returncode} of {' '.join(counts_said)} (passed, failed, skipped) with GRUTTISOL_MAY_SKIP {may}"
 
 
 # ---- the checks, each with examples that it must refuse
@@ -482,6 +499,12 @@ CHECKS = {
         {".ci/harness": HARNESS.replace("failed b", "ok b")},
         {".ci/harness": HARNESS.replace("exit 101", "exit 0")},
         {".ci/harness": HARNESS.replace("ok a\\n", "")},
+    ],
+    skips_fail: [
+        {".ci/run": 'verdict() {\n    [ "$2" -eq 0 ]\n}\n'},
+        {".ci/run": 'verdict() {\n    [ "$2" -eq 0 ] && { [ "$3" -eq 0 ] || [ -n "${GRUTTISOL_MAY_SKIP:-}" ]; }\n}\n'},
+        {".ci/run": 'verdict() {\n    [ "$3" -eq 0 ] || [ "${GRUTTISOL_MAY_SKIP:-}" = 1 ]\n}\n'},
+        {".ci/run": 'verdict() {\n    [ "$2" -eq 0 ] && [ "$3" -eq 0 ]\n}\n'},
     ],
     refusals_judged: [
         {".ci/refusal": ""},
