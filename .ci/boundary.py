@@ -1,7 +1,8 @@
-"""The functions that hosts call: as the crates export them, as the C header declares them, and as the safe crate does.
+"""What hosts call: functions as the crates export them, as the C header declares them, and as the safe crate does; the header's numbers.
 
 A function is what it answers and its inputs in order, each a name and a kind: `f64`, or, of a lent slice, `mut f64` or `const f64`.
-In C and in the archive a slice is two arguments, the address of its first cell and its length.
+In C and in the archive a slice is two arguments, the address of its first cell and its length. A number of the header is held against
+each place of the crates that says it (`said`); refusals and the longest string's cells have none.
 """
 import re
 
@@ -66,8 +67,50 @@ def in_host(files):
     return found
 
 
+# Places that say a number of the header: its name, the crate, the text with the number
+SAID = [
+    ("COUNTS", "answer", r"\bcounts\.len\(\) == (\d+)"),
+    ("BANK", "wavetable", r"\bBANK_SIZE: usize = (\d+)"),
+    ("TABLE", "wavetable", r"\bPART_SIZE: usize = (\d+)"),
+    ("SCORE_FLOATS", "exports_score", r"\bfloats\.len\(\) == (\d+)"),
+    ("SCORE_WHOLES", "exports_score", r"\bwholes\.len\(\) == (\d+)"),
+    ("SCORE_TEXT", "score", r"\bif (\d+) < text\.len\(\)"),
+    *((f"OSC_{osc.upper()}", "exports_score", rf"\bfn {osc}_ports\b(?s:.*?)\bosc: (\d+)") for osc in ("vco", "lfo", "supersaw", "formant")),
+    *((mark.upper(), "answer", rf"\bfn host_number\b(?s:.*?)\bAnswer::{mark}\(_\) => (\d+)") for mark in ("Cleared", "NotFinite", "Lost", "Clean")),
+]
+# Numbers that no one place of the crates says: refusals, and what is enough for a string at every rate
+NOWHERE = r"BAD_\w+|SHORT_LINE|FEW_DRAWS|LONG_SCORE|OUT_OF_RANGE|KARPLUS_STRONG_(?:LINE|DRAWS)"
+
+
+def said(files):
+    """The numbers of the header as the crates say them, {name: every number that is said}."""
+    sources = {}
+    for path, text in files.items():
+        if re.match(r"crates/\w+/src/.*\.rt$", path):
+            crate = path.split("/")[1]
+            sources[crate] = sources.get(crate, "") + blanked(path, text)
+    found = {name: set(re.findall(place, sources[crate])) for name, crate, place in SAID}
+    for crate, text in sources.items():
+        for m in re.finditer(r"\banswer::(?:tick_)?sizes\((\d+), (\d+), (?:(\d+), )?floats\b", text):
+            for part, number in zip(("FLOATS", "WHOLES", "SAMPLES"), m.groups()):
+                if number:
+                    found.setdefault(f"{crate.removeprefix('exports_').upper()}_{part}", set()).add(number)
+    return found
+
+
+def wrong_numbers(files):
+    """The header's numbers that are others than the crates'."""
+    text = re.sub(r"/\*.*?\*/", "", files[HEADER], flags=re.S)
+    given = dict(re.findall(r"\bGRUTTISOL_(\w+)(?: +| = )(\d+)", text))
+    crates = said(files)
+    for name in sorted(given.keys() | crates.keys()):
+        if not re.fullmatch(NOWHERE, name) and crates.get(name) != {given.get(name)}:
+            yield f"{HEADER}: GRUTTISOL_{name} is {given.get(name)}, and the crates say {sorted(crates.get(name, []))}"
+
+
 def differences(files):
-    """Every exported function is in the header and in the safe crate, with its types and order, and nothing else is."""
+    """Every exported function is in the header and in the safe crate, with its types and order, and nothing else is; the header's numbers are the crates'."""
+    yield from wrong_numbers(files)
     crates = exported(files)
     for place, declared in [(HEADER, in_header(files[HEADER])), (HOST, in_host(files))]:
         for name in sorted(crates.keys() | declared.keys()):

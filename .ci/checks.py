@@ -18,8 +18,7 @@ import contracts
 import counts
 import edits
 import statements
-import tests
-from texts import APART, blanked, line, past
+from texts import APART, blanked, brings, line, past
 
 ROOT = pathlib.Path(__file__).resolve().parent.parent
 
@@ -155,12 +154,6 @@ def settled(files):
                 yield f"{path}:{line(text, at)}: {name} has a requires"
 
 
-def called(field, function):
-    """Whether a field is called after a function: one name may have a crate's or a type's before it."""
-    field = field.strip("«»").replace("-", "_")
-    return f"_{function}".endswith(f"_{field}") or f"_{field}".endswith(f"_{function}")
-
-
 def instances(files):
     """Every public function has its instance of Settles in the crate's record Settled, which is proved."""
     functions, fields, proved = {}, {}, set()
@@ -175,7 +168,7 @@ def instances(files):
             proved.add(crate)
     for crate, found in functions.items():
         for place, name in found:
-            if not any(called(field, name) for field in fields.get(crate, ("", []))[1]):
+            if not any(contracts.named_after(field, name) for field in fields.get(crate, ("", []))[1]):
                 yield f"{place}: {name} has no instance of Settles"
     for crate, (path, given) in fields.items():
         if len(given) != len(functions.get(crate, [])):
@@ -189,22 +182,28 @@ def repeated(files):
     return contracts.differences(files)
 
 
+def proves(text, module, name, proof):
+    """Whether a proof file has a proof of a module's statement."""
+    return brings(text, module, name) and re.search(rf"^pub {re.escape(proof)} : {re.escape(name)} *$", text, re.M)
+
+
 def proved(files):
     """Each statement of Promises, Settled and Examples has a proof of its name and type, and each part of one is part of some."""
+    modules = {}
+    for path, crate, text in of_crates(files, ["proofs"], "/proofs/Lib.antt"):
+        for module in re.findall(r"^pub mod (\S+)", blanked(path, text), re.M):  # the prover reads no others
+            there = path.replace("Lib", module)
+            modules.setdefault(crate, []).append(blanked(there, files.get(there, "")))
     for path, name in statements.unclaimed(files):
         yield f"{path}: no statement names {name}"
     for path, name, proof in statements.stated(files):
         crate, module = path.split("/")[1], path.split("/")[3].removesuffix(".antt")
-        for _, _, text in (given for given in of_crates(files, ["proofs"], ".antt") if given[1] == crate):
-            brought = re.findall(rf"^use Rattle\.{crate}\.specs\.{module}\.\{{([^}}]*)\}}", text, re.M)
-            if any(name in re.split(r"[\s,]+", names) for names in brought) and re.search(rf"^pub {re.escape(proof)} : {re.escape(name)}$", text, re.M):
-                break
-        else:
+        if not any(proves(text, f"Rattle.{crate}.specs.{module}", name, proof) for text in modules.get(crate, [])):
             yield f"{path}: proofs/ has no `pub {proof} : {name}`"
 
 
 def boundary_holds(files):
-    """Every exported function is in the C header and in the safe crate, with its types and order, and nothing else is."""
+    """Every exported function is in the C header and in the safe crate, with its types and order, and nothing else is; the header's numbers are the crates'."""
     return boundary.differences(files)
 
 
@@ -308,12 +307,10 @@ def edits_stand(files):
     found = {path.split("/")[1]: [] for path in files if re.match("crates/[^/]+/(src|specs)/", path)}
     for path, crate, text in of_crates(files, {"must-fail", "wrong"}, ".edit"):
         found.setdefault(crate, []).append(path)
-        edited = {}  # as the changes before left it
-        for file, old, new in edits.changes(text):
-            before = edited.get(file, files.get(f"crates/{crate}/{file}", ""))
-            if before.count(old) != 1:
-                yield f"{path}: what it takes out stands {before.count(old)} times in crates/{crate}/{file}"
-            edited[file] = before.replace(old, new)
+        try:
+            edits.applied(text, lambda file: files.get(f"crates/{crate}/{file}", ""))
+        except ValueError as wrong:
+            yield f"{path}: {wrong}"
     for crate, paths in found.items():
         if not 3 <= len(paths) <= 8:
             yield f"crates/{crate}/must-fail/: {len(paths)} edits, with those of wrong/"
@@ -322,6 +319,24 @@ def edits_stand(files):
         inside = sum("/must-fail/" in path for path in paths)
         if inside != (len(paths) if crate in LIGHT else 1):
             yield f"crates/{crate}/must-fail/: {inside} edits of {len(paths)}"
+
+
+STATED = {"crates/x/specs/Promises.antt": "abbrev pub Kept : Type 0\nKept = Type 0\n\npub record Settled : Type 0 where\n"}
+# what the prover says where a law fails, a promise that rests on it and a function that cites it
+REFUSAL = f"""/x/crates/x/proofs/Laws.antt:3:5: error: `small`: the two types differ
+/x/crates/x/proofs/Promises.antt:9:5: error: `kept`: `small` {edits.FOLLOWS}
+/x/crates/x/proofs/X/f/Proof.antt:5:5: error: `returns`: `small` {edits.FOLLOWS}
+fn x::X::f: not proved
+fn x::g: not proved; it calls `x::X::f`, which is not proved
+logic=not-proved modules=3
+"""
+
+
+def refusals_judged(files):
+    """A refusal of an edit of definition and code counts where a fact and a promise fail, and no function's own proof."""
+    wrong = edits.judge(files.get(".ci/refusal", REFUSAL), edits.promised(STATED))
+    if wrong:
+        yield f".ci/refusal: {wrong}"
 
 
 # ---- the count of the host's tests
@@ -336,31 +351,67 @@ exit 101
 """
 
 
+def counted_by_runner(harness):
+    """The status, and the counts passed, failed and ignored, that .ci/tests.py has of a harness."""
+    with tempfile.TemporaryDirectory() as folder:
+        program, noted = pathlib.Path(folder) / "harness", pathlib.Path(folder) / "noted"
+        program.write_text(harness)
+        program.chmod(0o755)
+        ran = subprocess.run([sys.executable, ROOT / ".ci" / "tests.py", program], capture_output=True, env={**os.environ, "GRUTTISOL_COUNTS": str(noted)})
+        return ran.returncode, noted.read_text().split()
+
+
 def tests_counted(files):
     """The host's tests are counted by what their harness notes, and not by what they print."""
-    with tempfile.TemporaryDirectory() as folder:
-        program = pathlib.Path(folder) / "harness"
-        program.write_text(files.get(".ci/harness", HARNESS))
-        program.chmod(0o755)
-        ran = subprocess.run(
-            [sys.executable, "-c", "import sys, tests; print(*tests.counts(sys.argv[1], []), file=sys.stderr)", program],
-            cwd=ROOT / ".ci", capture_output=True, text=True, env={**os.environ, "PYTHONDONTWRITEBYTECODE": "1"},
-        )
-    if ran.stderr.split() != ["101", "1", "1", "1"]:
-        yield f".ci/harness: counted as {ran.stderr.strip()}"
+    found = counted_by_runner(files.get(".ci/harness", HARNESS))
+    if found != (101, ["1", "1", "1"]):
+        yield f".ci/harness: counted as {found}"
+
+
+def skips_fail(files):
+    """A skipped test makes the gate fail, unless GRUTTISOL_MAY_SKIP is 1, and a failed one does in any case."""
+    verdict = re.search(r"^verdict\(\) \{.*?^\}", files[".ci/run"], re.M | re.S)[0]
+    skipping = counted_by_runner(HARNESS.replace("failed b", "ok b").replace("exit 101", "exit 0"))[1]
+    for counts_said, may, good in [
+        (skipping, None, False), (skipping, "", False), (skipping, "0", False), (skipping, "1", True),
+        (["3", "1", "0"], "1", False), (["3", "0", "0"], None, True), (["3", "0", "0"], "0", True),
+    ]:
+        environment = {name: value for name, value in os.environ.items() if name != "GRUTTISOL_MAY_SKIP"}
+        environment.update({} if may is None else {"GRUTTISOL_MAY_SKIP": may})
+        ran = subprocess.run(["bash", "-c", f'{verdict}\nverdict "$@"', "verdict", *counts_said], capture_output=True, env=environment)
+        if (ran.returncode == 0) != good:
+            yield f".ci/run: status {ran.returncode} of {' '.join(counts_said)} (passed, failed, skipped) with GRUTTISOL_MAY_SKIP {may}"
 
 
 # ---- the checks, each with examples that it must refuse
 
-def settling(contract, equation, binders):
+SETTLES = "use Rattle.laws.specs.Machine.{Settles}\n"
+
+
+def settling(contract, equation, binders, brought=SETTLES):
     """A crate with one function and what its record Settled says of it."""
     return {
         "crates/x/src/lib.rt": f"pub fn f(x: f64, y: f64, z: f64) -> f64\n    ensures {{ λ r. ⌜ {contract} ⌝ }}\n{{ x }}\n",
-        "crates/x/specs/Settled.antt": f"pub record Settled : Type 0 where\n  pub f : {binders}Settles (λ (a : Float). {equation})\n",
+        "crates/x/specs/Settled.antt": f"{brought}\npub record Settled : Type 0 where\n  pub f : {binders}Settles (λ (a : Float). {equation})\n",
     }
 
 
-KEPT = "pub record Kept : Type 0 where\n"
+def header(old, new):
+    """The C header with one change."""
+    return {boundary.HEADER: (ROOT / boundary.HEADER).read_text().replace(old, new)}
+
+
+KEPT = "use Rattle.x.specs.Promises.{Kept}\n"
+
+
+def keeping(proof, listed="pub mod A\n"):
+    """A crate with one statement and a proof file."""
+    return {
+        "crates/x/specs/Promises.antt": "pub record Kept : Type 0 where\n",
+        "crates/x/proofs/Lib.antt": listed,
+        "crates/x/proofs/A.antt": proof,
+    }
+
 
 CHECKS = {
     only_promises: [
@@ -387,6 +438,8 @@ CHECKS = {
     settled: [
         {"crates/x/src/lib.rt": "pub fn f(x: [u8; 2]) -> [u8; 2] // ensures { x }\n{\n    x\n}\n"},
         {"crates/x/src/lib.rt": 'pub extern "C" fn f(x: u8) -> u8\n    ensures { x }\n    requires { x }\n{ x }\n'},
+        {"crates/x/src/lib.rt": "pub(crate) fn f(x: u8) -> u8\n{\n    x\n}\n"},
+        {"crates/x/src/lib.rt": "pub const unsafe fn f<'a>(x: u8) -> u8\n{\n    x\n}\n"},
     ],
     instances: [
         {"crates/x/src/lib.rt": "pub fn f(x: u8) -> u8\n    ensures { x }\n{ x }\n"},
@@ -401,16 +454,34 @@ CHECKS = {
         settling("r ≡ sinOf x", "a ≡ a", "(b : Float) → "),
         settling("r ≡ clampOf x x x", "a ≡ clampOf b c d", "(b c d : Float) → b ≡ c → "),
         settling("r ≡ clampOf x y z", "a ≡ clampOf b b c", "(b c : Float) → "),
+        settling("r ≡ sinOf x", "a ≡ sinOf b", "(b : Float) (no : ⊥) → "),
+        settling("r ≡ wrapOf (x .0)", "a ≡ wrapOf (b .0)", "(b : Float × ⊥) → "),
+        settling("r ≡ sinOf x", "a ≡ sinOf b", "(b : Float) → ", ""),
+        settling("r ≡ sinOf x", "a ≡ sinOf b", "(b : Float) → ", "use Rattle.x.specs.Weak.{Settles}\n"),
+        settling("r ≡ sinOf x", "a ≡ sinOf b", "(b : Float) → ", f"{SETTLES}abbrev pub Settles : (Float → Type 0) → Type 0\n"),
+        {"crates/x/specs/Weak.antt": "abbrev pub Settles : (Float → Type 0) → Type 0\nSettles P = ⊤\n"},
     ],
     proved: [
         {"crates/lfo/specs/Promises.antt": "abbrev pub Never-lost : Type 0\nNever-lost = Type 0\n"},
-        {"crates/x/specs/Promises.antt": KEPT, "crates/x/proofs/A.antt": "use Rattle.x.specs.Promises.{Kept}\n\nkept : Kept\n"},
-        {"crates/x/specs/Promises.antt": KEPT, "crates/x/proofs/A.antt": "abbrev Kept : Type 0\n\npub kept : Kept\n"},
+        {"crates/lfo/specs/Promises.antt": "abbrev pub Never-lost : Type 0\nNever-lost = Type 0\n-- List Never-lost\n"},
+        {"crates/lfo/specs/Promises.antt": "pub Never-lost : Type 0\nNever-lost = Type 0\n"},
+        {"crates/lfo/specs/Promises.antt": "abbrev pub Never-lost\n  : Type 0\nNever-lost = Type 0\n"},
+        keeping(f"{KEPT}\nkept : Kept\n"),
+        keeping("abbrev Kept : Type 0\n\npub kept : Kept\n"),
+        keeping(f"{KEPT}\n{{-\npub kept : Kept\n-}}\n"),
+        keeping(f"{KEPT}\npub kept : Kept\n", "-- pub mod A\n"),
+        keeping(f"{KEPT}\nabbrev Kept : Type 0\npub kept : Kept\n"),
+        keeping("use Rattle.x.specs.Promises.{Kept as Other}\nuse lib.Any.{Any as Kept}\npub kept : Kept\n"),
+        keeping(f"{KEPT}use lib.Any.{{Any as Kept}}\npub kept : Kept\n"),
         {"crates/x/specs/Promises.antt": "pub record Keeping (n : ℕ) : Type 0 where\n"},
     ],
     boundary_holds: [
         {"crates/x/src/lib.rt": 'pub extern "C" fn gruttisol_more(x: f64) -> f64\n', "host/": ""},
-        {"host/c/gruttisol.h": "double gruttisol_sin(double y);\n"},
+        header("gruttisol_sin(double x)", "gruttisol_sin(double y)"),
+        header("GRUTTISOL_VCO_FLOATS 4", "GRUTTISOL_VCO_FLOATS 3"),
+        header("GRUTTISOL_CLEAN = 14", "GRUTTISOL_CLEAN = 13"),
+        header("#define GRUTTISOL_COUNTS 5", ""),
+        header("#define GRUTTISOL_COUNTS 5", "#define GRUTTISOL_COUNTS 5\n#define GRUTTISOL_MORE 5"),
         {"host/gruttisol/src/more.rs": 'unsafe extern "C" {\n'},
         {"host/gruttisol/src/": "", "host/gruttisol/src/more.rs": "exported! {\n    fn sin(x: f32) -> f64;\n}\n"},
     ],
@@ -429,9 +500,29 @@ CHECKS = {
         {".ci/harness": HARNESS.replace("exit 101", "exit 0")},
         {".ci/harness": HARNESS.replace("ok a\\n", "")},
     ],
+    skips_fail: [
+        {".ci/run": 'verdict() {\n    [ "$2" -eq 0 ]\n}\n'},
+        {".ci/run": 'verdict() {\n    [ "$2" -eq 0 ] && { [ "$3" -eq 0 ] || [ -n "${GRUTTISOL_MAY_SKIP:-}" ]; }\n}\n'},
+        {".ci/run": 'verdict() {\n    [ "$3" -eq 0 ] || [ "${GRUTTISOL_MAY_SKIP:-}" = 1 ]\n}\n'},
+        {".ci/run": 'verdict() {\n    [ "$2" -eq 0 ] && [ "$3" -eq 0 ]\n}\n'},
+    ],
+    refusals_judged: [
+        {".ci/refusal": ""},
+        {".ci/refusal": "logic=proved modules=3\n"},  # a comment was edited
+        {".ci/refusal": "logic=not-proved modules=3\n"},
+        {".ci/refusal": REFUSAL.replace("the two types differ", "`smal` is not in scope")},
+        {".ci/refusal": REFUSAL.replace("the two types differ", "`X` has no field `y`")},
+        {".ci/refusal": REFUSAL.replace("the two types differ", f"`less` {edits.FOLLOWS}")},
+        {".ci/refusal": REFUSAL.replace("proofs/Laws.antt", "specs/Laws.antt")},
+        {".ci/refusal": REFUSAL.replace("proofs/Laws.antt", "proofs/X/f/Proof.antt")},
+        {".ci/refusal": REFUSAL.replace("`kept`", "`large`")},
+        {".ci/refusal": REFUSAL.replace("`kept`", "`settled`")},
+        {".ci/refusal": REFUSAL.replace("fn x::g: not proved;", "fn x::h: not proved\nfn x::g: not proved;")},
+    ],
     edits_stand: [
         {"crates/laws/must-fail/x.edit": "file: specs/Lists.antt\nold: pub\nnew: y\n"},
         {"crates/laws/must-fail/x.edit": "file: specs/Lists.antt\nold: no such text\nnew: y\n"},
+        {"crates/x/src/lib.rt": "y\n", "crates/x/wrong/y.edit": "file: src/lib.rt\nold: y\nnew: z\nold: z\nnew: v\nold: y\nnew: w\n"},
         {"crates/lfo/must-fail/": "", "crates/lfo/must-fail/y.edit": "file: crates.txt\nold: y\nnew: z\n"},
         {"crates/laws/must-fail/": "", "crates/laws/wrong/y.edit": "file: crates.txt\nold: y\nnew: z\n"},
         {

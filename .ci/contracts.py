@@ -5,12 +5,16 @@ that was lent to be written, alone or gathered by a definition that makes a reco
 of specs/ (or of the kit, KIT) over what the call was given. The field's equations, over its own variables, must have the contract's right
 sides as an instance: what stands under `Settles` is then the contract's own text, and not something weaker. For that a lent slice is
 called by its name (`now (x .entry)` is `x`), an escaped name is the bare one, and a name is written without its module.
+
+A field's variables are of types that are a name or a list. One that its equations don't use would make the field say nothing if
+its type had no members: it has the type of one of the function's inputs. `Settles` is that of the crate laws.
 """
 import re
 
-from texts import APART, blanked, past
+from texts import APART, blanked, brings, declares, line, past
 
 KIT = {"toBits", "ofBits", "sets"}
+MACHINE = "Rattle.laws.specs.Machine"  # where Settles is
 NAME = f"{APART}+"
 TOKEN = re.compile(rf"[(){{}};,@]|«[^»]*»|\.(?:{NAME}|«[^»]*»)|(?:{NAME}\.)*{NAME}|\.|\S")
 
@@ -88,11 +92,13 @@ def equations(term):
 
 
 def functions(text):
-    """The public functions of a source, as (place, name, inputs, type of the answer, clauses)."""
+    """The public functions of a source, in part of the crate too, as (place, name, inputs, type of the answer, clauses)."""
     text = blanked(".rt", text)
-    for m in re.finditer(r"\bpub\s+(?:extern\s+\"C\"\s+)?fn\s+(\w+)\s*(?=\()", text):
+    for m in re.finditer(r"\bpub\s*(?:\([^)]*\)\s*|\s)(?:(?:const|unsafe|async|extern\s+\"C\")\s+)*fn\s+(\w+)\s*(?:<[^>]*>\s*)?(?=\()", text):
         end = past(text, m.end())
         inputs = [[part.strip() for part in given.split(":")] for given in text[m.end() + 1 : end - 1].split(",") if given.strip()]
+        if inputs[:1] == [["self"]]:
+            inputs[0].append(re.findall(r"^impl(?:<[^>]*>)?\s+(\w+)", text[: m.start()], re.M)[-1])
         answer = re.compile(r"\s*->\s*([^{]*?)\s*(?=\b(?:ensures|requires)\b|\{)").match(text, end)
         at, clauses = answer.end() if answer else end, []
         while clause := re.compile(r"\s*(ensures|requires)\s*(?=\{)").match(text, at):
@@ -170,15 +176,17 @@ def opened(defined, term):
 
 
 def bound_by(groups):
-    """The variables of a field, and whether that is all: a hypothesis about them would make it say less than the contract."""
+    """The variables of a field, {name: type}, and whether that is all: a hypothesis would make it say less than the contract."""
     typed = [parted(group, ":") for group in groups if isinstance(group, list) and group.count(":") == 1]
-    variables = set().union(*(leaves(names) for names, _ in typed))
-    return variables, len(typed) == len(groups) and not any(leaves(kind) & (variables | {"≡"}) for _, kind in typed)
+    variables = {name: kind for names, kind in typed for name in leaves(names)}
+    plain = all(isinstance(kind, str) or kind[0] == "List" and isinstance(whole(kind[1:]), str) for _, kind in typed)
+    return variables, len(typed) == len(groups) and plain
 
 
 def fields(text, defined):
     """The fields of the record Settled, as (name, variables, equations or None)."""
     text = blanked(".antt", text)
+    own = brings(text, MACHINE, "Settles")
     for record in re.findall(r"^pub record Settled : Type 0 where\n((?:  .*\n|\s*\n)+)", text, re.M):
         for m in re.finditer(r"^  pub (\S+) :((?:.*\n)(?:    .*\n)*)", record, re.M):
             *binders, body = parted(tree(m[2]), "→")
@@ -186,14 +194,29 @@ def fields(text, defined):
             variables, free = bound_by(groups)
             body = opened(defined, body)
             sides = None
-            if free and isinstance(body, list) and body[0] == "Settles" and body[1][0] == "λ":
+            if own and free and isinstance(body, list) and body[0] == "Settles" and body[1][0] == "λ":
                 sides = equations(opened(defined, whole(body[1][3:])))
                 bound = body[1][1][0]
                 lefts = [left for left, _ in sides or []]
                 alone = lefts == [bound] or all(isinstance(left, list) and left[0] == bound and len(left) == 2 for left in lefts)
                 if not alone or len({str(left) for left in lefts}) != len(lefts):
                     sides = None
-            yield m[1].strip("«»").replace("-", "_"), variables, sides
+            yield m[1], variables, sides
+
+
+def named_after(field, function):
+    """Whether a field is called after a function: one name may have a crate's or a type's before it."""
+    field = field.strip("«»").replace("-", "_")
+    return f"_{function}".endswith(f"_{field}") or f"_{field}".endswith(f"_{function}")
+
+
+def repeats(variables, sides, rights, inputs):
+    """Whether a field's equations, over its variables, say what a contract's right sides do."""
+    given = {}
+    if not sides or len(sides) != len(rights) or not all(instance(pattern, right, variables, given) for (_, pattern), right in zip(sides, rights)):
+        return False
+    types = [part[-1] for part in inputs]
+    return all(variables[name] in types for name in variables.keys() - given.keys())
 
 
 def wrong_contract(defined, structs, inputs, kind, clauses):
@@ -228,6 +251,8 @@ def differences(files):
     for path, text in files.items():
         if re.match(r"crates/\w+/specs/", path):
             settled.setdefault(path.split("/")[1], []).extend(fields(text, defined))
+            if not path.startswith("crates/laws/") and declares(blanked(path, text), "Settles"):
+                yield f"{path}: declares a Settles of its own"
     for path, text in files.items():
         if not re.match(r"crates/\w+/src/.*\.rt$", path):
             continue
@@ -235,17 +260,11 @@ def differences(files):
         sources = "".join(other for there, other in files.items() if there.startswith(f"crates/{crate}/src/"))
         structs = {m[1]: re.findall(r"pub (\w+):", m[2]) for m in re.finditer(r"struct (\w+)[^{;(]*\{([^}]*)\}", sources)}
         for at, name, inputs, kind, clauses in functions(text):
-            place = f"{path}:{text.count(chr(10), 0, at) + 1}: {name}"
+            place = f"{path}:{line(text, at)}: {name}"
             wrong = wrong_contract(defined, structs, inputs, kind, clauses)
             if wrong:
                 yield f"{place}: {wrong}"
                 continue
             rights = [right for _, right in contract([clause for clause in clauses if clause[0] == "ensures"])[1]]
-            for field, variables, sides in settled.get(crate, []):
-                after = f"_{name}".endswith(f"_{field}") or f"_{field}".endswith(f"_{name}")
-                given = {}
-                if after and sides and len(sides) == len(rights):
-                    if all(instance(pattern, right, variables, given) for (_, pattern), right in zip(sides, rights)):
-                        break
-            else:
+            if not any(named_after(field, name) and repeats(variables, sides, rights, inputs) for field, variables, sides in settled.get(crate, [])):
                 yield f"{place}: no field of Settled has its contract's text under Settles"

@@ -13,10 +13,13 @@ import pathlib
 import re
 import sys
 
+sys.dont_write_bytecode = True  # no folder of compiled files beside this one
+import contracts
+import statements
+
 ROOT = pathlib.Path(__file__).resolve().parent.parent
 PAGE = "docs/PROOFS.md"
 BEGIN, END = "<!-- counts -->\n", "<!-- end of counts -->"
-STATEMENTS = ("Promises.antt", "Settled.antt", "Examples.antt")
 
 
 def lines(text):
@@ -34,16 +37,16 @@ def crate_counts(files):
     """For each crate: definitions, statements, public functions, settled ones, edits."""
     counts = {}
     for path, text in files.items():
-        match = re.fullmatch(r"crates/(\w+)/(specs|src|must-fail|wrong)/([\w-]+\.(?:antt|rt|edit))", path)
+        match = re.fullmatch(r"crates/(\w+)/(specs|src|must-fail|wrong)/[\w-]+\.(?:antt|rt|edit)", path)
         if not match:
             continue
-        crate, folder, name = match.groups()
+        crate, folder = match.groups()
         row = counts.setdefault(crate, [0] * 5)
         if folder == "specs":
-            row[crate == "examples" or name in STATEMENTS] += lines(text)
+            row[statements.is_statement_file(path)] += lines(text)
             row[3] += settled(text)
         elif folder == "src":
-            row[2] += len(re.findall(r"^\s*pub (?:extern \"C\" )?fn ", text, re.M))
+            row[2] += len(list(contracts.functions(text)))
         else:
             row[4] += 1
     return counts

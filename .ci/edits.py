@@ -10,8 +10,9 @@ a first `rt dev` checks. The crate unchanged must be proved over that folder.
 
 Refused is an edit after which a fact no longer holds. An unknown name, a text that isn't read, a definition or contract that is no
 longer well formed and a proof file that no longer fits its function are none (`judge`). rt's own refusals are judged by the logs that it
-left in target/must-fail. An edit that changes definition and code together must leave every function's own proof standing
-and fail a promise.
+left in target/must-fail. Of an edit that changes definition and code together a promise must fail, which Settled isn't, as any definition
+fulfils it, and no fact of a function's own proof may: a function that cites a law that fails, or calls such a one, is then not
+proved either, and may be. Where a function isn't proved though its proof cites nothing that fails, the edit is no refusal.
 
 What the script says is tried first: of a comment that was edited it must say that the crate is still proved, of a name that isn't
 there that this is no refusal. The last line is 'N passed, M failed'.
@@ -50,6 +51,17 @@ def changes(edit):
             yield file, old, row.removeprefix("new:").removeprefix(" ")
 
 
+def applied(edit, read):
+    """What an edit makes of its files, {file: text}: its changes one after another, as rt makes them. `read` gives a file as it stands."""
+    made = {}
+    for file, old, new in changes(edit):
+        text = made[file] if file in made else read(file)
+        if text.count(old) != 1:
+            raise ValueError(f"what it takes out stands {text.count(old)} times in {file}")
+        made[file] = text.replace(old, new)
+    return made
+
+
 def both(edit):
     """Whether an edit's text changes a definition and the code together."""
     folders = {file.split("/")[0] for file, _, _ in changes(edit)}
@@ -72,7 +84,7 @@ def errors(log):
 
 
 def judge(log, promises=None):
-    """What is wrong with a refusal, by its log, or ''. Given the proofs of promises, one of them must fail, and no function's own."""
+    """What is wrong with a refusal, by its log, or ''. Given the proofs of promises, one of them must fail, and no fact of a function's own."""
     verdicts = re.findall(r"^logic=(proved|not-proved)\b", log, re.M)
     if not verdicts:
         return "it didn't reach the prover"
@@ -91,6 +103,9 @@ def judge(log, promises=None):
         for file, _, _ in roots:
             if file.count("/") > 1:
                 return f"{file} fails, a function's own proof"
+        for function in re.findall(r"^fn \w+::(\S+): not proved$", log, re.M):
+            if not any(f"/{file}".endswith(f"/{function.replace('::', '/')}/Proof.antt") for file, _, _ in found):
+                return f"{function} isn't proved, and cites nothing that fails"
         if not promises & {name for _, name, _ in found}:
             return "no promise fails"
     return ""
@@ -127,12 +142,8 @@ def room(work, name, edit):
     for part in ("src", "specs", "proofs"):
         if (ROOT / "crates" / name / part).is_dir():
             shutil.copytree(ROOT / "crates" / name / part, work / "crates" / name / part)
-    for file, old, new in changes(edit):
-        path = work / "crates" / name / file
-        text = path.read_text()
-        if text.count(old) != 1:
-            raise ValueError(f"what it takes out stands {text.count(old)} times in {file}")
-        path.write_text(text.replace(old, new))
+    for file, text in applied(edit, lambda file: (work / "crates" / name / file).read_text()).items():
+        (work / "crates" / name / file).write_text(text)
     (work / "target" / "log").mkdir(parents=True)
     for part in ("rlib", "stamp"):
         (work / "target" / part).symlink_to(TARGET / part)
@@ -175,11 +186,15 @@ def attempt(name, label, edit, folder):
 
 # ---- the run
 
+def promised(files):
+    """The names of the proofs of statements, without Settled."""
+    return {proof for _, _, proof in statements.stated(files)} - {"settled"}
+
+
 def promises(name):
-    """The names of the proofs of a crate's statements."""
+    """The names of the proofs of a crate's promises."""
     folder = ROOT / "crates" / name / "specs"
-    files = {f"crates/{name}/specs/{path.name}": path.read_text() for path in folder.glob("*.antt")}
-    return {proof for _, _, proof in statements.stated(files)}
+    return promised({f"crates/{name}/specs/{path.name}": path.read_text() for path in folder.glob("*.antt")})
 
 
 def try_edit(name, path, folder):

@@ -1,7 +1,7 @@
 """What the crates state: the theorems of their specs/, each of which proofs/ must have by its name.
 
 Statement files are Promises, Settled and Examples of a crate's specs/, and every file of the crate `examples`. A statement is a
-closed type that such a file declares, `abbrev pub NAME : Type 0` or `pub record NAME : Type 0 where`; its proof is called as
+closed type that such a file declares, `pub NAME : Type 0`, abbreviated or not, or `pub record NAME : Type 0 where`; its proof is called as
 it is, with a small first letter. A closed record of which the file has a list is none: a table's rows are made of it. A type with
 parameters is a part of statements: some other declaration of specs/ must name it, or nothing claims it.
 """
@@ -31,19 +31,20 @@ def names(text, name):
 
 
 def types(files):
-    """The types that statement files declare, abbreviations and records, as (path, name, whether it is closed)."""
+    """The types that statement files declare, named ones and records, as (path, name, whether it is closed)."""
     for path, text in files.items():
         if is_statement_file(path):
             for name, part in declarations(blanked(path, text)):
-                head = re.match(r"(?:abbrev pub|unfoldable pub|pub record) \S+ ?(.*)", part)
-                if head and re.search(r"(?:→ |: )Type 0(?: where)?$", head[1]):
-                    yield path, name, re.fullmatch(r": Type 0(?: where)?", head[1]) is not None
+                head = re.match(r"(?:unfoldable |abbrev )*pub (?!data )(?:record )?\S+(.*(?:\n[ \t]+.*)*)", part)
+                said = " ".join(re.split(r"\bwhere\b", head[1])[0].split()) if head else ""
+                if re.search(r"(?:→ |: )Type 0$", said):
+                    yield path, name, said == ": Type 0"
 
 
 def stated(files):
     """The statements, as (path, name, name of the proof)."""
     for path, name, closed in types(files):
-        if closed and not names(files[path], f"List {name}"):
+        if closed and not names(blanked(path, files[path]), f"List {name}"):
             yield path, name, name[0].lower() + name[1:]
 
 

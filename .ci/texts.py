@@ -33,6 +33,18 @@ def blanked(path, text):
     return "".join(found)
 
 
+def declares(text, name):
+    """Whether a file of antt declares a name itself."""
+    return re.search(rf"^(?:(?:unfoldable|abbrev|pub|record|data)\s+)*{re.escape(name)}(?!{APART})", text, re.M) is not None
+
+
+def brings(text, module, name):
+    """Whether a name is a module's own in a file of antt: brought from there alone, under no other name, and not declared anew."""
+    uses = re.finditer(r"^(?:unfoldable )?(?:pub )?use\s+(\S+?)\.\{([^}]*)\}", text, re.M)
+    naming = [(use[1], entry.split()) for use in uses for entry in use[2].split(",") if name in entry.split()]
+    return naming == [(module, [name])] and not declares(text, name)
+
+
 def line(text, at):
     return text.count("\n", 0, at) + 1
 
