@@ -22,7 +22,7 @@ use Rattle.formant_osc.proofs.Either.{unless-either}
 use Rattle.formant_osc.specs.Calls.{Call, Tick, Play, Reset, SetSampleRate, Told, after, reply, First, FitCall, ReachedFormant}
 use Rattle.formant_osc.specs.FormantOsc.{formantAtRest, newFormantOsc, formantRefusalOf, formantUnless, formantNewOf, formantSoundOf, formantTickOf, formantBlockOf, formantResetOf, rated, formantSetSampleRateOf}
 use Rattle.formant_osc.specs.Memo.{newCoefMemo}
-use Rattle.formant_osc.specs.Promises.{Never-refused}
+use Rattle.formant_osc.specs.Promises.{New-accepts, Never-refused}
 use Rattle.formant_osc.specs.declared.FormantControls.{FormantControls}
 use Rattle.formant_osc.specs.declared.FormantMade.{FormantMade}
 use Rattle.formant_osc.specs.declared.FormantOsc.{FormantOsc}
@@ -98,7 +98,15 @@ after-good s (SetSampleRate r) g f = unfold formantSetSampleRateOf in go (rateOk
 pub good : {s : FormantOsc} → ReachedFormant s → Good s
 good = always Good first-good after-good
 
--- ---- the promise
+-- ---- the promises
+pub new-accepts : New-accepts
+unfolding formantNewOf formantUnless outcomeNumber
+new-accepts r = (number (rateOk r), λ ok fit. (r, fit, rw ok refl))
+  where
+    number : (b : Bool) → outcomeNumber (formantUnless (cond b 0 1) (newFormantOsc r) (newFormantOsc r) .outcome) ≡ cond b 0 1
+    number true = refl
+    number false = refl
+
 pub never-refused : Never-refused
 unfolding reply outcomeNumber
 never-refused s h =

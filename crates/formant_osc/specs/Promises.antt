@@ -7,23 +7,27 @@ use Prim.Native.Nat.{ℕ, _<_, _*_}
 use lib.Dec.{eqb}
 use lib.Ieee.{Float, nan, binary64, div}
 use lib.ListN.{length, getD}
-use Rattle.answer.specs.Answer.{markNumber, accepted}
+use Rattle.answer.specs.Answer.{markNumber, accepted, outcomeNumber}
 use Rattle.answer.specs.Block.{Block, blockRefusalOf}
 use Rattle.answer.specs.Promises.{AllAccepted, AllTaken}
 use Rattle.answer.specs.declared.Tally.{Tally}
 use Rattle.common.specs.Consts.{five}
 use Rattle.common.specs.Tests.{rateOk, phaseOk}
 use Rattle.common.specs.declared.Hertz.{Hertz}
-use Rattle.formant_osc.specs.Calls.{reply, FitCall, ReachedFormant, Later, Tick, Reset, SetSampleRate, Told}
-use Rattle.formant_osc.specs.FormantOsc.{formantNewOf, formantRung, formantTickOf, formantBlockOf, formantResetOf, formantSetSampleRateOf, formantRefusalOf, formantAnswerOf, formantNextOf}
+use Rattle.formant_osc.specs.Calls.{reply, FitCall, First, ReachedFormant, Later, Tick, Reset, SetSampleRate, Told}
+use Rattle.formant_osc.specs.FormantOsc.{newFormantOsc, formantNewOf, formantRung, formantTickOf, formantBlockOf, formantResetOf, formantSetSampleRateOf, formantRefusalOf, formantAnswerOf, formantNextOf}
 use Rattle.formant_osc.specs.declared.FormantControls.{FormantControls}
 use Rattle.formant_osc.specs.declared.FormantMade.{FormantMade}
 use Rattle.formant_osc.specs.declared.FormantOsc.{FormantOsc}
 use Rattle.formant_osc.specs.declared.FormantTicked.{FormantTicked}
-use Rattle.laws.specs.Float.{zer, isFin}
+use Rattle.laws.specs.Float.{F64, zer, isFin}
 use Rattle.laws.specs.Lists.{tab}
 use Rattle.laws.specs.Machine.{Settles}
 use Rattle.numeric.specs.Power.{exp2Of}
+
+-- ---- `new` refuses a bad rate alone: at each other one there is a first state
+abbrev pub New-accepts : Type 0
+New-accepts = (r : Hertz) → (outcomeNumber (formantNewOf r .outcome) ≡ cond (rateOk r) 0 1) × (rateOk r ≡ true → F64 (r .0) → First (newFormantOsc r))
 
 -- ---- a reached state refuses no call but for the call's own input: a block for samples that don't fit its marks, or for a tally
 -- without room

@@ -22,7 +22,7 @@ use Rattle.lfo.proofs.Accepted.{sounds}
 use Rattle.lfo.specs.Calls.{Call, after, reply, FitCall, First, ReachedLfo, Tick, Play, Reset, SetSampleRate, Told}
 use Rattle.lfo.specs.Lfo.{newLfo, lfoRefusalOf, lfoNewOf, lfoSoundOf, lfoTickOf, lfoBlockOf, madeNumber, madeOr, madeUnless, lfoResetOf}
 use Rattle.lfo.specs.Lfo.{rated, lfoSetSampleRateOf}
-use Rattle.lfo.specs.Promises.{Never-refused}
+use Rattle.lfo.specs.Promises.{New-accepts, Never-refused}
 use Rattle.lfo.specs.Waves.{rateToHz}
 use Rattle.common.specs.declared.Hertz.{Hertz}
 use Rattle.lfo.specs.declared.Lfo.{Lfo}
@@ -81,7 +81,15 @@ after-good s (SetSampleRate r) g f = unfold lfoSetSampleRateOf madeUnless in go 
 pub good : {s : Lfo} → ReachedLfo s → Good s
 good = always Good first-good after-good
 
--- ---- the promise
+-- ---- the promises
+pub new-accepts : New-accepts
+unfolding lfoNewOf madeNumber
+new-accepts r = (number (rateOk r), λ ok. (r, rw ok refl))
+  where
+    number : (b : Bool) → madeNumber (cond b (made.Made (newLfo r)) (made.Refused 1)) ≡ cond b 0 1
+    number true = refl
+    number false = refl
+
 pub never-refused : Never-refused
 unfolding reply madeNumber
 never-refused s h =

@@ -15,9 +15,9 @@ use Rattle.common.specs.Edge.{risingOf}
 use Rattle.common.specs.Tests.{rateOk, phaseOk}
 use Rattle.laws.specs.Float.{F64}
 use Rattle.laws.specs.Machine.{replies, Settles}
-use Rattle.lfo.specs.Calls.{Call, after, reply, ReachedLfo, Tick, Reset, SetSampleRate, Told}
+use Rattle.lfo.specs.Calls.{Call, after, reply, First, ReachedLfo, Tick, Reset, SetSampleRate, Told}
 use Rattle.lfo.specs.Consts.{ten}
-use Rattle.lfo.specs.Lfo.{newLfo, lfoNewOf, lfoTickOf, lfoResetOf, lfoSetSampleRateOf, lfoBlockOf, lfoRefusalOf, lfoAnswerOf, lfoNextOf}
+use Rattle.lfo.specs.Lfo.{newLfo, lfoNewOf, lfoTickOf, lfoResetOf, lfoSetSampleRateOf, lfoBlockOf, lfoRefusalOf, lfoAnswerOf, lfoNextOf, madeNumber}
 use Rattle.lfo.specs.Small.{isSmall}
 use Rattle.answer.specs.declared.Tally.{Tally}
 use Rattle.common.specs.declared.Hertz.{Hertz}
@@ -26,6 +26,10 @@ use Rattle.lfo.specs.declared.LfoControls.{LfoControls}
 use Rattle.lfo.specs.declared.LfoTicked.{LfoTicked}
 use Rattle.lfo.specs.declared.LfoMade.{LfoMade}
 use Rattle.lfo.specs.declared.LfoMade.the-variants as made
+
+-- ---- `new` refuses a bad rate alone: at each other one there is a first state
+abbrev pub New-accepts : Type 0
+New-accepts = (r : Hertz) → (madeNumber (lfoNewOf r) ≡ cond (rateOk r) 0 1) × (rateOk r ≡ true → First (newLfo r))
 
 -- ---- a reached state refuses no call but for the call's own input
 pub record Accepting (s : Lfo) : Type 0 where

@@ -23,7 +23,7 @@ use Rattle.answer.specs.Answer.{accepted, outcomeNumber}
 use Rattle.answer.specs.Block.{blockRefusalOf}
 use Rattle.laws.proofs.All.{all-at, all-of}
 use Rattle.supersaw.specs.Calls.{Call, Tick, Play, Reset, SetSampleRate, Reply, Told, after, reply, First, ReachedSupersaw}
-use Rattle.supersaw.specs.Promises.{Never-refused}
+use Rattle.supersaw.specs.Promises.{New-accepts, Never-refused}
 use Rattle.supersaw.specs.Supersaw.{startPhases, phasesOk, newSupersaw, supersawRefusalOf, madeUnless, supersawNewOf}
 use Rattle.supersaw.specs.Supersaw.{supersawSoundOf, supersawTickOf, supersawBlockOf, restarted, supersawResetOf, rated, supersawSetSampleRateOf}
 use Rattle.supersaw.specs.Voices.{at, voiceOf, voicesOf}
@@ -133,6 +133,14 @@ good = always Good first-good (λ s c h f. good-after s c h)
 sound-accepted : (s : Supersaw) (c : SupersawControls) → accepted (supersawSoundOf s c .answer) ≡ true
 unfolding supersawSoundOf
 sound-accepted s c = mark-says _ _ _ _ .is-accepted
+
+pub new-accepts : New-accepts
+unfolding supersawNewOf madeUnless
+new-accepts r = (number (rateOk r), λ ok. (r, rw ok refl))
+  where
+    number : (b : Bool) → outcomeNumber (madeUnless (cond b 0 1) (newSupersaw r) (newSupersaw r) .outcome) ≡ cond b 0 1
+    number true = unfold outcomeNumber in refl
+    number false = unfold outcomeNumber in refl
 
 pub never-refused : Never-refused
 unfolding reply

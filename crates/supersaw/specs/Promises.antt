@@ -10,17 +10,21 @@ use Rattle.laws.specs.Machine.{Settles}
 use Rattle.common.specs.Phase.{turns}
 use Rattle.common.specs.Tests.{rateOk, phaseOk}
 use Rattle.common.specs.declared.Hertz.{Hertz}
-use Rattle.answer.specs.Answer.{accepted}
+use Rattle.answer.specs.Answer.{accepted, outcomeNumber}
 use Rattle.answer.specs.Block.{Block, blockRefusalOf}
 use Rattle.answer.specs.Promises.{AllAccepted, AllTaken}
 use Rattle.answer.specs.declared.Tally.{Tally}
 use Rattle.supersaw.specs.Voices.{at}
-use Rattle.supersaw.specs.Supersaw.{supersawNewOf, supersawTickOf, supersawBlockOf, supersawResetOf, supersawSetSampleRateOf, supersawRefusalOf, supersawAnswerOf, supersawNextOf}
-use Rattle.supersaw.specs.Calls.{Told, Reset, SetSampleRate, reply, ReachedSupersaw}
+use Rattle.supersaw.specs.Supersaw.{newSupersaw, supersawNewOf, supersawTickOf, supersawBlockOf, supersawResetOf, supersawSetSampleRateOf, supersawRefusalOf, supersawAnswerOf, supersawNextOf}
+use Rattle.supersaw.specs.Calls.{Told, Reset, SetSampleRate, reply, First, ReachedSupersaw}
 use Rattle.supersaw.specs.declared.Supersaw.{Supersaw}
 use Rattle.supersaw.specs.declared.SupersawControls.{SupersawControls}
 use Rattle.supersaw.specs.declared.SupersawTicked.{SupersawTicked}
 use Rattle.supersaw.specs.declared.SupersawMade.{SupersawMade}
+
+-- ---- `new` refuses a bad rate alone: at each other one there is a first state
+abbrev pub New-accepts : Type 0
+New-accepts = (r : Hertz) → (outcomeNumber (supersawNewOf r .outcome) ≡ cond (rateOk r) 0 1) × (rateOk r ≡ true → First (newSupersaw r))
 
 -- ---- a reached state refuses no call but for the call's own input
 pub record Accepting (s : Supersaw) : Type 0 where

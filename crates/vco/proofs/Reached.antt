@@ -3,6 +3,7 @@ use mathlib.Core.Bool.{Bool, true, false, cond}
 use mathlib.Core.Logic.{inl}
 use mathlib.Core.Path.{_≡_, refl, sym, ap, _∙_, subst}
 use Prim.Native.Nat.{ℕ, _*_}
+use native.Mathlib.Omega.{arith}
 use lib.Dec.{eqb}
 use lib.Ieee.{binary64}
 use lib.Ieee.Fits.{add-fits}
@@ -17,10 +18,10 @@ use Rattle.answer.specs.Answer.{accepted}
 use Rattle.answer.specs.Block.{blockRefusalOf}
 use Rattle.answer.proofs.Blocks.{block-keeps, block-refusal}
 use Rattle.answer.proofs.Laws.{mark-says}
-use Rattle.vco.specs.Vco.{newVco, frequencyOf, vcoAnswerOf, vcoSoundOf, vcoRefusalOf, vcoRateRefusalOf, vcoTickOf, vcoBlockOf}
+use Rattle.vco.specs.Vco.{newVco, vcoNewOf, frequencyOf, vcoAnswerOf, vcoSoundOf, vcoRefusalOf, vcoRateRefusalOf, vcoTickOf, vcoBlockOf}
 use Rattle.vco.specs.Vco.{madeNumber, madeOr, restarted, vcoResetOf, rated, vcoSetSampleRateOf}
 use Rattle.vco.specs.Calls.{Call, Tick, Play, Reset, SetSampleRate, Told, Fit, FitCall, First, ReachedVco, after, reply}
-use Rattle.vco.specs.Promises.{Accepts, Never-refused}
+use Rattle.vco.specs.Promises.{Accepts, New-accepts, Never-refused}
 use Rattle.vco.specs.declared.Vco.{Vco}
 use Rattle.vco.specs.declared.VcoControls.{VcoControls}
 use Rattle.vco.specs.declared.VcoTicked.{VcoTicked}
@@ -98,12 +99,17 @@ both-after s (SetSampleRate r) h f = rw (after-rate s (h .0) r) (go (rateOk r) r
     go true e = unfold madeOr rated in (record { rate = e; phase = h .0 .phase }, h .1)
     go false e = unfold madeOr in h
 
+both-first : (s : Vco) → First s → Both s
+unfolding vcoNewOf
+both-first s f = go (rateOk (f .0)) refl (f .1)
+  where
+    go : (b : Bool) → rateOk (f .0) ≡ b → cond b (made.Made (newVco (f .0))) (made.Refused 1) ≡ made.Made s → Both s
+    go true e h = subst Both (cc) (good-new (f .0) e, unfold newVco in inl refl)
+    go false e h = absurd (let z : _≡_ {A = ℕ} 0 1 = cc in omega arith)
+
 -- ---- so every state that is reached has both
 pub reached : (s : Vco) → ReachedVco s → Good s × Remembers s
-reached s h = always Both first both-after h
-  where
-    first : (s : Vco) → First s → Both s
-    first s f = subst Both (sym (f .2)) (good-new (f .0) (f .1), unfold newVco in inl refl)
+reached s h = always Both both-first both-after h
 
 pub accepted-sound : (s : Vco) (c : VcoControls) (wanted : ℕ) → accepted (vcoSoundOf s c wanted .answer) ≡ true
 unfolding vcoSoundOf vcoAnswerOf
@@ -124,6 +130,14 @@ good-accepts s g =
     go : (r : Hertz) (b : Bool) → Told (madeNumber (cond b (made.Made (rated s r)) (made.Refused 1))) ≡ Told (cond b 0 1)
     go r true = refl
     go r false = refl
+
+pub new-accepts : New-accepts
+unfolding vcoNewOf madeNumber
+new-accepts r = (number (rateOk r), λ ok. (r, rw ok refl))
+  where
+    number : (b : Bool) → madeNumber (cond b (made.Made (newVco r)) (made.Refused 1)) ≡ cond b 0 1
+    number true = refl
+    number false = refl
 
 pub never-refused : Never-refused
 never-refused s h = good-accepts s (reached s h .0)

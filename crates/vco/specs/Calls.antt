@@ -1,19 +1,18 @@
 -- Calls on a Vco, one after another, and what they answer. A block is one of them.
 use mathlib.Core.Path.{_≡_}
-use mathlib.Core.Bool.{true}
 use mathlib.Core.List.{List}
 use Prim.Native.Nat.{ℕ}
 use lib.Ieee.{Float}
 use Rattle.laws.specs.Float.{F64}
 use Rattle.laws.specs.Machine.{Reached}
-use Rattle.common.specs.Tests.{rateOk}
 use Rattle.common.specs.declared.Hertz.{Hertz}
 use Rattle.answer.specs.Block.{Block}
 use Rattle.answer.specs.declared.Answer.{Answer}
 use Rattle.answer.specs.declared.Tally.{Tally}
-use Rattle.vco.specs.Vco.{newVco, vcoTickOf, vcoBlockOf, vcoResetOf, vcoSetSampleRateOf, madeNumber, madeOr}
+use Rattle.vco.specs.Vco.{vcoNewOf, vcoTickOf, vcoBlockOf, vcoResetOf, vcoSetSampleRateOf, madeNumber, madeOr}
 use Rattle.vco.specs.declared.Vco.{Vco}
 use Rattle.vco.specs.declared.VcoControls.{VcoControls}
+use Rattle.vco.specs.declared.VcoMade.the-variants as made
 
 -- a block is given a tally, and buffers of samples and marks
 pub data Call : Type 0 where
@@ -50,9 +49,9 @@ reply s (Play c wanted t o m) = Played (vcoBlockOf s c wanted t o m)
 reply s Reset = Told (madeNumber (vcoResetOf s))
 reply s (SetSampleRate r) = Told (madeNumber (vcoSetSampleRateOf s r))
 
--- an accepted new
+-- an accepted new one
 abbrev pub First : Vco → Type 0
-First s = (r : Hertz) × (rateOk r ≡ true) × (s ≡ newVco r)
+First s = (r : Hertz) × (vcoNewOf r ≡ made.Made s)
 
 abbrev pub ReachedVco : Vco → Type 0
 ReachedVco = Reached First FitCall after

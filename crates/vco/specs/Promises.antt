@@ -17,13 +17,17 @@ use Rattle.answer.specs.Block.{Block, blockRefusalOf}
 use Rattle.answer.specs.Promises.{AllAccepted, AllTaken}
 use Rattle.answer.specs.declared.Answer.the-variants as answer
 use Rattle.answer.specs.declared.Tally.{Tally}
-use Rattle.vco.specs.Vco.{newVco, vcoNewOf, vcoTickOf, vcoBlockOf, vcoResetOf, vcoSetSampleRateOf, vcoRefusalOf, vcoToldOf, vcoNextOf}
-use Rattle.vco.specs.Calls.{Call, Tick, Reset, SetSampleRate, Told, Fit, after, reply, ReachedVco}
+use Rattle.vco.specs.Vco.{newVco, vcoNewOf, vcoTickOf, vcoBlockOf, vcoResetOf, vcoSetSampleRateOf, vcoRefusalOf, vcoToldOf, vcoNextOf, madeNumber}
+use Rattle.vco.specs.Calls.{Call, Tick, Reset, SetSampleRate, Told, Fit, after, reply, First, ReachedVco}
 use Rattle.vco.specs.declared.Vco.{Vco}
 use Rattle.vco.specs.declared.VcoControls.{VcoControls}
 use Rattle.vco.specs.declared.VcoTicked.{VcoTicked}
 use Rattle.vco.specs.declared.VcoMade.{VcoMade}
 use Rattle.vco.specs.declared.VcoMade.the-variants as made
+
+-- ---- `new` refuses a bad rate alone: at each other one there is a first state
+abbrev pub New-accepts : Type 0
+New-accepts = (r : Hertz) → (madeNumber (vcoNewOf r) ≡ cond (rateOk r) 0 1) × (rateOk r ≡ true → First (newVco r))
 
 -- ---- no call refuses but for its own input
 pub record Accepts (s : Vco) : Type 0 where

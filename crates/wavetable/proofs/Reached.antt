@@ -22,7 +22,7 @@ use Rattle.common.specs.Tests.{rateOk, phaseOk}
 use Rattle.laws.proofs.Always.{always}
 use Rattle.laws.specs.Float.{F64}
 use Rattle.wavetable.specs.Calls.{Call, after, reply, FitCall, First, ReachedWavetable, Tick, Play, Reset, SetSampleRate, Told}
-use Rattle.wavetable.specs.Promises.{Never-refused}
+use Rattle.wavetable.specs.Promises.{New-accepts, Never-refused}
 use Rattle.wavetable.specs.Wavetable.{wavetableAtRest, newWavetable, wavetableRefusalOf, wavetableTickRefusalOf, wavetableNewOf, wavetableSoundOf, wavetableTickOf, wavetableBlockOf, madeNumber, madeOr, madeUnless, wavetableResetOf, rated, wavetableSetSampleRateOf}
 use Rattle.answer.specs.declared.Answer.the-variants as answer
 use Rattle.common.specs.declared.Hertz.{Hertz}
@@ -110,7 +110,15 @@ after-good s (SetSampleRate r) g f = unfold wavetableSetSampleRateOf madeUnless 
 pub good : {s : Wavetable} → ReachedWavetable s → Good s
 good = always Good first-good after-good
 
--- ---- the promise
+-- ---- the promises
+pub new-accepts : New-accepts
+unfolding wavetableNewOf
+new-accepts r = (number (rateOk r), λ ok. (r, rw ok refl))
+  where
+    number : (b : Bool) → madeNumber (cond b (made.Made (newWavetable r)) (made.Refused 1)) ≡ cond b 0 1
+    number true = refl
+    number false = refl
+
 pub never-refused : Never-refused
 unfolding reply
 never-refused s h =

@@ -16,14 +16,18 @@ use Rattle.common.specs.Tests.{rateOk, phaseOk}
 use Rattle.laws.specs.Float.{F64}
 use Rattle.laws.specs.Machine.{replies, Settles}
 use Rattle.wavetable.specs.Bank.{Filled, fillTableOf, fillBankOf}
-use Rattle.wavetable.specs.Calls.{Call, after, reply, ReachedWavetable, Tick, Reset, SetSampleRate, Told}
-use Rattle.wavetable.specs.Wavetable.{newWavetable, wavetableNewOf, wavetableTickOf, wavetableBlockOf, wavetableResetOf, wavetableSetSampleRateOf, wavetableTickRefusalOf, wavetableAnswerOf, wavetableNextOf}
+use Rattle.wavetable.specs.Calls.{Call, after, reply, First, ReachedWavetable, Tick, Reset, SetSampleRate, Told}
+use Rattle.wavetable.specs.Wavetable.{newWavetable, wavetableNewOf, wavetableTickOf, wavetableBlockOf, wavetableResetOf, wavetableSetSampleRateOf, wavetableTickRefusalOf, wavetableAnswerOf, wavetableNextOf, madeNumber}
 use Rattle.common.specs.declared.Hertz.{Hertz}
 use Rattle.wavetable.specs.declared.Wavetable.{Wavetable}
 use Rattle.wavetable.specs.declared.WavetableControls.{WavetableControls}
 use Rattle.wavetable.specs.declared.WavetableTicked.{WavetableTicked}
 use Rattle.wavetable.specs.declared.WavetableMade.{WavetableMade}
 use Rattle.wavetable.specs.declared.WavetableMade.the-variants as made
+
+-- ---- `new` refuses a bad rate alone: at each other one there is a first state
+abbrev pub New-accepts : Type 0
+New-accepts = (r : Hertz) → (madeNumber (wavetableNewOf r) ≡ cond (rateOk r) 0 1) × (rateOk r ≡ true → First (newWavetable r))
 
 -- ---- a reached state refuses no call but for the call's own input: a tick for its bank's size alone, a block for that, for samples
 -- that don't fit its marks, or for a tally without room
