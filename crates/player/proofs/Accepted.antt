@@ -74,13 +74,17 @@ formant-next i s h = more h (formant.Tick (formantControls i)) (volts-fit (i .vo
 heard-accepted : (i : Inputs) (hz n : ℕ) → rateOk (rateOf hz) ≡ true → Every Accepted (heardFrom i hz n)
 unfolding heardFrom
 heard-accepted (inputs.Vco i) hz n ok =
-    every _ _ vco.ReachedVco (λ s h. vcos.never-refused s h .tick (vcoControls i) 15) (vco-next i) n _ (begun (newVco (rateOf hz)) (vcos.new-accepts (rateOf hz) .1 ok))
+    every _ _ vco.ReachedVco (λ s h. vcos.never-refused s h .tick (vcoControls i) 15) (vco-next i) n _
+    (begun (newVco (rateOf hz)) (vcos.new-accepts (rateOf hz) .1 ok))
 heard-accepted (inputs.Lfo i) hz n ok =
-    every _ _ lfo.ReachedLfo (λ s h. lfos.never-refused s h .ticks (lfoControls i) 31) (lfo-next i) n _ (begun (newLfo (rateOf hz)) (lfos.new-accepts (rateOf hz) .1 ok))
+    every _ _ lfo.ReachedLfo (λ s h. lfos.never-refused s h .ticks (lfoControls i) 31) (lfo-next i) n _
+    (begun (newLfo (rateOf hz)) (lfos.new-accepts (rateOf hz) .1 ok))
 heard-accepted (inputs.Supersaw i) hz n ok =
-    every _ _ supersaw.ReachedSupersaw (λ s h. supersaws.never-refused s h .ticks (supersawControls i)) (supersaw-next (supersawControls i)) n _ (begun (newSupersaw (rateOf hz)) (supersaws.new-accepts (rateOf hz) .1 ok))
+    every _ _ supersaw.ReachedSupersaw (λ s h. supersaws.never-refused s h .ticks (supersawControls i)) (supersaw-next (supersawControls i)) n _
+    (begun (newSupersaw (rateOf hz)) (supersaws.new-accepts (rateOf hz) .1 ok))
 heard-accepted (inputs.Formant i) hz n ok =
-    every _ _ formant.ReachedFormant (λ s h. formants.never-refused s h .ticks (formantControls i)) (formant-next i) n _ (begun (newFormantOsc (rateOf hz)) (formants.new-accepts (rateOf hz) .1 ok (rate-fits hz)))
+    every _ _ formant.ReachedFormant (λ s h. formants.never-refused s h .ticks (formantControls i)) (formant-next i) n _
+    (begun (newFormantOsc (rateOf hz)) (formants.new-accepts (rateOf hz) .1 ok (rate-fits hz)))
 
 pub frames-accepted : Frames-accepted
 unfolding heardOf
