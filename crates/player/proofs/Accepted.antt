@@ -1,7 +1,7 @@
 -- No frame of a score with a good rate is refused: each tick's oscillator is reached from a new one.
 use Prim.Native.Nat.{ℕ, zero, suc}
 use mathlib.Core.Bool.{true}
-use mathlib.Core.Path.{_≡_, refl}
+use mathlib.Core.Path.{_≡_}
 use lib.Ieee.{binary64}
 use lib.Ieee.Fits.{nan-fits, div-fits, ofInt-fits}
 use lib.IntN.{pos}
@@ -9,7 +9,6 @@ use Rattle.laws.specs.Float.{F64}
 use Rattle.laws.specs.Machine.{begun, more}
 use Rattle.answer.specs.declared.Answer.{Answer}
 use Rattle.common.specs.Tests.{rateOk}
-use Rattle.common.specs.declared.Hertz.{Hertz}
 use Rattle.score.specs.Control.{voltsOf}
 use Rattle.score.specs.declared.Control.{Control}
 use Rattle.score.specs.declared.Control.the-variants.{Microvolts, Nan}
@@ -22,16 +21,16 @@ use Rattle.vco.specs.Vco.{newVco, vcoTickOf}
 use Rattle.vco.specs.Calls as vco
 use Rattle.vco.specs.declared.Vco.{Vco}
 use Rattle.vco.proofs.Reached as vcos
-use Rattle.lfo.specs.Lfo.{newLfo, lfoNewOf, lfoTickOf}
+use Rattle.lfo.specs.Lfo.{newLfo, lfoTickOf}
 use Rattle.lfo.specs.Calls as lfo
 use Rattle.lfo.specs.declared.Lfo.{Lfo}
 use Rattle.lfo.proofs.Reached as lfos
-use Rattle.supersaw.specs.Supersaw.{newSupersaw, madeUnless, supersawNewOf, supersawTickOf}
+use Rattle.supersaw.specs.Supersaw.{newSupersaw, supersawTickOf}
 use Rattle.supersaw.specs.Calls as supersaw
 use Rattle.supersaw.specs.declared.Supersaw.{Supersaw}
 use Rattle.supersaw.specs.declared.SupersawControls.{SupersawControls}
 use Rattle.supersaw.proofs.Reached as supersaws
-use Rattle.formant_osc.specs.FormantOsc.{newFormantOsc, formantUnless, formantNewOf, formantTickOf}
+use Rattle.formant_osc.specs.FormantOsc.{newFormantOsc, formantTickOf}
 use Rattle.formant_osc.specs.Calls as formant
 use Rattle.formant_osc.specs.declared.FormantOsc.{FormantOsc}
 use Rattle.formant_osc.proofs.Reached as formants
@@ -50,19 +49,6 @@ volts-fit : (c : Control) → F64 (voltsOf c)
 unfolding voltsOf
 volts-fit (Microvolts n) = div-fits binary64 _ _
 volts-fit Nan = nan-fits binary64
-
-module _ (r : Hertz) (ok : rateOk r ≡ true) where
-  lfo-made : lfo.First (newLfo r)
-  unfolding lfoNewOf
-  lfo-made = (r, rw ok refl)
-
-  supersaw-made : supersaw.First (newSupersaw r)
-  unfolding supersawNewOf madeUnless
-  supersaw-made = (r, rw ok refl)
-
-  formant-made : F64 (r .0) → formant.First (newFormantOsc r)
-  unfolding formantNewOf formantUnless
-  formant-made fit = (r, fit, rw ok refl)
 
 rate-fits : (hz : ℕ) → F64 (rateOf hz .0)
 unfolding rateOf
@@ -88,13 +74,17 @@ formant-next i s h = more h (formant.Tick (formantControls i)) (volts-fit (i .vo
 heard-accepted : (i : Inputs) (hz n : ℕ) → rateOk (rateOf hz) ≡ true → Every Accepted (heardFrom i hz n)
 unfolding heardFrom
 heard-accepted (inputs.Vco i) hz n ok =
-    every _ _ vco.ReachedVco (λ s h. vcos.never-refused s h .tick (vcoControls i) 15) (vco-next i) n _ (begun (newVco (rateOf hz)) (rateOf hz, ok, refl))
+    every _ _ vco.ReachedVco (λ s h. vcos.never-refused s h .tick (vcoControls i) 15) (vco-next i) n _
+    (begun (newVco (rateOf hz)) (vcos.new-accepts (rateOf hz) .1 ok))
 heard-accepted (inputs.Lfo i) hz n ok =
-    every _ _ lfo.ReachedLfo (λ s h. lfos.never-refused s h .ticks (lfoControls i) 31) (lfo-next i) n _ (begun (newLfo (rateOf hz)) (lfo-made (rateOf hz) ok))
+    every _ _ lfo.ReachedLfo (λ s h. lfos.never-refused s h .ticks (lfoControls i) 31) (lfo-next i) n _
+    (begun (newLfo (rateOf hz)) (lfos.new-accepts (rateOf hz) .1 ok))
 heard-accepted (inputs.Supersaw i) hz n ok =
-    every _ _ supersaw.ReachedSupersaw (λ s h. supersaws.never-refused s h .ticks (supersawControls i)) (supersaw-next (supersawControls i)) n _ (begun (newSupersaw (rateOf hz)) (supersaw-made (rateOf hz) ok))
+    every _ _ supersaw.ReachedSupersaw (λ s h. supersaws.never-refused s h .ticks (supersawControls i)) (supersaw-next (supersawControls i)) n _
+    (begun (newSupersaw (rateOf hz)) (supersaws.new-accepts (rateOf hz) .1 ok))
 heard-accepted (inputs.Formant i) hz n ok =
-    every _ _ formant.ReachedFormant (λ s h. formants.never-refused s h .ticks (formantControls i)) (formant-next i) n _ (begun (newFormantOsc (rateOf hz)) (formant-made (rateOf hz) ok (rate-fits hz)))
+    every _ _ formant.ReachedFormant (λ s h. formants.never-refused s h .ticks (formantControls i)) (formant-next i) n _
+    (begun (newFormantOsc (rateOf hz)) (formants.new-accepts (rateOf hz) .1 ok (rate-fits hz)))
 
 pub frames-accepted : Frames-accepted
 unfolding heardOf
