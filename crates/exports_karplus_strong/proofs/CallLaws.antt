@@ -54,18 +54,23 @@ module _ (f : List Float) (w : List ℕ) (o l : List Float) (n : ℕ) (e : n ≡
 
   pub tick-sounded : (voct trigger damping brightness stretch : Float) (draws : List ℕ) (s : KarplusStrong) (t : KarplusStrongTicked) (x : List Float) (h : Heard)
       → n ≡ 0 → s ≡ stateOf f w → let c = controlsOf voct trigger damping brightness stretch in
-      t ≡ karplusStrongTickOf s c draws l .out → x ≡ karplusStrongTickOf s c draws l .line → h ≡ heardOf floatsOf wholesOf samplesOf (t .answer) (t .«karplus_strong») f w o → sounded h x ≡ karplusStrongTickAt voct trigger damping brightness stretch f w l draws o
+      t ≡ karplusStrongTickOf s c draws l .out → x ≡ karplusStrongTickOf s c draws l .line
+      → h ≡ heardOf floatsOf wholesOf samplesOf (t .answer) (t .«karplus_strong») f w o
+      → sounded h x ≡ karplusStrongTickAt voct trigger damping brightness stretch f w l draws o
   unfolding karplusStrongTickAt soundedSized
   tick-sounded voct trigger damping brightness stretch draws s t x h z es et ex eh = rw (← e, z, eh, et, ex, es)
 
 -- ---- the block
-module _ (f : List Float) (w : List ℕ) (l : List Float) (draws k : List ℕ) (o : List Float) (m : List ℕ) (n : ℕ) (e : n ≡ sizesOf 6 4 (length f) (length w)) (x : Tallied) (ex : x ≡ tallyFrom k) where
-  pub block-rung : n ≡ 0 → (voct trigger damping brightness stretch : Float) (s : KarplusStrong) (t : Tally) (b : Block Strung) (p : Played) → s ≡ stateOf f w → x ≡ tallied.Taken t
+module _ (f : List Float) (w : List ℕ) (l : List Float) (draws k : List ℕ) (o : List Float) (m : List ℕ)
+    (n : ℕ) (e : n ≡ sizesOf 6 4 (length f) (length w)) (x : Tallied) (ex : x ≡ tallyFrom k) where
+  pub block-rung : n ≡ 0 → (voct trigger damping brightness stretch : Float) (s : KarplusStrong) (t : Tally) (b : Block Strung) (p : Played)
+      → s ≡ stateOf f w → x ≡ tallied.Taken t
       → b ≡ karplusStrongBlockOf (strung s l) (controlsOf voct trigger damping brightness stretch) draws t o m
       → p ≡ playedOf strungFloats strungWholes b f w k → rung p (b .state .line) ≡ karplusStrongBlockAt voct trigger damping brightness stretch f w l draws k o m
   unfolding karplusStrongBlockAt rungFrom
   block-rung z voct trigger damping brightness stretch s t b p es et eb ep = rw (← e, z, ← ex, et, ep, eb, es)
 
-  pub counts-refused : n ≡ 0 → (voct trigger damping brightness stretch : Float) (r : ℕ) → x ≡ tallied.Refused r → rung (played r f w k o m) l ≡ karplusStrongBlockAt voct trigger damping brightness stretch f w l draws k o m
+  pub counts-refused : n ≡ 0 → (voct trigger damping brightness stretch : Float) (r : ℕ) → x ≡ tallied.Refused r
+      → rung (played r f w k o m) l ≡ karplusStrongBlockAt voct trigger damping brightness stretch f w l draws k o m
   unfolding karplusStrongBlockAt rungFrom
   counts-refused z voct trigger damping brightness stretch r er = rw (← e, z, ← ex, er)
