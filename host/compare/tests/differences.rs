@@ -83,5 +83,17 @@ fn a_nan_for_a_memos_key() {
         assert_eq!(ticked.mark, Mark::Clean);
         assert_eq!(*ours.parts().0, [1.0 / 48000.0, 48000.0, 0.0, 1.0]);
         println!("ours hits and goes on at 1 Hz, the Rust misses");
+
+        // of a Vco the Rust's triangle is then no number
+        let (floats, wholes) = ([0.0, 48000.0, 0.0, 1.0], [0x7ff8_0000_0000_0000, 0, 0, 1]);
+        let (mut theirs, mut samples) = (rust::Vco::new(48000.0), [0.0; 4]);
+        theirs.put_flat(&floats, &wholes);
+        theirs.body(&[rate, 0.0, 0.5, 0.0, 0.0], u32::MAX, &mut samples);
+        assert!(samples[1].is_nan(), "{samples:?}");
+        let controls = gruttisol::vco::Controls { voct: rate, fm: 0.0, pw: 0.5, sync: 0.0, fm_lin: 0.0 };
+        let mut ours = gruttisol::vco::Vco::of_parts(floats, wholes);
+        let ticked = ours.tick(&controls, gruttisol::vco::Vco::WANT_ALL).unwrap();
+        assert_eq!(ticked.mark, Mark::Clean);
+        println!("a Vco of ours hits and is clean, the Rust's triangle is {}", samples[1]);
     }
 }
