@@ -1,17 +1,19 @@
--- The size of a phase, of the constants and of a sine, by powers of two.
-use mathlib.Core.Bool.{true, _&&_}
-use mathlib.Core.Path.{_≡_}
-use Prim.Native.Nat.{ℕ, _≤_}
-use lib.Ieee.{Float, le, lt, eq, neg, ofBits}
+-- The size of a phase, of the constants and of a sine, by powers of two; and an output that is finite.
+use mathlib.Core.Bool.{Bool, true, false, _&&_}
+use mathlib.Core.Path.{_≡_, refl}
+use Prim.Native.Nat.{ℕ, _+_, _≤_}
+use lib.Ieee.{Float, binary64, le, lt, eq, mul, neg, ofBits}
+use lib.Ieee.Bits.{is-true}
 use lib.Ieee.Fits.{and-l, and-r}
-use Rattle.laws.proofs.Interval.{Within, unit-within, within-le, within-of, within-to}
+use Rattle.laws.proofs.Interval.{Within, unit-within, within-finite, within-le, within-mul, within-of, within-to}
 use Rattle.laws.proofs.Order.{float-le-trans, le-of-lt-true}
 use Rattle.laws.proofs.Tests.{of-true}
-use Rattle.laws.specs.Float.{zer, one, two}
+use Rattle.laws.specs.Float.{zer, one, two, isFin}
 use Rattle.numeric.proofs.TrigLaws.{sin-inside}
 use Rattle.numeric.specs.Trig.{sinOf}
 use Rattle.common.specs.Consts.{four, five, half, tau}
 use Rattle.common.specs.Phase.{turns}
+use Rattle.common.specs.Ports.{outOf}
 use Rattle.common.specs.Tests.{phaseOk}
 
 pub phase-within : (p : Float) → phaseOk (turns p) ≡ true → Within 0 p
@@ -51,3 +53,9 @@ tau-within = within-of 3 tau tt
 -- the sine of what is at most 512 in size
 pub sin-within : (i : ℕ) (x : Float) → i ≤ 9 → Within i x → Within 0 (sinOf x)
 sin-within i x l h = unit-within (sinOf x) (sin-inside x (unfold ofBits neg in within-le 9 x (within-to i 9 x l h)))
+
+-- an output is finite, scaled or unwanted
+pub out-finite : (want : Bool) (k : ℕ) (x : Float) → k + 3 ≤ 1023 → Within k x → isFin (outOf want x) ≡ true
+unfolding outOf
+out-finite true k x h p = is-true _ (within-finite (k + 3) (mul binary64 x five) (within-mul k 3 x five h p five-within))
+out-finite false k x h p = unfold ofBits in refl

@@ -24,6 +24,8 @@ settled =
       edge-rising-frac = λ e v. laws.settled _;
       edge-rising-frac-above = λ e v t. laws.settled _;
       edge-reset = λ e. laws.settled _;
+      out = λ want x. laws.settled _;
       rate-ok = λ r. laws.settled _;
       phase-ok = λ p. laws.settled _;
+      draws-refusal = λ n draws. laws.settled _;
     }

@@ -4,5 +4,6 @@ pub mod Phase
 pub mod Memo
 pub mod Edge
 pub mod Tests
+pub mod Ports
 pub mod Promises
 pub mod Settled

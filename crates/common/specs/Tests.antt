@@ -1,6 +1,10 @@
--- The tests behind document 01's refusals 1 and 2.
-use mathlib.Core.Bool.{Bool, _&&_}
+-- The tests behind document 01's refusals 1, 2, 5 and 6.
+use mathlib.Core.Bool.{Bool, true, cond, _&&_}
+use mathlib.Core.List.{List}
+use Prim.Native.Nat.{ℕ, zero, suc}
+use lib.Dec.{leb, ltb}
 use lib.Ieee.{lt, le}
+use lib.ListN.{length, getD}
 use Rattle.laws.specs.Float.{zer, one}
 use Rattle.common.specs.Consts.{rateLow, rateHigh}
 use Rattle.common.specs.declared.Hertz.{Hertz}
@@ -13,3 +17,12 @@ rateOk r = le rateLow (r .0) && le (r .0) rateHigh
 -- 2: a phase in [0, 1)
 unfoldable pub phaseOk : Turns → Bool
 phaseOk p = le zer (p .0) && lt (p .0) one
+
+-- each of the first n draws is below 2 ^ 53
+unfoldable pub drawsOk : List ℕ → ℕ → Bool
+drawsOk draws zero = true
+drawsOk draws (suc i) = drawsOk draws i && ltb (getD draws i 0) 9007199254740992
+
+-- where n draws are needed. 5: fewer are lent; 6: one of those n is 2 ^ 53 or more
+unfoldable pub drawsRefusalOf : ℕ → List ℕ → ℕ
+drawsRefusalOf n draws = cond (leb n (length draws)) (cond (drawsOk draws n) 0 6) 5

@@ -1,11 +1,14 @@
-// common.rs of the Rust, item by item: what the oscillators share. After it the tests behind refusals 1 and 2.
+// common.rs of the Rust, item by item: what the oscillators share. After it an output that may be unwanted, and the tests behind refusals 1, 2, 5 and 6.
 // Volts per octave, hertz and turns are three kinds of quantity; each helper takes only its own.
 ghost use mathlib.Core.Path.{_≡_};
+ghost use Prim.Native.Nat.{_≤_};
+ghost use lib.ListN.{length};
 ghost use Rattle.common.specs.Pitch.{voctToHz};
 ghost use Rattle.common.specs.Phase.{turns, wrapOf, polyblepOf, polyblampOf, incrementOf, restartOf};
 ghost use Rattle.common.specs.Memo.{newMemo1, hits1, filled1, newMemo3, hits3, filled3, recall1, voctToHzAt};
 ghost use Rattle.common.specs.Edge.{newEdge, risingAboveOf, risingOf, crossedAboveOf, crossedOf};
-ghost use Rattle.common.specs.Tests.{rateOk, phaseOk};
+ghost use Rattle.common.specs.Ports.{outOf};
+ghost use Rattle.common.specs.Tests.{rateOk, phaseOk, drawsOk, drawsRefusalOf};
 
 // A pitch: 0 is middle C, one more is an octave up.
 pub struct VoltsPerOctave(pub f64);
@@ -335,6 +338,13 @@ impl EdgeDetector {
     }
 }
 
+// An output scaled to ±5 V. What isn't wanted reads 0.0.
+pub fn out(want: bool, x: f64) -> f64
+    ensures { λ r. ⌜ r ≡ outOf want x ⌝ }
+{
+    if want { x * 5.0 } else { 0.0 }
+}
+
 // Refusal 1 asks this: from 1,000 to 192,000, which a NaN and the infinities aren't.
 pub fn rate_ok(rate: Hertz) -> bool
     ensures { λ r. ⌜ r ≡ rateOk rate ⌝ }
@@ -347,4 +357,31 @@ pub fn phase_ok(phase: Turns) -> bool
     ensures { λ r. ⌜ r ≡ phaseOk phase ⌝ }
 {
     phase.0 >= 0.0 && phase.0 < 1.0
+}
+
+// Whether each of the first n draws is below 2^53: all their digits together are.
+fn draws_ok(draws: &[u64], n: usize) -> bool
+    requires { ⌜ n ≤ length (now draws) ⌝ }
+    ensures { λ r. ⌜ r ≡ drawsOk (now (draws .entry)) n ⌝ }
+{
+    let mut digits = 0;
+    let mut i = 0;
+    while i < n {
+        digits |= draws[i];
+        i += 1;
+    }
+    digits < 9007199254740992
+}
+
+// Refusals 5 and 6 of a call that needs n draws, or 0. What is lent beyond them isn't looked at.
+pub fn draws_refusal(n: usize, draws: &[u64]) -> u32
+    ensures { λ r. ⌜ r ≡ drawsRefusalOf n (now (draws .entry)) ⌝ }
+{
+    if draws.len() < n {
+        5
+    } else if draws_ok(draws, n) {
+        0
+    } else {
+        6
+    }
 }

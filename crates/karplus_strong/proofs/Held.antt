@@ -15,6 +15,7 @@ use Rattle.numeric.specs.Basic.{clampOf, wholeOf}
 use Rattle.common.specs.Consts.{half}
 use Rattle.common.specs.Edge.{risingOf, risingAboveOf}
 use Rattle.common.specs.Memo.{recall1, voctToHzAt}
+use Rattle.common.specs.Tests.{drawsRefusalOf}
 use Rattle.common.proofs.EdgeLaws.{rises-once}
 use Rattle.common.proofs.MemoLaws.{recall1-again}
 use Rattle.common.specs.declared.Hertz.{Hertz}
@@ -24,7 +25,7 @@ use Rattle.answer.specs.Block.{afterTicks, answerAt}
 use Rattle.answer.proofs.Blocks.{Holds}
 use Rattle.karplus_strong.specs.Consts.{loopLeak}
 use Rattle.karplus_strong.specs.Step.{filteredOf, stretchedOf, wroteOf, clearedOf, Ticking}
-use Rattle.karplus_strong.specs.KarplusStrong.{maxLenOf, roomOf, karplusStrongRefusalOf, finiteOr, periodOf, struckLen, drawsRefusalOf, Striking, strikeOf, strikeIf, heardString, tickUnless, karplusStrongTickOf, Strung, strung}
+use Rattle.karplus_strong.specs.KarplusStrong.{maxLenOf, roomOf, karplusStrongRefusalOf, finiteOr, periodOf, struckLen, Striking, strikeOf, strikeIf, heardString, tickUnless, karplusStrongTickOf, Strung, strung}
 use Rattle.karplus_strong.specs.Held.{tuningOf, tapAt, turnOf, heldAnswer, heldNext}
 use Rattle.karplus_strong.specs.Blocks.{triggerRefusalOf, firstRefusalOf, karplusStrongAnswerOf, karplusStrongNextOf}
 use Rattle.karplus_strong.specs.Promises.{periodAt, risesAt}

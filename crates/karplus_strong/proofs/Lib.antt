@@ -3,7 +3,6 @@ pub mod Finite
 pub mod Cuts
 pub mod Periods
 pub mod Delays
-pub mod Draws
 pub mod Weights
 pub mod Parts
 pub mod Alike

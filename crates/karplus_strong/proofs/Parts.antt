@@ -11,7 +11,7 @@ use lib.ListN.{length, getD, set}
 use lib.Ieee.{Float, nan, inf, fin, binary64, add, sub, mul, div, neg, inFloat, lt, le, eq, fits, isNan, ofBits}
 use lib.Ieee.Fits.{cond-fits, div-fits, sub-fits}
 use lib.Ieee.Bits.{is-false}
-use borrow.Author.Tests.{le-leb, lt-leb, lt-ltb, leb-true, ltb-true}
+use borrow.Author.Tests.{le-leb, lt-ltb, leb-true, ltb-true}
 use Rattle.laws.proofs.Number.{mul-number, le-numbers}
 use Rattle.laws.proofs.Order.{lt-of-not-ge, lt-false, float-le-trans}
 use Rattle.laws.proofs.Tests.{both-true, of-true, of-false}
@@ -25,7 +25,7 @@ use Rattle.common.specs.Consts.{c4, rateLow, rateHigh, half, maxVoct}
 use Rattle.common.specs.Edge.{newEdge, risingOf}
 use Rattle.common.specs.Memo.{newMemo1, hits1, filled1, recall1, voctToHzAt}
 use Rattle.common.specs.Pitch.{voctToHz}
-use Rattle.common.specs.Tests.{rateOk}
+use Rattle.common.specs.Tests.{rateOk, drawsRefusalOf}
 use Rattle.common.specs.declared.EdgeDetector.{EdgeDetector}
 use Rattle.common.specs.declared.Hertz.{Hertz}
 use Rattle.common.specs.declared.Memo1.{Memo1}
@@ -36,10 +36,10 @@ use Rattle.answer.specs.declared.Volts.{Volts}
 use Rattle.answer.specs.declared.Answer.the-variants as answer
 use Rattle.karplus_strong.specs.Consts.{twenty, loopLeak}
 use Rattle.karplus_strong.specs.Ranges.{Cut}
-use Rattle.karplus_strong.specs.Line.{blankOf, excitedOf, sumTo, meanOf, levelOf, struckOf, drawsOk}
+use Rattle.karplus_strong.specs.Line.{blankOf, excitedOf, sumTo, meanOf, levelOf, struckOf}
 use Rattle.karplus_strong.specs.Step.{filterCoefOf, apCoefOf, filterDelayOf, apDelayOf, targetDelayOf, offsetOne, offsetTwo, tapOf, filteredOf, stretchedOf, outOf, heardOf, restOf, Ticking, stepOf}
 use Rattle.karplus_strong.specs.Held.{tuningOf, tapAt, turnOf}
-use Rattle.karplus_strong.specs.KarplusStrong.{maxLenOf, lineOk, roomOf, karplusStrongRefusalOf, rateRefusalOf, Making, madeUnless, newKarplusStrong, karplusStrongNewOf, karplusStrongResetOf, resizedString, karplusStrongSetSampleRateOf, finiteOr, periodOf, struckLen, drawsRefusalOf, strikeOf, strikeIf, heardString, refusedTick, tickUnless, karplusStrongSoundOf, karplusStrongTickOf}
+use Rattle.karplus_strong.specs.KarplusStrong.{maxLenOf, lineOk, roomOf, karplusStrongRefusalOf, rateRefusalOf, Making, madeUnless, newKarplusStrong, karplusStrongNewOf, karplusStrongResetOf, resizedString, karplusStrongSetSampleRateOf, finiteOr, periodOf, struckLen, strikeOf, strikeIf, heardString, refusedTick, tickUnless, karplusStrongSoundOf, karplusStrongTickOf}
 use Rattle.karplus_strong.specs.declared.KarplusStrong.{KarplusStrong}
 use Rattle.karplus_strong.specs.declared.KarplusStrongControls.{KarplusStrongControls}
 use Rattle.karplus_strong.specs.declared.KarplusStrongTicked.{KarplusStrongTicked}
@@ -300,27 +300,6 @@ cut-room p w n e h = rw e h
 pub struck-by : (n : ℕ) (b : Float) (d : List ℕ) (l x y : List Float) (t r : Float) → x ≡ excitedOf n b d l → t ≡ sumTo x n → r ≡ realOf n → y ≡ levelOf n (div binary64 t r) x → y ≡ struckOf n b d l
 unfolding struckOf meanOf
 struck-by n b d l x y t r ex et er ey = rw (ey, et, er, ex)
-
-module _ (p : Float) (d : List ℕ) (w : ℕ) (e : w ≡ wholeOf p) where
-  pub draws-few : length d < w + 2 → 5 ≡ drawsRefusalOf (struckLen p) d
-  unfolding drawsRefusalOf struckLen
-  draws-few h = rw (← e, lt-leb (w + 2) (length d) h)
-
-  pub draws-large : w + 2 ≤ length d → drawsOk d (w + 2) ≡ false → 6 ≡ drawsRefusalOf (struckLen p) d
-  unfolding drawsRefusalOf struckLen
-  draws-large h k = rw (← e, le-leb (w + 2) (length d) h, k)
-
-  pub draws-good : w + 2 ≤ length d → drawsOk d (w + 2) ≡ true → 0 ≡ drawsRefusalOf (struckLen p) d
-  unfolding drawsRefusalOf struckLen
-  draws-good h k = rw (← e, le-leb (w + 2) (length d) h, k)
-
-pub draws-enough : (n : ℕ) (d : List ℕ) → drawsRefusalOf n d ≡ 0 → n ≤ length d
-unfolding drawsRefusalOf
-draws-enough n d e = go (leb n (length d)) (drawsOk d n) refl e
-  where
-    go : (a b : Bool) → leb n (length d) ≡ a → _≡_ {A = ℕ} (cond a (cond b 0 6) 5) 0 → n ≤ length d
-    go true b h k = leb-true n (length d) h
-    go false b h k = absurd (omega arith)
 
 pub strike-by : (s : KarplusStrong) (p b : Float) (d : List ℕ) (l x : List Float) (w : ℕ) (t : KarplusStrong) → w ≡ wholeOf p → x ≡ struckOf (w + 2) b d l → t ≡ restOf s (w + 2) (s .«trigger_edge») → record { out = t; line = x } ≡ strikeOf s p b d l
 unfolding strikeOf struckLen

@@ -1,15 +1,14 @@
 -- The promises of a reached string: no call refuses but for its own input, and an edge can always be had.
 use mathlib.Core.Bool.{Bool, _&&_, true, false, cond}
 use mathlib.Core.List.{List}
-use mathlib.Core.Logic.{⊎-elim}
 use mathlib.Core.Path.{_≡_, refl, ap, _∙_}
-use Prim.Native.Nat.{ℕ, _+_, _*_, _≤_, zero, suc, _<_}
-use native.Mathlib.Nat.{not-suc-le-zero, eq-or-lt-of-le, le-of-suc-le-suc, le-trans}
+use Prim.Native.Nat.{ℕ, _+_, _*_, _≤_, zero, suc}
+use native.Mathlib.Nat.{le-trans}
 use native.Mathlib.Omega.{arith}
-use lib.Dec.{eqb, leb, ltb}
+use lib.Dec.{eqb, leb}
 use lib.Ieee.{Float, binary64, le, mul, neg, low}
-use lib.ListN.{length, getD}
-use borrow.Author.Tests.{le-leb}
+use lib.ListN.{length}
+use Rattle.common.proofs.DrawLaws.{draws-less, draws-taken}
 use Rattle.common.proofs.EdgeLaws.{rises-five}
 use Rattle.answer.specs.Answer.{refusalOf, accepted}
 use Rattle.answer.specs.Block.{blockRefusalOf}
@@ -18,9 +17,9 @@ use Rattle.answer.proofs.Blocks.{block-refusal, held-accepted, all-taken}
 use Rattle.common.specs.Consts.{five, gateThreshold, half}
 use Rattle.common.specs.Edge.{risesAbove, risingAboveOf, risingOf}
 use Rattle.common.specs.Memo.{recall1, voctToHzAt}
-use Rattle.common.specs.Tests.{rateOk}
+use Rattle.common.specs.Tests.{rateOk, drawsOk}
 use Rattle.laws.proofs.Order.{lt-false}
-use Rattle.laws.proofs.Tests.{both-true, of-true}
+use Rattle.laws.proofs.Tests.{of-true}
 use Rattle.laws.specs.Float.{zer, one, isFin}
 use Rattle.numeric.specs.Basic.{clampOf}
 use Rattle.karplus_strong.proofs.Alike.{length-blank}
@@ -32,8 +31,7 @@ use Rattle.karplus_strong.specs.Held.{heldAnswer}
 use Rattle.karplus_strong.specs.Calls.{after, reply, Tick, Reset, SetSampleRate, Told}
 use Rattle.karplus_strong.specs.Consts.{loopLeak}
 use Rattle.karplus_strong.specs.Blocks.{triggerRefusalOf, karplusStrongBlockOf}
-use Rattle.karplus_strong.specs.KarplusStrong.{maxLenOf, roomOf, karplusStrongCellsOf, karplusStrongRefusalOf, rateRefusalOf, madeNumber, madeUnless, karplusStrongNewOf, karplusStrongResetOf, karplusStrongSetSampleRateOf, finiteOr, struckLen, drawsRefusalOf, strikeOf, strikeIf, heardString, tickUnless, karplusStrongTickOf, Strung}
-use Rattle.karplus_strong.specs.Line.{drawsOk}
+use Rattle.karplus_strong.specs.KarplusStrong.{maxLenOf, roomOf, karplusStrongCellsOf, karplusStrongRefusalOf, rateRefusalOf, madeNumber, madeUnless, karplusStrongNewOf, karplusStrongResetOf, karplusStrongSetSampleRateOf, finiteOr, struckLen, strikeOf, strikeIf, heardString, tickUnless, karplusStrongTickOf, Strung}
 use Rattle.karplus_strong.specs.Promises.{periodAt, risesAt, Never-refused, First-there, New-there, Cells-enough, Edge-comes, Clean-or-cleared, Refused-leaves, Keeps-rate, Block-accepts, Block-tallies}
 use Rattle.karplus_strong.specs.Step.{filterCoefOf, apCoefOf, targetDelayOf, tapOf, filteredOf, stretchedOf, Ticking, wroteOf, clearedOf, stepOf}
 use Rattle.common.specs.declared.EdgeDetector.{EdgeDetector}
@@ -116,16 +114,6 @@ cells-enough rate l = made-says (cond (rateOk rate) (roomOf rate (length l)) 1) 
     go false = refl
 
 -- ---- an edge
-draws-less : (d : List ℕ) (n m : ℕ) → m ≤ n → drawsOk d n ≡ true → drawsOk d m ≡ true
-unfolding drawsOk
-draws-less d zero zero h e = e
-draws-less d zero (suc m) h e = absurd (not-suc-le-zero h)
-draws-less d (suc n) m h e = ⊎-elim (λ (q : m ≡ suc n). rw q e) (λ (q : m < suc n). draws-less d n m (le-of-suc-le-suc q) (both-true (drawsOk d n) (ltb (getD d n 0) 9007199254740992) e .0)) (eq-or-lt-of-le h)
-
-draws-fine : (n : ℕ) (d : List ℕ) → n ≤ 9611 → 9611 ≤ length d → drawsOk d 9611 ≡ true → drawsRefusalOf n d ≡ 0
-unfolding drawsRefusalOf
-draws-fine n d h k e = simp (le-leb n (length d) (le-trans h k), draws-less d 9611 n h e)
-
 good-accepted : (s : KarplusStrong) (c : KarplusStrongControls) (draws : List ℕ) (l : List Float) → Good s (length l) → triggerRefusalOf s c draws ≡ 0 → accepted (karplusStrongTickOf s c draws l .out .answer) ≡ true
 unfolding tickUnless
 good-accepted s c draws l g e = ap (λ (t : Ticking). accepted (t .out .answer)) (good-tick s c draws l g ∙ ap (λ (k : ℕ). tickUnless k s l (struckStep s c draws l)) e) ∙ heard-accepted (struckStep s c draws l .out .answer) (struck-heard s c draws l)
@@ -202,7 +190,10 @@ struck-short s c a =
 
 high-sounds : (s : KarplusStrong) (c : KarplusStrongControls) (draws : List ℕ) → Sound s → risesAt s c ≡ true → 9611 ≤ length draws → drawsOk draws 9611 ≡ true → triggerRefusalOf s c draws ≡ 0
 unfolding triggerRefusalOf
-high-sounds s c draws a e h k = simp (e, draws-fine (struckLen (periodAt s c)) draws (struck-short s c a) h k)
+high-sounds s c draws a e h k =
+    let n = struckLen (periodAt s c) in
+    let q = struck-short s c a in
+    simp (e, draws-taken n draws (le-trans q h) (draws-less draws 9611 n q k))
 
 pub edge-comes : Edge-comes
 edge-comes x h low high none draws f el eh n ok = (good-accepted (x .string) low none (x .line) g r, record { is-accepted = good-accepted (y .string) high draws (y .line) k (high-sounds (y .string) high draws (k .sound) e n ok); edge = e })

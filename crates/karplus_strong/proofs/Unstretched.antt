@@ -1,13 +1,12 @@
 -- A string whose stretch counts as 0.0 is never cleared: no cell of its line and no filter ever holds more than 8 V.
 use mathlib.Core.Bool.{Bool, true, false, cond, not, true≢false}
 use mathlib.Core.List.{List}
-use mathlib.Core.Logic.{⊎-elim}
 use mathlib.Core.Path.{_≡_, refl, sym, subst, _∙_}
 use Prim.Native.Nat.{ℕ, zero, suc, _+_, _-_, _*_, _/_, _%_, _^_, _≤_, _<_, min}
 use native.Mathlib.Decide.{ℕ-discrete}
-use native.Mathlib.Nat.{le-trans, le-of-eq, le-of-suc-le-suc, eq-or-lt-of-le, add-le-add, mod-lt, mul-le-mul-right, mul-one, mul-pos, not-suc-le-zero}
+use native.Mathlib.Nat.{le-trans, le-of-eq, add-le-add, mod-lt, mul-le-mul-right, mul-one, mul-pos, not-suc-le-zero}
 use native.Mathlib.Omega.{arith}
-use lib.Dec.{T, eqb, leb, ltb, lit<, lit≤}
+use lib.Dec.{T, eqb, ltb, lit<, lit≤}
 use lib.ListN.{length, getD, set}
 use lib.Seq.{getD-set-same, getD-set-other}
 use lib.Ieee.{Float, nan, inf, fin, binary64, add, sub, mul, neg, lt, le, eq, isNan, fits, ofBits, toUnsigned}
@@ -20,19 +19,20 @@ use Rattle.laws.proofs.Always.{always}
 use Rattle.laws.specs.Machine.{Reached}
 use Rattle.laws.proofs.Interval.{Under, Within, part-of, round-sized, sized-mul, sum-under, unit-within, within-add, within-finite, within-minus, within-mul, within-of, within-to}
 use Rattle.laws.proofs.Order.{le-of-lt-true, float-le-trans}
-use Rattle.laws.proofs.Tests.{both-true, of-true}
+use Rattle.laws.proofs.Tests.{of-true}
 use Rattle.laws.proofs.Weights.{weighed}
 use Rattle.laws.proofs.Zeros.{times-nought, zero-times, zero-plus, minus-zero}
 use Rattle.laws.proofs.Values.{add-round, div-round, exact-at, ofInt-val}
 use Rattle.laws.specs.Float.{F64, zer, one, isFin}
 use Rattle.laws.specs.Lists.{over}
-use Rattle.numeric.proofs.DrawLaws.{bipolar-exact}
+use Rattle.numeric.proofs.DrawLaws.{bipolar-within}
 use Rattle.numeric.specs.Basic.{clampOf, maxOf, wholeOf, realOf}
 use Rattle.numeric.specs.Draw.{bipolarOf}
+use Rattle.common.proofs.DrawLaws.{draw-below, draws-fine}
 use Rattle.common.specs.Consts.{half}
 use Rattle.common.specs.Edge.{newEdge, risingOf}
 use Rattle.common.specs.Memo.{recall1, voctToHzAt}
-use Rattle.common.specs.Tests.{rateOk}
+use Rattle.common.specs.Tests.{rateOk, drawsOk, drawsRefusalOf}
 use Rattle.common.specs.declared.Hertz.{Hertz}
 use Rattle.common.specs.declared.Memo1.{Memo1}
 use Rattle.answer.proofs.Blocks.{ticks-keep, block-keeps, block-refusal, block-fits}
@@ -40,10 +40,10 @@ use Rattle.answer.specs.Block.{afterTicks, answerAt}
 use Rattle.answer.specs.Answer.{markNumber, accepted}
 use Rattle.answer.specs.declared.Answer.{Answer}
 use Rattle.karplus_strong.specs.Consts.{loopLeak}
-use Rattle.karplus_strong.specs.Line.{blankAt, blankOf, impulseOf, pulseOf, excitedAt, excitedOf, sumTo, meanOf, levelAt, levelOf, struckOf, drawsOk}
+use Rattle.karplus_strong.specs.Line.{blankAt, blankOf, impulseOf, pulseOf, excitedAt, excitedOf, sumTo, meanOf, levelAt, levelOf, struckOf}
 use Rattle.karplus_strong.specs.Step.{filterCoefOf, apCoefOf, filterDelayOf, apDelayOf, targetDelayOf, offsetOne, offsetTwo, tapOf, filteredOf, stretchedOf, Ticking, restOf, stepOf}
 use Rattle.karplus_strong.specs.Blocks.{triggerRefusalOf, firstRefusalOf, karplusStrongNextOf, karplusStrongBlockOf}
-use Rattle.karplus_strong.specs.KarplusStrong.{maxLenOf, karplusStrongRefusalOf, roomOf, rateRefusalOf, madeOr, madeUnless, karplusStrongResetOf, resizedString, karplusStrongSetSampleRateOf, finiteOr, periodOf, struckLen, drawsRefusalOf, strikeOf, strikeIf, heardString, tickUnless, karplusStrongTickOf, Strung, strung}
+use Rattle.karplus_strong.specs.KarplusStrong.{maxLenOf, karplusStrongRefusalOf, roomOf, rateRefusalOf, madeOr, madeUnless, karplusStrongResetOf, resizedString, karplusStrongSetSampleRateOf, finiteOr, periodOf, struckLen, strikeOf, strikeIf, heardString, tickUnless, karplusStrongTickOf, Strung, strung}
 use Rattle.karplus_strong.specs.Calls.{Call, Tick, Play, Reset, SetSampleRate, Lend, strungAfter, lentOf, after, FitCall, First}
 use Rattle.karplus_strong.specs.Promises.{periodAt, risesAt, NoStretch, Unstretched, Never-cleared, Block-never-cleared}
 use Rattle.karplus_strong.specs.declared.KarplusStrong.{KarplusStrong}
@@ -62,21 +62,6 @@ unfolding ofBits
 zero-within = within-of 3 zer tt
 
 -- ---- a strike
-draw-below : (d : List ℕ) (n i : ℕ) → drawsOk d n ≡ true → i < n → getD d i 0 < 2 ^ 53
-unfolding drawsOk
-draw-below d zero i e h = absurd (not-suc-le-zero h)
-draw-below d (suc n) i e h = ⊎-elim (λ (q : i ≡ n). rw q (ltb-true (getD d n 0) 9007199254740992 (parts .1))) (λ (q : i < n). draw-below d n i (parts .0) q) (eq-or-lt-of-le (le-of-suc-le-suc h))
-  where
-    parts : (drawsOk d n ≡ true) × (ltb (getD d n 0) 9007199254740992 ≡ true)
-    parts = both-true (drawsOk d n) (ltb (getD d n 0) 9007199254740992) e
-
-bipolar-within : (k : ℕ) → k < 2 ^ 53 → Within 0 (bipolarOf k)
-bipolar-within k h = (ltb (2 * k) (2 ^ 53), (cond (ltb (2 * k) (2 ^ 53)) (2 ^ 53 - 2 * k) (2 * k - 2 ^ 53), 2 ^ 53, lit< tt, small (ltb (2 * k) (2 ^ 53)) k h, bipolar-exact k h))
-  where
-    small : (b : Bool) (k : ℕ) → k < 9007199254740992 → cond b (9007199254740992 - 2 * k) (2 * k - 9007199254740992) ≤ 1 * 9007199254740992
-    small true k h = omega arith
-    small false k h = omega arith
-
 impulse-within : (n i : ℕ) → Within 0 (impulseOf n i)
 unfolding impulseOf ofBits
 impulse-within n i = go (ltb i (n / 4))
@@ -297,15 +282,6 @@ delay-fine r f d t e q = record { fits = max-fits; sign = finite-positive x (abo
         go : (b : Bool) → lt one y ≡ b → T (le one (cond b y (cond (isNan one) y one)))
         go true h = le-of-lt-true one y (of-true (lt one y) h)
         go false h = unfold isNan le lt eq ofBits in tt
-
-draws-fine : (n : ℕ) (d : List ℕ) → drawsRefusalOf n d ≡ 0 → drawsOk d n ≡ true
-unfolding drawsRefusalOf
-draws-fine n d e = go (leb n (length d)) (drawsOk d n) refl e
-  where
-    go : (a b : Bool) → drawsOk d n ≡ b → _≡_ {A = ℕ} (cond a (cond b 0 6) 5) 0 → drawsOk d n ≡ true
-    go true true h k = h
-    go true false h k = absurd (omega arith)
-    go false b h k = absurd (omega arith)
 
 struck-calm : (rising : Bool) (t : KarplusStrong) (p b d bend : Float) (draws : List ℕ) (l : List Float)
     → eq bend zer ≡ true → _≡_ {A = ℕ} (cond rising (drawsRefusalOf (struckLen p) draws) 0) 0 → struckLen p ≤ length l → struckLen p ≤ 9611

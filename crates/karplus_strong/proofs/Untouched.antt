@@ -8,24 +8,25 @@ use lib.Dec.{eqb}
 use lib.ListN.{length, getD, drop, length-set}
 use lib.Seq.{getD-append-add, getD-drop, getD-set-other}
 use lib.Ieee.{Float, nan, binary64, mul, neg}
-use borrow.Author.Tests.{eqb-true, le-leb}
+use borrow.Author.Tests.{eqb-true}
 use Rattle.laws.proofs.Over.{length-tab, length-over, tab-ext}
 use Rattle.laws.specs.Float.{zer, one, isFin}
 use Rattle.laws.specs.Lists.{tab, over}
 use Rattle.numeric.specs.Basic.{clampOf}
+use Rattle.common.proofs.DrawLaws.{refusal-draws}
 use Rattle.common.specs.Consts.{half}
 use Rattle.common.specs.Edge.{risingOf}
 use Rattle.common.specs.Memo.{recall1, voctToHzAt}
-use Rattle.common.specs.Tests.{rateOk}
+use Rattle.common.specs.Tests.{rateOk, drawsRefusalOf}
 use Rattle.answer.specs.Block.{Block, block, blockOf, blockRefusalOf, ticksOf, afterTicks}
 use Rattle.answer.specs.declared.Tally.{Tally}
 use Rattle.answer.proofs.Blocks.{ticks-keep, held-after, block-fits}
 use Rattle.karplus_strong.specs.Consts.{loopLeak}
-use Rattle.karplus_strong.specs.Line.{blankAt, blankOf, excitedAt, excitedOf, meanOf, levelAt, levelOf, struckOf, drawsOk}
+use Rattle.karplus_strong.specs.Line.{blankAt, blankOf, excitedAt, excitedOf, meanOf, levelAt, levelOf, struckOf}
 use Rattle.karplus_strong.specs.Step.{filterCoefOf, apCoefOf, targetDelayOf, tapOf, filteredOf, stretchedOf, Ticking, restOf, wroteOf, clearedOf, stepOf}
 use Rattle.karplus_strong.specs.Held.{tuningOf, turnOf, heldNext}
 use Rattle.karplus_strong.specs.Blocks.{triggerRefusalOf, firstRefusalOf, karplusStrongAnswerOf, karplusStrongNextOf, karplusStrongBlockOf}
-use Rattle.karplus_strong.specs.KarplusStrong.{maxLenOf, roomOf, karplusStrongRefusalOf, rateRefusalOf, madeUnless, newKarplusStrong, karplusStrongNewOf, karplusStrongResetOf, resizedString, karplusStrongSetSampleRateOf, finiteOr, struckLen, drawsRefusalOf, strikeOf, strikeIf, heardString, tickUnless, karplusStrongSoundOf, karplusStrongTickOf, Strung, strung}
+use Rattle.karplus_strong.specs.KarplusStrong.{maxLenOf, roomOf, karplusStrongRefusalOf, rateRefusalOf, madeUnless, newKarplusStrong, karplusStrongNewOf, karplusStrongResetOf, resizedString, karplusStrongSetSampleRateOf, finiteOr, struckLen, strikeOf, strikeIf, heardString, tickUnless, karplusStrongSoundOf, karplusStrongTickOf, Strung, strung}
 use Rattle.karplus_strong.specs.Promises.{periodAt, risesAt, SamePast, Past-untouched, Only-its-draws}
 use Rattle.karplus_strong.specs.declared.KarplusStrong.{KarplusStrong}
 use Rattle.karplus_strong.specs.declared.KarplusStrongControls.{KarplusStrongControls}
@@ -226,18 +227,9 @@ past-untouched =
     }
 
 -- ---- draws
-draws-same : (d e : List ℕ) (n : ℕ) → ((i : ℕ) → i < n → getD d i 0 ≡ getD e i 0) → drawsOk d n ≡ drawsOk e n
-unfolding drawsOk
-draws-same d e zero k = refl
-draws-same d e (suc n) k = rw (draws-same d e n (λ i q. k i (omega arith)), k n (omega arith))
-
 struck-draws : (n : ℕ) (b : Float) (d e : List ℕ) (l : List Float) → ((i : ℕ) → i < n → getD d i 0 ≡ getD e i 0) → struckOf n b d l ≡ struckOf n b e l
 unfolding struckOf excitedOf excitedAt over
 struck-draws n b d e l k = rw (tab-ext (excitedAt n b d) (excitedAt n b e) n (λ i q. rw (k i q)))
-
-refusal-draws : (n : ℕ) (d e : List ℕ) → n ≤ length d → n ≤ length e → ((i : ℕ) → i < n → getD d i 0 ≡ getD e i 0) → drawsRefusalOf n d ≡ drawsRefusalOf n e
-unfolding drawsRefusalOf
-refusal-draws n d e h g k = simp (le-leb n (length d) h, le-leb n (length e) g, draws-same d e n k)
 
 -- a tick's draws go to its refusal and its strike
 tick-draws : (s : KarplusStrong) (c : KarplusStrongControls) (d e : List ℕ) (l : List Float) → triggerRefusalOf s c d ≡ triggerRefusalOf s c e → struckStep s c d l ≡ struckStep s c e l → karplusStrongTickOf s c d l ≡ karplusStrongTickOf s c e l

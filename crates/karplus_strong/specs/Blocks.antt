@@ -11,7 +11,8 @@ use Rattle.answer.specs.declared.Answer.{Answer}
 use Rattle.answer.specs.declared.Tally.{Tally}
 use Rattle.common.specs.Edge.{risingOf}
 use Rattle.common.specs.Memo.{recall1, voctToHzAt}
-use Rattle.karplus_strong.specs.KarplusStrong.{karplusStrongRefusalOf, finiteOr, periodOf, struckLen, drawsRefusalOf, karplusStrongTickOf, Strung, strung}
+use Rattle.common.specs.Tests.{drawsRefusalOf}
+use Rattle.karplus_strong.specs.KarplusStrong.{karplusStrongRefusalOf, finiteOr, periodOf, struckLen, karplusStrongTickOf, Strung, strung}
 use Rattle.karplus_strong.specs.declared.KarplusStrong.{KarplusStrong}
 use Rattle.karplus_strong.specs.declared.KarplusStrongControls.{KarplusStrongControls}
 

@@ -10,13 +10,13 @@ use Rattle.numeric.specs.Basic.{clampOf, wholeOf, realOf}
 use Rattle.common.specs.Consts.{half}
 use Rattle.common.specs.Edge.{newEdge, risingOf}
 use Rattle.common.specs.Memo.{newMemo1, recall1, voctToHzAt}
-use Rattle.common.specs.Tests.{rateOk}
+use Rattle.common.specs.Tests.{rateOk, drawsRefusalOf}
 use Rattle.common.specs.declared.EdgeDetector.{EdgeDetector}
 use Rattle.common.specs.declared.Hertz.{Hertz}
 use Rattle.common.specs.declared.Memo1.{Memo1}
 use Rattle.answer.specs.declared.Answer.the-variants as answer
 use Rattle.karplus_strong.specs.Consts.{twenty}
-use Rattle.karplus_strong.specs.Line.{blankOf, struckOf, drawsOk}
+use Rattle.karplus_strong.specs.Line.{blankOf, struckOf}
 use Rattle.karplus_strong.specs.Step.{Ticking, restOf, stepOf}
 use Rattle.karplus_strong.specs.declared.KarplusStrong.{KarplusStrong}
 use Rattle.karplus_strong.specs.declared.KarplusStrongControls.{KarplusStrongControls}
@@ -103,10 +103,6 @@ periodOf rate freq = clampOf (div binary64 (rate .0) (freq .0)) two (sub binary6
 -- the line's length after a strike: period as usize + 2
 unfoldable pub struckLen : Float → ℕ
 struckLen period = wholeOf period + 2
-
--- 5: fewer draws than that; 6: a needed one is 2 ^ 53 or more
-unfoldable pub drawsRefusalOf : ℕ → List ℕ → ℕ
-drawsRefusalOf n draws = cond (leb n (length draws)) (cond (drawsOk draws n) 0 6) 5
 
 -- the string after a strike, and what that leaves in the line
 pub record Striking : Type 0 where

@@ -1,5 +1,5 @@
 -- The lent delay line as a list of cells: what each of the Rust's passes leaves in the first n. The other cells stay.
-use mathlib.Core.Bool.{Bool, true, cond, _&&_}
+use mathlib.Core.Bool.{cond}
 use mathlib.Core.List.{List}
 use Prim.Native.Nat.{ℕ, zero, suc, _/_}
 use lib.Dec.{ltb}
@@ -51,8 +51,3 @@ levelOf n mean l = over (levelAt mean l) n l
 -- excite: noise and impulse, less their mean
 unfoldable pub struckOf : ℕ → Float → List ℕ → List Float → List Float
 struckOf n brightness draws l = let x = excitedOf n brightness draws l in levelOf n (meanOf n x) x
-
--- each of the first n draws is below 2 ^ 53
-unfoldable pub drawsOk : List ℕ → ℕ → Bool
-drawsOk draws zero = true
-drawsOk draws (suc i) = drawsOk draws i && ltb (getD draws i 0) 9007199254740992

@@ -13,13 +13,13 @@ use Rattle.numeric.specs.Basic.{clampOf}
 use Rattle.common.specs.Consts.{gateThreshold, five}
 use Rattle.common.specs.Edge.{risingOf}
 use Rattle.common.specs.Memo.{recall1, voctToHzAt}
-use Rattle.common.specs.Tests.{rateOk}
+use Rattle.common.specs.Tests.{rateOk, drawsOk}
 use Rattle.common.specs.declared.Hertz.{Hertz}
 use Rattle.answer.specs.Answer.{markNumber, voltsOf, refusalOf, accepted}
 use Rattle.answer.specs.Block.{Block, blockRefusalOf, answerAt}
 use Rattle.answer.specs.Promises.{AllAccepted, AllTaken}
 use Rattle.answer.specs.declared.Tally.{Tally}
-use Rattle.karplus_strong.specs.Line.{blankOf, drawsOk}
+use Rattle.karplus_strong.specs.Line.{blankOf}
 use Rattle.karplus_strong.specs.Step.{Ticking, outOf}
 use Rattle.karplus_strong.specs.KarplusStrong.{Making, maxLenOf, roomOf, karplusStrongCellsOf, karplusStrongRefusalOf, madeNumber, newKarplusStrong, finiteOr, periodOf, struckLen, karplusStrongNewOf, karplusStrongTickOf, karplusStrongResetOf, karplusStrongSetSampleRateOf, Strung, strung}
 use Rattle.karplus_strong.specs.Blocks.{triggerRefusalOf, karplusStrongBlockOf, firstRefusalOf, karplusStrongAnswerOf, karplusStrongNextOf}

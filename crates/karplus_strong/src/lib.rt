@@ -18,14 +18,14 @@ ghost use Rattle.laws.specs.Lists.{tab};
 ghost use Rattle.numeric.specs.Basic.{clampOf, wholeOf};
 ghost use Rattle.common.specs.Consts.{half};
 ghost use Rattle.common.specs.Memo.{recall1, voctToHzAt};
-ghost use Rattle.common.specs.Tests.{rateOk};
+ghost use Rattle.common.specs.Tests.{rateOk, drawsRefusalOf};
 ghost use Rattle.answer.specs.Answer.{hostNumber, voltsOf};
 ghost use Rattle.answer.specs.Block.{afterTicks, portsOf, joined, block, markAt, frameAt};
 ghost use Rattle.karplus_strong.specs.Ranges.{Cut};
-ghost use Rattle.karplus_strong.specs.Line.{blankOf, pulseOf, excitedOf, sumTo, levelOf, struckOf, drawsOk};
+ghost use Rattle.karplus_strong.specs.Line.{blankOf, pulseOf, excitedOf, sumTo, levelOf, struckOf};
 ghost use Rattle.karplus_strong.specs.Step.{filterCoefOf, apCoefOf, targetDelayOf, restOf, outOf, stepOf};
 ghost use Rattle.karplus_strong.specs.Held.{tuningOf, tapAt, turnOf, heldAnswer, heldNext};
-ghost use Rattle.karplus_strong.specs.KarplusStrong.{maxLenOf, lineOk, roomOf, karplusStrongRefusalOf, rateRefusalOf, placeOf, resizedString, finiteOr, periodOf, struckLen, drawsRefusalOf, strikeOf, strikeIf, heardString, refusedTick, karplusStrongSoundOf, karplusStrongTickOf, karplusStrongNewOf, karplusStrongResetOf, karplusStrongSetSampleRateOf, karplusStrongCellsOf, strung};
+ghost use Rattle.karplus_strong.specs.KarplusStrong.{maxLenOf, lineOk, roomOf, karplusStrongRefusalOf, rateRefusalOf, placeOf, resizedString, finiteOr, periodOf, struckLen, strikeOf, strikeIf, heardString, refusedTick, karplusStrongSoundOf, karplusStrongTickOf, karplusStrongNewOf, karplusStrongResetOf, karplusStrongSetSampleRateOf, karplusStrongCellsOf, strung};
 ghost use Rattle.karplus_strong.specs.Blocks.{triggerRefusalOf, firstRefusalOf, karplusStrongAnswerOf, karplusStrongNextOf, karplusStrongBlockOf};
 
 // The Rust's fields less `max_len`, which follows from the rate, the lent line, of which the length stays, and the noise.
@@ -192,35 +192,13 @@ fn excite(line: &mut [f64], n: usize, brightness: f64, draws: &[u64])
     level(line, n, mean);
 }
 
-// Whether each of the first n draws is below 2^53.
-fn draws_ok(draws: &[u64], n: usize) -> bool
-    requires { ⌜ n ≤ length (now draws) ⌝ }
-    ensures { λ r. ⌜ r ≡ drawsOk (now (draws .entry)) n ⌝ }
-{
-    let mut i = 0;
-    while i < n {
-        if draws[i] >= 9007199254740992 {
-            return false;
-        }
-        i += 1;
-    }
-    true
-}
-
 // Refusals 5 and 6 of a trigger that is taken, or 0.
 fn draws_refusal(rising: bool, period: f64, draws: &[u64]) -> u32
     requires { ⌜ Cut period ⌝ }
     ensures { λ r. ⌜ r ≡ cond rising (drawsRefusalOf (struckLen period) (now (draws .entry))) 0 ⌝ }
 {
     if rising {
-        let n = whole(period) + 2;
-        if draws.len() < n {
-            5
-        } else if draws_ok(draws, n) {
-            0
-        } else {
-            6
-        }
+        common::draws_refusal(whole(period) + 2, draws)
     } else {
         0
     }

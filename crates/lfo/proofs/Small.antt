@@ -10,6 +10,7 @@ use Rattle.answer.specs.Mark.{allFinite}
 use Rattle.common.proofs.Bounds.{phase-within, sin-within, one-within, half-within, two-within, four-within, five-within, tau-within}
 use Rattle.common.specs.Consts.{four, five, half, tau}
 use Rattle.common.specs.Phase.{turns}
+use Rattle.common.specs.Ports.{wants}
 use Rattle.common.specs.Tests.{phaseOk}
 use Rattle.laws.proofs.Interval.{Within, within-add, within-between, within-finite, within-minus, within-mul, within-neg, within-of, within-to}
 use Rattle.laws.proofs.Tests.{of-true}
@@ -19,7 +20,7 @@ use Rattle.numeric.specs.Basic.{fabsOf}
 use Rattle.lfo.specs.Consts.{ten}
 use Rattle.lfo.specs.Lfo.{lfoOutputsOf}
 use Rattle.lfo.specs.Small.{most, isSmall}
-use Rattle.lfo.specs.Waves.{wants, sineOf, sinWave, triWave, sawWave, sqrWave, sinUniWave}
+use Rattle.lfo.specs.Waves.{sineOf, sinWave, triWave, sawWave, sqrWave, sinUniWave}
 
 -- ---- what goes in
 depth-within : (d : Float) → isSmall d ≡ true → Within 30 d

@@ -10,10 +10,11 @@ use Rattle.common.specs.Consts.{five}
 use Rattle.common.specs.Edge.{newEdge, risingOf}
 use Rattle.common.specs.Memo.{newMemo1, recall1}
 use Rattle.common.specs.Phase.{turns, wrapOf, incrementOf, restartOf}
+use Rattle.common.specs.Ports.{wants}
 use Rattle.common.specs.Tests.{rateOk, phaseOk}
 use Rattle.laws.specs.Float.{zer, isFin}
 use Rattle.lfo.specs.Consts.{ten}
-use Rattle.lfo.specs.Waves.{rateToHz, wants, sineOf, sinWave, triWave, sawWave, sqrWave, sinUniWave}
+use Rattle.lfo.specs.Waves.{rateToHz, sineOf, sinWave, triWave, sawWave, sqrWave, sinUniWave}
 use Rattle.common.specs.declared.Hertz.{Hertz}
 use Rattle.answer.specs.declared.Volts.{Volts}
 use Rattle.answer.specs.declared.Answer.{Answer}

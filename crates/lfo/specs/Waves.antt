@@ -1,10 +1,9 @@
 -- The Lfo's rate map and its five waveforms, written from Lfo::tick_wanted. One that isn't wanted reads 0.0.
-use mathlib.Core.Bool.{Bool, not, cond, _||_}
+use mathlib.Core.Bool.{Bool, cond, _||_}
 use Prim.Native.Nat.{ℕ}
-use lib.Bits.{bitAnd}
-use lib.Dec.{eqb}
 use lib.Ieee.{Float, binary64, lt, mul, sub, add, neg}
 use Rattle.common.specs.Consts.{four, half, tau}
+use Rattle.common.specs.Ports.{wants}
 use Rattle.laws.specs.Float.{zer, one, two}
 use Rattle.numeric.specs.Basic.{fabsOf, clampOf}
 use Rattle.numeric.specs.Power.{pow3000Of}
@@ -15,10 +14,6 @@ use Rattle.common.specs.declared.Hertz.{Hertz}
 -- the closure || 0.01 * pow(3000.0, rate_cv.clamp(0.0, 1.0))
 unfoldable pub rateToHz : Float → Hertz
 rateToHz rate = record { 0 = mul binary64 lowest (pow3000Of (clampOf rate zer one)) }
-
--- wanted & bit != 0
-abbrev pub wants : ℕ → ℕ → Bool
-wants wanted bit = not (eqb (bitAnd wanted bit) 0)
 
 -- sin(phase * TAU)
 unfoldable pub sineOf : Float → Float

@@ -1,4 +1,4 @@
--- The draw is exact, and twice it less 1 too.
+-- The draw is exact, and twice it less 1 too, which is from -1 to 1.
 use mathlib.Core.Bool.{Bool, cond, false, not, true}
 use mathlib.Core.Path.{_∙_, _≡_, ap, refl, subst, sym}
 use Prim.Native.Nat.{_*_, _-_, _<_, _^_, _≤_, ℕ}
@@ -9,6 +9,7 @@ use lib.Ieee.{Float, binary64, fin, mul, ofBits, ofInt, round, sum}
 use lib.Ieee.Exact.{HasValue}
 use lib.Ieee.Scale.{round-same}
 use lib.IntN.{negsuc, pos}
+use Rattle.laws.proofs.Interval.{Within}
 use Rattle.laws.proofs.Values.{exact-at, mul-round, ofInt-val, rescale, sub-round, sum-neg, sum-pos-neg}
 use Rattle.laws.specs.Float.{two}
 use Rattle.numeric.specs.Draw.{bipolarOf, drawOf}
@@ -82,3 +83,12 @@ bipolar-exact k h = go (ltb (2 * k) 9007199254740992) (ltb→lt (2 * k) 90071992
     go : (b : Bool) → (T b → 2 * k < 9007199254740992) → (T (not b) → 9007199254740992 ≤ 2 * k) → HasValue (bipolarOf k) b (cond b (9007199254740992 - 2 * k) (2 * k - 9007199254740992)) 9007199254740992
     go true f g = rescale (bipolarOf k) true (4503599627370496 - k) 4503599627370496 (9007199254740992 - 2 * k) 9007199254740992 (lit< tt) (less k) (bipolar-low k (low k (f tt)))
     go false f g = rescale (bipolarOf k) false (k - 4503599627370496) 4503599627370496 (2 * k - 9007199254740992) 9007199254740992 (lit< tt) (more k) (bipolar-high k (high k (g tt)) h)
+
+-- so no draw is larger than 1
+pub bipolar-within : (k : ℕ) → k < 2 ^ 53 → Within 0 (bipolarOf k)
+bipolar-within k h =
+    let low = ltb (2 * k) (2 ^ 53) in (low, (cond low (2 ^ 53 - 2 * k) (2 * k - 2 ^ 53), 2 ^ 53, lit< tt, small low k h, bipolar-exact k h))
+  where
+    small : (b : Bool) (k : ℕ) → k < 9007199254740992 → cond b (9007199254740992 - 2 * k) (2 * k - 9007199254740992) ≤ 1 * 9007199254740992
+    small true k h = omega arith
+    small false k h = omega arith

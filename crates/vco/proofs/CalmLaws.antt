@@ -19,14 +19,15 @@ use Rattle.laws.proofs.Values.{mul-round, round-zero}
 use Rattle.numeric.specs.Basic.{fabsOf}
 use Rattle.numeric.specs.Trig.{sinOf}
 use Rattle.numeric.proofs.BasicLaws.{within-fabs}
-use Rattle.common.proofs.Bounds.{phase-within, sin-within, zer-within, one-within, half-within, two-within, four-within, five-within, tau-within}
+use Rattle.common.proofs.Bounds.{phase-within, sin-within, zer-within, one-within, half-within, two-within, four-within, five-within, tau-within, out-finite}
 use Rattle.common.specs.Consts.{four, five, half, tau}
 use Rattle.common.specs.Phase.{turns, polyblepOf, polyblampOf}
+use Rattle.common.specs.Ports.{wants}
 use Rattle.common.specs.Tests.{phaseOk}
 use Rattle.answer.specs.Answer.{answerOf}
 use Rattle.answer.specs.Mark.{allFinite, markOf, ruleOf}
-use Rattle.vco.specs.Waves.{outOf, sineOf, sawOf, levelOf, pwEdgeOf, sqrOf, cornerHalfOf, triOf, steppedOf, Quiet}
-use Rattle.vco.specs.Vco.{wants, plainVolts, vcoVoltsOf, vcoAnswerOf}
+use Rattle.vco.specs.Waves.{sineOf, sawOf, levelOf, pwEdgeOf, sqrOf, cornerHalfOf, triOf, steppedOf, Quiet}
+use Rattle.vco.specs.Vco.{plainVolts, vcoVoltsOf, vcoAnswerOf}
 use Rattle.vco.proofs.QuietLaws.{away}
 use Rattle.common.specs.declared.Crossing.{Crossing}
 use Rattle.common.specs.declared.Crossing.the-variants.{Nowhere}
@@ -88,11 +89,6 @@ unfolding vcoVoltsOf steppedOf
 quiet-volts at p old pw w wanted q z = simp (q .nowhere, q .wrap, q .fall, q .lower, q .upper, z)
 
 -- ---- they are finite
-out-finite : (want : Bool) (k : ℕ) (x : Float) → k + 3 ≤ 1023 → Within k x → isFin (outOf want x) ≡ true
-unfolding outOf
-out-finite true k x h p = is-true _ (within-finite (k + 3) (mul binary64 x five) (within-mul k 3 x five h p five-within))
-out-finite false k x h p = unfold ofBits in refl
-
 sine-finite : (want : Bool) (p : Float) → Within 0 p → isFin (sineOf want p) ≡ true
 unfolding sineOf
 sine-finite true p h =

@@ -15,6 +15,7 @@ use Rattle.common.specs.Pitch.{voctToHz}
 use Rattle.common.specs.Phase.{polyblepOf, polyblampOf, incrementOf, restartOf}
 use Rattle.common.specs.Memo.{hits3, filled3, recall3}
 use Rattle.common.specs.Edge.{risesAbove, crossedAboveOf, crossedOf}
+use Rattle.common.specs.Ports.{outOf}
 use Rattle.common.specs.Tests.{rateOk}
 use Rattle.common.specs.declared.Crossing.the-variants.{Nowhere}
 use Rattle.answer.specs.Answer.{answerOf}
@@ -22,7 +23,7 @@ use Rattle.answer.specs.Mark.{allFinite, markOf, ruleOf}
 use Rattle.answer.specs.declared.Volts.{Volts}
 use Rattle.answer.specs.declared.Answer.the-variants as answer
 use Rattle.vco.specs.Consts.{pwLow, pwHigh}
-use Rattle.vco.specs.Waves.{outOf, sineOf, sawOf, levelOf, pwEdgeOf, sqrOf, cornerHalfOf, triOf, steppedOf}
+use Rattle.vco.specs.Waves.{sineOf, sawOf, levelOf, pwEdgeOf, sqrOf, cornerHalfOf, triOf, steppedOf}
 use Rattle.vco.specs.Vco.{newVco, frequencyOf, crossesOf, vcoVoltsOf, vcoAnswerOf, vcoSoundOf}
 use Rattle.vco.specs.Promises.{frameRate, frameControls, First-frame}
 use Rattle.vco.proofs.Reached.{good-new, tick-sound}

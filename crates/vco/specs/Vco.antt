@@ -1,8 +1,7 @@
 -- The Vco's calls, written from oscillators.rs line by line, with document 01's marks and refusals.
-use mathlib.Core.Bool.{Bool, true, false, cond, not}
+use mathlib.Core.Bool.{Bool, true, false, cond}
 use mathlib.Core.List.{List}
 use Prim.Native.Nat.{ℕ}
-use lib.Bits.{bitAnd}
 use lib.Dec.{eqb}
 use lib.Ieee.{Float, binary64, add, sub, mul, div, neg}
 use Rattle.laws.specs.Float.{zer, one, two, isFin}
@@ -13,11 +12,12 @@ use Rattle.common.specs.Pitch.{voctToHz}
 use Rattle.common.specs.Phase.{turns, wrapOf, polyblepOf, polyblampOf, incrementOf, restartOf}
 use Rattle.common.specs.Memo.{newMemo3, recall3}
 use Rattle.common.specs.Edge.{newEdge, crossedOf}
+use Rattle.common.specs.Ports.{wants, outOf}
 use Rattle.common.specs.Tests.{rateOk, phaseOk}
 use Rattle.answer.specs.Block.{Block, blockOf}
 use Rattle.answer.specs.Mark.{markOf}
 use Rattle.vco.specs.Consts.{pwLow, pwHigh}
-use Rattle.vco.specs.Waves.{outOf, sineOf, sawOf, levelOf, pwEdgeOf, sqrOf, cornerHalfOf, triOf, steppedOf}
+use Rattle.vco.specs.Waves.{sineOf, sawOf, levelOf, pwEdgeOf, sqrOf, cornerHalfOf, triOf, steppedOf}
 use Rattle.common.specs.declared.Hertz.{Hertz}
 use Rattle.common.specs.declared.Turns.{Turns}
 use Rattle.common.specs.declared.Crossing.{Crossing}
@@ -49,10 +49,6 @@ crossesOf (At frac) = true
 
 abbrev pub syncedOf : Turns → Crossing → Turns
 syncedOf p at = restartOf p (crossesOf at)
-
--- wanted & bit != 0
-abbrev pub wants : ℕ → ℕ → Bool
-wants wanted bit = not (eqb (bitAnd wanted bit) 0)
 
 -- the four outputs
 unfoldable pub vcoVoltsOf : Crossing → Float → Float → Float → Float → ℕ → Volts

@@ -13,10 +13,6 @@ use Rattle.vco.specs.Consts.{pwLow, pwHigh}
 use Rattle.common.specs.declared.Crossing.{Crossing}
 use Rattle.common.specs.declared.Crossing.the-variants.{Nowhere, At}
 
--- outputs.set(.., x * 5.0); what isn't wanted reads 0.0
-unfoldable pub outOf : Bool → Float → Float
-outOf want x = cond want (mul binary64 x five) zer
-
 -- sin(phase * TAU) * 5.0
 unfoldable pub sineOf : Bool → Float → Float
 sineOf want p = cond want (mul binary64 (sinOf (mul binary64 p tau)) five) zer

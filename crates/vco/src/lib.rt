@@ -20,12 +20,13 @@ ghost use Rattle.laws.specs.Lists.{tab};
 ghost use Rattle.numeric.specs.Basic.{fabsOf, clampOf};
 ghost use Rattle.common.specs.Phase.{turns, wrapOf};
 ghost use Rattle.common.specs.Memo.{recall3};
+ghost use Rattle.common.specs.Ports.{wants};
 ghost use Rattle.common.specs.Tests.{phaseOk};
 ghost use Rattle.answer.specs.Answer.{hostNumber, voltsOf};
 ghost use Rattle.answer.specs.Block.{afterTicks, portsOf, joined, block, markAt, frameAt};
 ghost use Rattle.vco.specs.Consts.{pwLow, pwHigh};
-ghost use Rattle.vco.specs.Waves.{outOf, sineOf, sawOf, levelOf, Width, pwEdgeOf, sqrOf, cornerHalfOf, triOf, steppedOf, Quiet};
-ghost use Rattle.vco.specs.Vco.{frequencyOf, crossesOf, wants, plainVolts, vcoAnswerOf, vcoSoundOf, vcoRefusalOf, vcoRateRefusalOf};
+ghost use Rattle.vco.specs.Waves.{sineOf, sawOf, levelOf, Width, pwEdgeOf, sqrOf, cornerHalfOf, triOf, steppedOf, Quiet};
+ghost use Rattle.vco.specs.Vco.{frequencyOf, crossesOf, plainVolts, vcoAnswerOf, vcoSoundOf, vcoRefusalOf, vcoRateRefusalOf};
 ghost use Rattle.vco.specs.Vco.{vcoNewOf, vcoTickOf, vcoToldOf, vcoNextOf, vcoBlockOf, vcoResetOf, vcoSetSampleRateOf};
 ghost use Rattle.vco.specs.Held.{held, heldAnswer, heldNext};
 
@@ -115,13 +116,6 @@ fn crosses(at: Crossing) -> bool
         Crossing::At(_) => true,
         Crossing::Nowhere => false,
     }
-}
-
-// Scaled to ±5 V. What isn't wanted reads 0.0.
-fn out(want: bool, x: f64) -> f64
-    ensures { λ r. ⌜ r ≡ outOf want x ⌝ }
-{
-    if want { x * 5.0 } else { 0.0 }
 }
 
 fn sine(want: bool, phase: Turns) -> f64
@@ -296,9 +290,9 @@ impl Vco {
     {
         Volts {
             p10: sin,
-            p11: out(wanted & Self::WANT_TRI != 0, triangle(phase, 0.0, 0.0)),
-            p12: out(wanted & Self::WANT_SAW != 0, saw(phase, 0.0)),
-            p13: out(wanted & Self::WANT_SQR != 0, square(phase, pw, 0.0, 0.0)),
+            p11: common::out(wanted & Self::WANT_TRI != 0, triangle(phase, 0.0, 0.0)),
+            p12: common::out(wanted & Self::WANT_SAW != 0, saw(phase, 0.0)),
+            p13: common::out(wanted & Self::WANT_SQR != 0, square(phase, pw, 0.0, 0.0)),
             p14: 0.0,
         }
     }
@@ -328,9 +322,9 @@ impl Vco {
         let sqr = stepped(at, square(phase, pw, wrap, fall), sqr_step, dt_abs);
         let volts = Volts {
             p10: sin,
-            p11: out(wanted & Self::WANT_TRI != 0, tri),
-            p12: out(wanted & Self::WANT_SAW != 0, saw),
-            p13: out(wanted & Self::WANT_SQR != 0, sqr),
+            p11: common::out(wanted & Self::WANT_TRI != 0, tri),
+            p12: common::out(wanted & Self::WANT_SAW != 0, saw),
+            p13: common::out(wanted & Self::WANT_SQR != 0, sqr),
             p14: 0.0,
         };
         answer::mark(volts, false, true, numeric::is_finite(phase.0 + dt.0))

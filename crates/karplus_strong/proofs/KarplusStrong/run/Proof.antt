@@ -3,13 +3,14 @@ use lib.ListN.{length}
 use Rattle.laws.specs.Lists.{tab}
 use Rattle.laws.specs.Float.{zer, one}
 use Rattle.numeric.specs.Basic.{clampOf}
+use Rattle.common.proofs.DrawLaws.{draws-enough}
 use Rattle.common.specs.Consts.{half}
 use Rattle.answer.proofs.Blocks.{held-after, held-marks, held-frames}
 use Rattle.answer.specs.Block.{afterTicks, joined, frameAt, markAt}
 use Rattle.karplus_strong.specs.Held.{tuningOf, heldAnswer, heldNext}
 use Rattle.karplus_strong.specs.KarplusStrong.{finiteOr}
 use Rattle.karplus_strong.proofs.Held.{holds, trigger-by, run-by}
-use Rattle.karplus_strong.proofs.Parts.{zer-fin, one-fin, minus-one-fin, accepted, memo-number, period-cut, draws-enough, struck-room, strike-taken, strike-none, delay-range, sound-ready}
+use Rattle.karplus_strong.proofs.Parts.{zer-fin, one-fin, minus-one-fin, accepted, memo-number, period-cut, struck-room, strike-taken, strike-none, delay-range, sound-ready}
 use borrow.Author.Needs.{needs}
 use Rattle.karplus_strong.proofs.KarplusStrong.run.Statement.{statement}
 use Rattle.karplus_strong.proofs.KarplusStrong.run.Tie as tie

@@ -1,5 +1,6 @@
 use mathlib.Core.Path.{ap, _∙_}
-use Rattle.karplus_strong.proofs.Parts.{zer-fin, one-fin, draws-enough, strike-taken, strike-none}
+use Rattle.common.proofs.DrawLaws.{draws-enough}
+use Rattle.karplus_strong.proofs.Parts.{zer-fin, one-fin, strike-taken, strike-none}
 use borrow.Author.Needs.{needs}
 use Rattle.karplus_strong.proofs.KarplusStrong.strike_if.Statement.{statement}
 use Rattle.karplus_strong.proofs.KarplusStrong.strike_if.Tie as tie

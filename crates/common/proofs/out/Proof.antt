@@ -1,6 +1,6 @@
-use Rattle.vco.specs.Waves.{outOf}
-use Rattle.vco.proofs.out.Statement.{statement}
-use Rattle.vco.proofs.out.Tie as tie
+use Rattle.common.specs.Ports.{outOf}
+use Rattle.common.proofs.out.Statement.{statement}
+use Rattle.common.proofs.out.Tie as tie
 
 returns : tie.Need-returns
 unfolding outOf
