@@ -23,7 +23,7 @@ use Rattle.answer.specs.declared.Answer.{Answer}
 use Rattle.answer.specs.declared.Answer.the-variants as answer
 use Rattle.answer.specs.declared.Tally.{Tally}
 use Rattle.answer.specs.declared.Tallied.the-variants as tallied
-use Rattle.answer.specs.Promises.{Block-counts, AllAccepted, AllTaken}
+use Rattle.answer.specs.Promises.{Block-counts, AllAccepted, AllTaken, AcceptedTo, TakenTo}
 use Rattle.answer.proofs.Laws.{takes}
 
 -- ---- room
@@ -346,27 +346,27 @@ mark-one (answer.NotFinite v) h = record { one = refl; marked = refl; same = λ 
 mark-one (answer.Lost v) h = record { one = refl; marked = refl; same = λ t. refl }
 mark-one (answer.Refused n) h = absurd (false≢true h)
 
-module _ (t : Tally) (a : ℕ → Answer) (h : (i : ℕ) → accepted (a i) ≡ true) where
+module _ (t : Tally) (a : ℕ → Answer) (n : ℕ) (h : (i : ℕ) → i < n → accepted (a i) ≡ true) where
   abbrev marks : ℕ → ℕ
   marks j = hostNumber (a j)
 
-  many-all : (n : ℕ) → manyTo 14 marks n + manyTo 11 marks n + manyTo 12 marks n + manyTo 13 marks n ≡ n
+  many-all : (i : ℕ) → i ≤ n → manyTo 14 marks i + manyTo 11 marks i + manyTo 12 marks i + manyTo 13 marks i ≡ i
   unfolding manyTo
-  many-all zero = refl
-  many-all (suc n) = let p = many-all n in let q = mark-one (a n) (h n) .one in omega arith
+  many-all zero l = refl
+  many-all (suc i) l = let p = many-all i (omega arith) in let q = mark-one (a i) (h i l) .one in omega arith
 
   sums : (i : ℕ) → t .begun ≡ sumOf t → countedTo t marks i .begun ≡ sumOf (countedTo t marks i)
   unfolding countedTo grownBy
   sums i e = omega arith
 
-  begun-at : (i : ℕ) → countedTo t marks i .begun ≡ t .begun + i
+  begun-at : (i : ℕ) → i ≤ n → countedTo t marks i .begun ≡ t .begun + i
   unfolding countedTo grownBy
-  begun-at i = ap (λ (k : ℕ). t .begun + k) (many-all i)
+  begun-at i l = ap (λ (k : ℕ). t .begun + k) (many-all i l)
 
-  one-more : (i : ℕ) → counted-by (countedTo t marks i) (marks i) ≡ countedTo t marks (suc i)
+  one-more : (i : ℕ) → i < n → counted-by (countedTo t marks i) (marks i) ≡ countedTo t marks (suc i)
   unfolding countedTo grownBy manyTo
-  one-more i =
-      let q = mark-one (a i) (h i) .one in
+  one-more i k =
+      let q = mark-one (a i) (h i k) .one in
       let b : t .begun + (manyTo 14 marks i + manyTo 11 marks i + manyTo 12 marks i + manyTo 13 marks i) + 1
       ≡ t .begun
       + (manyTo 14 marks i + oneIf (marks i) 14 + (manyTo 11 marks i + oneIf (marks i) 11) + (manyTo 12 marks i + oneIf (marks i) 12) + (manyTo 13 marks i + oneIf (marks i) 13)) = omega arith in
@@ -376,21 +376,24 @@ module _ (t : Tally) (a : ℕ → Answer) (h : (i : ℕ) → accepted (a i) ≡ 
       let l : t .lost + manyTo 13 marks i + oneIf (marks i) 13 ≡ t .lost + (manyTo 13 marks i + oneIf (marks i) 13) = omega arith in
       (λ j. record { begun = b j; finished = f j; cleared = c j; notfinite = n j; lost = l j })
 
-  taken-at : (i n : ℕ) → roomFor t n ≡ true → i < n → tallyOf (countedTo t marks i) (a i) ≡ tallied.Taken (countedTo t marks (suc i))
+  taken-at : (i : ℕ) → roomFor t n ≡ true → i < n → tallyOf (countedTo t marks i) (a i) ≡ tallied.Taken (countedTo t marks (suc i))
   unfolding tallyOf addsUp
-  taken-at i n r l =
+  taken-at i r l =
       let w = room-says t n r in
-      let b = begun-at i in
+      let b = begun-at i (omega arith) in
       simp (
         eq-eqb (countedTo t marks i .begun) (sumOf (countedTo t marks i)) (sums i (w .0)),
-        mark-one (a i) (h i) .marked,
+        mark-one (a i) (h i l) .marked,
         ne-eqb (countedTo t marks i .begun) 4294967295 (λ z. omega arith),
-        mark-one (a i) (h i) .same,
-        one-more i,
+        mark-one (a i) (h i l) .same,
+        one-more i l,
       )
 
 pub block-counts : Block-counts
-block-counts t a n h r i l = takes _ (a i) _ (rw add-one (taken-at t a h i n r l))
+block-counts t a n h r i l = takes _ (a i) _ (rw add-one (taken-at t a n h i r l))
 
 pub all-taken : {S : Type 0} (answer : S → Answer) (next : S → S) (s : S) → AllAccepted answer next s → AllTaken answer next s
-all-taken answer next s h t n r i l = block-counts t (answerAt answer next s) n h r i l
+all-taken answer next s h t n r i l = block-counts t (answerAt answer next s) n (λ j k. h j) r i l
+
+pub taken-to : {S : Type 0} (answer : S → Answer) (next : S → S) (s : S) (n : ℕ) → AcceptedTo answer next s n → TakenTo answer next s n
+taken-to answer next s n h t r i l = block-counts t (answerAt answer next s) n h r i l

@@ -71,7 +71,8 @@ pub record Block (S : Type 0) : Type 0 where
 abbrev pub block : {S : Type 0} → ℕ → S → Tally → List Float → List ℕ → Block S
 block n s t o m = record { refused = n; state = s; tally = t; samples = o; marks = m }
 
--- 0, or what refuses it: 52 where samples doesn't fit marks, then what refuses the first tick, then the tally's 7
+-- 0, or what refuses it: 52 where samples doesn't fit marks, then what refuses its ticks (of most oscillators the first alone; of noise the draws
+-- of all), then the tally's 7
 unfoldable pub blockRefusalOf : Bool → ℕ → Tally → ℕ → ℕ
 blockRefusalOf fits number t n = cond fits (cond (eqb number 0) (cond (roomFor t n) 0 7) number) 52
 

@@ -43,7 +43,7 @@ Refused-nowhere = (t : Tally) (a : Answer) → accepted a ≡ false → t .begun
 
 -- a tally with room for n answers takes each of n that are accepted, in order, and is then the one that a block leaves
 abbrev pub Block-counts : Type 0
-Block-counts = (t : Tally) (a : ℕ → Answer) (n : ℕ) → ((i : ℕ) → accepted (a i) ≡ true) → roomFor t n ≡ true
+Block-counts = (t : Tally) (a : ℕ → Answer) (n : ℕ) → ((i : ℕ) → i < n → accepted (a i) ≡ true) → roomFor t n ≡ true
     → (i : ℕ) → i < n → Takes (countedTo t (λ j. hostNumber (a j)) i) (a i) (countedTo t (λ j. hostNumber (a j)) (i + 1))
 
 -- the same of an oscillator's ticks: each is accepted, whatever their number
@@ -53,4 +53,12 @@ AllAccepted answer next s = (i : ℕ) → accepted (answerAt answer next s i) �
 -- and a tally takes their answers one by one
 abbrev pub AllTaken : {S : Type 0} → (S → Answer) → (S → S) → S → Type 0
 AllTaken answer next s = (t : Tally) (n : ℕ) → roomFor t n ≡ true
+    → (i : ℕ) → i < n → Takes (countedTo t (markAt answer next s) i) (answerAt answer next s i) (countedTo t (markAt answer next s) (i + 1))
+
+-- and where only the first n ticks are known to be accepted
+abbrev pub AcceptedTo : {S : Type 0} → (S → Answer) → (S → S) → S → ℕ → Type 0
+AcceptedTo answer next s n = (i : ℕ) → i < n → accepted (answerAt answer next s i) ≡ true
+
+abbrev pub TakenTo : {S : Type 0} → (S → Answer) → (S → S) → S → ℕ → Type 0
+TakenTo answer next s n = (t : Tally) → roomFor t n ≡ true
     → (i : ℕ) → i < n → Takes (countedTo t (markAt answer next s) i) (answerAt answer next s i) (countedTo t (markAt answer next s) (i + 1))
