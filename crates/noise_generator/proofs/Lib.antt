@@ -1,0 +1,15 @@
+pub mod RowLaws
+pub mod CountLaws
+pub mod PinkLaws
+pub mod TurnLaws
+pub mod TickLaws
+pub mod Refusals
+pub mod DrawsOnly
+pub mod Bounds
+pub mod Stored
+pub mod Clean
+pub mod CalmLaws
+pub mod Settled
+pub mod BlockDraws
+pub mod TickLeaves
+pub mod FirstTick

@@ -1,0 +1,144 @@
+use mathlib.Core.Path.{_≡_, refl, ap, _∙_}
+use Prim.Native.Nat.{_≤_, _+_, _-_}
+use native.Mathlib.Nat.{le-antisymm}
+use native.Mathlib.Omega.{arith}
+use lib.ListN.{length, length-set}
+use lib.Seq.{sets, length-sets}
+use borrow.Author.Needs.{needs}
+use Rattle.laws.proofs.Over.{over-none}
+use Rattle.laws.specs.Lists.{over}
+use Rattle.answer.proofs.Blocks.{four-ports, joined-none, frames-more, frames-done, marks-more, marks-done}
+use Rattle.answer.specs.Block.{afterTicks, markAt, frameAt, joined}
+use Rattle.noise_generator.specs.Apart.{whole, neededAt}
+use Rattle.noise_generator.specs.NoiseGenerator.{neededOf, changedBy, neededBy, correlationOf, drawing, noiseGeneratorAnswerOf, noiseGeneratorNextOf}
+use Rattle.noise_generator.proofs.CalmLaws.{ahead-finite}
+use Rattle.noise_generator.proofs.TickLaws.{drawingAt, ticks-at, heard, moved, advanced, reaches}
+use Rattle.noise_generator.proofs.TurnLaws.{rest-fits, turn-there}
+use Rattle.noise_generator.proofs.NoiseGenerator.run.Statement.{statement}
+use Rattle.noise_generator.proofs.NoiseGenerator.run.Tie as tie
+
+abbrev Inv-loop : tie.InvT-loop
+Inv-loop self c wanted draws samples₀ marks₀ rows₀ rows2₀ rest₀ last-white₀ calm at₀ i₀ samples marks rows rows2 rest last-white at i =
+    (i ≤ length marks₀)
+    × (length samples ≡ length samples₀)
+    × (length marks ≡ length marks₀)
+    × (samples ≡ sets samples₀ 0 (joined (frameAt 4 (noiseGeneratorAnswerOf c wanted) (noiseGeneratorNextOf c wanted) (drawing self draws)) i))
+    × (marks ≡ over (markAt (noiseGeneratorAnswerOf c wanted) (noiseGeneratorNextOf c wanted) (drawing self draws)) i marks₀)
+    × (whole rows rows2 rest (self .correlation) last-white ≡ drawingAt self c wanted draws i .noise)
+    × (at ≡ neededBy self i)
+
+abbrev μ-loop : tie.MeasureT-loop
+μ-loop self c wanted draws samples₀ marks₀ rows₀ rows2₀ rest₀ last-white₀ calm at₀ i₀ samples marks rows rows2 rest last-white at i = length marks₀ - i
+
+calm-requires : tie.Need-calm-requires Inv-loop μ-loop
+calm-requires c κs = search needs
+
+loop-holds : tie.Need-loop-holds Inv-loop μ-loop
+unfolding afterTicks neededBy changedBy
+loop-holds c = (omega arith, refl, refl, joined-none _ _, over-none _ _, refl, refl)
+
+clamped-requires : tie.Need-clamped-requires Inv-loop μ-loop
+clamped-requires c κs = search needs
+
+mul-turn : tie.Need-mul-turn Inv-loop μ-loop
+mul-turn c = let a = c .before .before .before .before .before .before .before .before .before .before .before .before .before .args in let l = c .before .before .before .before .loop in let h = ticks-at (a .self) (a .c) (a .wanted) (a .draws .now) _ (c .before .before .before .before .before .before .before .before .before .before .before .before .before .pre .0) (l .i) (l .inv .0) .fits in let p = l .inv .6 in omega arith
+
+sub-turn : tie.Need-sub-turn Inv-loop μ-loop
+sub-turn c = let a = c .before .before .before .before .before .before .before .before .before .before .before .before .before .args in let l = c .before .before .before .before .loop in let h = ticks-at (a .self) (a .c) (a .wanted) (a .draws .now) _ (c .before .before .before .before .before .before .before .before .before .before .before .before .before .pre .0) (l .i) (l .inv .0) .fits in let p = l .inv .6 in omega arith
+
+part-turn-start : tie.Need-part-turn-start Inv-loop μ-loop
+part-turn-start c = let a = c .before .before .before .before .before .before .before .before .before .before .before .before .before .args in let l = c .before .before .before .before .loop in let h = ticks-at (a .self) (a .c) (a .wanted) (a .draws .now) _ (c .before .before .before .before .before .before .before .before .before .before .before .before .before .pre .0) (l .i) (l .inv .0) .fits in let p = l .inv .6 in omega arith
+
+part-turn-end : tie.Need-part-turn-end Inv-loop μ-loop
+part-turn-end c = let a = c .before .before .before .before .before .before .before .before .before .before .before .before .before .args in let l = c .before .before .before .before .loop in let h = ticks-at (a .self) (a .c) (a .wanted) (a .draws .now) _ (c .before .before .before .before .before .before .before .before .before .before .before .before .before .pre .0) (l .i) (l .inv .0) .fits in let p = l .inv .6 in omega arith
+
+turn-requires : tie.Need-turn-requires Inv-loop μ-loop
+unfolding neededAt neededOf
+turn-requires c κs =
+    let a = c .before .before .before .before .before .before .before .before .before .before .before .before .before .before .args in
+    let h = c .before .before .before .before .before .before .before .before .before .before .before .before .before .before .pre .0 in
+    let good = c .before .before .before .before .before .before .before .before .before .before .before .before .before .before .good .0 .1 in
+    let l = c .before .before .before .before .before .loop in
+    let x = whole (l .rows) (l .rows2) (l .rest) (a .self .correlation) (l .last-white) in (
+      rest-fits (a .draws .now) (l .at) _ (reaches (a .self) (a .c) (a .wanted) (a .draws .now) _ h (l .i) (omega arith) x (l .at) _ (l .inv .5) (l .inv .6) refl),
+      λ e. ahead-finite (a .self) (a .c) (a .wanted) (a .draws .now) _ h (search (needs, good .0)) (search (needs, good .1 .1 .0)) (c .before .before .before .before .before .before .calm .ensures e) (l .i) (omega arith) _ x (l .at) (c .before .before .before .clamped .ensures) (l .inv .5) (l .inv .6),
+    )
+
+put-requires : tie.Need-put-requires Inv-loop μ-loop
+put-requires c κs = (omega arith, omega arith)
+
+add-at : tie.Need-add-at Inv-loop μ-loop
+unfolding neededAt neededOf
+add-at c =
+    let a = c .before .before .before .before .before .before .before .before .before .before .before .before .before .before .before .before .before .before .before .before .before .before .before .before .args in
+    let l = c .before .before .before .before .before .before .before .before .before .before .before .before .before .before .before .loop in
+    let t = c .before .before .before .before .before .before .before .before .before .before .before .before .before .before .loop-test .taken in
+    let h = reaches (a .self) (a .c) (a .wanted) (a .draws .now) _ (c .before .before .before .before .before .before .before .before .before .before .before .before .before .before .before .before .before .before .before .before .before .before .before .before .pre .0) (l .i) (omega arith) (whole (l .rows) (l .rows2) (l .rest) (a .self .correlation) (l .last-white)) (l .at) _ (l .inv .5) (l .inv .6) refl in
+    let e = c .before .before .before .before .before .before .before .before .before .turn .ensures .1 in
+    let g = c .before .before .before .before .before .before .before .before .before .before .before .before .before .before .before .before .before .before .before .before .before .before .before .before .good in
+    omega arith
+
+add-i : tie.Need-add-i Inv-loop μ-loop
+add-i c = let t = c .before .before .before .before .before .before .before .before .before .before .before .before .before .before .loop-test .taken in let s = c .before .before .before .before .before .before .before .before .before .before .before .before .before .before .before .loop .inv in let g = c .before .before .before .before .before .before .before .before .before .before .before .before .before .before .before .before .before .before .before .before .before .before .before .before .good in omega arith
+
+loop-less : tie.Need-loop-less Inv-loop μ-loop
+loop-less c = omega arith
+
+loop-again : tie.Need-loop-again Inv-loop μ-loop
+unfolding neededAt neededOf
+loop-again c =
+    let s = c .before .before .before .before .before .before .before .before .before .before .before .before .before .before .before .loop in
+    let a = c .before .before .before .before .before .before .before .before .before .before .before .before .before .before .before .before .before .before .before .before .before .before .before .before .args in
+    let h = c .before .before .before .before .before .before .before .before .before .before .before .before .before .before .before .before .before .before .before .before .before .before .before .before .pre .0 in
+    let t = c .before .before .before .before .before .before .before .before .before .before .before .before .before .before .loop-test .taken in
+    let p = c .before .before .before .before .before .before .put .ensures in
+    let r = c .before .before .before .before .before .before .before .before .before .turn in
+    let x = whole (s .rows) (s .rows2) (s .rest) (a .self .correlation) (s .last-white) in
+    let e = turn-there _ (correlationOf (a .self) (a .c)) x (a .wanted) (s .at) (a .draws .now) _ (c .before .before .before .before .before .before .before .before .before .before .before .before .before .clamped .ensures) (r .ensures .0 (a .self .correlation) (s .last-white)) in
+    let told = heard (a .self) (a .c) (a .wanted) (a .draws .now) _ h (s .i) (omega arith) x (s .at) _ (s .inv .5) (s .inv .6) e in (
+      omega arith,
+      simp (p .0, length-sets) (s .inv .1),
+      simp (p .1, length-set) (s .inv .2),
+      rw (p .0) (frames-more 4 four-ports _ _ _ _ _ _ _ (s .inv .3) told),
+      rw (p .1) (marks-more 4 four-ports _ _ _ _ _ _ _ (omega arith) (s .inv .4) told),
+      moved (a .self) (a .c) (a .wanted) (a .draws .now) _ h (s .i) (omega arith) x (s .at) _ (s .inv .5) (s .inv .6) e,
+      ap (λ k. s .at + k) (r .ensures .1) ∙ advanced (a .self) (a .c) (a .wanted) (a .draws .now) _ h (s .i) (omega arith) x (s .at) _ (s .inv .5) (s .inv .6) e,
+    )
+
+same-length : tie.Need-same-length Inv-loop μ-loop
+same-length c = c .before .loop .inv .1
+
+same-length-2 : tie.Need-same-length-2 Inv-loop μ-loop
+same-length-2 c = c .before .loop .inv .2
+
+returns : tie.Need-returns Inv-loop μ-loop
+returns c =
+    let s = c .before .loop in
+    let a = c .before .before .before .before .before .before .before .before .before .before .args in
+    let n = le-antisymm (s .inv .0) (omega arith) in (
+      s .inv .5 ∙ ap (λ k. drawingAt (a .self) (a .c) (a .wanted) (a .draws .now) k .noise) n,
+      (frames-done 4 four-ports _ _ _ _ _ _ _ n (c .before .before .before .before .before .before .before .before .before .before .pre .1) (s .inv .3), marks-done 4 four-ports _ _ _ _ _ _ _ n refl (s .inv .4)),
+    )
+
+pub run-spec : {M : Type 1} → statement M
+run-spec =
+    tie.close
+    (tie.spec
+    Inv-loop
+    μ-loop
+    calm-requires
+    loop-holds
+    clamped-requires
+    mul-turn
+    sub-turn
+    part-turn-start
+    part-turn-end
+    turn-requires
+    put-requires
+    add-at
+    add-i
+    loop-less
+    loop-again
+    same-length
+    same-length-2
+    returns)

@@ -1,0 +1,107 @@
+use mathlib.Core.Path.{ap, _∙_}
+use native.Mathlib.Omega.{arith}
+use Rattle.answer.specs.Mark.{allFinite}
+use Rattle.noise_generator.proofs.RowLaws.{changed-most}
+use Rattle.noise_generator.proofs.TurnLaws.{needed-two, all-taken, outputs, turned}
+use borrow.Author.Needs.{needs}
+use Rattle.noise_generator.proofs.NoiseGenerator.turn.Statement.{statement}
+use Rattle.noise_generator.proofs.NoiseGenerator.turn.Tie as tie
+
+next-index-requires : tie.Need-next-index-requires
+next-index-requires c κs = search needs
+
+next-index-requires-2 : tie.Need-next-index-requires-2
+next-index-requires-2 c κs = search needs
+
+changed-requires : tie.Need-changed-requires
+changed-requires c κs = search needs
+
+changed-requires-2 : tie.Need-changed-requires-2
+changed-requires-2 c κs = search needs
+
+shared-slice-read-bipolar : tie.Need-shared-slice-read-bipolar
+shared-slice-read-bipolar c = let h = needed-two _ _ _ (c .before .before .before .before .before .before .pre .0) in omega arith
+
+bipolar-requires : tie.Need-bipolar-requires
+bipolar-requires c κs = search needs
+
+shared-slice-read-bipolar-2 : tie.Need-shared-slice-read-bipolar-2
+shared-slice-read-bipolar-2 c = let h = needed-two _ _ _ (c .before .before .before .before .before .before .before .before .pre .0) in omega arith
+
+bipolar-requires-2 : tie.Need-bipolar-requires-2
+bipolar-requires-2 c κs = search needs
+
+sample-requires : tie.Need-sample-requires
+sample-requires c κs =
+    let called = c .before .before .before .before .before in
+    let t = all-taken (c .before .before .before .before .before .before .before .before .before .before .args .rest) _ _ _ _ (called .before .before .before .next-index .ensures) (called .before .before .next-index2 .ensures) (called .before .changed .ensures) (called .changed2 .ensures) in
+    let m = changed-most (called .before .before .before .next-index .result) in
+    let e = called .before .changed .ensures in
+    let p = c .before .before .before .before .before .before .before .before .before .before .pre .0 in
+    (omega arith, omega arith)
+
+add-sample : tie.Need-add-sample
+add-sample c = let m = changed-most (c .before .before .before .before .before .before .before .before .before .before .next-index .result) in let e = c .before .before .before .before .before .before .before .before .changed .ensures in omega arith
+
+sample-requires-2 : tie.Need-sample-requires-2
+sample-requires-2 c κs =
+    let called = c .before .before .before .before .before .before .before in
+    let t = all-taken (c .before .before .before .before .before .before .before .before .before .before .before .before .args .rest) _ _ _ _ (called .before .before .before .next-index .ensures) (called .before .before .next-index2 .ensures) (called .before .changed .ensures) (called .changed2 .ensures) in
+    let m = changed-most (called .before .before .next-index2 .result) in
+    let e = called .changed2 .ensures in
+    let p = c .before .before .before .before .before .before .before .before .before .before .before .before .pre .0 in
+    (omega arith, omega arith)
+
+heard-requires : tie.Need-heard-requires
+heard-requires c κs calm =
+    let called = c .before .before .before .before .before .before .before .before in
+    let a = c .before .before .before .before .before .before .before .before .before .before .before .before .before .args in
+    ap allFinite
+    (outputs (a .rest) _ _ _ _ (called .before .before .before .next-index .ensures) (called .before .before .next-index2 .ensures) (called .before .changed .ensures) (called .changed2 .ensures) (a .correlation) (a .wanted) (a .draws .now) (a .rows .now) (a .rows2 .now) _ _ _ _ _ _
+    (c .before .before .before .before .before .before .bipolar .ensures) (c .before .before .before .before .bipolar2 .ensures) (c .before .before .sample .ensures) (c .sample2 .ensures))
+    ∙ c .before .before .before .before .before .before .before .before .before .before .before .before .before .pre .1 calm
+
+add-t21 : tie.Need-add-t21
+add-t21 c = let m = changed-most (c .before .before .before .before .before .before .before .before .before .before .before .before .next-index .result) in let e = c .before .before .before .before .before .before .before .before .before .before .changed .ensures in omega arith
+
+add-t26 : tie.Need-add-t26
+add-t26 c =
+    let called = c .before .before .before .before .before .before .before .before .before in
+    let m = changed-most (called .before .before .before .next-index .result) in
+    let k = changed-most (called .before .before .next-index2 .result) in
+    let e = called .before .changed .ensures in
+    let f = called .changed2 .ensures in
+    omega arith
+
+returns : tie.Need-returns
+returns c =
+    let called = c .before .before .before .before .before .before .before .before .before in
+    let a = c .before .before .before .before .before .before .before .before .before .before .before .before .before .before .args in
+    let i = called .before .before .before .next-index .ensures in
+    let j = called .before .before .next-index2 .ensures in
+    let n = called .before .changed .ensures in
+    let k = called .changed2 .ensures in (
+      turned (a .rest) _ _ _ _ i j n k (a .correlation) (a .wanted) (a .draws .now) (a .rows .now) (a .rows2 .now) _ _ _ _ _ _
+          (c .before .before .before .before .before .before .before .bipolar .ensures) (c .before .before .before .before .before .bipolar2 .ensures) (c .before .before .before .sample .ensures) (c .before .sample2 .ensures) _ (c .heard .ensures),
+      all-taken (a .rest) _ _ _ _ i j n k,
+    )
+
+pub turn-spec : {M : Type 1} → statement M
+turn-spec =
+    tie.close
+    (tie.spec
+    next-index-requires
+    next-index-requires-2
+    changed-requires
+    changed-requires-2
+    shared-slice-read-bipolar
+    bipolar-requires
+    shared-slice-read-bipolar-2
+    bipolar-requires-2
+    sample-requires
+    add-sample
+    sample-requires-2
+    heard-requires
+    add-t21
+    add-t26
+    returns)

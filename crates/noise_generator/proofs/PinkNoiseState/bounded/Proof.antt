@@ -1,0 +1,29 @@
+use mathlib.Core.Bool.{false≢true}
+use lib.Ieee.{le, neg, ofBits}
+use borrow.Author.Needs.{needs}
+use Rattle.laws.proofs.Tests.{of-true}
+use Rattle.noise_generator.specs.Promises.{Bounded, top}
+use Rattle.noise_generator.proofs.PinkNoiseState.bounded.Statement.{statement}
+use Rattle.noise_generator.proofs.PinkNoiseState.bounded.Tie as tie
+
+rows-in-unit-requires : tie.Need-rows-in-unit-requires
+rows-in-unit-requires c κs = search needs
+
+returns : tie.Need-returns
+unfolding neg ofBits
+returns c e =
+    let sum = c .before .before .before .before .before .before .args .self .«running_sum» in
+    record {
+      rows = c .rows-in-unit .ensures e;
+      low = of-true (le (neg top) sum) (c .before .before .before .if1 .taken);
+      high = of-true (le sum top) (c .before .if2 .taken);
+    }
+
+returns-2 : tie.Need-returns-2
+returns-2 c e = absurd (false≢true e)
+
+returns-3 : tie.Need-returns-3
+returns-3 c e = absurd (false≢true e)
+
+pub bounded-spec : {M : Type 1} → statement M
+bounded-spec = tie.close (tie.spec rows-in-unit-requires returns returns-2 returns-3)

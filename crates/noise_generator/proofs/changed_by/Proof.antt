@@ -1,0 +1,24 @@
+use native.Mathlib.Omega.{arith}
+use Rattle.noise_generator.proofs.CountLaws.{changed-by}
+use borrow.Author.Needs.{needs}
+use Rattle.noise_generator.proofs.changed_by.Statement.{statement}
+use Rattle.noise_generator.proofs.changed_by.Tie as tie
+
+add-climbed : tie.Need-add-climbed
+add-climbed c = search needs
+
+climbed-requires : tie.Need-climbed-requires
+climbed-requires c κs = search needs
+
+climbed-requires-2 : tie.Need-climbed-requires-2
+climbed-requires-2 c κs = search needs
+
+sub-result : tie.Need-sub-result
+sub-result c = let e = c .climbed2 .ensures in let f = c .before .climbed .ensures in let k = changed-by (c .before .before .args .index) (c .before .before .args .n) in omega arith
+
+returns : tie.Need-returns
+returns c = let e = c .climbed2 .ensures in let f = c .before .climbed .ensures in let k = changed-by (c .before .before .args .index) (c .before .before .args .n) in omega arith
+
+pub changed-by-spec : {M : Type 1} → statement M
+changed-by-spec =
+    tie.close (tie.spec add-climbed climbed-requires climbed-requires-2 sub-result returns)
