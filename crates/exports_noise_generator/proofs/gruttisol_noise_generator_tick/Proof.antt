@@ -1,0 +1,85 @@
+use borrow.Author.Tests.{eq-eqb, ne-eqb}
+use mathlib.Core.Path.{_∙_}
+use Rattle.answer.proofs.Flat.{tick-sized}
+use Rattle.answer.specs.Flat.{heardSized}
+use Rattle.exports_noise_generator.specs.Calls.{noiseGeneratorTickAt}
+use borrow.Author.Needs.{needs}
+use Rattle.exports_noise_generator.proofs.gruttisol_noise_generator_tick.Statement.{statement}
+use Rattle.exports_noise_generator.proofs.gruttisol_noise_generator_tick.Tie as tie
+
+tick-sizes-requires : tie.Need-tick-sizes-requires
+tick-sizes-requires c κs = search needs
+
+controls-requires : tie.Need-controls-requires
+controls-requires c κs = search needs
+
+state-requires : tie.Need-state-requires
+state-requires c κs =
+    let z = tick-sized _ _ _ _ _ _ _ (c .before .before .before .before .tick-sizes .ensures) (c .before .before .before .if1 .taken) in
+    (z .0, z .1)
+
+tick-requires : tie.Need-tick-requires
+tick-requires c κs = search needs
+
+put-ticked-requires : tie.Need-put-ticked-requires
+put-ticked-requires c κs =
+    let tested = c .before .before .before .before .before .before .before .before in
+    tick-sized _ _ _ _ _ _ _ (tested .before .tick-sizes .ensures) (tested .if1 .taken)
+
+same-length : tie.Need-same-length
+same-length c = search needs
+
+same-length-2 : tie.Need-same-length-2
+same-length-2 c = search needs
+
+same-length-3 : tie.Need-same-length-3
+same-length-3 c = search needs
+
+returns : tie.Need-returns
+unfolding noiseGeneratorTickAt heardSized
+returns c =
+    let put = c .before .before .before .before .before .before in
+    let ticked = put .before .before .before .before in
+    let loaded = ticked .before in
+    let chosen = loaded .before .before .before in
+    let tested = chosen .before in
+    let measured = tested .before in
+    put .put-ticked .ensures
+    ∙ simp (
+      ← measured .tick-sizes .ensures,
+      eq-eqb _ _ (tested .if1 .taken),
+      ticked .tick .ensures,
+      loaded .state .ensures,
+      chosen .controls .ensures,
+    )
+
+same-length-4 : tie.Need-same-length-4
+same-length-4 c = search needs
+
+same-length-5 : tie.Need-same-length-5
+same-length-5 c = search needs
+
+same-length-6 : tie.Need-same-length-6
+same-length-6 c = search needs
+
+returns-2 : tie.Need-returns-2
+unfolding noiseGeneratorTickAt heardSized
+returns-2 c = simp (← c .before .tick-sizes .ensures, ne-eqb _ _ (c .if1 .left))
+
+pub gruttisol-noise-generator-tick-spec : {M : Type 1} → statement M
+gruttisol-noise-generator-tick-spec =
+    tie.close
+    (tie.spec
+    tick-sizes-requires
+    controls-requires
+    state-requires
+    tick-requires
+    put-ticked-requires
+    same-length
+    same-length-2
+    same-length-3
+    returns
+    same-length-4
+    same-length-5
+    same-length-6
+    returns-2)

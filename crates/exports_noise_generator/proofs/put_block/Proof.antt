@@ -1,0 +1,51 @@
+use borrow.Author.Tests.{eq-eqb, ne-eqb}
+use Rattle.answer.specs.Flat.{countsPut, playedOf}
+use borrow.Author.Needs.{needs}
+use Rattle.exports_noise_generator.proofs.put_block.Statement.{statement}
+use Rattle.exports_noise_generator.proofs.put_block.Tie as tie
+
+store-requires : tie.Need-store-requires
+store-requires c κs = search needs
+
+put-counts-requires : tie.Need-put-counts-requires
+put-counts-requires c κs = search needs
+
+same-length : tie.Need-same-length
+same-length c = search needs
+
+same-length-2 : tie.Need-same-length-2
+same-length-2 c = search needs
+
+same-length-3 : tie.Need-same-length-3
+same-length-3 c = search needs
+
+returns : tie.Need-returns
+unfolding playedOf countsPut
+returns c =
+    let counted = c .before .before in
+    let put = counted .before .before .before .before .before .before in
+    let tested = put .before .before .before .before .before in
+    let start = tested .before .before .before .before in
+    λ o m. simp (
+      counted .put-counts .ensures .1,
+      put .store .ensures .0,
+      put .store .ensures .1,
+      eq-eqb _ _ (tested .if1 .taken),
+      eq-eqb _ _ (start .pre .2),
+    )
+
+returns-2 : tie.Need-returns-2
+unfolding playedOf
+returns-2 c = λ o m. simp (ne-eqb _ _ (c .if1 .left))
+
+pub put-block-spec : {M : Type 1} → statement M
+put-block-spec =
+    tie.close
+    (tie.spec
+    store-requires
+    put-counts-requires
+    same-length
+    same-length-2
+    same-length-3
+    returns
+    returns-2)

@@ -1,0 +1,83 @@
+use native.Mathlib.Omega.{arith}
+use lib.ListN.{length-set}
+use Rattle.answer.specs.Answer.{voltsOf}
+use Rattle.answer.specs.Flat.{heardOf}
+use Rattle.laws.proofs.Slices.{stored}
+use Rattle.exports_noise_generator.specs.State.{samplesOf}
+use borrow.Author.Needs.{needs}
+use Rattle.exports_noise_generator.proofs.put_ticked.Statement.{statement}
+use Rattle.exports_noise_generator.proofs.put_ticked.Tie as tie
+
+host-number-requires : tie.Need-host-number-requires
+host-number-requires c κs = search needs
+
+is-accepted-requires : tie.Need-is-accepted-requires
+is-accepted-requires c κs = search needs
+
+samples-requires : tie.Need-samples-requires
+samples-requires c κs = search needs
+
+store-requires : tie.Need-store-requires
+store-requires c κs = search needs
+
+slice-write-samples : tie.Need-slice-write-samples
+slice-write-samples c = search needs
+
+slice-write-samples-2 : tie.Need-slice-write-samples-2
+slice-write-samples-2 c = simp length-set (omega arith)
+
+slice-write-samples-3 : tie.Need-slice-write-samples-3
+slice-write-samples-3 c = simp length-set (omega arith)
+
+slice-write-samples-4 : tie.Need-slice-write-samples-4
+slice-write-samples-4 c = simp length-set (omega arith)
+
+same-length : tie.Need-same-length
+same-length c = search needs
+
+same-length-2 : tie.Need-same-length-2
+same-length-2 c = search needs
+
+same-length-3 : tie.Need-same-length-3
+same-length-3 c = search needs
+
+returns : tie.Need-returns
+unfolding heardOf samplesOf
+returns c =
+    let put = c .before .before .before .before in
+    let heard = put .before .before .before in
+    let tested = heard .before .before in
+    let told = tested .before in
+    let numbered = told .before in
+    let start = numbered .before .before .before .before in
+    simp (
+      numbered .host-number .ensures,
+      ← told .is-accepted .ensures,
+      tested .if1 .taken,
+      heard .samples .ensures,
+      put .store .ensures .0,
+      put .store .ensures .1,
+      stored (start .args .samples .now) (samplesOf (voltsOf (start .args .t .answer))) (start .pre .2),
+    )
+
+returns-2 : tie.Need-returns-2
+unfolding heardOf
+returns-2 c = simp (c .before .before .host-number .ensures, ← c .before .is-accepted .ensures, c .if1 .left)
+
+pub put-ticked-spec : {M : Type 1} → statement M
+put-ticked-spec =
+    tie.close
+    (tie.spec
+    host-number-requires
+    is-accepted-requires
+    samples-requires
+    store-requires
+    slice-write-samples
+    slice-write-samples-2
+    slice-write-samples-3
+    slice-write-samples-4
+    same-length
+    same-length-2
+    same-length-3
+    returns
+    returns-2)
