@@ -2,7 +2,7 @@
 
 A function is what it answers and its inputs in order, each a name and a kind: `f64`, or, of a lent slice, `mut f64` or `const f64`.
 In C and in the archive a slice is two arguments, the address of its first cell and its length. A number of the header is held against
-each place of the crates that says it (`said`); refusals and the longest string's cells have none.
+each place of the crates that says it (`said`); refusals and how much is enough for any call have none.
 """
 import re
 
@@ -78,8 +78,8 @@ SAID = [
     *((f"OSC_{osc.upper()}", "exports_score", rf"\bfn {osc}_ports\b(?s:.*?)\bosc: (\d+)") for osc in ("vco", "lfo", "supersaw", "formant")),
     *((mark.upper(), "answer", rf"\bfn host_number\b(?s:.*?)\bAnswer::{mark}\(_\) => (\d+)") for mark in ("Cleared", "NotFinite", "Lost", "Clean")),
 ]
-# Numbers that no one place of the crates says: refusals, and what is enough for a string at every rate
-NOWHERE = r"BAD_\w+|SHORT_LINE|FEW_DRAWS|LONG_SCORE|OUT_OF_RANGE|KARPLUS_STRONG_(?:LINE|DRAWS)"
+# Numbers that no one place of the crates says: refusals, and what is enough for a string at every rate and for every tick of noise
+NOWHERE = r"BAD_\w+|SHORT_LINE|FEW_DRAWS|LONG_SCORE|OUT_OF_RANGE|KARPLUS_STRONG_(?:LINE|DRAWS)|NOISE_GENERATOR_DRAWS"
 
 
 def said(files):

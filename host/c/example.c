@@ -1,5 +1,5 @@
-/* Renders a vowel of 480 samples twice, once with a broken control value, and shows what is finished; plucks a string; then
- * reads a score:
+/* Renders a vowel of 480 samples twice, once with a broken control value, and shows what is finished; plucks a string; renders noise;
+ * then reads a score:
  *
  *     tools/library ../target/gruttisol
  *     cc -I c c/example.c ../target/gruttisol/libgruttisol.a -o ../target/example && ../target/example
@@ -54,6 +54,32 @@ static void pluck(double sample_rate)
            (unsigned)gruttisol_karplus_strong_cells(sample_rate), answer == GRUTTISOL_CLEAN ? "clean" : "refused or not clean");
 }
 
+/* A block of noise is lent the draws that its ticks need together, here less so many. */
+static int blow(uint64_t missing)
+{
+    static uint64_t draws[GRUTTISOL_NOISE_GENERATOR_DRAWS * SAMPLES];
+    static double out[GRUTTISOL_NOISE_GENERATOR_SAMPLES * SAMPLES];
+    double floats[GRUTTISOL_NOISE_GENERATOR_FLOATS];
+    uint64_t wholes[GRUTTISOL_NOISE_GENERATOR_WHOLES], seed = 1;
+    uint32_t counts[GRUTTISOL_COUNTS] = {0}, marks[SAMPLES];
+
+    uint32_t refused = gruttisol_noise_generator_new(floats, GRUTTISOL_NOISE_GENERATOR_FLOATS,
+                                                     wholes, GRUTTISOL_NOISE_GENERATOR_WHOLES);
+    if (refused)
+        return printf("refused=%u\n", refused);
+
+    uint64_t lent = gruttisol_noise_generator_needed_by(SAMPLES, wholes, GRUTTISOL_NOISE_GENERATOR_WHOLES) - missing;
+    for (uint64_t i = 0; i < lent; i++) {
+        seed = seed * UINT64_C(6364136223846793005) + 1;
+        draws[i] = seed >> 11;
+    }
+    refused = gruttisol_noise_generator_block(0, 0.0, 15, floats, GRUTTISOL_NOISE_GENERATOR_FLOATS,
+                                              wholes, GRUTTISOL_NOISE_GENERATOR_WHOLES, draws, lent, counts, GRUTTISOL_COUNTS,
+                                              out, GRUTTISOL_NOISE_GENERATOR_SAMPLES * SAMPLES, marks, SAMPLES);
+    return printf("noise of %d samples and %u draws: refused=%u begun=%u finished=%u\n", SAMPLES, (unsigned)lent, refused,
+                  counts[0], counts[1]);
+}
+
 static void read_score(const char *score, size_t length)
 {
     double volts[GRUTTISOL_SCORE_FLOATS];
@@ -77,6 +103,8 @@ int main(void)
     render(NAN);
     pluck(192000.0);
     pluck(INFINITY);
+    blow(0);
+    blow(1);
     printf("a rate of 999.5 Hz: refused=%u\n", gruttisol_vco_new(999.5, floats, GRUTTISOL_VCO_FLOATS, wholes, GRUTTISOL_VCO_WHOLES));
     read_score(score, sizeof score - 1);
     read_score(score, sizeof score - 2); /* without its last line feed */

@@ -1,4 +1,4 @@
-/* Gruttisol: six proved oscillators, their tally and the reader of scores, for C and C++.
+/* Gruttisol: seven proved oscillators, their tally and the reader of scores, for C and C++.
  *
  * Every function takes any numbers and any memory of the lengths that it is told: it ends, reads and writes inside the lent
  * memory alone and keeps none of it. A lent array is two arguments, its first cell and its length; arrays lent to one
@@ -15,8 +15,8 @@
  *   50 to 53  an array of another length: floats, wholes, samples, counts
  * A refused call leaves every array as it stood.
  *
- * Arrays come in one order: floats, wholes, what an oscillator is lent beside its state (bank; line, draws), then of a tick
- * samples, of a block counts, samples, marks.
+ * Arrays come in one order: floats, wholes, what an oscillator is lent beside its state (bank; line, draws; draws), then of a
+ * tick samples, of a block counts, samples, marks.
  *
  * A block, `.._block`, is as many ticks with one set of controls as there are `marks`, and their tally: the same as so many calls of
  * `.._tick` and of gruttisol_tally_take, in less time. `samples` takes a tick's samples for each mark, one tick after another,
@@ -51,8 +51,8 @@ enum gruttisol_refusal {
     GRUTTISOL_BAD_STATE = 2,    /* a state that is no oscillator's */
     GRUTTISOL_SHORT_LINE = 3,   /* a line too short for its rate */
     GRUTTISOL_BAD_BANK = 4,     /* a bank, part or table of another size or number */
-    GRUTTISOL_FEW_DRAWS = 5,    /* a trigger, and too few draws */
-    GRUTTISOL_BAD_DRAW = 6,     /* a trigger, and a draw of 2^53 or more */
+    GRUTTISOL_FEW_DRAWS = 5,    /* too few draws for a trigger or for noise */
+    GRUTTISOL_BAD_DRAW = 6,     /* a draw of 2^53 or more among those that a trigger or noise needs */
     GRUTTISOL_BAD_TALLY = 7,    /* counts that don't add up, or a full tally */
     GRUTTISOL_LONG_SCORE = 20,  /* a score of more than 1,024 bytes */
     GRUTTISOL_BAD_LINE = 21,    /* a wrong, missing or extra line, or an oscillator that isn't known */
@@ -189,6 +189,39 @@ uint32_t gruttisol_karplus_strong_reset(double *floats, size_t floats_len, uint6
                                         double *line, size_t line_len);
 uint32_t gruttisol_karplus_strong_set_sample_rate(double sample_rate, double *floats, size_t floats_len,
                                                   uint64_t *wholes, size_t wholes_len, double *line, size_t line_len);
+
+/* ---- NoiseGenerator: samples white, pink, white2, pink2; `wanted` as above. A correlation, clamped to 0 to 1, says how far the second
+ *      ones are the first. With `given` 0 a call takes the state's own, whatever `correlation` is; else it takes `correlation`, which the
+ *      state doesn't keep. There is no sample rate, and no state is refused: of `wholes` the low 32 bits count.
+ *
+ *      A tick reads the first so many of its draws as gruttisol_noise_generator_needed says, each below 2^53, whatever is wanted: for
+ *      white, for white2, for the rows of pink that change, then for those of pink2. For these alone it is refused by 5 or 6. The ticks
+ *      of a block take theirs one after another, and are refused together. */
+#define GRUTTISOL_NOISE_GENERATOR_FLOATS 36
+#define GRUTTISOL_NOISE_GENERATOR_WHOLES 2
+#define GRUTTISOL_NOISE_GENERATOR_SAMPLES 4
+#define GRUTTISOL_NOISE_GENERATOR_DRAWS 34 /* draws that are enough for any tick */
+
+/* How many draws the next tick needs, from 4 to 34, and the next so many ticks together. Of wholes of another length it is 0. */
+uint64_t gruttisol_noise_generator_needed(const uint64_t *wholes, size_t wholes_len);
+uint64_t gruttisol_noise_generator_needed_by(uint32_t ticks, const uint64_t *wholes, size_t wholes_len);
+
+/* A new one has a correlation of 0.3, or the one that is asked for, clamped; a NaN is kept. */
+uint32_t gruttisol_noise_generator_new(double *floats, size_t floats_len, uint64_t *wholes, size_t wholes_len);
+uint32_t gruttisol_noise_generator_with_correlation(double correlation, double *floats, size_t floats_len,
+                                                    uint64_t *wholes, size_t wholes_len);
+uint32_t gruttisol_noise_generator_tick(uint32_t given, double correlation, uint32_t wanted,
+                                        double *floats, size_t floats_len, uint64_t *wholes, size_t wholes_len,
+                                        const uint64_t *draws, size_t draws_len, double *samples, size_t samples_len);
+uint32_t gruttisol_noise_generator_block(uint32_t given, double correlation, uint32_t wanted,
+                                         double *floats, size_t floats_len, uint64_t *wholes, size_t wholes_len,
+                                         const uint64_t *draws, size_t draws_len,
+                                         uint32_t *counts, size_t counts_len, double *samples, size_t samples_len,
+                                         uint32_t *marks, size_t marks_len);
+/* A reset keeps the correlation; a rate change, to any number, leaves all as it stands. */
+uint32_t gruttisol_noise_generator_reset(double *floats, size_t floats_len, uint64_t *wholes, size_t wholes_len);
+uint32_t gruttisol_noise_generator_set_sample_rate(double sample_rate, double *floats, size_t floats_len,
+                                                   uint64_t *wholes, size_t wholes_len);
 
 /* ---- scores: what a text of at most GRUTTISOL_SCORE_TEXT bytes says. floats are the volts of the oscillator's inputs in port order, 0.0 past its
  *      last one; wholes are a gruttisol_osc, samples a second and frames. */

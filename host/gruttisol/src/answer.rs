@@ -12,7 +12,7 @@ impl fmt::Display for Refused {
             2 => "the state is no oscillator's",
             3 => "the lent line is too short",
             4 => "the bank isn't of 16,384 numbers, or the part or table isn't one of it",
-            5 => "too few draws for a trigger",
+            5 => "too few draws for a trigger or for noise",
             6 => "a draw isn't below 2^53",
             7 => "the tally's counts don't add up, or it is full",
             20 => "the score has more than 1,024 bytes",

@@ -1,22 +1,25 @@
 //! The functions of the archive that are lent slices, as safe functions that answer the archive's number.
 
 /// Each line declares a function of the archive, under its own name after the project's prefix, and a Rust function that
-/// calls it. A slice is two arguments there, its first cell's address and its length: `mut` ones are written.
+/// calls it. A slice is two arguments there, its first cell's address and its length: `mut` ones are written. Where a line
+/// doesn't say what is answered, it is a `u32`.
 macro_rules! lent {
-    ($(fn $name:ident($($plain:ident: $number:ty),*; $($slice:ident: $access:ident $cell:ty),*);)*) => {
+    ($(fn $name:ident($($plain:ident: $number:ty),*; $($slice:ident: $access:ident $cell:ty),*) $(-> $answer:ty)?;)*) => {
         mod linked {
             unsafe extern "C" {
                 $(#[link_name = concat!("gruttisol_", stringify!($name))]
-                pub fn $name($($plain: $number,)* $($slice: *$access $cell, _: usize),*) -> u32;)*
+                pub fn $name($($plain: $number,)* $($slice: *$access $cell, _: usize),*) -> lent!(@answer $($answer)?);)*
             }
         }
         $(#[inline]
-        pub fn $name($($plain: $number,)* $($slice: lent!(@slice $access $cell)),*) -> u32 {
+        pub fn $name($($plain: $number,)* $($slice: lent!(@slice $access $cell)),*) -> lent!(@answer $($answer)?) {
             // SAFETY: this is a proved function with these types. It has no `requires`, and so takes any numbers and
             // slices of any length and content; it reads and writes inside them alone, and keeps none.
             unsafe { linked::$name($($plain,)* $(lent!(@address $access $slice), $slice.len()),*) }
         })*
     };
+    (@answer) => { u32 };
+    (@answer $answer:ty) => { $answer };
     (@slice mut $cell:ty) => { &mut [$cell] };
     (@slice const $cell:ty) => { &[$cell] };
     (@address mut $slice:ident) => { $slice.as_mut_ptr() };
@@ -61,6 +64,16 @@ lent! {
     fn karplus_strong_block(voct: f64, trigger: f64, damping: f64, brightness: f64, stretch: f64; floats: mut f64, wholes: mut u64, line: mut f64, draws: const u64, counts: mut u32, samples: mut f64, marks: mut u32);
     fn karplus_strong_reset(; floats: mut f64, wholes: mut u64, line: mut f64);
     fn karplus_strong_set_sample_rate(sample_rate: f64; floats: mut f64, wholes: mut u64, line: mut f64);
+
+    fn noise_generator_new(; floats: mut f64, wholes: mut u64);
+    fn noise_generator_with_correlation(correlation: f64; floats: mut f64, wholes: mut u64);
+    fn noise_generator_needed(; wholes: const u64) -> u64;
+    fn noise_generator_needed_by(ticks: u32; wholes: const u64) -> u64;
+    fn noise_generator_tick(given: u32, correlation: f64, wanted: u32; floats: mut f64, wholes: mut u64, draws: const u64, samples: mut f64);
+    fn noise_generator_block(given: u32, correlation: f64, wanted: u32;
+        floats: mut f64, wholes: mut u64, draws: const u64, counts: mut u32, samples: mut f64, marks: mut u32);
+    fn noise_generator_reset(; floats: mut f64, wholes: mut u64);
+    fn noise_generator_set_sample_rate(sample_rate: f64; floats: mut f64, wholes: mut u64);
 
     fn tally_take(code: u32; counts: mut u32);
 
@@ -118,7 +131,7 @@ mod tests {
     const NO_RATE: f64 = 0.0;
 
     /// Makes a call with slices of many lengths: by its first wrong length it is refused, by 50, 51 or 52, and where all
-    /// are right by `last`. Not a bit may change. A call without samples says that it takes none.
+    /// are right by `last`; 0 says that then nothing refuses it. Not a bit may change. A call without samples says that it takes none.
     fn refuses_by(
         last: u32,
         [floats, wholes, samples]: [usize; 3],
@@ -133,6 +146,7 @@ mod tests {
                         (false, _, _) => 50,
                         (_, false, _) => 51,
                         (_, _, false) => 52,
+                        _ if last == 0 => continue,
                         _ => last,
                     };
                     assert_eq!(call(&mut lent.0, &mut lent.1, &mut lent.2), number, "of {f}, {w} and {s}");
@@ -150,8 +164,9 @@ mod tests {
     }
 
     /// The same of a block, whose counts are tried too, and whose samples must be so many for each mark: then by 50, 51, 53
-    /// or 52, in this order.
-    fn refuses_block(
+    /// or 52, in this order. `last` is told how many marks there are.
+    fn refuses_block_by(
+        last: impl Fn(usize) -> u32,
         [floats, wholes, ports]: [usize; 3],
         call: impl Fn(&mut [f64], &mut [u64], &mut [u32], &mut [f64], &mut [u32]) -> u32,
     ) {
@@ -168,7 +183,7 @@ mod tests {
                             (_, false, ..) => 51,
                             (_, _, false, _) => 53,
                             (_, _, _, false) => 52,
-                            _ => 1,
+                            _ => last(m),
                         };
                         let answer = call(&mut lent.0, &mut lent.1, &mut lent.2, &mut samples, &mut marks);
                         assert_eq!(answer, number, "of {f}, {w}, {k}, {s} and {m}");
@@ -181,6 +196,13 @@ mod tests {
                 }
             }
         }
+    }
+
+    fn refuses_block(
+        lengths: [usize; 3],
+        call: impl Fn(&mut [f64], &mut [u64], &mut [u32], &mut [f64], &mut [u32]) -> u32,
+    ) {
+        refuses_block_by(|_| 1, lengths, call);
     }
 
     #[test]
@@ -241,6 +263,36 @@ mod tests {
         refuses([6, 4, 0], |f, w, _| karplus_strong_new(NO_RATE, f, w, &mut []));
         refuses([6, 4, 0], |f, w, _| karplus_strong_reset(f, w, &mut []));
         refuses([6, 4, 0], |f, w, _| karplus_strong_set_sample_rate(48000.0, f, w, &mut []));
+    }
+
+    #[test]
+    fn noise_generator() {
+        const NO_DRAW: u64 = 1 << 53;
+        for given in [0, 1] {
+            for (number, draws) in [(5, &[NO_DRAW; 3][..]), (6, &[NO_DRAW; 34])] {
+                refuses_by(number, [36, 2, 4], |f, w, s| noise_generator_tick(given, 0.5, u32::MAX, f, w, draws, s));
+            }
+            // counts of 3 don't add up; of no ticks the draws aren't looked at
+            for (number, draws) in [(5, &[NO_DRAW; 3][..]), (6, &[NO_DRAW; 34 * 7]), (7, &[0; 34 * 7])] {
+                let last = |marks: usize| if marks == 0 { 7 } else { number };
+                refuses_block_by(last, [36, 2, 4], |f, w, k, s, m| {
+                    noise_generator_block(given, 0.5, u32::MAX, f, w, draws, k, s, m)
+                });
+            }
+        }
+        refuses_by(0, [36, 2, 0], |f, w, _| noise_generator_new(f, w));
+        refuses_by(0, [36, 2, 0], |f, w, _| noise_generator_with_correlation(0.5, f, w));
+        refuses_by(0, [36, 2, 0], |f, w, _| noise_generator_reset(f, w));
+        refuses_by(0, [36, 2, 0], |f, w, _| noise_generator_set_sample_rate(NO_RATE, f, w));
+    }
+
+    /// Wholes of another length are no state's, and need no draws.
+    #[test]
+    fn noise_of_no_state() {
+        for n in [0, 1, 3, 64] {
+            assert_eq!(noise_generator_needed(&vec![UNTOUCHED; n]), 0, "{n}");
+            assert_eq!(noise_generator_needed_by(1000, &vec![UNTOUCHED; n]), 0, "{n}");
+        }
     }
 
     #[test]

@@ -13,6 +13,7 @@ pub mod common;
 pub mod formant_osc;
 pub mod karplus_strong;
 pub mod lfo;
+pub mod noise_generator;
 pub mod numeric;
 pub mod score;
 pub mod supersaw;

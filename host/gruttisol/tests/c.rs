@@ -28,6 +28,8 @@ fn the_example_shows_what_is_finished() {
          begun=480 finished=0 cleared=0 notfinite=480 lost=0 claimed=no, clean up to sample 0\n\
          a string at 192000 Hz, of a line of 9612 cells: clean\n\
          a string at inf Hz, of a line of 0 cells: refused or not clean\n\
+         noise of 480 samples and 2872 draws: refused=0 begun=480 finished=480\n\
+         noise of 480 samples and 2871 draws: refused=5 begun=0 finished=0\n\
          a rate of 999.5 Hz: refused=1\n\
          a score: lfo, 48000 Hz, frames=480, first input 0.5 V\n\
          a score: refused=21\n"
