@@ -1,12 +1,12 @@
-//! Finds the Rust's source and declares its files as modules, for the crates `quiver` and `quiver_system`.
+//! Finds the Rust's source and declares its files as modules, for the crates `quiver`, `quiver_system` and `quiver_lent`.
 //!
 //! QUIVER_SRC names the folder that holds the Rust's `src`; if it isn't set, `shared/docs/src` beside the repository is
 //! taken. Nothing of it is in this repository. What is found there must be quiver's at 74f0456287, or the build stops. Files with
 //! private fields are copied to cargo's own folder with one line added at their end, which declares a child module of `probe/`;
-//! every byte before that line is the Rust's.
+//! every byte before that line is the Rust's. A file that a crate has in its own folder stands in for the Rust's of that name.
 //!
 //! Where there is no source, the crate is empty, and crates that depend on it are told so: only with the source is
-//! DEP_QUIVER_FOUND (or DEP_QUIVER_SYSTEM_FOUND) set in their build scripts.
+//! DEP_QUIVER_FOUND (or DEP_QUIVER_SYSTEM_FOUND, DEP_QUIVER_LENT_FOUND) set in their build scripts.
 #[path = "source.rs"]
 mod source;
 
@@ -29,6 +29,7 @@ fn main() {
     let out = PathBuf::from(env::var_os("OUT_DIR").unwrap());
     let source = env::var_os("QUIVER_SRC").map_or(repository.join("../shared/docs/src"), PathBuf::from).join("src");
     let file = |name: &str| source.join(name).with_extension("rs");
+    let own = |name: &str| here.join(name).with_extension("rs");
     for (name, _) in FILES {
         println!("cargo:rerun-if-changed={}", file(name).display());
     }
@@ -41,7 +42,16 @@ fn main() {
         }
         println!("cargo:rustc-cfg=found");
         println!("cargo:found=yes");
-        declared(|name, child| if child { with_child(&file(name), quiver, &out) } else { whole(&file(name)) })
+        declared(|name, child| {
+            if own(name).is_file() {
+                println!("cargo:rerun-if-changed={}", own(name).display());
+                own(name)
+            } else if child {
+                with_child(&file(name), quiver, &out)
+            } else {
+                whole(&file(name))
+            }
+        })
     } else {
         println!("cargo:warning=skipped: QUIVER_SRC not found: {} lacks the Rust's files", source.display());
         String::new()

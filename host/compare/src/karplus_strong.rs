@@ -1,6 +1,6 @@
 //! The string on both sides, with the line that is lent to ours.
 use crate::draw::{Control, Draw, BOTH_WAYS, GATE, PITCH, UNIT};
-use crate::pair::{block, rises};
+use crate::pair::{block, move_stream, rises, NO_DRAW};
 use crate::script::{alike, bad_rate, hex, mark, one_nan, unchanged, Counts, Pair};
 use gruttisol::answer::{Mark, Refused};
 use gruttisol::karplus_strong as ours;
@@ -8,6 +8,7 @@ use gruttisol::tally::Tally;
 use quiver::modules::oscillators as rust;
 use quiver::modules::oscillators::probe::Probe;
 use quiver::port::GraphModule;
+use quiver::rng::ModuleRng;
 
 pub struct KarplusStrong {
     ours: ours::KarplusStrong,
@@ -102,8 +103,9 @@ fn longest(rate: f64) -> u64 {
 /// Cells and draws of a string in the list of stored ticks.
 const STORED: usize = 62;
 
-/// 2^53: the first number that is no draw.
-const NO_DRAW: u64 = 1 << 53;
+const STRIKES: &str = "strikes";
+/// A rate change left the write position past the line's end, and ours put it to 0, which the Rust doesn't.
+const REPAIRED: &str = "write positions repaired";
 
 impl Pair for KarplusStrong {
     const NAME: &'static str = "karplus_strong";
@@ -112,7 +114,7 @@ impl Pair for KarplusStrong {
     const MASKED: bool = false;
     const MARKS: &'static [Mark] = &[Mark::Cleared, Mark::Clean];
     const REFUSALS: &'static [u32] = &[1, 2, 3, 5, 6, 7, 52];
-    const STRUCK: bool = true;
+    const KINDS: &'static [&'static str] = &[STRIKES, REPAIRED];
     type Floats = [f64; 6];
     type Wholes = [u64; 4];
 
@@ -124,7 +126,7 @@ impl Pair for KarplusStrong {
         let made = ours::KarplusStrong::new(sample_rate, &mut line);
         assert!(made.is_ok() || same_bits(&line, &due), "refused, and the line isn't as it stood");
         let (ours, mut theirs) = (made?, rust::KarplusStrong::new(sample_rate));
-        theirs.put_stream(draw.bits(), draw.bits());
+        *theirs.stream() = ModuleRng::at(draw.bits(), draw.bits());
         let lent = line.len();
         Ok(KarplusStrong { ours, theirs, line, due, lent, draws: vec![], all: true, written: 0, unseen: 0 })
     }
@@ -188,7 +190,7 @@ impl Pair for KarplusStrong {
     }
 
     /// Makes the draws ready that the Rust will draw, and tries short lines, too few draws and numbers that are no draws.
-    fn lend(&mut self, controls: &[f64], draw: &mut Draw, counts: &mut Counts) -> Result<(), String> {
+    fn lend(&mut self, controls: &[f64], _ticks: usize, draw: &mut Draw, counts: &mut Counts) -> Result<(), String> {
         self.lent = self.line.len();
         let (floats, _) = self.theirs.flat();
         if draw.one_in(500) {
@@ -204,20 +206,12 @@ impl Pair for KarplusStrong {
             self.draws = vec![draw.bits(); draw.below(3) as usize];
             return Ok(());
         }
-        counts.strikes += 1;
-        match draw.below(8) {
-            0 => self.theirs.put_stream(0, 0),
-            1 => {
-                let first = draw.of(&[0, 1, 1 << 52, (1 << 52) - 1, (1 << 53) - 1]);
-                self.theirs.put_stream(first << 11, 0);
-            }
-            2 => {} // the stream goes on
-            _ => self.theirs.put_stream(draw.bits(), draw.bits()),
-        }
+        counts.met(STRIKES);
+        move_stream(self.theirs.stream(), draw);
         let mut twin = self.theirs.twin();
         twin.body(controls.try_into().unwrap(), 1, &mut [0.0]);
         let needed = twin.line().len();
-        self.draws = self.theirs.draws(needed);
+        self.draws = self.theirs.stream().draws(needed);
         if draw.one_in(4) {
             let tick = |pair: &mut Self| {
                 let told = pair.ours_tick(controls, 1, &mut [0.0]).map(drop);
@@ -234,7 +228,7 @@ impl Pair for KarplusStrong {
             self.draws = draws;
             self.draws.pop();
             self.must_refuse(5, self.lent, counts, tick)?;
-            self.draws = self.theirs.draws(needed);
+            self.draws = self.theirs.stream().draws(needed);
         }
         if draw.one_in(2) {
             self.draws.extend([u64::MAX, 0, NO_DRAW]); // past those that are needed
@@ -307,7 +301,7 @@ impl Pair for KarplusStrong {
         let (_, [len, write_pos, ..]) = self.theirs.flat();
         if write_pos >= len {
             self.theirs.put_write_pos(0);
-            counts.repaired += 1;
+            counts.met(REPAIRED);
         }
         self.all = true;
     }

@@ -10,6 +10,7 @@ pub mod formant_osc;
 pub mod karplus_strong;
 pub mod lfo;
 pub mod marked;
+pub mod noise_generator;
 mod pair;
 pub mod script;
 pub mod supersaw;
@@ -22,13 +23,14 @@ use script::{run, ticks, Counts, Pair};
 pub type Run = fn(u64, u64) -> Result<Counts, String>;
 
 /// Every oscillator.
-pub const ALL: [(&str, Run); 6] = [
+pub const ALL: [(&str, Run); 7] = [
     of::<vco::Vco>(),
     of::<lfo::Lfo>(),
     of::<supersaw::Supersaw>(),
     of::<wavetable::Wavetable>(),
     of::<formant_osc::FormantOsc>(),
     of::<karplus_strong::KarplusStrong>(),
+    of::<noise_generator::NoiseGenerator>(),
 ];
 
 const fn of<P: Pair>() -> (&'static str, Run) {
@@ -51,6 +53,7 @@ pub fn stored() -> Result<String, String> {
         lines::<formant_osc::FormantOsc>(120)?,
         lines::<wavetable::Wavetable>(200)?,
         lines::<karplus_strong::KarplusStrong>(60)?,
+        lines::<noise_generator::NoiseGenerator>(80)?,
     ]
     .concat())
 }

@@ -1,5 +1,7 @@
 //! What the pairs of both sides have in common.
+use crate::draw::Draw;
 use crate::script::{bad_phase, bad_rate};
+use quiver::rng::ModuleRng;
 
 /// The parts of a pair that are the same for every oscillator whose state alone is lent.
 macro_rules! both {
@@ -91,4 +93,20 @@ pub fn used(phase: f64, previous: f64, gate: f64) -> f64 {
 /// The outputs that a mask wants.
 pub fn wanted_of(samples: &[f64], wanted: u32) -> impl Iterator<Item = f64> + '_ {
     samples.iter().enumerate().filter(move |(port, _)| wanted >> port & 1 == 1).map(|(_, &x)| x)
+}
+
+/// 2^53: the first number that is no draw.
+pub const NO_DRAW: u64 = 1 << 53;
+
+/// Puts the Rust's stream to another place: to zeros for ever, to a corner, to any; or lets it go on.
+pub fn move_stream(stream: &mut ModuleRng, draw: &mut Draw) {
+    match draw.below(8) {
+        0 => *stream = ModuleRng::at(0, 0),
+        1 => {
+            let first = draw.of(&[0, 1, 1 << 52, (1 << 52) - 1, (1 << 53) - 1]);
+            *stream = ModuleRng::at(first << 11, 0);
+        }
+        2 => {}
+        _ => *stream = ModuleRng::at(draw.bits(), draw.bits()),
+    }
 }

@@ -15,8 +15,10 @@ pub trait Pair: Sized {
     /// The marks that its ticks can get and the numbers that refuse its calls: a run must meet all of them.
     const MARKS: &'static [Mark] = &[Mark::NotFinite, Mark::Lost, Mark::Clean];
     const REFUSALS: &'static [u32] = &[1, 2, 7, 52];
-    /// Whether it is struck, and a rate change may strand its write position.
-    const STRUCK: bool = false;
+    /// Kinds of calls that are its own, which a run must meet too.
+    const KINDS: &'static [&'static str] = &[];
+    /// Whether it has a sample rate; else it takes any number for one, and nothing comes of it.
+    const RATED: bool = true;
     type Floats: AsRef<[f64]> + Copy;
     type Wholes: AsRef<[u64]> + Copy;
 
@@ -52,8 +54,8 @@ pub trait Pair: Sized {
     fn ours_set_sample_rate(&mut self, sample_rate: f64) -> Result<(), Refused>;
     fn theirs_set_sample_rate(&mut self, sample_rate: f64, counts: &mut Counts);
 
-    /// Makes ready what is lent to the next tick, and tries what that may be refused for.
-    fn lend(&mut self, _controls: &[f64], _draw: &mut Draw, _counts: &mut Counts) -> Result<(), String> {
+    /// Makes ready what is lent to the next so many ticks, one or a block, and tries what that may be refused for.
+    fn lend(&mut self, _controls: &[f64], _ticks: usize, _draw: &mut Draw, _counts: &mut Counts) -> Result<(), String> {
         Ok(())
     }
     /// The same for a rate change.
@@ -71,7 +73,7 @@ pub trait Pair: Sized {
     fn storable(&self, _floats: &Self::Floats) -> bool {
         true
     }
-    /// What stands in a stored tick after its controls: cells and draws that are lent.
+    /// What stands in a stored tick after its controls and mask: cells and draws that are lent.
     fn stored_lent(&self) -> Vec<u64> {
         vec![]
     }
@@ -94,15 +96,18 @@ pub struct Counts {
     pub states: u64,
     /// Refused calls, by the number that refused them.
     pub refused: BTreeMap<u32, u64>,
-    /// Ticks that struck the string.
-    pub strikes: u64,
-    /// Write positions that a rate change left past the line's end, which ours puts to 0 and the Rust doesn't.
-    pub repaired: u64,
+    /// Calls of the kinds that are an oscillator's own.
+    pub own: BTreeMap<&'static str, u64>,
 }
 
 impl Counts {
     pub fn ticks(&self) -> u64 {
         self.marks.iter().sum()
+    }
+
+    /// Counts a call of a kind that is the oscillator's own.
+    pub fn met(&mut self, kind: &'static str) {
+        *self.own.entry(kind).or_default() += 1;
     }
 
     /// What a run of this oscillator must meet and hasn't met once: marks, refusals and kinds of calls.
@@ -116,9 +121,8 @@ impl Counts {
             ("rate change", self.rate_changes),
             ("state put in", self.states),
         ];
-        let struck = [("strike", self.strikes), ("write position repaired", self.repaired)];
-        let struck = struck.into_iter().filter(|_| P::STRUCK);
-        let calls = calls.into_iter().chain(struck).map(|(call, n)| (call.to_string(), n));
+        let own = P::KINDS.iter().map(|&kind| (kind, *self.own.get(kind).unwrap_or(&0)));
+        let calls = calls.into_iter().chain(own).map(|(call, n)| (call.to_string(), n));
         marks.chain(refusals).chain(calls).filter(|&(_, n)| n == 0).map(|(what, _)| what).collect()
     }
 }
@@ -132,10 +136,7 @@ impl fmt::Display for Counts {
         let Counts { blocks, resets, rate_changes, states, .. } = self;
         let refused: u64 = self.refused.values().sum();
         write!(f, ", {blocks} blocks, {resets} resets, {rate_changes} rate changes, {states} states put in, {refused} refused calls")?;
-        if self.strikes > 0 {
-            write!(f, ", {} strikes, {} write positions repaired", self.strikes, self.repaired)?;
-        }
-        Ok(())
+        self.own.iter().try_for_each(|(kind, n)| write!(f, ", {n} {kind}"))
     }
 }
 
@@ -202,7 +203,7 @@ fn case<P: Pair>(pair: &mut P, controls: &[f64], draw: &mut Draw, counts: &mut C
         pair.put_ours(&invented.0, &invented.1);
         pair.put_theirs(&invented.0, &invented.1, draw);
     }
-    pair.lend(controls, draw, counts)?;
+    pair.lend(controls, 1, draw, counts)?;
     let mut words = given(pair, pair.theirs());
     let (mark, samples) = sound(pair, controls, wanted)?;
     words.push(mark as u64);
@@ -260,8 +261,10 @@ impl Mood {
 
 fn scene<P: Pair>(draw: &mut Draw, counts: &mut Counts) -> Result<(), String> {
     let mood = Mood::drawn(draw);
-    let bad = draw.bad_rate();
-    refused(P::new(bad, draw).map(drop), 1, counts).map_err(|said| format!("new at {bad:?}: {said}"))?;
+    if P::RATED {
+        let bad = draw.bad_rate();
+        refused(P::new(bad, draw).map(drop), 1, counts).map_err(|said| format!("new at {bad:?}: {said}"))?;
+    }
     let rate = draw.rate();
     let mut pair = P::new(rate, draw).map_err(|n| format!("new at {rate:?}: {n}"))?;
     same(&mut pair).map_err(|said| format!("new at {rate:?}: {said}"))?;
@@ -280,7 +283,7 @@ fn scene<P: Pair>(draw: &mut Draw, counts: &mut Counts) -> Result<(), String> {
                     }
                 }
             }
-            3 => {
+            3 if P::RATED => {
                 let bad = draw.bad_rate();
                 unchanged(&mut pair, counts, 1, |pair| pair.ours_set_sample_rate(bad))
                     .map_err(|said| format!("rate change to {bad:?}: {said}"))?;
@@ -330,7 +333,7 @@ fn tick<P: Pair>(pair: &mut P, controls: &[f64], draw: &mut Draw, counts: &mut C
         let (floats, wholes) = (before.0.as_ref(), before.1.as_ref());
         format!("tick of {controls:?}, wanted {wanted:#x}, from {floats:?} {wholes:x?}: {said}")
     };
-    pair.lend(controls, draw, counts).map_err(told)?;
+    pair.lend(controls, 1, draw, counts).map_err(told)?;
     let (mark, _) = sound(pair, controls, wanted).map_err(told)?;
     counts.marks[mark as usize - Mark::ALL[0] as usize] += 1;
     Ok(())
@@ -378,7 +381,7 @@ fn block<P: Pair>(pair: &mut P, controls: &[f64], draw: &mut Draw, counts: &mut 
         format!("block of {n}, {controls:?}, wanted {wanted:#x}, from {floats:?} {wholes:x?}: {said}")
     };
     if n > 0 {
-        pair.lend(controls, draw, counts).map_err(told)?;
+        pair.lend(controls, n, draw, counts).map_err(told)?;
     }
     let full = u32::MAX - n as u32;
     let over = full.saturating_add(1); // for no ticks there is always room
@@ -417,7 +420,7 @@ fn block<P: Pair>(pair: &mut P, controls: &[f64], draw: &mut Draw, counts: &mut 
 }
 
 /// A block that must be refused by this number, and change nothing.
-fn unused_block<P: Pair>(
+pub fn unused_block<P: Pair>(
     pair: &mut P,
     counts: &mut Counts,
     number: u32,
@@ -445,7 +448,7 @@ fn reset<P: Pair>(pair: &mut P, counts: &mut Counts) -> Result<(), String> {
 }
 
 fn change_rate<P: Pair>(pair: &mut P, draw: &mut Draw, counts: &mut Counts) -> Result<(), String> {
-    let rate = draw.rate();
+    let rate = if P::RATED { draw.rate() } else { draw.odd() };
     let told = |said: String| format!("rate change to {rate:?}: {said}");
     pair.lend_for_rate(rate, draw, counts).map_err(told)?;
     pair.ours_set_sample_rate(rate).map_err(|n| told(n.to_string()))?;

@@ -61,7 +61,7 @@ impl Pair for Wavetable {
     }
 
     /// Tries banks of another size.
-    fn lend(&mut self, controls: &[f64], draw: &mut Draw, counts: &mut Counts) -> Result<(), String> {
+    fn lend(&mut self, controls: &[f64], _ticks: usize, draw: &mut Draw, counts: &mut Counts) -> Result<(), String> {
         if draw.one_in(200) {
             let whole = self.bank;
             let longer = [whole, &[0.0]].concat();

@@ -5,13 +5,16 @@
 fn the_list_is_the_rusts() {
     #[cfg(quiver)]
     {
+        use compare::script::one_nan;
+
         let list = include_str!("../../../crates/replay/stdin");
         let stored: Vec<&str> = list.lines().filter(|line| line.contains("_tick ")).collect();
         let fresh = compare::stored().unwrap_or_else(|difference| panic!("{difference}"));
-        assert!(stored.len() >= 980, "{} ticks", stored.len());
-        // processors differ in the sign of the NaN that an operation makes
-        let unsigned = |line: &str| line.replace("FFF8000000000000", "7FF8000000000000");
-        let same = stored.iter().map(|line| unsigned(line)).eq(fresh.lines().map(unsigned));
+        assert!(stored.len() >= 1060, "{} ticks", stored.len());
+        // processors differ in the NaN that an operation makes, and makes of two
+        let word = |word: &str| u64::from_str_radix(word, 16).map_or(word.to_owned(), |bits| one_nan(bits).to_string());
+        let words = |line: &str| line.split(' ').map(word).collect::<Vec<String>>();
+        let same = stored.iter().map(|line| words(line)).eq(fresh.lines().map(words));
         assert!(same, "the stored ticks are others than the Rust's");
         println!("{} stored ticks are the Rust's", stored.len());
     }

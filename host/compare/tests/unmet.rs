@@ -9,3 +9,13 @@ fn a_short_run() {
         assert!(said.contains("never met: cleared"), "{said}");
     }
 }
+
+#[test]
+#[cfg_attr(not(quiver), ignore = "skipped: QUIVER_SRC not found")]
+fn a_short_run_of_noise() {
+    #[cfg(quiver)]
+    {
+        let said = compare::script::run::<compare::noise_generator::NoiseGenerator>(5, 1).unwrap_err();
+        assert!(said.contains("never met: ") && said.contains("calls that take a counter over its top"), "{said}");
+    }
+}

@@ -22,6 +22,16 @@ impl<const C: usize> InputFrame for In<'_, C> {
     }
 }
 
+/// No control is given, so that each takes its default.
+struct NotGiven;
+
+impl InputFrame for NotGiven {
+    #[inline(always)]
+    fn get_or(&self, _id: u32, default: f64) -> f64 {
+        default
+    }
+}
+
 /// Samples in port order, from port 10 on.
 struct Out<'a, const P: usize>(&'a mut [f64; P]);
 
@@ -218,15 +228,9 @@ impl KarplusStrong {
         self.write_pos = write_pos;
     }
 
-    /// Puts the random stream to a place.
-    pub fn put_stream(&mut self, s0: u64, s1: u64) {
-        self.rng = ModuleRng::at(s0, s1);
-    }
-
-    /// The next `n` draws, 53 bits each, as the string will draw them.
-    pub fn draws(&self, n: usize) -> Vec<u64> {
-        let mut stream = self.rng;
-        (0..n).map(|_| stream.next_u64() >> 11).collect()
+    /// The random stream, from where it stands.
+    pub fn stream(&mut self) -> &mut ModuleRng {
+        &mut self.rng
     }
 
     /// A string in the same state.
@@ -237,5 +241,48 @@ impl KarplusStrong {
         twin.buffer.copy_from_slice(&self.buffer);
         twin.rng = self.rng;
         twin
+    }
+}
+
+/// The random stream isn't among the flat numbers.
+impl Probe<1, 4, 36, 2> for NoiseGenerator {
+    #[inline]
+    fn body(&mut self, controls: &[f64; 1], wanted: u32, samples: &mut [f64; 4]) {
+        self.tick_wanted(&In(controls), &mut Out(samples), wanted);
+    }
+
+    fn flat(&self) -> ([f64; 36], [u64; 2]) {
+        let mut floats = [0.0; 36];
+        floats[..16].copy_from_slice(&self.pink.rows);
+        floats[16] = self.pink.running_sum;
+        floats[17..33].copy_from_slice(&self.pink2.rows);
+        floats[33..].copy_from_slice(&[self.pink2.running_sum, self.correlation, self.last_white]);
+        (floats, [self.pink.index.into(), self.pink2.index.into()])
+    }
+
+    /// Of a counter the low 32 bits count.
+    fn put_flat(&mut self, floats: &[f64; 36], &[index, index2]: &[u64; 2]) {
+        let pink = |part: &[f64], index: u64| PinkNoiseState {
+            rows: part[..16].try_into().unwrap(),
+            running_sum: part[16],
+            index: index as u32,
+        };
+        self.pink = pink(&floats[..17], index);
+        self.pink2 = pink(&floats[17..34], index2);
+        self.correlation = floats[34];
+        self.last_white = floats[35];
+    }
+}
+
+impl NoiseGenerator {
+    /// The body of a tick that is given no correlation.
+    #[inline]
+    pub fn body_of_stored(&mut self, wanted: u32, samples: &mut [f64; 4]) {
+        self.tick_wanted(&NotGiven, &mut Out(samples), wanted);
+    }
+
+    /// The random stream, from where it stands.
+    pub fn stream(&mut self) -> &mut ModuleRng {
+        &mut self.rng
     }
 }

@@ -1,7 +1,8 @@
 //! The Rust's oscillators, unchanged, over stand-ins for what they lean on. Empty where the source isn't found.
 //!
 //! The stand-ins: `libm` calls the proved sine, cosine and powers, so that two sides which do the same operations agree to
-//! the last bit; `serde` derives nothing; `graph` below answers what no oscillator asks.
+//! the last bit; `serde` derives nothing; `graph` below answers what no oscillator asks. For measurements `quiver_system` has the system's
+//! functions instead of the proved ones, and `quiver_lent` also a stream of lent draws.
 #![allow(dead_code, unused_imports, clippy::all)]
 extern crate alloc;
 

@@ -1,4 +1,4 @@
-//! All six oscillators, or those that are named, against the Rust's for as long as one likes, from a seed:
+//! All seven oscillators, or those that are named, against the Rust's for as long as one likes, from a seed:
 //!
 //! `cargo run --offline --release -p compare --bin soak -- SEED TICKS [NAME..]`
 //!
