@@ -18,6 +18,7 @@ settled =
       «formant_osc_tick» = λ k words. laws.settled _;
       «wavetable_tick» = λ k words. laws.settled _;
       «karplus_strong_tick» = λ k words. laws.settled _;
+      «noise_generator_tick» = λ k words. laws.settled _;
       «number_of» = λ name. laws.settled _;
       run = λ k words. laws.settled _;
       judge = λ line. laws.settled _;

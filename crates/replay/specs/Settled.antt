@@ -12,7 +12,7 @@ use Rattle.replay.specs.Judge.{verdictOf, tallyOf}
 use Rattle.replay.specs.Report.{reportOf}
 use Rattle.replay.specs.Split.{untilOf, linesOf, placeIn}
 use Rattle.replay.specs.Table.{numberOf, runOf}
-use Rattle.replay.specs.Ticks.{lfoWords, vcoWords, supersawWords, formantWords, wavetableWords, karplusStrongWords}
+use Rattle.replay.specs.Ticks.{lfoWords, vcoWords, supersawWords, formantWords, wavetableWords, karplusStrongWords, noiseGeneratorWords}
 use Rattle.replay.specs.Words.{wordAt, valueAt, wellFormed}
 use Rattle.replay.specs.declared.cases.Verdict.{Verdict}
 use Rattle.replay.specs.declared.judge.Tally.{Tally}
@@ -31,6 +31,7 @@ pub record Settled : Type 0 where
   pub «formant_osc_tick» : (k : ℕ) (words : List ℕ) → Settles (λ (r : Verdict). r ≡ heldOf k words 39 (formantWords (valueAt words)))
   pub «wavetable_tick» : (k : ℕ) (words : List ℕ) → Settles (λ (r : Verdict). r ≡ heldOf k words 10 (wavetableWords (valueAt words)))
   pub «karplus_strong_tick» : (k : ℕ) (words : List ℕ) → Settles (λ (r : Verdict). r ≡ heldOf k words 139 (karplusStrongWords (valueAt words)))
+  pub «noise_generator_tick» : (k : ℕ) (words : List ℕ) → Settles (λ (r : Verdict). r ≡ heldOf k words 75 (noiseGeneratorWords (valueAt words)))
   pub «number_of» : (name : List ℕ) → Settles (λ (r : ℕ). r ≡ numberOf name)
   pub run : (k : ℕ) (words : List ℕ) → Settles (λ (r : Verdict). r ≡ runOf k words)
   pub judge : (line : List ℕ) → Settles (λ (r : Verdict). r ≡ verdictOf line)

@@ -12,7 +12,7 @@ use Rattle.numeric.specs.Power.{exp2Of, pow3000Of}
 use Rattle.numeric.specs.Trig.{sinOf, cosOf}
 use Rattle.replay.specs.Split.{placeIn}
 use Rattle.replay.specs.Held.{heldOf}
-use Rattle.replay.specs.Ticks.{floatAt, lfoWords, vcoWords, supersawWords, formantWords, wavetableWords, karplusStrongWords}
+use Rattle.replay.specs.Ticks.{floatAt, lfoWords, vcoWords, supersawWords, formantWords, wavetableWords, karplusStrongWords, noiseGeneratorWords}
 use Rattle.replay.specs.Words.{valueAt}
 use Rattle.replay.specs.declared.cases.Verdict.{Verdict}
 use Rattle.replay.specs.declared.cases.Verdict.the-variants.{Malformed}
@@ -53,6 +53,7 @@ rows =
     ∷ row (102 ∷ 111 ∷ 114 ∷ 109 ∷ 97 ∷ 110 ∷ 116 ∷ 95 ∷ 116 ∷ 105 ∷ 99 ∷ 107 ∷ []) 39 formantWords  -- formant_tick
     ∷ row (119 ∷ 97 ∷ 118 ∷ 101 ∷ 116 ∷ 97 ∷ 98 ∷ 108 ∷ 101 ∷ 95 ∷ 116 ∷ 105 ∷ 99 ∷ 107 ∷ []) 10 wavetableWords  -- wavetable_tick
     ∷ row (107 ∷ 97 ∷ 114 ∷ 112 ∷ 108 ∷ 117 ∷ 115 ∷ 95 ∷ 115 ∷ 116 ∷ 114 ∷ 111 ∷ 110 ∷ 103 ∷ 95 ∷ 116 ∷ 105 ∷ 99 ∷ 107 ∷ []) 139 karplusStrongWords  -- karplus_strong_tick
+    ∷ row (110 ∷ 111 ∷ 105 ∷ 115 ∷ 101 ∷ 95 ∷ 103 ∷ 101 ∷ 110 ∷ 101 ∷ 114 ∷ 97 ∷ 116 ∷ 111 ∷ 114 ∷ 95 ∷ 116 ∷ 105 ∷ 99 ∷ 107 ∷ []) 75 noiseGeneratorWords  -- noise_generator_tick
     ∷ []
 
 unfoldable pub names : List (List ℕ)

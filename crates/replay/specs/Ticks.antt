@@ -9,6 +9,7 @@ use Rattle.answer.specs.Flat.{Heard}
 use Rattle.exports_formant_osc.specs.Calls.{formantTickAt}
 use Rattle.exports_karplus_strong.specs.Calls.{karplusStrongTickAt}
 use Rattle.exports_lfo.specs.Calls.{lfoTickAt}
+use Rattle.exports_noise_generator.specs.Calls.{noiseGeneratorTickAt}
 use Rattle.exports_supersaw.specs.Calls.{supersawTickAt}
 use Rattle.exports_vco.specs.Calls.{controlsOf, vcoTickAt}
 use Rattle.exports_wavetable.specs.Calls.{wavetableTickAt, wavetableFillBankAt}
@@ -69,3 +70,8 @@ karplusStrongWords w =
     karplusStrongTickAt (floatAt w 10) (floatAt w 11) (floatAt w 12) (floatAt w 13) (floatAt w 14) (floatsAt w 0 6) (wholesAt w 6 4)
     (floatsAt w 15 62) (wholesAt w 77 62) (replicate 1 zer) in
     strungWords (t .heard .code) (t .heard .floats) (t .heard .wholes) (t .heard .samples) (t .line)
+
+-- 36 floats, two whole numbers, correlation, wanted, whether it is given, the draws
+unfoldable pub noiseGeneratorWords : (ℕ → ℕ) → List ℕ
+noiseGeneratorWords w =
+    toldWords (noiseGeneratorTickAt (maskAt w 40) (floatAt w 38) (maskAt w 39) (floatsAt w 0 36) (wholesAt w 36 2) (wholesAt w 41 34) (replicate 4 zer))

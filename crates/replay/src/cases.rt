@@ -7,12 +7,13 @@ ghost use lib.ListN.{length};
 ghost use lib.Ieee.{binary64, toBits};
 ghost use Rattle.replay.specs.Words.{valueAt, sameFrom};
 ghost use Rattle.replay.specs.Held.{heldOf};
-ghost use Rattle.replay.specs.Ticks.{floatsAt, wholesAt, maskAt, heardWords, strungWords, lfoWords, vcoWords, supersawWords, formantWords, wavetableWords, karplusStrongWords};
+ghost use Rattle.replay.specs.Ticks.{floatsAt, wholesAt, maskAt, heardWords, strungWords, lfoWords, vcoWords, supersawWords, formantWords, wavetableWords, karplusStrongWords, noiseGeneratorWords};
 use crate::words::real;
 use crate::words::value;
 use exports_formant_osc::gruttisol_formant_osc_tick;
 use exports_karplus_strong::gruttisol_karplus_strong_tick;
 use exports_lfo::gruttisol_lfo_tick;
+use exports_noise_generator::gruttisol_noise_generator_tick;
 use exports_supersaw::gruttisol_supersaw_tick;
 use exports_vco::gruttisol_vco_tick;
 use exports_wavetable::gruttisol_wavetable_fill_bank;
@@ -317,4 +318,27 @@ pub fn karplus_strong_tick(k: usize, words: &[u8]) -> Verdict
         &mut samples,
     );
     strung(k, words, 139, code, &floats, &wholes, &samples, &line)
+}
+
+// 34 draws are the most that a tick needs.
+pub fn noise_generator_tick(k: usize, words: &[u8]) -> Verdict
+    ensures { λ r. ⌜ r ≡ heldOf k (now (words .entry)) 75 (noiseGeneratorWords (valueAt (now (words .entry)))) ⌝ }
+{
+    let mut floats = [0.0; 36];
+    let mut wholes = [0; 2];
+    let mut samples = [0.0; 4];
+    let mut draws = [0; 34];
+    reals(&mut floats, words, 0);
+    values(&mut wholes, words, 36);
+    values(&mut draws, words, 41);
+    let code = gruttisol_noise_generator_tick(
+        mask(words, 40),
+        real(words, 38),
+        mask(words, 39),
+        &mut floats,
+        &mut wholes,
+        &draws,
+        &mut samples,
+    );
+    heard(k, words, 75, code, &floats, &wholes, &samples)
 }

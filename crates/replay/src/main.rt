@@ -12,10 +12,10 @@ use libc::STDIN_FILENO;
 use libc::STDOUT_FILENO;
 
 // Room for a whole list.
-fn room() -> [u8; 1048576]
-    ensures { λ r. ⌜ 1048576 ≡ length r ⌝ }
+fn room() -> [u8; 2097152]
+    ensures { λ r. ⌜ 2097152 ≡ length r ⌝ }
 {
-    [0; 1048576]
+    [0; 2097152]
 }
 
 fn main() {

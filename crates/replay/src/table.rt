@@ -10,6 +10,7 @@ use crate::cases::formant_osc_tick;
 use crate::cases::held;
 use crate::cases::karplus_strong_tick;
 use crate::cases::lfo_tick;
+use crate::cases::noise_generator_tick;
 use crate::cases::supersaw_tick;
 use crate::cases::vco_tick;
 use crate::cases::wavetable_tick;
@@ -19,8 +20,8 @@ use crate::words::value;
 use numeric::bits;
 
 // The names, a line each, in the order of `run`.
-pub const NAMES: [u8; 168] =
-    *b"sin\ncos\nexp2\npow3000\nfloor\nfabs\nis_finite\nclamp\nmin\nmax\nto_u64\nof_u64\nbits\ndraw\nbipolar\nlfo_tick\nvco_tick\nsupersaw_tick\nformant_tick\nwavetable_tick\nkarplus_strong_tick\n";
+pub const NAMES: [u8; 189] =
+    *b"sin\ncos\nexp2\npow3000\nfloor\nfabs\nis_finite\nclamp\nmin\nmax\nto_u64\nof_u64\nbits\ndraw\nbipolar\nlfo_tick\nvco_tick\nsupersaw_tick\nformant_tick\nwavetable_tick\nkarplus_strong_tick\nnoise_generator_tick\n";
 
 // A name's number; past the last for any other.
 pub fn number_of(name: &[u8]) -> usize
@@ -72,6 +73,7 @@ pub fn run(k: usize, words: &[u8]) -> Verdict
         18 => formant_osc_tick(k, words),
         19 => wavetable_tick(k, words),
         20 => karplus_strong_tick(k, words),
+        21 => noise_generator_tick(k, words),
         _ => Verdict::Malformed,
     }
 }

@@ -164,6 +164,9 @@ wavetable-tick-requires c κs = search needs
 karplus-strong-tick-requires : tie.Need-karplus-strong-tick-requires
 karplus-strong-tick-requires c κs = search needs
 
+noise-generator-tick-requires : tie.Need-noise-generator-tick-requires
+noise-generator-tick-requires c κs = search needs
+
 returns : tie.Need-returns
 unfolding runOf rows
 returns c = simp (c .one .ensures, c .before .bits .ensures, c .before .before .sin .ensures, c .before .before .before .before .before .before .real .ensures, c .before .before .before .match .keys1)
@@ -249,8 +252,12 @@ unfolding runOf rows
 returns-21 c = simp (c .karplus-strong-tick .ensures, c .before .match .keys21)
 
 returns-22 : tie.Need-returns-22
+unfolding runOf rows
+returns-22 c = simp (c .noise-generator-tick .ensures, c .before .match .keys22)
+
+returns-23 : tie.Need-returns-23
 unfolding rows
-returns-22 c = run-past _ _ (other-past 21 _ (c .match .rest))
+returns-23 c = run-past _ _ (other-past 22 _ (c .match .rest))
 
 pub run-spec : {M : Type 1} → statement M
 run-spec =
@@ -309,6 +316,7 @@ run-spec =
     formant-osc-tick-requires
     wavetable-tick-requires
     karplus-strong-tick-requires
+    noise-generator-tick-requires
     returns
     returns-2
     returns-3
@@ -330,4 +338,5 @@ run-spec =
     returns-19
     returns-20
     returns-21
-    returns-22)
+    returns-22
+    returns-23)
