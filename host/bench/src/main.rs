@@ -3,6 +3,7 @@
 //!
 //! Either side is a call that isn't inlined: ours into the archive, Rust's into the C library of the system. The two take
 //! turns, and the best of many short runs counts, since whatever else the machine does only adds.
+mod noise;
 mod oscillators;
 mod render;
 

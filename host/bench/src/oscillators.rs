@@ -3,6 +3,7 @@
 //! Ours is a call of the safe crate, with all checks and the mark. The Rust's is the bare body of a tick, over the functions
 //! of Rust's standard library. Held controls are one set for all ticks; moving ones glide, so that no memo ever holds. Blocks
 //! are of held controls, with their tally, against the same bare body and against the Rust's own block call.
+use crate::noise;
 use gruttisol::tally::Tally;
 use gruttisol::{formant_osc, karplus_strong, lfo, supersaw, vco, wavetable};
 use random::Random;
@@ -11,22 +12,23 @@ use std::time::Instant;
 
 const RATE: f64 = 48000.0;
 /// Ticks in a run, before which a string is plucked.
-const TICKS: usize = 8192;
+pub const TICKS: usize = 8192;
 /// Ticks in a block.
-const BLOCK: usize = 256;
+pub const BLOCK: usize = 256;
 /// Runs of either side.
 const RUNS: usize = 60;
 
 /// Prints the lines of every oscillator, or of those that are named.
 pub fn rows(named: &[String]) {
     println!("{:<16} {:<10} {:>7} {:>7} {:>7}", "ns a tick", "controls", "ours", "Rust's", "ratio");
-    let all: [(&str, fn()); 6] = [
+    let all: [(&str, fn()); 7] = [
         ("vco", vco),
         ("lfo", lfo),
         ("supersaw", supersaw),
         ("wavetable", wavetable),
         ("formant", formant),
         ("karplus_strong", karplus_strong),
+        ("noise_generator", noise::rows),
     ];
     for (name, rows) in all {
         if named.is_empty() || named.iter().any(|word| word == name) {
@@ -157,7 +159,7 @@ fn karplus_strong() {
 }
 
 /// Measures an oscillator with its controls held, then with those moving that may, and prints both lines.
-fn row<const C: usize, V, W>(
+pub fn row<const C: usize, V, W>(
     name: &str,
     held: [f64; C],
     moves: [bool; C],
@@ -192,7 +194,7 @@ fn row<const C: usize, V, W>(
 }
 
 /// Measures blocks of held controls, and prints their lines: against the Rust's bare body, and against its own block call.
-fn blocks<const C: usize, W>(
+pub fn blocks<const C: usize, W>(
     name: &str,
     ports: usize,
     held: [f64; C],

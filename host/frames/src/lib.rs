@@ -1,8 +1,9 @@
-//! The two oscillators that `render` doesn't play, over the safe crate, in the text that `render` prints: each frame with its mark,
-//! and the tally at the end. It shows how a service drives an oscillator, lends it a bank or a line, and counts what is
+//! The three oscillators that `render` doesn't play, over the safe crate, in the text that `render` prints: each frame with its mark,
+//! and the tally at the end. It shows how a service drives an oscillator, lends it a bank, a line or draws, and counts what is
 //! finished.
 use gruttisol::answer::{Mark, Refused};
 use gruttisol::karplus_strong::{self, KarplusStrong};
+use gruttisol::noise_generator::{self, NoiseGenerator};
 use gruttisol::tally::Tally;
 use gruttisol::wavetable::{self, Wavetable};
 use random::Random;
@@ -18,11 +19,14 @@ struct Text {
 }
 
 impl Text {
-    /// Adds a frame of one output.
-    fn frame(&mut self, mark: Mark, out: f64) -> Result<(), Refused> {
+    /// Adds a frame of these outputs.
+    fn frame(&mut self, mark: Mark, outputs: &[(&str, f64)]) -> Result<(), Refused> {
         let [begun, ..] = *self.tally.counts();
-        let bits = if out.is_nan() { 0x7ff8_0000_0000_0000 } else { out.to_bits() };
-        write!(self.text, "n={begun}\nmark={}\nout={bits:016X}\n", mark.word()).unwrap();
+        write!(self.text, "n={begun}\nmark={}\n", mark.word()).unwrap();
+        for (name, volts) in outputs {
+            let bits = if volts.is_nan() { 0x7ff8_0000_0000_0000 } else { volts.to_bits() };
+            writeln!(self.text, "{name}={bits:016X}").unwrap();
+        }
         self.tally.take(Ok(mark))
     }
 
@@ -51,7 +55,7 @@ pub fn wavetable() -> Result<String, Refused> {
         let table = f64::from(frame) / f64::from(FRAMES);
         let controls = wavetable::Controls { v_oct: 0.0, table, morph: 0.0, sync: 0.0 };
         let ticked = oscillator.tick(&controls, &bank)?;
-        text.frame(ticked.mark, ticked.volts.out)?;
+        text.frame(ticked.mark, &[("out", ticked.volts.out)])?;
     }
     Ok(text.end(FRAMES))
 }
@@ -68,7 +72,23 @@ pub fn string() -> Result<String, Refused> {
         let trigger = if frame == 0 { 5.0 } else { 0.0 };
         let controls = karplus_strong::Controls { voct: 1.0, trigger, damping: 0.2, brightness: 0.5, stretch: 0.0 };
         let ticked = string.tick(&controls, &mut line, &draws)?;
-        text.frame(ticked.mark, ticked.volts.out)?;
+        text.frame(ticked.mark, &[("out", ticked.volts.out)])?;
+    }
+    Ok(text.end(FRAMES))
+}
+
+/// White and pink noise; the second of each turns from a noise of its own into the first.
+pub fn noise() -> Result<String, Refused> {
+    const FRAMES: u32 = 480;
+    let mut random = Random::new(1);
+    let mut noise = NoiseGenerator::new();
+    let mut text = Text::default();
+    for frame in 0..FRAMES {
+        let controls = noise_generator::Controls { correlation: Some(f64::from(frame) / f64::from(FRAMES)) };
+        let draws: Vec<u64> = (0..noise.needed()).map(|_| random.bits() >> 11).collect();
+        let ticked = noise.tick(&controls, NoiseGenerator::WANT_ALL, &draws)?;
+        let noise_generator::Volts { white, pink, white2, pink2 } = ticked.volts;
+        text.frame(ticked.mark, &[("white", white), ("pink", pink), ("white2", white2), ("pink2", pink2)])?;
     }
     Ok(text.end(FRAMES))
 }

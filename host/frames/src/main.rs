@@ -1,12 +1,13 @@
-//! Prints the frames of the Wavetable or of the string: `cargo run --offline --release -q -p frames -- wavetable` or `string`.
+//! Prints the frames of the Wavetable, the string or noise: `cargo run --offline --release -q -p frames -- wavetable`, `string` or `noise`.
 use std::process::ExitCode;
 
 fn main() -> ExitCode {
     let text = match std::env::args().nth(1).as_deref() {
         Some("wavetable") => frames::wavetable(),
         Some("string") => frames::string(),
+        Some("noise") => frames::noise(),
         _ => {
-            eprintln!("usage: frames wavetable|string");
+            eprintln!("usage: frames wavetable|string|noise");
             return ExitCode::from(2);
         }
     };

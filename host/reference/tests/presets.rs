@@ -60,6 +60,7 @@ fn the_gallery_is_drawn_anew() {
             // render doesn't play these
             "wavetable" => frames::wavetable().unwrap(),
             "string" => frames::string().unwrap(),
+            "noise" => frames::noise().unwrap(),
             _ => String::from_utf8(program::render(&fs::read(preset(name)).unwrap())).unwrap(),
         };
         assert!(text.contains("begun="), "{name}");
