@@ -218,7 +218,7 @@ uint32_t gruttisol_noise_generator_block(uint32_t given, double correlation, uin
                                          const uint64_t *draws, size_t draws_len,
                                          uint32_t *counts, size_t counts_len, double *samples, size_t samples_len,
                                          uint32_t *marks, size_t marks_len);
-/* A reset keeps the correlation; a rate change, to any number, leaves all as it stands. */
+/* A reset keeps the correlation; a rate change, to any number, leaves all that counts: it stores of the counters the low 32 bits. */
 uint32_t gruttisol_noise_generator_reset(double *floats, size_t floats_len, uint64_t *wholes, size_t wholes_len);
 uint32_t gruttisol_noise_generator_set_sample_rate(double sample_rate, double *floats, size_t floats_len,
                                                    uint64_t *wholes, size_t wholes_len);

@@ -38,6 +38,15 @@ unit-more l i true h f e = λ k q.
 
 -- ---- a block of a calm generator
 -- its tick i, whose state is x and whose draws start at `at`
+pub ahead-taken : (s : NoiseGenerator) (c : NoiseGeneratorControls) (wanted : ℕ) (draws : List ℕ) (n : ℕ) → drawsRefusalOf (neededBy s n) draws ≡ 0
+    → (i : ℕ) → i < n → (x : NoiseGenerator) (at : ℕ) → x ≡ drawingAt s c wanted draws i .noise → at ≡ neededBy s i
+    → drawsRefusalOf (neededOf x) (take (length draws - at) (drop at draws)) ≡ 0
+ahead-taken s c wanted draws n h i l x at z f =
+    let y = drawingAt s c wanted draws i in
+    let a : At s c wanted draws n i y = ticks-at s c wanted draws n h i (le-of-lt l) in
+    let left : take (length draws - at) (drop at draws) ≡ y .draws = rest-draws draws at ∙ ap (λ (j : ℕ). drop j draws) f ∙ sym (a .left) in
+    (λ j. drawsRefusalOf (neededOf (z j)) (left j)) ∙ a .taken l
+
 pub ahead-finite : (s : NoiseGenerator) (c : NoiseGeneratorControls) (wanted : ℕ) (draws : List ℕ) (n : ℕ) → drawsRefusalOf (neededBy s n) draws ≡ 0
     → length (s .pink .rows) ≡ 16 → length (s .pink2 .rows) ≡ 16 → Calm s (correlationOf s c)
     → (i : ℕ) → i < n → (k : Float) (x : NoiseGenerator) (at : ℕ) → k ≡ correlationOf s c → x ≡ drawingAt s c wanted draws i .noise → at ≡ neededBy s i

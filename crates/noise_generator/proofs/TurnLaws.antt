@@ -2,13 +2,15 @@
 use mathlib.Core.Bool.{false, true}
 use mathlib.Core.List.{List}
 use mathlib.Core.Path.{_≡_, sym, ap, _∙_}
-use Prim.Native.Nat.{ℕ, _+_, _-_, _≤_}
+use Prim.Native.Nat.{ℕ, _+_, _-_, _≤_, _<_}
 use native.Mathlib.Nat.{add-assoc, le-of-eq}
 use native.Mathlib.Omega.{arith}
 use lib.Ieee.{Float, binary64, div}
 use lib.ListN.{length, getD, take, drop, length-drop}
 use lib.Seq.{take-all}
 use Rattle.numeric.specs.Draw.{bipolarOf}
+use Rattle.common.proofs.DrawLaws.{draw-below, draws-fine}
+use Rattle.common.specs.Tests.{drawsRefusalOf}
 use Rattle.answer.specs.Block.{Block, block}
 use Rattle.answer.specs.Mark.{markOf}
 use Rattle.answer.specs.declared.Answer.{Answer}
@@ -25,6 +27,14 @@ use Rattle.noise_generator.specs.declared.Rowless.{Rowless}
 pub needed-two : (index index2 k : ℕ) → neededAt index index2 ≤ k → 2 ≤ k
 unfolding neededAt
 needed-two index index2 k h = omega arith
+
+pub needed-some : (index index2 i : ℕ) → i < 2 → i < neededAt index index2
+unfolding neededAt
+needed-some index index2 i h = omega arith
+
+-- and a draw that isn't refused is below 2 ^ 53
+pub fine-there : (d : List ℕ) (n i : ℕ) → drawsRefusalOf n d ≡ 0 → i < n → getD d i 0 < 9007199254740992
+fine-there d n i h l = draw-below d n i (draws-fine n d h) l
 
 module _ (r : Rowless) (index index2 n n2 : ℕ)
     (ei : index ≡ nextIndex (r .index)) (ei2 : index2 ≡ nextIndex (r .index2)) (en : n ≡ changedOf index) (en2 : n2 ≡ changedOf index2) where
@@ -63,9 +73,6 @@ module _ (r : Rowless) (index index2 n n2 : ℕ)
 -- ---- a turn over the draws from place `at` on, as the code cuts them off
 pub rest-draws : (d : List ℕ) (at : ℕ) → take (length d - at) (drop at d) ≡ drop at d
 rest-draws d at = take-all (length d - at) (drop at d) (le-of-eq (length-drop at d))
-
-pub rest-fits : (d : List ℕ) (at n : ℕ) → at + n ≤ length d → n ≤ length (take (length d - at) (drop at d))
-rest-fits d at n h = let e = ap length (rest-draws d at) in let k = length-drop at d in omega arith
 
 pub turn-there : (k correlation : Float) (x : NoiseGenerator) (wanted at : ℕ) (d : List ℕ) (t : NoiseGeneratorTicked) → k ≡ correlation
     → t ≡ turnOf k x wanted (take (length d - at) (drop at d)) → t ≡ turnOf correlation x wanted (drop at d)

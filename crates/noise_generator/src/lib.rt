@@ -14,6 +14,7 @@ ghost use lib.ListN.{length, getD, set};
 ghost use lib.Seq.{sets};
 ghost use Rattle.laws.specs.Float.{InUnit};
 ghost use Rattle.laws.specs.Lists.{tab};
+ghost use Rattle.numeric.specs.Draw.{bipolarOf};
 ghost use Rattle.common.specs.Tests.{drawsRefusalOf};
 ghost use Rattle.answer.specs.Answer.{hostNumber, voltsOf};
 ghost use Rattle.answer.specs.Block.{afterTicks, portsOf, joined, block, markAt, frameAt};
@@ -81,6 +82,14 @@ struct Turned {
     taken: usize,
 }
 
+// next_bipolar of a draw that is known to be below 2^53: no digit is lost on the way, so that 2^-53 and 2.0 may be one factor.
+fn bipolar(draw: u64) -> f64
+    requires { ⌜ draw < 9007199254740992 ⌝ }
+    ensures { λ r. ⌜ r ≡ bipolarOf draw ⌝ }
+{
+    (draw as f64) * 2.220446049250313e-16 - 1.0
+}
+
 // The Rust's trailing_ones: the zeros at the end of the complement.
 fn trailing_ones(x: u32) -> u32
     ensures { λ r. ⌜ r ≡ trailingOnes 32 x ⌝ }
@@ -137,13 +146,13 @@ impl PinkNoiseState {
     // The loop of the Rust's sample: the first n rows change, drawn from place `at` on. Answers the running sum. The counter's step, how many
     // rows, and the division by 16.0 stand in `turn`.
     fn sample(rows: &mut [f64; 16], sum: f64, n: usize, draws: &[u64], at: usize) -> f64
-        requires { ⌜ (n ≤ 16) × (at + n ≤ length (now draws)) ⌝ }
+        requires { ⌜ (n ≤ 16) × (at + n ≤ length (now draws)) × ((i : ℕ) → i < n → getD (now draws) (at + i) 0 < 9007199254740992) ⌝ }
         ensures { λ r. ⌜ rowed (now (rows .exit)) r ≡ rowsOf (now (draws .entry)) at (rowed (now (rows .entry)) sum) n ⌝ }
     {
         let mut running_sum = sum;
         let mut i = 0;
         while i < n {
-            let row = numeric::bipolar(draws[at + i]);
+            let row = bipolar(draws[at + i]);
             running_sum = running_sum - rows[i] + row;
             rows[i] = row;
             i += 1;
@@ -354,7 +363,7 @@ impl NoiseGenerator {
         draws: &[u64],
         calm: bool,
     ) -> Turned
-        requires { ⌜ neededAt (rest .index) (rest .index2) ≤ length (now draws) ⌝ }
+        requires { ⌜ drawsRefusalOf (neededAt (rest .index) (rest .index2)) (now draws) ≡ 0 ⌝ }
         requires { ⌜ (calm ≡ true → allFinite (turnVolts correlation (pinkAt (now rows) (rest .sum) (rest .index)) (pinkAt (now rows2) (rest .sum2) (rest .index2)) wanted (now draws)) ≡ true) ⌝ }
         ensures { λ r. ⌜ ((stored white : Float) → ticked (r .answer) (whole (now (rows .exit)) (now (rows2 .exit)) (r .rest) stored (r .«last_white»)) ≡ turnOf correlation (whole (now (rows .entry)) (now (rows2 .entry)) rest stored white) wanted (now (draws .entry))) ⌝ }
         ensures { λ r. ⌜ r .taken ≡ neededAt (rest .index) (rest .index2) ⌝ }
@@ -363,8 +372,8 @@ impl NoiseGenerator {
         let index2 = next_index(rest.index2);
         let n = changed(index);
         let n2 = changed(index2);
-        let white1 = numeric::bipolar(draws[0]);
-        let independent = numeric::bipolar(draws[1]);
+        let white1 = bipolar(draws[0]);
+        let independent = bipolar(draws[1]);
         let sum = PinkNoiseState::sample(rows, rest.sum, n, draws, 2);
         let sum2 = PinkNoiseState::sample(rows2, rest.sum2, n2, draws, 2 + n);
         Turned {
@@ -390,7 +399,7 @@ impl NoiseGenerator {
 
     // An accepted tick. One alone would pay more for the question whether its state is calm than the answer saves it.
     fn sound(self, c: NoiseGeneratorControls, wanted: u32, draws: &[u64]) -> NoiseGeneratorTicked
-        requires { ⌜ neededOf self ≤ length (now draws) ⌝ }
+        requires { ⌜ drawsRefusalOf (neededOf self) (now draws) ≡ 0 ⌝ }
         ensures { λ r. ⌜ r ≡ turnOf (correlationOf self c) self wanted (now (draws .entry)) ⌝ }
     {
         let pink = self.pink;

@@ -12,6 +12,7 @@ use lib.IntN.{negsuc, pos}
 use Rattle.laws.proofs.Interval.{Within}
 use Rattle.laws.proofs.Values.{exact-at, mul-round, ofInt-val, rescale, sub-round, sum-neg, sum-pos-neg}
 use Rattle.laws.specs.Float.{two}
+use Rattle.numeric.specs.Basic.{realOf}
 use Rattle.numeric.specs.Draw.{bipolarOf, drawOf}
 use Rattle.numeric.specs.Promises.{Bipolar-exact, Draw-exact}
 
@@ -25,19 +26,29 @@ draw-exact k h =
     (exact-at false k 53 h (lit≤ tt))
 
 -- twice that, exactly
-twice-exact : (k : ℕ) → k < 2 ^ 53 → HasValue (mul binary64 (drawOf k) two) false k (2 ^ 52)
+twice-round : (k : ℕ) → k < 2 ^ 53 → mul binary64 (drawOf k) two ≡ round binary64 false k 4503599627370496
 unfolding drawOf ofBits
-twice-exact k h =
-    subst (λ (z : Float). HasValue z false k (2 ^ 52))
-    (sym (mul-round (mul binary64 (ofInt binary64 (pos k)) (fin false 1 (negsuc 52))) (fin false 1 (pos 1)) false false k (2 ^ 52 * 2) 2 1 (lit< tt) (zero-lt-suc 0) (draw-exact k h) (refl, refl)
-    ∙ same k))
-    (exact-at false k 52 h (lit≤ tt))
+twice-round k h =
+    mul-round (mul binary64 (ofInt binary64 (pos k)) (fin false 1 (negsuc 52))) (fin false 1 (pos 1)) false false k (2 ^ 52 * 2) 2 1 (lit< tt) (zero-lt-suc 0)
+    (draw-exact k h) (refl, refl)
+    ∙ same k
   where
     same : (k : ℕ) → round binary64 false (k * 2) 9007199254740992 ≡ round binary64 false k 4503599627370496
     same k = round-same binary64 false (k * 2) 9007199254740992 k 4503599627370496 (lit< tt) (lit< tt) (twice k)
       where
         twice : (k : ℕ) → k * 2 * 4503599627370496 ≡ k * 9007199254740992
         twice k = omega arith
+
+twice-exact : (k : ℕ) → k < 2 ^ 53 → HasValue (mul binary64 (drawOf k) two) false k (2 ^ 52)
+twice-exact k h = subst (λ (z : Float). HasValue z false k (2 ^ 52)) (sym (twice-round k h)) (exact-at false k 52 h (lit≤ tt))
+
+-- so one product gives it too, by 2 ^ -52
+pub twice-once : (k : ℕ) → k < 2 ^ 53 → mul binary64 (realOf k) (ofBits binary64 0x3cb0000000000000) ≡ mul binary64 (drawOf k) two
+unfolding ofBits
+twice-once k h =
+    mul-round (ofInt binary64 (pos k)) (fin false 1 (negsuc 51)) false false k 1 1 4503599627370496 (zero-lt-suc 0) (lit< tt) (ofInt-val k (le-of-lt h)) (refl, refl)
+    ∙ ap (λ (z : ℕ). round binary64 false z 4503599627370496) (mul-one k)
+    ∙ sym (twice-round k h)
 
 less-one : (k : ℕ) → k < 2 ^ 53 → bipolarOf k ≡ sum binary64 false (k * 1) true (1 * 4503599627370496) 4503599627370496
 unfolding bipolarOf drawOf ofBits

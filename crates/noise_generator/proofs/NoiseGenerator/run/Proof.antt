@@ -11,9 +11,9 @@ use Rattle.answer.proofs.Blocks.{four-ports, joined-none, frames-more, frames-d
 use Rattle.answer.specs.Block.{afterTicks, markAt, frameAt, joined}
 use Rattle.noise_generator.specs.Apart.{whole, neededAt}
 use Rattle.noise_generator.specs.NoiseGenerator.{neededOf, changedBy, neededBy, correlationOf, drawing, noiseGeneratorAnswerOf, noiseGeneratorNextOf}
-use Rattle.noise_generator.proofs.CalmLaws.{ahead-finite}
+use Rattle.noise_generator.proofs.CalmLaws.{ahead-taken, ahead-finite}
 use Rattle.noise_generator.proofs.TickLaws.{drawingAt, ticks-at, heard, moved, advanced, reaches}
-use Rattle.noise_generator.proofs.TurnLaws.{rest-fits, turn-there}
+use Rattle.noise_generator.proofs.TurnLaws.{turn-there}
 use Rattle.noise_generator.proofs.NoiseGenerator.run.Statement.{statement}
 use Rattle.noise_generator.proofs.NoiseGenerator.run.Tie as tie
 
@@ -60,7 +60,7 @@ turn-requires c κs =
     let good = c .before .before .before .before .before .before .before .before .before .before .before .before .before .before .good .0 .1 in
     let l = c .before .before .before .before .before .loop in
     let x = whole (l .rows) (l .rows2) (l .rest) (a .self .correlation) (l .last-white) in (
-      rest-fits (a .draws .now) (l .at) _ (reaches (a .self) (a .c) (a .wanted) (a .draws .now) _ h (l .i) (omega arith) x (l .at) _ (l .inv .5) (l .inv .6) refl),
+      ahead-taken (a .self) (a .c) (a .wanted) (a .draws .now) _ h (l .i) (omega arith) x (l .at) (l .inv .5) (l .inv .6),
       λ e. ahead-finite (a .self) (a .c) (a .wanted) (a .draws .now) _ h (search (needs, good .0)) (search (needs, good .1 .1 .0)) (c .before .before .before .before .before .before .calm .ensures e) (l .i) (omega arith) _ x (l .at) (c .before .before .before .clamped .ensures) (l .inv .5) (l .inv .6),
     )
 

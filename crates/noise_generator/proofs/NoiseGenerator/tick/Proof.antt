@@ -3,7 +3,6 @@ use mathlib.Core.Path.{_≡_, sym, ap, _∙_}
 use Prim.Native.Nat.{ℕ}
 use borrow.Author.Tests.{ne-eqb}
 use Rattle.common.specs.Tests.{drawsRefusalOf}
-use Rattle.common.proofs.DrawLaws.{draws-enough}
 use Rattle.noise_generator.specs.NoiseGenerator.{noiseGeneratorTickOf}
 use Rattle.noise_generator.proofs.TickLaws.{tick-taken}
 use borrow.Author.Needs.{needs}
@@ -20,7 +19,7 @@ not-refused : (d : List ℕ) (n m k : ℕ) → n ≡ m → k ≡ drawsRefusalOf 
 not-refused d n m k e h z = ap (λ (n : ℕ). drawsRefusalOf n d) (sym e) ∙ sym h ∙ z
 
 sound-requires : tie.Need-sound-requires
-sound-requires c κs = draws-enough _ _ (not-refused _ _ _ _ (c .before .before .needed .ensures) (c .before .draws-refusal .ensures) (c .if1 .taken))
+sound-requires c κs = not-refused _ _ _ _ (c .before .before .needed .ensures) (c .before .draws-refusal .ensures) (c .if1 .taken)
 
 returns : tie.Need-returns
 returns c = c .sound .ensures ∙ sym (tick-taken _ _ _ _ (not-refused _ _ _ _ (c .before .before .before .needed .ensures) (c .before .before .draws-refusal .ensures) (c .before .if1 .taken)))

@@ -1,8 +1,10 @@
 use mathlib.Core.Path.{ap, _∙_}
 use native.Mathlib.Omega.{arith}
+use lib.Dec.{lit<}
+use Rattle.common.proofs.DrawLaws.{draws-enough}
 use Rattle.answer.specs.Mark.{allFinite}
 use Rattle.noise_generator.proofs.RowLaws.{changed-most}
-use Rattle.noise_generator.proofs.TurnLaws.{needed-two, all-taken, outputs, turned}
+use Rattle.noise_generator.proofs.TurnLaws.{needed-two, needed-some, fine-there, all-taken, outputs, turned}
 use borrow.Author.Needs.{needs}
 use Rattle.noise_generator.proofs.NoiseGenerator.turn.Statement.{statement}
 use Rattle.noise_generator.proofs.NoiseGenerator.turn.Tie as tie
@@ -20,16 +22,16 @@ changed-requires-2 : tie.Need-changed-requires-2
 changed-requires-2 c κs = search needs
 
 shared-slice-read-bipolar : tie.Need-shared-slice-read-bipolar
-shared-slice-read-bipolar c = let h = needed-two _ _ _ (c .before .before .before .before .before .before .pre .0) in omega arith
+shared-slice-read-bipolar c = let h = needed-two _ _ _ (draws-enough _ _ (c .before .before .before .before .before .before .pre .0)) in omega arith
 
 bipolar-requires : tie.Need-bipolar-requires
-bipolar-requires c κs = search needs
+bipolar-requires c κs = fine-there _ _ 0 (c .before .before .before .before .before .before .pre .0) (needed-some _ _ 0 (lit< tt))
 
 shared-slice-read-bipolar-2 : tie.Need-shared-slice-read-bipolar-2
-shared-slice-read-bipolar-2 c = let h = needed-two _ _ _ (c .before .before .before .before .before .before .before .before .pre .0) in omega arith
+shared-slice-read-bipolar-2 c = let h = needed-two _ _ _ (draws-enough _ _ (c .before .before .before .before .before .before .before .before .pre .0)) in omega arith
 
 bipolar-requires-2 : tie.Need-bipolar-requires-2
-bipolar-requires-2 c κs = search needs
+bipolar-requires-2 c κs = fine-there _ _ 1 (c .before .before .before .before .before .before .before .before .pre .0) (needed-some _ _ 1 (lit< tt))
 
 sample-requires : tie.Need-sample-requires
 sample-requires c κs =
@@ -37,8 +39,8 @@ sample-requires c κs =
     let t = all-taken (c .before .before .before .before .before .before .before .before .before .before .args .rest) _ _ _ _ (called .before .before .before .next-index .ensures) (called .before .before .next-index2 .ensures) (called .before .changed .ensures) (called .changed2 .ensures) in
     let m = changed-most (called .before .before .before .next-index .result) in
     let e = called .before .changed .ensures in
-    let p = c .before .before .before .before .before .before .before .before .before .before .pre .0 in
-    (omega arith, omega arith)
+    let p = draws-enough _ _ (c .before .before .before .before .before .before .before .before .before .before .pre .0) in
+    (omega arith, omega arith, λ i l. fine-there _ _ _ (c .before .before .before .before .before .before .before .before .before .before .pre .0) (omega arith))
 
 add-sample : tie.Need-add-sample
 add-sample c = let m = changed-most (c .before .before .before .before .before .before .before .before .before .before .next-index .result) in let e = c .before .before .before .before .before .before .before .before .changed .ensures in omega arith
@@ -49,8 +51,8 @@ sample-requires-2 c κs =
     let t = all-taken (c .before .before .before .before .before .before .before .before .before .before .before .before .args .rest) _ _ _ _ (called .before .before .before .next-index .ensures) (called .before .before .next-index2 .ensures) (called .before .changed .ensures) (called .changed2 .ensures) in
     let m = changed-most (called .before .before .next-index2 .result) in
     let e = called .changed2 .ensures in
-    let p = c .before .before .before .before .before .before .before .before .before .before .before .before .pre .0 in
-    (omega arith, omega arith)
+    let p = draws-enough _ _ (c .before .before .before .before .before .before .before .before .before .before .before .before .pre .0) in
+    (omega arith, omega arith, λ i l. fine-there _ _ _ (c .before .before .before .before .before .before .before .before .before .before .before .before .pre .0) (omega arith))
 
 heard-requires : tie.Need-heard-requires
 heard-requires c κs calm =

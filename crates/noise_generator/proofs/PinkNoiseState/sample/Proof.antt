@@ -2,7 +2,6 @@ use mathlib.Core.Path.{_≡_, refl, ap, _∙_}
 use Prim.Native.Nat.{_≤_, _-_}
 use native.Mathlib.Nat.{le-antisymm}
 use native.Mathlib.Omega.{arith}
-use borrow.Author.Needs.{needs}
 use Rattle.noise_generator.specs.Pink.{rowed, rowsOf}
 use Rattle.noise_generator.proofs.PinkLaws.{row-more}
 use Rattle.noise_generator.proofs.PinkNoiseState.sample.Statement.{statement}
@@ -28,7 +27,7 @@ shared-slice-read-bipolar : tie.Need-shared-slice-read-bipolar Inv-loop μ-loop
 shared-slice-read-bipolar c = omega arith
 
 bipolar-requires : tie.Need-bipolar-requires Inv-loop μ-loop
-bipolar-requires c κs = search needs
+bipolar-requires c κs = c .before .before .before .before .pre .2 (c .before .before .loop .i) (c .before .loop-test .taken)
 
 mul-running-sum : tie.Need-mul-running-sum Inv-loop μ-loop
 mul-running-sum c = omega arith
