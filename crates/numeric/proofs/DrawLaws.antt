@@ -46,7 +46,8 @@ twice-exact k h = subst (λ (z : Float). HasValue z false k (2 ^ 52)) (sym (twic
 pub twice-once : (k : ℕ) → k < 2 ^ 53 → mul binary64 (realOf k) (ofBits binary64 0x3cb0000000000000) ≡ mul binary64 (drawOf k) two
 unfolding ofBits
 twice-once k h =
-    mul-round (ofInt binary64 (pos k)) (fin false 1 (negsuc 51)) false false k 1 1 4503599627370496 (zero-lt-suc 0) (lit< tt) (ofInt-val k (le-of-lt h)) (refl, refl)
+    mul-round (ofInt binary64 (pos k)) (fin false 1 (negsuc 51)) false false k 1 1 4503599627370496 (zero-lt-suc 0) (lit< tt)
+    (ofInt-val k (le-of-lt h)) (refl, refl)
     ∙ ap (λ (z : ℕ). round binary64 false z 4503599627370496) (mul-one k)
     ∙ sym (twice-round k h)
 

@@ -14,10 +14,20 @@ climbed-requires-2 : tie.Need-climbed-requires-2
 climbed-requires-2 c κs = search needs
 
 sub-result : tie.Need-sub-result
-sub-result c = let e = c .climbed2 .ensures in let f = c .before .climbed .ensures in let k = changed-by (c .before .before .args .index) (c .before .before .args .n) in omega arith
+sub-result c =
+    let a = c .before .before .args in
+    let e = c .climbed2 .ensures in
+    let f = c .before .climbed .ensures in
+    let k = changed-by (a .index) (a .n) in
+    omega arith
 
 returns : tie.Need-returns
-returns c = let e = c .climbed2 .ensures in let f = c .before .climbed .ensures in let k = changed-by (c .before .before .args .index) (c .before .before .args .n) in omega arith
+returns c =
+    let a = c .before .before .args in
+    let e = c .climbed2 .ensures in
+    let f = c .before .climbed .ensures in
+    let k = changed-by (a .index) (a .n) in
+    omega arith
 
 pub changed-by-spec : {M : Type 1} → statement M
 changed-by-spec =

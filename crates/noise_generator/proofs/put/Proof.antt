@@ -66,7 +66,9 @@ after n = (omega arith, omega arith, omega arith)
 
 returns : tie.Need-returns
 unfolding portsOf
-returns c = let k = after (4 * c .before .before .before .before .args .i) in (simp (c .before .samples .ensures, k .0, k .1, k .2), simp (c .host-number .ensures))
+returns c =
+    let k = after (4 * c .before .before .before .before .args .i) in
+    (simp (c .before .samples .ensures, k .0, k .1, k .2), simp (c .host-number .ensures))
 
 pub put-spec : {M : Type 1} → statement M
 put-spec =

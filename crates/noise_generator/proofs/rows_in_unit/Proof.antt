@@ -35,7 +35,9 @@ loop-less : tie.Need-loop-less Inv-loop μ-loop
 loop-less c = omega arith
 
 loop-again : tie.Need-loop-again Inv-loop μ-loop
-loop-again c = (omega arith, unit-more (c .before .before .before .before .args .t1) _ _ (c .before .before .before .loop .inv .1) (c .before .in-unit .ensures) (c .if1 .left))
+loop-again c =
+    let l = c .before .before .before in
+    (omega arith, unit-more (l .before .args .t1) _ _ (l .loop .inv .1) (c .before .in-unit .ensures) (c .if1 .left))
 
 returns-2 : tie.Need-returns-2 Inv-loop μ-loop
 returns-2 c e k h = c .before .loop .inv .1 k (le-trans h (c .loop-test .left))

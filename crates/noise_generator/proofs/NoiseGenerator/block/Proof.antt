@@ -18,8 +18,10 @@ block-refusal-requires c κs = search needs
 
 run-requires : tie.Need-run-requires
 run-requires c κs =
-    let a = c .before .before .before .before .before .before .before .before .before .args in
-    let f = block-fits 4 _ (a .tally) (a .samples .now) (a .marks .now) _ (rw (c .before .before .before .before .fits2 .ensures, c .before .before .before .before .before .draws-refusal .ensures) at (c .before .before .before .block-refusal .ensures)) (c .before .before .if1 .taken) in
+    let asked = c .before .before .before in
+    let a = asked .before .before .before .before .before .before .args in
+    let e = rw (asked .before .fits2 .ensures, asked .before .before .draws-refusal .ensures) at (asked .block-refusal .ensures) in
+    let f = block-fits 4 _ (a .tally) (a .samples .now) (a .marks .now) _ e (c .before .before .if1 .taken) in
     (f .1, f .0)
 
 take-marks-requires : tie.Need-take-marks-requires
@@ -37,22 +39,27 @@ same-length-2 c = search needs
 returns : tie.Need-returns
 unfolding noiseGeneratorBlockOf
 returns c =
-    let asked = c .before .before .before .before .before .before .before .before .before .before .before in
+    let ran = c .before .before .before .before .before .before .before in
+    let asked = ran .before .before .before .before in
     let a = asked .before .before .before .before .before .before .args in
-    let r = c .before .before .before .before .before .before .before .run .ensures in
+    let r = ran .run .ensures in
     let s = drawing (a .self) (a .draws .now) in
+    let e = rw (asked .before .fits2 .ensures, asked .before .before .draws-refusal .ensures) at (asked .block-refusal .ensures) in
+    let tallied = c .or .ensures ∙ ap (tallyOr (a .tally)) (c .before .take-marks .ensures) in
     undrawn-done _ _ _ _ _ _ (r .0)
-    (block-done 4 _ (noiseGeneratorAnswerOf (a .c) (a .wanted)) (noiseGeneratorNextOf (a .c) (a .wanted)) s (a .tally) (a .samples .now) (a .marks .now) _
-    (rw (asked .before .fits2 .ensures, asked .before .before .draws-refusal .ensures) at (asked .block-refusal .ensures)) (c .before .before .before .before .before .before .before .before .before .before .if1 .taken) _ _ _ _ refl (r .1 .0) (r .1 .1)
-    (c .or .ensures ∙ ap (tallyOr (a .tally)) (c .before .take-marks .ensures)))
+    (block-done 4 _ (noiseGeneratorAnswerOf (a .c) (a .wanted)) (noiseGeneratorNextOf (a .c) (a .wanted)) s (a .tally) (a .samples .now) (a .marks .now) _ e
+    (ran .before .before .before .if1 .taken) _ _ _ _ refl (r .1 .0) (r .1 .1) tallied)
 
 returns-2 : tie.Need-returns-2
 unfolding noiseGeneratorBlockOf
 returns-2 c =
-    let a = c .before .before .before .before .before .before .before .args in
+    let asked = c .before in
+    let a = asked .before .before .before .before .before .before .args in
     let s = drawing (a .self) (a .draws .now) in
+    let e = rw (asked .before .fits2 .ensures, asked .before .before .draws-refusal .ensures) at (asked .block-refusal .ensures) in
     ap undrawn
-    (block-refused 4 _ (noiseGeneratorAnswerOf (a .c) (a .wanted)) (noiseGeneratorNextOf (a .c) (a .wanted)) s (a .tally) (a .samples .now) (a .marks .now) _ (rw (c .before .before .fits2 .ensures, c .before .before .before .draws-refusal .ensures) at (c .before .block-refusal .ensures)) (c .if1 .left))
+    (block-refused 4 _ (noiseGeneratorAnswerOf (a .c) (a .wanted)) (noiseGeneratorNextOf (a .c) (a .wanted)) s (a .tally) (a .samples .now) (a .marks .now) _ e
+    (c .if1 .left))
 
 pub block-spec : {M : Type 1} → statement M
 block-spec =

@@ -22,11 +22,18 @@ changed-requires-2 : tie.Need-changed-requires-2
 changed-requires-2 c κs = search needs
 
 add-result-2 : tie.Need-add-result-2
-add-result-2 c = let e = c .changed2 .ensures in let m = changed-most (c .before .next-index2 .result) in let f = c .before .before .changed .ensures in let k = changed-most (c .before .before .before .next-index .result) in omega arith
+add-result-2 c =
+    let e = c .changed2 .ensures in
+    let m = changed-most (c .before .next-index2 .result) in
+    let f = c .before .before .changed .ensures in
+    let k = changed-most (c .before .before .before .next-index .result) in
+    omega arith
 
 returns : tie.Need-returns
 unfolding neededOf
-returns c = simp (c .changed2 .ensures, c .before .next-index2 .ensures, c .before .before .changed .ensures, c .before .before .before .next-index .ensures) (add-assoc 2 _ _)
+returns c =
+    let first = c .before .before in
+    simp (c .changed2 .ensures, c .before .next-index2 .ensures, first .changed .ensures, first .before .next-index .ensures) (add-assoc 2 _ _)
 
 pub needed-spec : {M : Type 1} → statement M
 needed-spec =

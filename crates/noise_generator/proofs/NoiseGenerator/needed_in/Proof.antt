@@ -13,13 +13,23 @@ changed-by-requires : tie.Need-changed-by-requires
 changed-by-requires c κs = search needs
 
 add-result : tie.Need-add-result
-add-result c = let e = c .changed-by .ensures in let k = changed-by-most (c .before .before .before .args .self .pink .index) (c .before .before .before .args .n) in omega arith
+add-result c =
+    let a = c .before .before .before .args in
+    let e = c .changed-by .ensures in
+    let k = changed-by-most (a .self .pink .index) (a .n) in
+    omega arith
 
 changed-by-requires-2 : tie.Need-changed-by-requires-2
 changed-by-requires-2 c κs = search needs
 
 add-result-2 : tie.Need-add-result-2
-add-result-2 c = let a = c .before .before .before .before .args in let e = c .changed-by2 .ensures in let f = c .before .changed-by .ensures in let k = changed-by-most (a .self .pink .index) (a .n) in let l = changed-by-most (a .self .pink2 .index) (a .n) in omega arith
+add-result-2 c =
+    let a = c .before .before .before .before .args in
+    let e = c .changed-by2 .ensures in
+    let f = c .before .changed-by .ensures in
+    let k = changed-by-most (a .self .pink .index) (a .n) in
+    let l = changed-by-most (a .self .pink2 .index) (a .n) in
+    omega arith
 
 returns : tie.Need-returns
 unfolding neededBy

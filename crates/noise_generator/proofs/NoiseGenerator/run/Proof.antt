@@ -41,16 +41,40 @@ clamped-requires : tie.Need-clamped-requires Inv-loop μ-loop
 clamped-requires c κs = search needs
 
 mul-turn : tie.Need-mul-turn Inv-loop μ-loop
-mul-turn c = let a = c .before .before .before .before .before .before .before .before .before .before .before .before .before .args in let l = c .before .before .before .before .loop in let h = ticks-at (a .self) (a .c) (a .wanted) (a .draws .now) _ (c .before .before .before .before .before .before .before .before .before .before .before .before .before .pre .0) (l .i) (l .inv .0) .fits in let p = l .inv .6 in omega arith
+mul-turn c =
+    let l = c .before .before .before .before .loop in
+    let begun = c .before .before .before .before .before .before .before .before .before .before .before .before .before in
+    let a = begun .args in
+    let h = ticks-at (a .self) (a .c) (a .wanted) (a .draws .now) _ (begun .pre .0) (l .i) (l .inv .0) .fits in
+    let p = l .inv .6 in
+    omega arith
 
 sub-turn : tie.Need-sub-turn Inv-loop μ-loop
-sub-turn c = let a = c .before .before .before .before .before .before .before .before .before .before .before .before .before .args in let l = c .before .before .before .before .loop in let h = ticks-at (a .self) (a .c) (a .wanted) (a .draws .now) _ (c .before .before .before .before .before .before .before .before .before .before .before .before .before .pre .0) (l .i) (l .inv .0) .fits in let p = l .inv .6 in omega arith
+sub-turn c =
+    let l = c .before .before .before .before .loop in
+    let begun = c .before .before .before .before .before .before .before .before .before .before .before .before .before in
+    let a = begun .args in
+    let h = ticks-at (a .self) (a .c) (a .wanted) (a .draws .now) _ (begun .pre .0) (l .i) (l .inv .0) .fits in
+    let p = l .inv .6 in
+    omega arith
 
 part-turn-start : tie.Need-part-turn-start Inv-loop μ-loop
-part-turn-start c = let a = c .before .before .before .before .before .before .before .before .before .before .before .before .before .args in let l = c .before .before .before .before .loop in let h = ticks-at (a .self) (a .c) (a .wanted) (a .draws .now) _ (c .before .before .before .before .before .before .before .before .before .before .before .before .before .pre .0) (l .i) (l .inv .0) .fits in let p = l .inv .6 in omega arith
+part-turn-start c =
+    let l = c .before .before .before .before .loop in
+    let begun = c .before .before .before .before .before .before .before .before .before .before .before .before .before in
+    let a = begun .args in
+    let h = ticks-at (a .self) (a .c) (a .wanted) (a .draws .now) _ (begun .pre .0) (l .i) (l .inv .0) .fits in
+    let p = l .inv .6 in
+    omega arith
 
 part-turn-end : tie.Need-part-turn-end Inv-loop μ-loop
-part-turn-end c = let a = c .before .before .before .before .before .before .before .before .before .before .before .before .before .args in let l = c .before .before .before .before .loop in let h = ticks-at (a .self) (a .c) (a .wanted) (a .draws .now) _ (c .before .before .before .before .before .before .before .before .before .before .before .before .before .pre .0) (l .i) (l .inv .0) .fits in let p = l .inv .6 in omega arith
+part-turn-end c =
+    let l = c .before .before .before .before .loop in
+    let begun = c .before .before .before .before .before .before .before .before .before .before .before .before .before in
+    let a = begun .args in
+    let h = ticks-at (a .self) (a .c) (a .wanted) (a .draws .now) _ (begun .pre .0) (l .i) (l .inv .0) .fits in
+    let p = l .inv .6 in
+    omega arith
 
 turn-requires : tie.Need-turn-requires Inv-loop μ-loop
 unfolding neededAt neededOf
@@ -61,7 +85,9 @@ turn-requires c κs =
     let l = c .before .before .before .before .before .loop in
     let x = whole (l .rows) (l .rows2) (l .rest) (a .self .correlation) (l .last-white) in (
       ahead-taken (a .self) (a .c) (a .wanted) (a .draws .now) _ h (l .i) (omega arith) x (l .at) (l .inv .5) (l .inv .6),
-      λ e. ahead-finite (a .self) (a .c) (a .wanted) (a .draws .now) _ h (search (needs, good .0)) (search (needs, good .1 .1 .0)) (c .before .before .before .before .before .before .calm .ensures e) (l .i) (omega arith) _ x (l .at) (c .before .before .before .clamped .ensures) (l .inv .5) (l .inv .6),
+      λ e.
+          ahead-finite (a .self) (a .c) (a .wanted) (a .draws .now) _ h (search (needs, good .0)) (search (needs, good .1 .1 .0))
+          (c .before .before .before .before .before .before .calm .ensures e) (l .i) (omega arith) _ x (l .at) (c .before .before .before .clamped .ensures) (l .inv .5) (l .inv .6),
     )
 
 put-requires : tie.Need-put-requires Inv-loop μ-loop
@@ -70,16 +96,25 @@ put-requires c κs = (omega arith, omega arith)
 add-at : tie.Need-add-at Inv-loop μ-loop
 unfolding neededAt neededOf
 add-at c =
-    let a = c .before .before .before .before .before .before .before .before .before .before .before .before .before .before .before .before .before .before .before .before .before .before .before .before .args in
-    let l = c .before .before .before .before .before .before .before .before .before .before .before .before .before .before .before .loop in
-    let t = c .before .before .before .before .before .before .before .before .before .before .before .before .before .before .loop-test .taken in
-    let h = reaches (a .self) (a .c) (a .wanted) (a .draws .now) _ (c .before .before .before .before .before .before .before .before .before .before .before .before .before .before .before .before .before .before .before .before .before .before .before .before .pre .0) (l .i) (omega arith) (whole (l .rows) (l .rows2) (l .rest) (a .self .correlation) (l .last-white)) (l .at) _ (l .inv .5) (l .inv .6) refl in
-    let e = c .before .before .before .before .before .before .before .before .before .turn .ensures .1 in
-    let g = c .before .before .before .before .before .before .before .before .before .before .before .before .before .before .before .before .before .before .before .before .before .before .before .before .good in
+    let turned = c .before .before .before .before .before .before .before .before .before in
+    let tested = turned .before .before .before .before .before in
+    let t = tested .loop-test .taken in
+    let l = tested .before .loop in
+    let begun = tested .before .before .before .before .before .before .before .before .before .before in
+    let a = begun .args in
+    let x = whole (l .rows) (l .rows2) (l .rest) (a .self .correlation) (l .last-white) in
+    let h = reaches (a .self) (a .c) (a .wanted) (a .draws .now) _ (begun .pre .0) (l .i) (omega arith) x (l .at) _ (l .inv .5) (l .inv .6) refl in
+    let e = turned .turn .ensures .1 in
+    let g = begun .good in
     omega arith
 
 add-i : tie.Need-add-i Inv-loop μ-loop
-add-i c = let t = c .before .before .before .before .before .before .before .before .before .before .before .before .before .before .loop-test .taken in let s = c .before .before .before .before .before .before .before .before .before .before .before .before .before .before .before .loop .inv in let g = c .before .before .before .before .before .before .before .before .before .before .before .before .before .before .before .before .before .before .before .before .before .before .before .before .good in omega arith
+add-i c =
+    let tested = c .before .before .before .before .before .before .before .before .before .before .before .before .before .before in
+    let t = tested .loop-test .taken in
+    let s = tested .before .loop .inv in
+    let g = tested .before .before .before .before .before .before .before .before .before .before .good in
+    omega arith
 
 loop-less : tie.Need-loop-less Inv-loop μ-loop
 loop-less c = omega arith
@@ -87,22 +122,30 @@ loop-less c = omega arith
 loop-again : tie.Need-loop-again Inv-loop μ-loop
 unfolding neededAt neededOf
 loop-again c =
-    let s = c .before .before .before .before .before .before .before .before .before .before .before .before .before .before .before .loop in
-    let a = c .before .before .before .before .before .before .before .before .before .before .before .before .before .before .before .before .before .before .before .before .before .before .before .before .args in
-    let h = c .before .before .before .before .before .before .before .before .before .before .before .before .before .before .before .before .before .before .before .before .before .before .before .before .pre .0 in
-    let t = c .before .before .before .before .before .before .before .before .before .before .before .before .before .before .loop-test .taken in
-    let p = c .before .before .before .before .before .before .put .ensures in
-    let r = c .before .before .before .before .before .before .before .before .before .turn in
+    let put = c .before .before .before .before .before .before in
+    let turned = put .before .before .before in
+    let asked = turned .before .before .before .before in
+    let tested = asked .before in
+    let s = tested .before .loop in
+    let begun = tested .before .before .before .before .before .before .before .before .before .before in
+    let a = begun .args in
+    let h = begun .pre .0 in
+    let t = tested .loop-test .taken in
+    let p = put .put .ensures in
+    let r = turned .turn .ensures in
     let x = whole (s .rows) (s .rows2) (s .rest) (a .self .correlation) (s .last-white) in
-    let e = turn-there _ (correlationOf (a .self) (a .c)) x (a .wanted) (s .at) (a .draws .now) _ (c .before .before .before .before .before .before .before .before .before .before .before .before .before .clamped .ensures) (r .ensures .0 (a .self .correlation) (s .last-white)) in
-    let told = heard (a .self) (a .c) (a .wanted) (a .draws .now) _ h (s .i) (omega arith) x (s .at) _ (s .inv .5) (s .inv .6) e in (
+    let e =
+    turn-there _ (correlationOf (a .self) (a .c)) x (a .wanted) (s .at) (a .draws .now) _ (asked .clamped .ensures)
+    (r .0 (a .self .correlation) (s .last-white)) in
+    let told = heard (a .self) (a .c) (a .wanted) (a .draws .now) _ h (s .i) (omega arith) x (s .at) _ (s .inv .5) (s .inv .6) e in
+    let place = advanced (a .self) (a .c) (a .wanted) (a .draws .now) _ h (s .i) (omega arith) x (s .at) _ (s .inv .5) (s .inv .6) e in (
       omega arith,
       simp (p .0, length-sets) (s .inv .1),
       simp (p .1, length-set) (s .inv .2),
       rw (p .0) (frames-more 4 four-ports _ _ _ _ _ _ _ (s .inv .3) told),
       rw (p .1) (marks-more 4 four-ports _ _ _ _ _ _ _ (omega arith) (s .inv .4) told),
       moved (a .self) (a .c) (a .wanted) (a .draws .now) _ h (s .i) (omega arith) x (s .at) _ (s .inv .5) (s .inv .6) e,
-      ap (λ k. s .at + k) (r .ensures .1) ∙ advanced (a .self) (a .c) (a .wanted) (a .draws .now) _ h (s .i) (omega arith) x (s .at) _ (s .inv .5) (s .inv .6) e,
+      ap (λ k. s .at + k) (r .1) ∙ place,
     )
 
 same-length : tie.Need-same-length Inv-loop μ-loop
@@ -114,10 +157,11 @@ same-length-2 c = c .before .loop .inv .2
 returns : tie.Need-returns Inv-loop μ-loop
 returns c =
     let s = c .before .loop in
-    let a = c .before .before .before .before .before .before .before .before .before .before .args in
+    let begun = c .before .before .before .before .before .before .before .before .before .before in
+    let a = begun .args in
     let n = le-antisymm (s .inv .0) (omega arith) in (
       s .inv .5 ∙ ap (λ k. drawingAt (a .self) (a .c) (a .wanted) (a .draws .now) k .noise) n,
-      (frames-done 4 four-ports _ _ _ _ _ _ _ n (c .before .before .before .before .before .before .before .before .before .before .pre .1) (s .inv .3), marks-done 4 four-ports _ _ _ _ _ _ _ n refl (s .inv .4)),
+      (frames-done 4 four-ports _ _ _ _ _ _ _ n (begun .pre .1) (s .inv .3), marks-done 4 four-ports _ _ _ _ _ _ _ n refl (s .inv .4)),
     )
 
 pub run-spec : {M : Type 1} → statement M

@@ -22,7 +22,9 @@ sound-requires : tie.Need-sound-requires
 sound-requires c κs = not-refused _ _ _ _ (c .before .before .needed .ensures) (c .before .draws-refusal .ensures) (c .if1 .taken)
 
 returns : tie.Need-returns
-returns c = c .sound .ensures ∙ sym (tick-taken _ _ _ _ (not-refused _ _ _ _ (c .before .before .before .needed .ensures) (c .before .before .draws-refusal .ensures) (c .before .if1 .taken)))
+returns c =
+    let asked = c .before .before in
+    c .sound .ensures ∙ sym (tick-taken _ _ _ _ (not-refused _ _ _ _ (asked .before .needed .ensures) (asked .draws-refusal .ensures) (c .before .if1 .taken)))
 
 returns-2 : tie.Need-returns-2
 unfolding noiseGeneratorTickOf

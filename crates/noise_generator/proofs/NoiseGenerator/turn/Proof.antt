@@ -22,13 +22,17 @@ changed-requires-2 : tie.Need-changed-requires-2
 changed-requires-2 c κs = search needs
 
 shared-slice-read-bipolar : tie.Need-shared-slice-read-bipolar
-shared-slice-read-bipolar c = let h = needed-two _ _ _ (draws-enough _ _ (c .before .before .before .before .before .before .pre .0)) in omega arith
+shared-slice-read-bipolar c =
+    let h = needed-two _ _ _ (draws-enough _ _ (c .before .before .before .before .before .before .pre .0)) in
+    omega arith
 
 bipolar-requires : tie.Need-bipolar-requires
 bipolar-requires c κs = fine-there _ _ 0 (c .before .before .before .before .before .before .pre .0) (needed-some _ _ 0 (lit< tt))
 
 shared-slice-read-bipolar-2 : tie.Need-shared-slice-read-bipolar-2
-shared-slice-read-bipolar-2 c = let h = needed-two _ _ _ (draws-enough _ _ (c .before .before .before .before .before .before .before .before .pre .0)) in omega arith
+shared-slice-read-bipolar-2 c =
+    let h = needed-two _ _ _ (draws-enough _ _ (c .before .before .before .before .before .before .before .before .pre .0)) in
+    omega arith
 
 bipolar-requires-2 : tie.Need-bipolar-requires-2
 bipolar-requires-2 c κs = fine-there _ _ 1 (c .before .before .before .before .before .before .before .before .pre .0) (needed-some _ _ 1 (lit< tt))
@@ -36,35 +40,57 @@ bipolar-requires-2 c κs = fine-there _ _ 1 (c .before .before .before .before .
 sample-requires : tie.Need-sample-requires
 sample-requires c κs =
     let called = c .before .before .before .before .before in
-    let t = all-taken (c .before .before .before .before .before .before .before .before .before .before .args .rest) _ _ _ _ (called .before .before .before .next-index .ensures) (called .before .before .next-index2 .ensures) (called .before .changed .ensures) (called .changed2 .ensures) in
-    let m = changed-most (called .before .before .before .next-index .result) in
-    let e = called .before .changed .ensures in
-    let p = draws-enough _ _ (c .before .before .before .before .before .before .before .before .before .before .pre .0) in
-    (omega arith, omega arith, λ i l. fine-there _ _ _ (c .before .before .before .before .before .before .before .before .before .before .pre .0) (omega arith))
+    let begun = called .before .before .before .before .before in
+    let i = called .before .before .before .next-index in
+    let j = called .before .before .next-index2 in
+    let n = called .before .changed .ensures in
+    let m = called .changed2 .ensures in
+    let t = all-taken (begun .args .rest) _ _ _ _ (i .ensures) (j .ensures) n m in
+    let most = changed-most (i .result) in
+    let p = draws-enough _ _ (begun .pre .0) in
+    (omega arith, omega arith, λ k l. fine-there _ _ _ (begun .pre .0) (omega arith))
 
 add-sample : tie.Need-add-sample
-add-sample c = let m = changed-most (c .before .before .before .before .before .before .before .before .before .before .next-index .result) in let e = c .before .before .before .before .before .before .before .before .changed .ensures in omega arith
+add-sample c =
+    let called = c .before .before .before .before .before .before .before .before in
+    let m = changed-most (called .before .before .next-index .result) in
+    let e = called .changed .ensures in
+    omega arith
 
 sample-requires-2 : tie.Need-sample-requires-2
 sample-requires-2 c κs =
     let called = c .before .before .before .before .before .before .before in
-    let t = all-taken (c .before .before .before .before .before .before .before .before .before .before .before .before .args .rest) _ _ _ _ (called .before .before .before .next-index .ensures) (called .before .before .next-index2 .ensures) (called .before .changed .ensures) (called .changed2 .ensures) in
-    let m = changed-most (called .before .before .next-index2 .result) in
-    let e = called .changed2 .ensures in
-    let p = draws-enough _ _ (c .before .before .before .before .before .before .before .before .before .before .before .before .pre .0) in
-    (omega arith, omega arith, λ i l. fine-there _ _ _ (c .before .before .before .before .before .before .before .before .before .before .before .before .pre .0) (omega arith))
+    let begun = called .before .before .before .before .before in
+    let i = called .before .before .before .next-index in
+    let j = called .before .before .next-index2 in
+    let n = called .before .changed .ensures in
+    let m = called .changed2 .ensures in
+    let t = all-taken (begun .args .rest) _ _ _ _ (i .ensures) (j .ensures) n m in
+    let most = changed-most (j .result) in
+    let p = draws-enough _ _ (begun .pre .0) in
+    (omega arith, omega arith, λ k l. fine-there _ _ _ (begun .pre .0) (omega arith))
 
 heard-requires : tie.Need-heard-requires
 heard-requires c κs calm =
-    let called = c .before .before .before .before .before .before .before .before in
-    let a = c .before .before .before .before .before .before .before .before .before .before .before .before .before .args in
+    let white = c .before .before .before .before in
+    let called = white .before .before .before .before in
+    let begun = called .before .before .before .before .before in
+    let i = called .before .before .before .next-index .ensures in
+    let j = called .before .before .next-index2 .ensures in
+    let n = called .before .changed .ensures in
+    let k = called .changed2 .ensures in
+    let a = begun .args in
     ap allFinite
-    (outputs (a .rest) _ _ _ _ (called .before .before .before .next-index .ensures) (called .before .before .next-index2 .ensures) (called .before .changed .ensures) (called .changed2 .ensures) (a .correlation) (a .wanted) (a .draws .now) (a .rows .now) (a .rows2 .now) _ _ _ _ _ _
-    (c .before .before .before .before .before .before .bipolar .ensures) (c .before .before .before .before .bipolar2 .ensures) (c .before .before .sample .ensures) (c .sample2 .ensures))
-    ∙ c .before .before .before .before .before .before .before .before .before .before .before .before .before .pre .1 calm
+    (outputs (a .rest) _ _ _ _ i j n k (a .correlation) (a .wanted) (a .draws .now) (a .rows .now) (a .rows2 .now) _ _ _ _ _ _
+    (white .before .before .bipolar .ensures) (white .bipolar2 .ensures) (c .before .before .sample .ensures) (c .sample2 .ensures))
+    ∙ begun .pre .1 calm
 
 add-t21 : tie.Need-add-t21
-add-t21 c = let m = changed-most (c .before .before .before .before .before .before .before .before .before .before .before .before .next-index .result) in let e = c .before .before .before .before .before .before .before .before .before .before .changed .ensures in omega arith
+add-t21 c =
+    let called = c .before .before .before .before .before .before .before .before .before .before in
+    let m = changed-most (called .before .before .next-index .result) in
+    let e = called .changed .ensures in
+    omega arith
 
 add-t26 : tie.Need-add-t26
 add-t26 c =
@@ -77,14 +103,16 @@ add-t26 c =
 
 returns : tie.Need-returns
 returns c =
-    let called = c .before .before .before .before .before .before .before .before .before in
-    let a = c .before .before .before .before .before .before .before .before .before .before .before .before .before .before .args in
+    let white = c .before .before .before .before .before in
+    let called = white .before .before .before .before in
+    let a = called .before .before .before .before .before .args in
     let i = called .before .before .before .next-index .ensures in
     let j = called .before .before .next-index2 .ensures in
     let n = called .before .changed .ensures in
     let k = called .changed2 .ensures in (
       turned (a .rest) _ _ _ _ i j n k (a .correlation) (a .wanted) (a .draws .now) (a .rows .now) (a .rows2 .now) _ _ _ _ _ _
-          (c .before .before .before .before .before .before .before .bipolar .ensures) (c .before .before .before .before .before .bipolar2 .ensures) (c .before .before .before .sample .ensures) (c .before .sample2 .ensures) _ (c .heard .ensures),
+          (white .before .before .bipolar .ensures) (white .bipolar2 .ensures) (c .before .before .before .sample .ensures) (c .before .sample2 .ensures) _
+          (c .heard .ensures),
       all-taken (a .rest) _ _ _ _ i j n k,
     )
 

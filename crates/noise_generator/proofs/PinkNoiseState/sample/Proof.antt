@@ -48,10 +48,16 @@ loop-less : tie.Need-loop-less Inv-loop μ-loop
 loop-less c = omega arith
 
 loop-again : tie.Need-loop-again Inv-loop μ-loop
-loop-again c = let l = c .before .before .before .before .loop in (omega arith, row-more _ _ (l .i) _ (l .rows) (l .running-sum) _ (l .inv .1) (c .before .bipolar .ensures))
+loop-again c =
+    let l = c .before .before .before .before .loop in
+    (omega arith, row-more _ _ (l .i) _ (l .rows) (l .running-sum) _ (l .inv .1) (c .before .bipolar .ensures))
 
 returns : tie.Need-returns Inv-loop μ-loop
-returns c = let l = c .before .loop in let a = c .before .before .before .args in l .inv .1 ∙ ap (λ k. rowsOf (a .draws .now) (a .at) (rowed (a .rows .now) (a .sum)) k) (le-antisymm (l .inv .0) (c .loop-test .left))
+returns c =
+    let l = c .before .loop in
+    let a = c .before .before .before .args in
+    let n = le-antisymm (l .inv .0) (c .loop-test .left) in
+    l .inv .1 ∙ ap (λ k. rowsOf (a .draws .now) (a .at) (rowed (a .rows .now) (a .sum)) k) n
 
 pub sample-spec : {M : Type 1} → statement M
 sample-spec =
