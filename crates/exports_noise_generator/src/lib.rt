@@ -117,7 +117,8 @@ pub extern "C" fn gruttisol_noise_generator_with_correlation(
     floats: &mut [f64],
     wholes: &mut [u64],
 ) -> u32
-    ensures { λ r. ⌜ kept r (now (floats .exit)) (now (wholes .exit)) ≡ noiseGeneratorWithCorrelationAt correlation (now (floats .entry)) (now (wholes .entry)) ⌝ }
+    ensures { λ r. ⌜ kept r (now (floats .exit)) (now (wholes .exit))
+        ≡ noiseGeneratorWithCorrelationAt correlation (now (floats .entry)) (now (wholes .entry)) ⌝ }
 {
     let n = answer::sizes(36, 2, floats, wholes);
     if n == 0 {
@@ -179,7 +180,8 @@ fn put_ticked(
     samples: &mut [f64],
 ) -> u32
     requires { ⌜ (length (now floats) ≡ 36) × (length (now wholes) ≡ 2) × (length (now samples) ≡ 4) ⌝ }
-    ensures { λ r. ⌜ heard r (now (floats .exit)) (now (wholes .exit)) (now (samples .exit)) ≡ heardOf floatsOf wholesOf samplesOf (t .answer) (t .«noise_generator») (now (floats .entry)) (now (wholes .entry)) (now (samples .entry)) ⌝ }
+    ensures { λ r. ⌜ heard r (now (floats .exit)) (now (wholes .exit)) (now (samples .exit))
+        ≡ heardOf floatsOf wholesOf samplesOf (t .answer) (t .«noise_generator») (now (floats .entry)) (now (wholes .entry)) (now (samples .entry)) ⌝ }
 {
     let answer = t.answer;
     let code = answer::host_number(answer);
@@ -205,7 +207,8 @@ pub extern "C" fn gruttisol_noise_generator_tick(
     draws: &[u64],
     samples: &mut [f64],
 ) -> u32
-    ensures { λ r. ⌜ heard r (now (floats .exit)) (now (wholes .exit)) (now (samples .exit)) ≡ noiseGeneratorTickAt given correlation wanted (now (floats .entry)) (now (wholes .entry)) (now (draws .entry)) (now (samples .entry)) ⌝ }
+    ensures { λ r. ⌜ heard r (now (floats .exit)) (now (wholes .exit)) (now (samples .exit))
+        ≡ noiseGeneratorTickAt given correlation wanted (now (floats .entry)) (now (wholes .entry)) (now (draws .entry)) (now (samples .entry)) ⌝ }
 {
     let n = answer::tick_sizes(36, 2, 4, floats, wholes, samples);
     if n == 0 {
@@ -229,7 +232,9 @@ fn put_block(
     counts: &mut [u32],
 ) -> u32
     requires { ⌜ (length (now floats) ≡ 36) × (length (now wholes) ≡ 2) × (length (now counts) ≡ 5) ⌝ }
-    ensures { λ r. ⌜ ((o : List Float) → (m : List ℕ) → played r (now (floats .exit)) (now (wholes .exit)) (now (counts .exit)) o m ≡ playedOf floatsOf wholesOf (block (b .refused) (b .«noise_generator») (b .tally) o m) (now (floats .entry)) (now (wholes .entry)) (now (counts .entry))) ⌝ }
+    ensures { λ r. ⌜ ((o : List Float) → (m : List ℕ) → played r (now (floats .exit)) (now (wholes .exit)) (now (counts .exit)) o m
+        ≡ playedOf floatsOf wholesOf (block (b .refused) (b .«noise_generator») (b .tally) o m)
+        (now (floats .entry)) (now (wholes .entry)) (now (counts .entry))) ⌝ }
 {
     let refused = b.refused;
     if refused == 0 {
@@ -255,7 +260,9 @@ pub extern "C" fn gruttisol_noise_generator_block(
     samples: &mut [f64],
     marks: &mut [u32],
 ) -> u32
-    ensures { λ r. ⌜ played r (now (floats .exit)) (now (wholes .exit)) (now (counts .exit)) (now (samples .exit)) (now (marks .exit)) ≡ noiseGeneratorBlockAt given correlation wanted (now (floats .entry)) (now (wholes .entry)) (now (draws .entry)) (now (counts .entry)) (now (samples .entry)) (now (marks .entry)) ⌝ }
+    ensures { λ r. ⌜ played r (now (floats .exit)) (now (wholes .exit)) (now (counts .exit)) (now (samples .exit)) (now (marks .exit))
+        ≡ noiseGeneratorBlockAt given correlation wanted (now (floats .entry)) (now (wholes .entry))
+        (now (draws .entry)) (now (counts .entry)) (now (samples .entry)) (now (marks .entry)) ⌝ }
 {
     let n = answer::sizes(36, 2, floats, wholes);
     if n == 0 {
@@ -290,7 +297,8 @@ pub extern "C" fn gruttisol_noise_generator_set_sample_rate(
     floats: &mut [f64],
     wholes: &mut [u64],
 ) -> u32
-    ensures { λ r. ⌜ kept r (now (floats .exit)) (now (wholes .exit)) ≡ noiseGeneratorSetSampleRateAt «sample_rate» (now (floats .entry)) (now (wholes .entry)) ⌝ }
+    ensures { λ r. ⌜ kept r (now (floats .exit)) (now (wholes .exit))
+        ≡ noiseGeneratorSetSampleRateAt «sample_rate» (now (floats .entry)) (now (wholes .entry)) ⌝ }
 {
     let n = answer::sizes(36, 2, floats, wholes);
     if n == 0 {

@@ -364,8 +364,10 @@ impl NoiseGenerator {
         calm: bool,
     ) -> Turned
         requires { ⌜ drawsRefusalOf (neededAt (rest .index) (rest .index2)) (now draws) ≡ 0 ⌝ }
-        requires { ⌜ (calm ≡ true → allFinite (turnVolts correlation (pinkAt (now rows) (rest .sum) (rest .index)) (pinkAt (now rows2) (rest .sum2) (rest .index2)) wanted (now draws)) ≡ true) ⌝ }
-        ensures { λ r. ⌜ ((stored white : Float) → ticked (r .answer) (whole (now (rows .exit)) (now (rows2 .exit)) (r .rest) stored (r .«last_white»)) ≡ turnOf correlation (whole (now (rows .entry)) (now (rows2 .entry)) rest stored white) wanted (now (draws .entry))) ⌝ }
+        requires { ⌜ (calm ≡ true → allFinite (turnVolts correlation (pinkAt (now rows) (rest .sum) (rest .index))
+            (pinkAt (now rows2) (rest .sum2) (rest .index2)) wanted (now draws)) ≡ true) ⌝ }
+        ensures { λ r. ⌜ ((stored white : Float) → ticked (r .answer) (whole (now (rows .exit)) (now (rows2 .exit)) (r .rest) stored (r .«last_white»))
+            ≡ turnOf correlation (whole (now (rows .entry)) (now (rows2 .entry)) rest stored white) wanted (now (draws .entry))) ⌝ }
         ensures { λ r. ⌜ r .taken ≡ neededAt (rest .index) (rest .index2) ⌝ }
     {
         let index = next_index(rest.index);
@@ -479,8 +481,12 @@ impl NoiseGenerator {
     ) -> Self
         requires { ⌜ (drawsRefusalOf (neededBy self (length (now marks))) (now draws) ≡ 0) × (length (now samples) ≡ 4 * length (now marks)) ⌝ }
         ensures { λ r. ⌜ r ≡ afterTicks (noiseGeneratorNextOf c wanted) (length (now (marks .entry))) (drawing self (now (draws .entry))) .noise ⌝ }
-        ensures { λ r. ⌜ now (samples .exit) ≡ joined (frameAt 4 (noiseGeneratorAnswerOf c wanted) (noiseGeneratorNextOf c wanted) (drawing self (now (draws .entry)))) (length (now (marks .entry))) ⌝ }
-        ensures { λ r. ⌜ now (marks .exit) ≡ tab (markAt (noiseGeneratorAnswerOf c wanted) (noiseGeneratorNextOf c wanted) (drawing self (now (draws .entry)))) (length (now (marks .entry))) ⌝ }
+        ensures { λ r. ⌜ now (samples .exit)
+            ≡ joined (frameAt 4 (noiseGeneratorAnswerOf c wanted) (noiseGeneratorNextOf c wanted) (drawing self (now (draws .entry))))
+            (length (now (marks .entry))) ⌝ }
+        ensures { λ r. ⌜ now (marks .exit)
+            ≡ tab (markAt (noiseGeneratorAnswerOf c wanted) (noiseGeneratorNextOf c wanted) (drawing self (now (draws .entry))))
+            (length (now (marks .entry))) ⌝ }
     {
         let pink = self.pink;
         let pink2 = self.pink2;
@@ -540,7 +546,8 @@ impl NoiseGenerator {
         samples: &mut [f64],
         marks: &mut [u32],
     ) -> NoiseGeneratorBlock
-        ensures { λ r. ⌜ block (r .refused) (r .«noise_generator») (r .tally) (now (samples .exit)) (now (marks .exit)) ≡ noiseGeneratorBlockOf self c wanted (now (draws .entry)) tally (now (samples .entry)) (now (marks .entry)) ⌝ }
+        ensures { λ r. ⌜ block (r .refused) (r .«noise_generator») (r .tally) (now (samples .exit)) (now (marks .exit))
+            ≡ noiseGeneratorBlockOf self c wanted (now (draws .entry)) tally (now (samples .entry)) (now (marks .entry)) ⌝ }
     {
         let n = marks.len();
         let needed = self.draws_refusal(n, draws);
