@@ -1,19 +1,19 @@
--- A mark keeps its volts; and from new a tally counts what it took.
+-- A mark keeps its volts; and from new a tally counts what it took, which is all that it is given while there is room.
 use mathlib.Core.Bool.{Bool, _&&_, true, false, cond, true≢false}
 use mathlib.Core.List.{List, [], _∷_}
 use mathlib.Core.Path.{_≡_, refl, sym, ap, _∙_, subst}
-use Prim.Native.Nat.{ℕ, _+_, _≤_}
+use Prim.Native.Nat.{ℕ, _+_, _≤_, _<_}
 use native.Mathlib.Nat.{add-zero}
 use native.Mathlib.Numerals.{add-one}
 use native.Mathlib.Omega.{arith}
 use lib.Arith.{lt-of-le-ne}
 use lib.Dec.{eqb, lit≤}
-use borrow.Author.Tests.{eqb-true, eq-eqb, eqb-false}
+use borrow.Author.Tests.{eqb-true, eq-eqb, eqb-false, ne-eqb}
 use Rattle.laws.specs.Machine.{begun}
 use Rattle.answer.specs.Answer.{markNumber, voltsOf, accepted, answerOf}
 use Rattle.answer.specs.Mark.{allFinite, ruleOf, markOf}
-use Rattle.answer.specs.Promises.{Mark-says, Counts, Tally-counts, Takes, Refused-nowhere}
-use Rattle.answer.specs.Tally.{sumOf, addsUp, oneIf, counted, talliedNumber, tallyOr, tallyOf, Run, settle, run, newRun, many}
+use Rattle.answer.specs.Promises.{Mark-says, Counts, Tally-counts, CountsAll, Tally-takes-all, Takes, Refused-nowhere}
+use Rattle.answer.specs.Tally.{sumOf, addsUp, oneIf, counted, talliedNumber, tallyOr, tallyOf, Run, settle, run, newRun, many, acceptedIn, tallyAfter}
 use Rattle.answer.specs.declared.Volts.{Volts}
 use Rattle.answer.specs.declared.Answer.{Answer}
 use Rattle.answer.specs.declared.Answer.the-variants as answer
@@ -62,6 +62,23 @@ counted-sum : (t : Tally) (a : Answer) → (markNumber a ≡ 0 → ⊥) → t .b
 unfolding counted
 counted-sum t a n h = let o = mark-one a n in omega arith
 
+-- an answer with a mark is an accepted tick's
+ticked : (a : Answer) (xs : List Answer) → (markNumber a ≡ 0 → ⊥) → acceptedIn (a ∷ xs) ≡ acceptedIn xs + 1
+unfolding acceptedIn accepted markNumber
+ticked (answer.Clean v) xs n = refl
+ticked (answer.Cleared v) xs n = refl
+ticked (answer.NotFinite v) xs n = refl
+ticked (answer.Lost v) xs n = refl
+ticked (answer.Refused k) xs n = absurd (n refl)
+
+not-ticked : (a : Answer) (xs : List Answer) → markNumber a ≡ 0 → acceptedIn (a ∷ xs) ≡ acceptedIn xs
+unfolding acceptedIn accepted markNumber
+not-ticked (answer.Clean v) xs z = absurd (omega arith)
+not-ticked (answer.Cleared v) xs z = absurd (omega arith)
+not-ticked (answer.NotFinite v) xs z = absurd (omega arith)
+not-ticked (answer.Lost v) xs z = absurd (omega arith)
+not-ticked (answer.Refused n) xs z = add-zero (acceptedIn xs)
+
 counts-refused : (r : Run) (a : Answer) → markNumber a ≡ 0 → Counts r → Counts (record { tally = r .tally; took = a ∷ r .took })
 unfolding many oneIf
 counts-refused r a z h =
@@ -70,7 +87,8 @@ counts-refused r a z h =
       notfinite = h .notfinite ∙ plus (many 2 (r .took)) 2 refl;
       lost = h .lost ∙ plus (many 3 (r .took)) 3 refl;
       finished = h .finished ∙ plus (many 4 (r .took)) 4 refl;
-      begun = h .begun;
+      begun = h .begun ∙ sym (not-ticked a (r .took) z);
+      sum = h .sum;
       top = h .top;
     }
   where
@@ -85,7 +103,8 @@ counts-more r a n t h =
       notfinite = ap (λ (m : ℕ). m + oneIf (markNumber a) 2) (h .notfinite);
       lost = ap (λ (m : ℕ). m + oneIf (markNumber a) 3) (h .lost);
       finished = ap (λ (m : ℕ). m + oneIf (markNumber a) 4) (h .finished);
-      begun = unfold counted in counted-sum (r .tally) a n (h .begun);
+      begun = ap (λ (m : ℕ). m + 1) (h .begun) ∙ sym (ticked a (r .took) n);
+      sum = unfold counted in counted-sum (r .tally) a n (h .sum);
       top = room (r .tally .begun) (h .top) t;
     }
   where
@@ -109,8 +128,71 @@ counts-run r [] h = h
 counts-run r (a ∷ xs) h = counts-run (settle r a (tallyOf (r .tally) a)) xs (counts-step r a h)
 
 pub tally-counts : Tally-counts
+unfolding many acceptedIn
+tally-counts xs = counts-run newRun xs (record { cleared = refl; notfinite = refl; lost = refl; finished = refl; begun = refl; sum = refl; top = lit≤ tt })
+
+-- ---- while there is room it takes all
+-- how much an answer adds to begun
+weight : Answer → ℕ
+weight a = cond (accepted a) 1 0
+
+record Taken (t : Tally) (a : Answer) : Type 0 where
+  after : Tally
+  taken : tallyOf t a ≡ tallied.Taken after
+  sum : after .begun ≡ sumOf after
+  begun : after .begun ≡ t .begun + weight a
+
+module _ (t : Tally) (s : t .begun ≡ sumOf t) where
+  adds-up : addsUp t ≡ true
+  unfolding addsUp
+  adds-up = eq-eqb (t .begun) (sumOf t) s
+
+  not-full : t .begun + 1 ≤ 4294967295 → eqb (t .begun) 4294967295 ≡ false
+  not-full h = ne-eqb (t .begun) 4294967295 (λ e. omega arith)
+
+  takes-one : (a : Answer) → t .begun + weight a ≤ 4294967295 → Taken t a
+  unfolding tallyOf markNumber counted oneIf weight accepted
+  takes-one (answer.Clean v) h = record { after = counted t 4; taken = simp (adds-up, not-full h); sum = omega arith; begun = refl }
+  takes-one (answer.Cleared v) h = record { after = counted t 1; taken = simp (adds-up, not-full h); sum = omega arith; begun = refl }
+  takes-one (answer.NotFinite v) h = record { after = counted t 2; taken = simp (adds-up, not-full h); sum = omega arith; begun = refl }
+  takes-one (answer.Lost v) h = record { after = counted t 3; taken = simp (adds-up, not-full h); sum = omega arith; begun = refl }
+  takes-one (answer.Refused n) h = record { after = t; taken = simp adds-up; sum = s; begun = omega arith }
+
+settled : (r : Run) (a : Answer) (k : Taken (r .tally) a) → settle r a (tallyOf (r .tally) a) ≡ record { tally = k .after; took = a ∷ r .took }
+unfolding settle talliedNumber tallyOr
+settled r a k = ap (settle r a) (k .taken)
+
+-- so what is summed over the answers taken is summed over all
+module _ (f : List Answer → ℕ) (w : Answer → ℕ) (more : (a : Answer) (xs : List Answer) → f (a ∷ xs) ≡ f xs + w a) (none : f [] ≡ 0) where
+  took-all : (xs : List Answer) (r : Run) → r .tally .begun ≡ sumOf (r .tally) → r .tally .begun + acceptedIn xs ≤ 4294967295 → f (run r xs .took) ≡ f xs + f (r .took)
+  unfolding run acceptedIn
+  took-all [] r s h = omega (arith, none)
+  took-all (a ∷ xs) r s h =
+      let k = takes-one (r .tally) s a (unfold weight in omega arith) in
+      let u : Run = record { tally = k .after; took = a ∷ r .took } in
+      let rest = took-all xs u (k .sum) (unfold weight in omega (arith, k .begun)) in
+      ap (λ (v : Run). f (run v xs .took)) (settled r a k) ∙ omega (arith, rest, more a xs, more a (r .took))
+
+many-took : (n : ℕ) (xs : List Answer) → acceptedIn xs ≤ 4294967295 → many n (run newRun xs .took) ≡ many n xs
 unfolding many
-tally-counts xs = counts-run newRun xs (record { cleared = refl; notfinite = refl; lost = refl; finished = refl; begun = refl; top = lit≤ tt })
+many-took n xs h = took-all (many n) (λ (a : Answer). oneIf (markNumber a) n) (λ a xs. refl) refl xs newRun refl (omega arith) ∙ add-zero (many n xs)
+
+accepted-took : (xs : List Answer) → acceptedIn xs ≤ 4294967295 → acceptedIn (run newRun xs .took) ≡ acceptedIn xs
+unfolding acceptedIn weight
+accepted-took xs h = took-all acceptedIn weight (λ a xs. refl) refl xs newRun refl (omega arith) ∙ add-zero (acceptedIn xs)
+
+pub tally-takes-all : Tally-takes-all
+unfolding tallyAfter
+tally-takes-all xs h =
+    let c = tally-counts xs in
+    record {
+      cleared = c .cleared ∙ many-took 1 xs h;
+      notfinite = c .notfinite ∙ many-took 2 xs h;
+      lost = c .lost ∙ many-took 3 xs h;
+      finished = c .finished ∙ many-took 4 xs h;
+      begun = c .begun ∙ accepted-took xs h;
+      sum = c .sum;
+    }
 
 pub takes : (t : Tally) (a : Answer) (u : Tally) → tallyOf t a ≡ tallied.Taken u → Takes t a u
 unfolding talliedNumber tallyOr

@@ -6,7 +6,7 @@ use Prim.Native.Nat.{ℕ, _+_, _≤_, _<_}
 use Rattle.answer.specs.Answer.{markNumber, hostNumber, voltsOf, accepted}
 use Rattle.answer.specs.Block.{roomFor, countedTo, answerAt, markAt}
 use Rattle.answer.specs.Mark.{allFinite, markOf, ruleOf}
-use Rattle.answer.specs.Tally.{Run, run, newRun, sumOf, many, talliedNumber, tallyOr, tallyOf}
+use Rattle.answer.specs.Tally.{Run, run, newRun, sumOf, many, acceptedIn, tallyAfter, talliedNumber, tallyOr, tallyOf}
 use Rattle.answer.specs.declared.Volts.{Volts}
 use Rattle.answer.specs.declared.Answer.{Answer}
 use Rattle.answer.specs.declared.Tally.{Tally}
@@ -20,18 +20,32 @@ pub record Marked (v : Volts) (cleared sums phases : Bool) : Type 0 where
 abbrev pub Mark-says : Type 0
 Mark-says = (v : Volts) (cleared sums phases : Bool) → Marked v cleared sums phases
 
--- each count is the number of answers with that mark that the tally took, and begun is their sum
+-- each count is the number of answers with that mark that the tally took; begun is the number of accepted ticks that it took, and the sum
+-- of the counts
 pub record Counts (r : Run) : Type 0 where
   pub cleared : r .tally .cleared ≡ many 1 (r .took)
   pub notfinite : r .tally .notfinite ≡ many 2 (r .took)
   pub lost : r .tally .lost ≡ many 3 (r .took)
   pub finished : r .tally .finished ≡ many 4 (r .took)
-  pub begun : r .tally .begun ≡ sumOf (r .tally)
+  pub begun : r .tally .begun ≡ acceptedIn (r .took)
+  pub sum : r .tally .begun ≡ sumOf (r .tally)
   pub top : r .tally .begun ≤ 4294967295
 
 -- from new, after any list of answers
 abbrev pub Tally-counts : Type 0
 Tally-counts = (xs : List Answer) → Counts (run newRun xs)
+
+-- and it takes all of them while the accepted ticks are at most 4,294,967,295: none is refused, so none is missing from a count
+pub record CountsAll (xs : List Answer) : Type 0 where
+  pub cleared : tallyAfter xs .cleared ≡ many 1 xs
+  pub notfinite : tallyAfter xs .notfinite ≡ many 2 xs
+  pub lost : tallyAfter xs .lost ≡ many 3 xs
+  pub finished : tallyAfter xs .finished ≡ many 4 xs
+  pub begun : tallyAfter xs .begun ≡ acceptedIn xs
+  pub sum : tallyAfter xs .begun ≡ sumOf (tallyAfter xs)
+
+abbrev pub Tally-takes-all : Type 0
+Tally-takes-all = (xs : List Answer) → acceptedIn xs ≤ 4294967295 → CountsAll xs
 
 -- the tally t takes the answer a, and is then u
 abbrev pub Takes : Tally → Answer → Tally → Type 0

@@ -3,7 +3,7 @@ use mathlib.Core.Bool.{Bool, cond}
 use mathlib.Core.List.{List, [], _∷_}
 use Prim.Native.Nat.{ℕ, _+_}
 use lib.Dec.{eqb}
-use Rattle.answer.specs.Answer.{markNumber}
+use Rattle.answer.specs.Answer.{markNumber, accepted}
 use Rattle.answer.specs.declared.Answer.{Answer}
 use Rattle.answer.specs.declared.Tally.{Tally}
 use Rattle.answer.specs.declared.Tallied.{Tallied}
@@ -63,3 +63,12 @@ newRun = record { tally = newTally; took = [] }
 unfoldable pub many : ℕ → List Answer → ℕ
 many n [] = 0
 many n (a ∷ xs) = many n xs + oneIf (markNumber a) n
+
+-- how many of them are accepted ticks
+unfoldable pub acceptedIn : List Answer → ℕ
+acceptedIn [] = 0
+acceptedIn (a ∷ xs) = acceptedIn xs + cond (accepted a) 1 0
+
+-- a new tally that was given each answer of a list, in order
+unfoldable pub tallyAfter : List Answer → Tally
+tallyAfter xs = run newRun xs .tally
