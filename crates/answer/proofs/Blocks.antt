@@ -68,6 +68,24 @@ unfolding manyTo
 many-most f zero = lit≤ tt
 many-most f (suc n) = let a = many-most f n in let b = one-of (f n) in omega arith
 
+-- a tally with room for n answers has room for j of them after k others
+pub room-left : (t : Tally) (n : ℕ) → roomFor t n ≡ true → (f : ℕ → ℕ) (k j : ℕ) → k + j ≤ n → roomFor (countedTo t f k) j ≡ true
+unfolding roomFor addsUp countedTo grownBy
+room-left t n room f k j h = rw (eq-eqb (countedTo t f k .begun) (sumOf (countedTo t f k)) adds, le-leb (countedTo t f k .begun + j) 4294967295 most) refl
+  where
+    says : (t .begun ≡ sumOf t) × (t .begun + n ≤ 4294967295)
+    says = room-says t n (unfold roomFor addsUp in room)
+
+    adds : countedTo t f k .begun ≡ sumOf (countedTo t f k)
+    adds = omega (arith, says .0)
+
+    most : countedTo t f k .begun + j ≤ 4294967295
+    most = omega (arith, many-most f k, says .1, h)
+
+room-none : (t : Tally) (n : ℕ) → roomFor t n ≡ true → roomFor t 0 ≡ true
+unfolding roomFor addsUp
+room-none t n room = let says = room-says t n (unfold roomFor addsUp in room) in rw (eq-eqb (t .begun) (sumOf t) (says .0), le-leb (t .begun + 0) 4294967295 (omega (arith, says .1))) refl
+
 pub many-ext : (k : ℕ) (f g : ℕ → ℕ) (n : ℕ) → ((i : ℕ) → i < n → f i ≡ g i) → manyTo k f n ≡ manyTo k g n
 unfolding manyTo
 many-ext k f g zero h = refl
@@ -203,7 +221,7 @@ module _ {S H : Type 0} (answer : S → Answer) (next : S → S) (told : H → A
   held-frames ports n = joined-ext (frameAt ports answer next s) (frameAt ports told step h) n (λ i. ap (λ (a : Answer). portsOf ports (voltsOf a)) (held-answer i))
 
 -- ---- a block as its code has it
-not-refused : (fits : Bool) (number : ℕ) (t : Tally) (n : ℕ) → blockRefusalOf fits number t n ≡ 0 → (fits ≡ true) × (number ≡ 0) × (roomFor t n ≡ true)
+pub not-refused : (fits : Bool) (number : ℕ) (t : Tally) (n : ℕ) → blockRefusalOf fits number t n ≡ 0 → (fits ≡ true) × (number ≡ 0) × (roomFor t n ≡ true)
 unfolding blockRefusalOf
 not-refused fits number t n = go fits (eqb number 0) (roomFor t n) (eqb-true number 0) (eqb-false number 0)
   where
@@ -216,6 +234,18 @@ not-refused fits number t n = go fits (eqb number 0) (roomFor t n) (eqb-true num
 pub block-fits : (ports number : ℕ) (t : Tally) (o : List Float) (m : List ℕ) (n : ℕ) → n ≡ blockRefusalOf (eqb (length o) (ports * length m)) number t (length m) → n ≡ 0
     → (length o ≡ ports * length m) × (number ≡ 0) × (roomFor t (length m) ≡ true)
 block-fits ports number t o m n e h = let k = not-refused _ number t (length m) (sym e ∙ h) in (eqb-true (length o) (ports * length m) (k .0), k .1, k .2)
+
+-- what a block of none is refused by, and then the tally of n, is what refuses n
+pub twice-asked : (number : ℕ) (t : Tally) (n : ℕ) → blockRefusalOf true (blockRefusalOf true number t 0) t n ≡ blockRefusalOf true number t n
+unfolding blockRefusalOf
+twice-asked number t n = go (eqb number 0) (roomFor t 0) (roomFor t n) refl (room-none t n)
+  where
+    go : (a b c : Bool) → eqb number 0 ≡ a → (c ≡ true → b ≡ true)
+        → _≡_ {A = ℕ} (cond (eqb (cond a (cond b 0 7) number) 0) (cond c 0 7) (cond a (cond b 0 7) number)) (cond a (cond c 0 7) number)
+    go true true c e f = refl
+    go true false true e f = absurd (false≢true (f refl))
+    go true false false e f = refl
+    go false b c e f = rw e refl
 
 nothing-counted : (t : Tally) (f : ℕ → ℕ) → countedTo t f 0 ≡ t
 unfolding countedTo grownBy manyTo

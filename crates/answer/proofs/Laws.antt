@@ -10,7 +10,7 @@ use lib.Arith.{lt-of-le-ne}
 use lib.Dec.{eqb, lit≤}
 use borrow.Author.Tests.{eqb-true, eq-eqb, eqb-false, ne-eqb}
 use Rattle.laws.specs.Machine.{begun}
-use Rattle.answer.specs.Answer.{markNumber, voltsOf, accepted, answerOf}
+use Rattle.answer.specs.Answer.{markNumber, voltsOf, refusalOf, accepted, answerOf}
 use Rattle.answer.specs.Mark.{allFinite, ruleOf, markOf}
 use Rattle.answer.specs.Promises.{Mark-says, Counts, Tally-counts, CountsAll, Tally-takes-all, Takes, Refused-nowhere}
 use Rattle.answer.specs.Tally.{sumOf, addsUp, oneIf, counted, talliedNumber, tallyOr, tallyOf, Run, settle, run, newRun, many, acceptedIn, tallyAfter}
@@ -47,6 +47,24 @@ rule-says v false false c = (refl, refl, refl)
 pub mark-says : Mark-says
 unfolding markOf
 mark-says v cleared sums phases = let r = rule-says v cleared (sums && allFinite v) phases in record { is-accepted = r .0; volts = r .1; number = r .2 }
+
+-- ---- refusals
+pub accepted-unrefused : (a : Answer) → accepted a ≡ true → refusalOf a ≡ 0
+unfolding accepted refusalOf
+accepted-unrefused (answer.Clean v) h = refl
+accepted-unrefused (answer.Cleared v) h = refl
+accepted-unrefused (answer.NotFinite v) h = refl
+accepted-unrefused (answer.Lost v) h = refl
+accepted-unrefused (answer.Refused n) h = absurd (true≢false (sym h))
+
+-- a tick that is x where n is 0, and else y, refused by n: its refusal is n
+pub refused-by : {T : Type 0} (told : T → Answer) (n : ℕ) (x y : T) → accepted (told x) ≡ true → told y ≡ answer.Refused n → refusalOf (told (cond (eqb n 0) x y)) ≡ n
+unfolding refusalOf
+refused-by {T} told n x y h e = go (eqb n 0) refl
+  where
+    go : (b : Bool) → eqb n 0 ≡ b → refusalOf (told (cond b x y)) ≡ n
+    go true z = accepted-unrefused (told x) h ∙ sym (eqb-true n 0 z)
+    go false z = ap refusalOf e
 
 -- ---- the tally
 -- the four marks of an accepted answer: one of the counts grows by one

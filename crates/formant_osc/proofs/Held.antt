@@ -12,13 +12,13 @@ use lib.Ieee.{Float, nan, binary64, add, eq}
 use lib.Ieee.Fits.{add-fits}
 use lib.ListN.{length, getD}
 use Rattle.laws.proofs.Tests.{both-true}
-use Rattle.answer.specs.Answer.{hostNumber, voltsOf}
+use Rattle.answer.specs.Answer.{hostNumber, voltsOf, refusalOf}
 use Rattle.answer.specs.Block.{afterTicks, answerAt, markAt, frameAt, portsOf, joined, blockRefusalOf}
 use Rattle.answer.specs.declared.Answer.{Answer}
 use Rattle.answer.specs.declared.Tally.{Tally}
 use Rattle.answer.specs.declared.Volts.{Volts}
 use Rattle.answer.proofs.Blocks.{Holds, held-after, held-marks, held-frames, held-accepted, all-taken}
-use Rattle.answer.proofs.Laws.{mark-says}
+use Rattle.answer.proofs.Laws.{mark-says, refused-by}
 use Rattle.common.specs.Memo.{recall1, voctToHzAt}
 use Rattle.common.specs.Phase.{turns, wrapOf, incrementOf}
 use Rattle.common.specs.Tests.{rateOk, phaseOk}
@@ -374,3 +374,8 @@ block-accepts s c h = held-accepted _ _ _ _ _ _ _ _ (holds s c h) (λ m. unfold 
 
 pub block-tallies : Block-tallies
 block-tallies s c h = all-taken _ _ s (block-accepts s c h)
+
+-- ---- a tick is refused by what refuses its state
+pub tick-refusal : (s : FormantOsc) (c : FormantControls) → refusalOf (formantTickOf s c .answer) ≡ formantRefusalOf s
+unfolding formantTickOf formantSoundOf
+tick-refusal s c = refused-by (λ (t : FormantTicked). t .answer) (formantRefusalOf s) _ _ (mark-says _ _ _ _ .is-accepted) refl

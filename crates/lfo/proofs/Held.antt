@@ -1,13 +1,14 @@
 -- A block's ticks are ticks of the phase alone: its reset and its rate stand still.
 use mathlib.Core.Bool.{Bool, true, false}
-use mathlib.Core.Path.{_≡_, ap, _∙_}
+use mathlib.Core.Path.{_≡_, refl, ap, _∙_}
 use Prim.Native.Nat.{ℕ, _+_}
 use native.Mathlib.Numerals.{add-one}
 use lib.Ieee.{Float, binary64, add, div}
 use lib.Ieee.Fits.{add-fits}
+use Rattle.answer.specs.Answer.{refusalOf}
 use Rattle.answer.specs.Block.{afterTicks, answerAt}
 use Rattle.answer.proofs.Blocks.{Holds, held-accepted, all-taken}
-use Rattle.answer.proofs.Laws.{mark-says}
+use Rattle.answer.proofs.Laws.{mark-says, refused-by}
 use Rattle.answer.specs.Mark.{markOf}
 use Rattle.answer.specs.declared.Answer.{Answer}
 use Rattle.answer.specs.declared.Volts.{Volts}
@@ -23,7 +24,7 @@ use Rattle.laws.specs.Float.{isFin}
 use Rattle.lfo.specs.Held.{heldAnswer, heldNext}
 use Rattle.lfo.proofs.Accepted.{accepts, sounds}
 use Rattle.lfo.specs.Consts.{ten}
-use Rattle.lfo.specs.Lfo.{lfoRefusalOf, lfoOutputsOf, lfoSoundOf, lfoAnswerOf, lfoNextOf}
+use Rattle.lfo.specs.Lfo.{lfoRefusalOf, lfoOutputsOf, lfoSoundOf, lfoTickOf, lfoAnswerOf, lfoNextOf}
 use Rattle.lfo.specs.Waves.{rateToHz}
 use Rattle.lfo.specs.Promises.{Block-accepts, Block-tallies}
 use Rattle.lfo.specs.declared.Lfo.{Lfo}
@@ -84,3 +85,8 @@ block-accepts s c wanted h = held-accepted _ _ _ _ _ _ _ _ (holds s c wanted h) 
 
 pub block-tallies : Block-tallies
 block-tallies s c wanted h = all-taken _ _ s (block-accepts s c wanted h)
+
+-- ---- a tick is refused by what refuses its state
+pub tick-refusal : (s : Lfo) (c : LfoControls) (wanted : ℕ) → refusalOf (lfoTickOf s c wanted .answer) ≡ lfoRefusalOf s
+unfolding lfoTickOf lfoSoundOf
+tick-refusal s c wanted = refused-by (λ (t : LfoTicked). t .answer) (lfoRefusalOf s) _ _ (mark-says _ _ _ _ .is-accepted) refl

@@ -10,7 +10,8 @@ use lib.Ieee.Fits.{add-fits}
 use lib.Ieee.{Float, nan, binary64, add}
 use lib.ListN.{length}
 use Rattle.answer.proofs.Blocks.{Holds, held-accepted, all-taken}
-use Rattle.answer.proofs.Laws.{mark-says}
+use Rattle.answer.proofs.Laws.{mark-says, refused-by}
+use Rattle.answer.specs.Answer.{refusalOf}
 use Rattle.answer.specs.Block.{afterTicks, answerAt}
 use Rattle.common.proofs.MemoLaws.{recall1-again}
 use Rattle.common.proofs.PhaseLaws.{wrap-in}
@@ -138,3 +139,8 @@ block-accepts s c k h = held-accepted _ _ _ _ _ _ _ _ (holds s c h k) (λ t. unf
 
 pub block-tallies : Block-tallies
 block-tallies s c k h = all-taken _ _ s (block-accepts s c k h)
+
+-- ---- a tick is refused by what refuses its state
+pub tick-refusal : (s : Supersaw) (c : SupersawControls) → refusalOf (supersawTickOf s c .answer) ≡ supersawRefusalOf s
+unfolding supersawTickOf supersawSoundOf
+tick-refusal s c = refused-by (λ (t : SupersawTicked). t .answer) (supersawRefusalOf s) _ _ (mark-says _ _ _ _ .is-accepted) refl

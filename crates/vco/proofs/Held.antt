@@ -6,9 +6,10 @@ use native.Mathlib.Numerals.{add-one}
 use native.Mathlib.Omega.{arith}
 use lib.Ieee.{Float, binary64, add}
 use lib.Ieee.Fits.{add-fits}
+use Rattle.answer.specs.Answer.{refusalOf}
 use Rattle.answer.specs.Block.{afterTicks, answerAt}
 use Rattle.answer.proofs.Blocks.{Holds, held-after, held-accepted, all-taken}
-use Rattle.answer.proofs.Laws.{mark-says}
+use Rattle.answer.proofs.Laws.{mark-says, refused-by}
 use Rattle.answer.specs.declared.Answer.{Answer}
 use Rattle.common.specs.Phase.{turns, wrapOf, incrementOf}
 use Rattle.common.specs.Edge.{crossedOf, crossedAboveOf}
@@ -24,7 +25,7 @@ use Rattle.common.specs.declared.Crossing.{Crossing}
 use Rattle.common.specs.declared.Crossing.the-variants.{Nowhere, At}
 use Rattle.numeric.specs.Basic.{clampOf}
 use Rattle.vco.specs.Consts.{pwLow, pwHigh}
-use Rattle.vco.specs.Vco.{frequencyOf, syncedOf, vcoAnswerOf, vcoSoundOf, vcoRefusalOf, vcoToldOf, vcoNextOf}
+use Rattle.vco.specs.Vco.{frequencyOf, syncedOf, vcoAnswerOf, vcoSoundOf, vcoRefusalOf, vcoTickOf, vcoToldOf, vcoNextOf}
 use Rattle.vco.specs.Held.{Held, held, heldAnswer, heldNext}
 use Rattle.vco.proofs.StateLaws.{unrefused}
 use Rattle.vco.proofs.Reached.{tick-sound}
@@ -122,3 +123,8 @@ block-accepts s c wanted h = held-accepted _ _ _ _ _ _ _ _ (holds s c wanted h) 
 
 pub block-tallies : Block-tallies
 block-tallies s c wanted h = all-taken _ _ s (block-accepts s c wanted h)
+
+-- ---- a tick is refused by what refuses its state
+pub tick-refusal : (s : Vco) (c : VcoControls) (wanted : ℕ) → refusalOf (vcoTickOf s c wanted .answer) ≡ vcoRefusalOf s
+unfolding vcoTickOf vcoSoundOf vcoAnswerOf
+tick-refusal s c wanted = refused-by (λ (t : VcoTicked). t .answer) (vcoRefusalOf s) _ _ (mark-says _ _ _ _ .is-accepted) refl
