@@ -4,30 +4,31 @@ use mathlib.Core.List.{List, [], _∷_, _++_}
 use mathlib.Core.Logic.{⊎-elim}
 use mathlib.Core.Path.{_≡_, refl, sym, ap, _∙_}
 use Prim.Native.Nat.{ℕ, zero, suc, _+_, _*_, _≤_, _<_}
-use native.Mathlib.Nat.{zero-add, add-zero, mul-suc, mul-le-mul-left, mul-le-mul, eq-or-lt-of-le, le-of-suc-le-suc, not-suc-le-zero, suc-add}
+use native.Mathlib.Nat.{zero-add, add-zero, mul-suc, mul-le-mul-left, mul-le-mul, mul-zero, eq-or-lt-of-le, le-of-suc-le-suc, not-suc-le-zero, suc-add}
 use native.Mathlib.Numerals.{add-one}
 use native.Mathlib.Omega.{arith}
 use lib.Dec.{eqb, lit≤}
 use lib.Ieee.{Float, nan}
 use lib.ListN.{length, getD, take, length-take, List·getD-append}
 use lib.Seq.{sets}
-use borrow.Author.Tests.{eq-eqb, ne-eqb, eqb-true, eqb-false}
+use borrow.Author.Tests.{eq-eqb, le-leb, eqb-true, eqb-false}
 use Rattle.laws.specs.Lists.{tab}
 use Rattle.laws.proofs.Over.{getD-tab, length-tab}
 use Rattle.line.specs.Bytes.{ascii}
 use Rattle.text.specs.Promises.{Put}
 use Rattle.text.specs.Put.{placeOf}
 use Rattle.text.proofs.PutLaws.{after}
-use Rattle.answer.specs.Answer.{markNumber, hostNumber, voltsOf, accepted}
+use Rattle.answer.specs.Answer.{markNumber, hostNumber, voltsOf, refusalOf, accepted}
 use Rattle.answer.specs.Answer as marks
 use Rattle.answer.specs.Promises.{AllAccepted}
 use Rattle.answer.specs.Block.{Block, block, manyTo, countedTo, grownBy, roomFor, afterTicks, portsOf, joined, blockRefusalOf, answerAt, markAt, frameAt, ticksOf, blockOf}
-use Rattle.answer.specs.Tally.{sumOf, addsUp, oneIf, counted, tallyOf, tallyOr}
+use Rattle.answer.specs.Tally.{sumOf, addsUp}
 use Rattle.answer.specs.declared.Volts.{Volts}
 use Rattle.answer.specs.declared.Answer.{Answer}
 use Rattle.answer.specs.declared.Answer.the-variants as answer
 use Rattle.answer.specs.declared.Tally.{Tally}
-use Rattle.answer.proofs.Blocks.{block-fits, room-says, many-most, joined-length, one-port, two-ports, four-ports, five-ports}
+use Rattle.answer.proofs.Blocks.{room-left, not-refused, twice-asked, block-fits, block-refusal, all-taken, joined-length, one-port, two-ports, four-ports, five-ports}
+use Rattle.answer.proofs.Laws.{accepted-unrefused}
 use Rattle.score.specs.declared.Osc.{Osc}
 use Rattle.score.specs.declared.Osc.the-variants as osc
 use Rattle.vco.proofs.Held as vco-held
@@ -47,8 +48,10 @@ use Rattle.formant_osc.specs.FormantOsc.{formantBlockOf}
 use Rattle.formant_osc.specs.declared.FormantOsc.{FormantOsc}
 use Rattle.formant_osc.specs.declared.FormantControls.{FormantControls}
 use Rattle.frame.specs.Frame.{countLine, wordLine, sampleLine, wavesText, outputsText, markedText, frameText}
-use Rattle.player.specs.Block.{portsIn, voiceAnswer, voiceNext, framesOf, AllPlayed, outputAt, voltsAt, frameAtOf, blockText}
-use Rattle.player.specs.Player.{kindOf, soundOf, answerOf, frameOf, nextOf, textOf, afterOf, playedOf}
+use Rattle.player.specs.Block.{portsIn, voiceAnswer, voiceNext, framesOf, hearRefusalOf, AllPlayed, outputAt, voltsAt, frameAtOf, blockText, partOf}
+use Rattle.player.specs.Player as player
+use Rattle.player.specs.Player.{kindOf, soundOf, answerOf, frameOf, nextOf, textOf, afterOf}
+use Rattle.player.specs.declared.Controls.{Controls}
 use Rattle.player.specs.declared.Controls.the-variants as controls
 use Rattle.player.specs.declared.Voices.{Voices}
 use Rattle.player.specs.declared.Player.{Player}
@@ -88,51 +91,19 @@ module _ {S U : Type 0} (answer : S → Answer) (next : S → S) (told : U → A
       λ i. block 0 (sym (after-carried n s) i) (countedTo t (λ (k : ℕ). hostNumber (answer-carried s k i)) n)
       (joined (λ (k : ℕ). portsOf ports (voltsOf (answer-carried s k i))) n) (tab (λ (k : ℕ). hostNumber (answer-carried s k i)) n)
 
-  pub heard : (ports number : ℕ) (s : S) (t : Tally) (o : List Float) (m : List ℕ) (r : ℕ) (s′ : S) (t′ : Tally) (o′ : List Float) (m′ : List ℕ)
+  accepted-carried : (s : S) → AllAccepted answer next s → AllAccepted told step (embed s)
+  accepted-carried s all i = ap accepted (sym (answer-carried s i)) ∙ all i
+
+  heard : (ports number : ℕ) (s : S) (t : Tally) (o : List Float) (m : List ℕ) (r : ℕ) (s′ : S) (t′ : Tally) (o′ : List Float) (m′ : List ℕ)
       → (number ≡ 0 → AllAccepted answer next s)
       → block r s′ t′ o′ m′ ≡ blockOf ports number answer next s t o m → r ≡ 0
       → (roomFor t (length m) ≡ true) × AllAccepted told step (embed s) × (block 0 (embed s′) t′ o′ m′ ≡ ticksOf ports told step (length m) (embed s) t)
   heard ports number s t o m r s′ t′ o′ m′ all e z =
       let k = accepted-says ports number answer next s t o m r s′ t′ o′ m′ e z in (
         k .1,
-        λ i. ap accepted (sym (answer-carried s i)) ∙ all (k .0) i,
+        accepted-carried s (all (k .0)),
         ap (λ (b : Block S). block 0 (embed (b .state)) (b .tally) (b .samples) (b .marks)) (k .2) ∙ ticks-carried ports (length m) s t,
       )
-
--- ---- the tally
--- one answer more
-module _ (t : Tally) (clean cleared notfinite lost : ℕ) (s : t .begun ≡ sumOf t) (h : t .begun + (clean + cleared + notfinite + lost) < 4294967295) where
-  abbrev grown : Tally
-  grown = grownBy t clean cleared notfinite lost
-
-  adds : addsUp grown ≡ true
-  unfolding addsUp grownBy
-  adds = eq-eqb (grown .begun) (sumOf grown) (omega arith)
-
-  room : eqb (grown .begun) 4294967295 ≡ false
-  unfolding grownBy
-  room = ne-eqb (grown .begun) 4294967295 (λ e. omega arith)
-
-  abbrev more : ℕ → Tally
-  more n = grownBy t (clean + oneIf n 14) (cleared + oneIf n 11) (notfinite + oneIf n 12) (lost + oneIf n 13)
-
-  counted-more : (n : ℕ) → oneIf n 4 + oneIf n 1 + oneIf n 2 + oneIf n 3 ≡ 1
-      → counted grown n ≡ grownBy t (clean + oneIf n 4) (cleared + oneIf n 1) (notfinite + oneIf n 2) (lost + oneIf n 3)
-  unfolding counted grownBy
-  counted-more n one = let (b, f, d, k, l) = sums (oneIf n 4) (oneIf n 1) (oneIf n 2) (oneIf n 3) one in λ i. record { begun = b i; finished = f i; cleared = d i; notfinite = k i; lost = l i }
-    where
-      sums : (x y z w : ℕ) → x + y + z + w ≡ 1
-          → (t .begun + (clean + cleared + notfinite + lost) + 1 ≡ t .begun + (clean + x + (cleared + y) + (notfinite + z) + (lost + w)))
-          × (t .finished + clean + x ≡ t .finished + (clean + x)) × (t .cleared + cleared + y ≡ t .cleared + (cleared + y)) × (t .notfinite + notfinite + z ≡ t .notfinite + (notfinite + z)) × (t .lost + lost + w ≡ t .lost + (lost + w))
-      sums x y z w one = (omega arith, omega arith, omega arith, omega arith, omega arith)
-
-  kept-more : (a : Answer) → accepted a ≡ true → tallyOr grown (tallyOf grown a) ≡ more (hostNumber a)
-  unfolding tallyOf tallyOr markNumber hostNumber accepted oneIf
-  kept-more (answer.Clean v) h = simp (adds, room) (counted-more 4 refl)
-  kept-more (answer.Cleared v) h = simp (adds, room) (counted-more 1 refl)
-  kept-more (answer.NotFinite v) h = simp (adds, room) (counted-more 2 refl)
-  kept-more (answer.Lost v) h = simp (adds, room) (counted-more 3 refl)
-  kept-more (answer.Refused n) h = absurd (false≢true h)
 
 -- ---- the player after k frames, as a block has it
 blockAfter : Player → ℕ → Player
@@ -145,13 +116,12 @@ blockAfter p k =
       frames = p .frames;
     }
 
-module _ (p : Player) (sum : p .tally .begun ≡ sumOf (p .tally)) (all : AllAccepted (voiceAnswer (p .controls)) (voiceNext (p .controls)) (p .voices)) where
-  block-next : (k : ℕ) → p .tally .begun + k < 4294967295 → nextOf (blockAfter p k) ≡ blockAfter p (suc k)
-  unfolding nextOf blockAfter afterTicks countedTo manyTo answerOf answerAt
+module _ (p : Player) (n : ℕ) (room : roomFor (p .tally) n ≡ true) (all : AllAccepted (voiceAnswer (p .controls)) (voiceNext (p .controls)) (p .voices)) where
+  block-next : (k : ℕ) → k < n → nextOf (blockAfter p k) ≡ blockAfter p (suc k)
+  unfolding nextOf blockAfter afterTicks answerOf answerAt
   block-next k h =
       let f = markAt (voiceAnswer (p .controls)) (voiceNext (p .controls)) (p .voices) in
-      let most = many-most f k in
-      let counts = kept-more (p .tally) (manyTo 14 f k) (manyTo 11 f k) (manyTo 12 f k) (manyTo 13 f k) sum (omega arith) _ (all k) in
+      let counts = all-taken (voiceAnswer (p .controls)) (voiceNext (p .controls)) (p .voices) all (p .tally) n room k h .1 ∙ ap (countedTo (p .tally) f) (add-one k) in
       let number = one-suc (p .frame) k in
       λ i. record { controls = p .controls; voices = afterTicks (voiceNext (p .controls)) (suc k) (p .voices); tally = counts i; frame = number i; frames = p .frames }
     where
@@ -162,10 +132,23 @@ module _ (p : Player) (sum : p .tally .begun ≡ sumOf (p .tally)) (all : AllAcc
   unfolding blockAfter afterTicks countedTo grownBy manyTo
   block-none = simp add-zero
 
-  after-block : (k : ℕ) → p .tally .begun + k ≤ 4294967295 → afterOf k p ≡ blockAfter p k
+  after-block : (k : ℕ) → k ≤ n → afterOf k p ≡ blockAfter p k
   unfolding afterOf
   after-block zero h = block-none
   after-block (suc k) h = ap (λ (n : ℕ). afterOf n p) (sym (add-one k)) ∙ after-last p k ∙ ap nextOf (after-block k (omega arith)) ∙ block-next k (omega arith)
+
+  -- what follows isn't refused either
+  unrefused-at : (k : ℕ) → refusalOf (answerOf (blockAfter p k)) ≡ 0
+  unfolding answerOf blockAfter
+  unrefused-at k = accepted-unrefused _ (unfold answerAt in all k)
+
+  room-at : (k j : ℕ) → k + j ≤ n → roomFor (blockAfter p k .tally) j ≡ true
+  unfolding blockAfter
+  room-at k j h = room-left (p .tally) n room _ k j h
+
+  free-at : (k j : ℕ) → k + j ≤ n → player.refusalOf (afterOf k p) j ≡ 0
+  unfolding player.refusalOf blockRefusalOf
+  free-at k j h = ap (λ (q : Player). player.refusalOf q j) (after-block k (omega arith)) ∙ simp (unrefused-at k, room-at k j h)
 
 -- ---- the texts
 past : {A : Type 0} (a b : List A) (d : A) (j : ℕ) → getD (a ++ b) (length a + j) d ≡ getD b j d
@@ -222,12 +205,9 @@ module _ (p : Player) (n : ℕ) (l : List Float) (m : List ℕ) (room : roomFor 
   told : ℕ → Answer
   told k = answerAt (voiceAnswer (p .controls)) (voiceNext (p .controls)) (p .voices) k
 
-  player-at : (k : ℕ) → k ≤ n → afterOf k p ≡ blockAfter p k
-  player-at k h = let r = room-says (p .tally) n room in after-block p (r .0) all k (omega (arith, r .1))
-
   frame-at : (k : ℕ) → k ≤ n → frameOf (afterOf k p) ≡ frameText (kindOf (p .controls)) (p .frame + k) (told k)
   unfolding frameOf answerOf blockAfter answerAt told
-  frame-at k h = ap frameOf (player-at k h)
+  frame-at k h = ap frameOf (after-block p n room all k h)
 
   mark-at : (k : ℕ) → k < n → getD m k 0 ≡ hostNumber (told k)
   unfolding told
@@ -280,11 +260,11 @@ module _ (p : Player) (n : ℕ) (v : Voices) (t : Tally) (l : List Float) (m : L
   unfolding framesOf ticksOf blockAfter
   same-player =
       (λ i. record { controls = p .controls; voices = e i .state; tally = e i .tally; frame = p .frame + n; frames = p .frames })
-      ∙ sym (player-at p n l m (played .room) (played .taken) same-samples same-marks n (omega arith))
+      ∙ sym (after-block p n (played .room) (played .taken) n (omega arith))
 
   pub block-played : (out q : List ℕ) (at to : ℕ) → Put out at (blockText o (p .frame) l m (length m)) to q
-      → Done out at (textOf n p) (afterOf n p) (record { player = record { controls = p .controls; voices = v; tally = t; frame = p .frame + n; frames = p .frames }; to = to }) q
-  unfolding playedOf
+      → Done out at n p (record { player = record { controls = p .controls; voices = v; tally = t; frame = p .frame + n; frames = p .frames }; to = to }) q
+  unfolding partOf
   block-played out q at to put =
       let frames = text-is p n l m (played .room) (played .taken) same-samples same-marks n (omega arith) in
       let same : blockText o (p .frame) l m (length m) ≡ textOf n p = rw (eo, marks-size) frames in
@@ -324,44 +304,121 @@ pub taken-room : {A : Type 0} (a n most : ℕ) (l : List A) → n ≤ length l �
 taken-room a n most l h k = omega (arith, length-take n l)
 
 -- ---- each voice
+-- a voice among the others
+abbrev with-vco : Voices → Vco → Voices
+with-vco v s = record { vco = s; lfo = v .lfo; supersaw = v .supersaw; formant = v .formant }
+
+abbrev with-lfo : Voices → Lfo → Voices
+with-lfo v s = record { vco = v .vco; lfo = s; supersaw = v .supersaw; formant = v .formant }
+
+abbrev with-supersaw : Voices → Supersaw → Voices
+with-supersaw v s = record { vco = v .vco; lfo = v .lfo; supersaw = s; formant = v .formant }
+
+abbrev with-formant : Voices → FormantOsc → Voices
+with-formant v s = record { vco = v .vco; lfo = v .lfo; supersaw = v .supersaw; formant = s }
+
+-- where its tick isn't refused, no later one is
+pub voice-accepts : (c : Controls) (v : Voices) → length (v .supersaw .phases) ≡ 7 → refusalOf (voiceAnswer c v) ≡ 0
+    → AllAccepted (voiceAnswer c) (voiceNext c) v
+unfolding soundOf
+voice-accepts (controls.Vco c) v seven h =
+    accepted-carried _ _ (voiceAnswer (controls.Vco c)) (voiceNext (controls.Vco c)) (with-vco v) (λ s. refl) (λ s. refl) (v .vco)
+    (vco-held.block-accepts (v .vco) c 15 (sym (vco-held.tick-refusal (v .vco) c 15) ∙ h))
+voice-accepts (controls.Lfo c) v seven h =
+    accepted-carried _ _ (voiceAnswer (controls.Lfo c)) (voiceNext (controls.Lfo c)) (with-lfo v) (λ s. refl) (λ s. refl) (v .lfo)
+    (lfo-held.block-accepts (v .lfo) c 31 (sym (lfo-held.tick-refusal (v .lfo) c 31) ∙ h))
+voice-accepts (controls.Supersaw c) v seven h =
+    accepted-carried _ _ (voiceAnswer (controls.Supersaw c)) (voiceNext (controls.Supersaw c)) (with-supersaw v) (λ s. refl) (λ s. refl) (v .supersaw)
+    (supersaw-held.block-accepts (v .supersaw) c seven (sym (supersaw-held.tick-refusal (v .supersaw) c) ∙ h))
+voice-accepts (controls.Formant c) v seven h =
+    accepted-carried _ _ (voiceAnswer (controls.Formant c)) (voiceNext (controls.Formant c)) (with-formant v) (λ s. refl) (λ s. refl) (v .formant)
+    (formant-held.block-accepts (v .formant) c (sym (formant-held.tick-refusal (v .formant) c) ∙ h))
+
+-- what its block leaves is what a block of frames is
+abbrev pub Hears : Controls → Voices → Tally → List Float → List ℕ → ℕ → Block Voices → Type 0
+Hears c v t o m r b = (r ≡ hearRefusalOf c v t o m) × (r ≡ 0 → AllPlayed c v t (length m) b)
+
 module _ (v : Voices) (t u : Tally) (samples after : List Float) (marks marked : List ℕ) (r : ℕ) where
-  pub vco-heard : (c : VcoControls) (s : Vco) → block r s u after marked ≡ vcoBlockOf (v .vco) c 15 t samples marks → r ≡ 0
-      → AllPlayed (controls.Vco c) v t (length marks) (block 0 (record { vco = s; lfo = v .lfo; supersaw = v .supersaw; formant = v .formant }) u after marked)
-  unfolding vcoBlockOf framesOf kindOf portsIn soundOf
-  vco-heard c s e z =
-      let among : Vco → Voices = λ s. record { vco = s; lfo = v .lfo; supersaw = v .supersaw; formant = v .formant } in
-      let k =
-      heard _ _ (voiceAnswer (controls.Vco c)) (voiceNext (controls.Vco c)) among (λ s. refl) (λ s. refl) 4 _ (v .vco) t samples marks r s u after marked
-      (vco-held.block-accepts (v .vco) c 15) e z in
-      record { room = k .0; taken = k .1; frames = k .2 }
+  pub vco-heard : (c : VcoControls) (s : Vco) → block r s u after marked ≡ vcoBlockOf (v .vco) c 15 t samples marks
+      → Hears (controls.Vco c) v t samples marks r (block 0 (with-vco v s) u after marked)
+  unfolding vcoBlockOf framesOf hearRefusalOf kindOf portsIn soundOf
+  vco-heard c s e = (
+    ap (λ (b : Block Vco). b .refused) e ∙ block-refusal 4 _ _ _ (v .vco) t samples marks
+        ∙ ap (λ (n : ℕ). blockRefusalOf (eqb (length samples) (4 * length marks)) n t (length marks)) (sym (vco-held.tick-refusal (v .vco) c 15)),
+    λ z.
+        let k =
+        heard _ _ (voiceAnswer (controls.Vco c)) (voiceNext (controls.Vco c)) (with-vco v) (λ s. refl) (λ s. refl) 4 _ (v .vco) t samples marks r s u after marked
+        (vco-held.block-accepts (v .vco) c 15) e z in
+        record { room = k .0; taken = k .1; frames = k .2 },
+  )
 
-  pub lfo-heard : (c : LfoControls) (s : Lfo) → block r s u after marked ≡ lfoBlockOf (v .lfo) c 31 t samples marks → r ≡ 0
-      → AllPlayed (controls.Lfo c) v t (length marks) (block 0 (record { vco = v .vco; lfo = s; supersaw = v .supersaw; formant = v .formant }) u after marked)
-  unfolding lfoBlockOf framesOf kindOf portsIn soundOf
-  lfo-heard c s e z =
-      let among : Lfo → Voices = λ s. record { vco = v .vco; lfo = s; supersaw = v .supersaw; formant = v .formant } in
-      let k =
-      heard _ _ (voiceAnswer (controls.Lfo c)) (voiceNext (controls.Lfo c)) among (λ s. refl) (λ s. refl) 5 _ (v .lfo) t samples marks r s u after marked
-      (lfo-held.block-accepts (v .lfo) c 31) e z in
-      record { room = k .0; taken = k .1; frames = k .2 }
+  pub lfo-heard : (c : LfoControls) (s : Lfo) → block r s u after marked ≡ lfoBlockOf (v .lfo) c 31 t samples marks
+      → Hears (controls.Lfo c) v t samples marks r (block 0 (with-lfo v s) u after marked)
+  unfolding lfoBlockOf framesOf hearRefusalOf kindOf portsIn soundOf
+  lfo-heard c s e = (
+    ap (λ (b : Block Lfo). b .refused) e ∙ block-refusal 5 _ _ _ (v .lfo) t samples marks
+        ∙ ap (λ (n : ℕ). blockRefusalOf (eqb (length samples) (5 * length marks)) n t (length marks)) (sym (lfo-held.tick-refusal (v .lfo) c 31)),
+    λ z.
+        let k =
+        heard _ _ (voiceAnswer (controls.Lfo c)) (voiceNext (controls.Lfo c)) (with-lfo v) (λ s. refl) (λ s. refl) 5 _ (v .lfo) t samples marks r s u after marked
+        (lfo-held.block-accepts (v .lfo) c 31) e z in
+        record { room = k .0; taken = k .1; frames = k .2 },
+  )
 
-  pub supersaw-heard : length (v .supersaw .phases) ≡ 7 → (c : SupersawControls) (s : Supersaw)
-      → block r s u after marked ≡ supersawBlockOf (v .supersaw) c t samples marks → r ≡ 0
-      → AllPlayed (controls.Supersaw c) v t (length marks) (block 0 (record { vco = v .vco; lfo = v .lfo; supersaw = s; formant = v .formant }) u after marked)
-  unfolding supersawBlockOf framesOf kindOf portsIn soundOf
-  supersaw-heard size c s e z =
-      let among : Supersaw → Voices = λ s. record { vco = v .vco; lfo = v .lfo; supersaw = s; formant = v .formant } in
-      let k =
-      heard _ _ (voiceAnswer (controls.Supersaw c)) (voiceNext (controls.Supersaw c)) among (λ s. refl) (λ s. refl) 2 _ (v .supersaw) t samples marks r s u after marked
-      (supersaw-held.block-accepts (v .supersaw) c size) e z in
-      record { room = k .0; taken = k .1; frames = k .2 }
+  pub supersaw-heard : length (v .supersaw .phases) ≡ 7 → (c : SupersawControls) (s : Supersaw) → block r s u after marked ≡ supersawBlockOf (v .supersaw) c t samples marks
+      → Hears (controls.Supersaw c) v t samples marks r (block 0 (with-supersaw v s) u after marked)
+  unfolding supersawBlockOf framesOf hearRefusalOf kindOf portsIn soundOf
+  supersaw-heard seven c s e = (
+    ap (λ (b : Block Supersaw). b .refused) e ∙ block-refusal 2 _ _ _ (v .supersaw) t samples marks
+        ∙ ap (λ (n : ℕ). blockRefusalOf (eqb (length samples) (2 * length marks)) n t (length marks)) (sym (supersaw-held.tick-refusal (v .supersaw) c)),
+    λ z.
+        let k =
+        heard _ _ (voiceAnswer (controls.Supersaw c)) (voiceNext (controls.Supersaw c)) (with-supersaw v) (λ s. refl) (λ s. refl) 2 _ (v .supersaw) t samples marks r s u after marked
+        (supersaw-held.block-accepts (v .supersaw) c seven) e z in
+        record { room = k .0; taken = k .1; frames = k .2 },
+  )
 
-  pub formant-heard : (c : FormantControls) (s : FormantOsc) → block r s u after marked ≡ formantBlockOf (v .formant) c t samples marks → r ≡ 0
-      → AllPlayed (controls.Formant c) v t (length marks) (block 0 (record { vco = v .vco; lfo = v .lfo; supersaw = v .supersaw; formant = s }) u after marked)
-  unfolding formantBlockOf framesOf kindOf portsIn soundOf
-  formant-heard c s e z =
-      let among : FormantOsc → Voices = λ s. record { vco = v .vco; lfo = v .lfo; supersaw = v .supersaw; formant = s } in
-      let k =
-      heard _ _ (voiceAnswer (controls.Formant c)) (voiceNext (controls.Formant c)) among (λ s. refl) (λ s. refl) 1 _ (v .formant) t samples marks r s u after marked
-      (formant-held.block-accepts (v .formant) c) e z in
-      record { room = k .0; taken = k .1; frames = k .2 }
+  pub formant-heard : (c : FormantControls) (s : FormantOsc) → block r s u after marked ≡ formantBlockOf (v .formant) c t samples marks
+      → Hears (controls.Formant c) v t samples marks r (block 0 (with-formant v s) u after marked)
+  unfolding formantBlockOf framesOf hearRefusalOf kindOf portsIn soundOf
+  formant-heard c s e = (
+    ap (λ (b : Block FormantOsc). b .refused) e ∙ block-refusal 1 _ _ _ (v .formant) t samples marks
+        ∙ ap (λ (n : ℕ). blockRefusalOf (eqb (length samples) (1 * length marks)) n t (length marks)) (sym (formant-held.tick-refusal (v .formant) c)),
+    λ z.
+        let k =
+        heard _ _ (voiceAnswer (controls.Formant c)) (voiceNext (controls.Formant c)) (with-formant v) (λ s. refl) (λ s. refl) 1 _ (v .formant) t samples marks r s u after marked
+        (formant-held.block-accepts (v .formant) c) e z in
+        record { room = k .0; taken = k .1; frames = k .2 },
+  )
+
+-- ---- a player whose next n frames nothing refuses
+module _ (p : Player) (n : ℕ) (free : player.refusalOf p n ≡ 0) where
+  abbrev free-says : (true ≡ true) × (refusalOf (answerOf p) ≡ 0) × (roomFor (p .tally) n ≡ true)
+  free-says = not-refused true (refusalOf (answerOf p)) (p .tally) n (unfold player.refusalOf in free)
+
+  -- a block of them isn't refused
+  pub hears-all : (o : List Float) (m : List ℕ) → length o ≡ portsIn (kindOf (p .controls)) * length m → length m ≡ n
+      → hearRefusalOf (p .controls) (p .voices) (p .tally) o m ≡ 0
+  unfolding hearRefusalOf
+  hears-all o m size e = rw (eq-eqb (length o) _ size, e) (unfold player.refusalOf answerOf in free)
+
+  -- nor are the last j of them, after the first k
+  pub free-after : length (p .voices .supersaw .phases) ≡ 7 → (k j : ℕ) → k + j ≤ n → player.refusalOf (afterOf k p) j ≡ 0
+  free-after seven = free-at p n (free-says .2) (voice-accepts (p .controls) (p .voices) seven (unfold answerOf in free-says .1))
+
+-- what a chunk of n frames asks of its block, whose samples and marks are cut off longer ones
+pub part-asks : {A B : Type 0} (p : Player) (n ports : ℕ) (o : Osc) (l : List A) (m : List B) → o ≡ kindOf (p .controls) → ports ≡ portsIn o → ports * n ≤ length l → n ≤ length m
+    → player.refusalOf p n ≡ 0 → (player.refusalOf p (length (take n m)) ≡ 0) × (length (take (ports * n) l) ≡ portsIn (kindOf (p .controls)) * length (take n m))
+part-asks p n ports o l m eo ep hl hm free =
+    let marks = take-size n m hm in
+    (rw (← marks) free, sym (take-size (ports * n) l hl) ∙ rw (← marks, ep, eo) refl)
+
+-- a block of none is asked first
+pub asked-first : (p : Player) (o : List Float) (m : List ℕ) (n r : ℕ) → length o ≡ 0 → length m ≡ 0 → r ≡ hearRefusalOf (p .controls) (p .voices) (p .tally) o m
+    → blockRefusalOf true r (p .tally) n ≡ player.refusalOf p n
+unfolding hearRefusalOf player.refusalOf answerOf
+asked-first p o m n r eo em e =
+    ap (λ (k : ℕ). blockRefusalOf true k (p .tally) n) (e ∙ none) ∙ twice-asked _ (p .tally) n
+  where
+    none : hearRefusalOf (p .controls) (p .voices) (p .tally) o m ≡ blockRefusalOf true (refusalOf (voiceAnswer (p .controls) (p .voices))) (p .tally) 0
+    none = rw (eo, em, mul-zero (portsIn (kindOf (p .controls)))) refl

@@ -1,4 +1,4 @@
--- The tally takes the answers of all frames; and a render is claimed exactly when every frame is clean.
+-- The tally takes the answers of all frames, each of which begins; and a render is claimed exactly when every frame is clean.
 use Prim.Native.Nat.{ℕ, zero, suc, _+_, _≤_, _<_}
 use mathlib.Core.Bool.{Bool, true, false, cond}
 use mathlib.Core.List.{List, [], _∷_}
@@ -6,90 +6,34 @@ use mathlib.Core.Path.{_≡_, refl, ap}
 use native.Mathlib.Omega.{arith}
 use lib.Dec.{eqb}
 use lib.ListN.{length}
-use borrow.Author.Tests.{eq-eqb, ne-eqb, eqb-true}
-use Rattle.answer.specs.Answer.{markNumber}
-use Rattle.answer.specs.Tally.{sumOf, addsUp, oneIf, counted, talliedNumber, tallyOr, tallyOf, Run, settle, run, newRun, many}
+use borrow.Author.Tests.{eq-eqb, eqb-true}
+use Rattle.answer.specs.Answer.{markNumber, accepted}
+use Rattle.answer.proofs.Laws.{tally-takes-all}
+use Rattle.answer.specs.Promises.{CountsAll}
+use Rattle.answer.specs.Tally.{oneIf, many, acceptedIn, tallyAfter}
 use Rattle.answer.specs.declared.Answer.{Answer}
 use Rattle.answer.specs.declared.Answer.the-variants as answer
-use Rattle.answer.specs.declared.Tally.{Tally}
-use Rattle.answer.specs.declared.Tallied.{Tallied}
-use Rattle.answer.specs.declared.Tallied.the-variants as tallied
 use Rattle.score.specs.declared.Inputs.{Inputs}
 use Rattle.score.specs.declared.Inputs.the-variants as inputs
 use Rattle.score.specs.declared.Score.{Score}
 use Rattle.frame.proofs.Claim.{claimed-says}
-use Rattle.player.specs.Play.{answers, heardFrom, heardOf, tallyFrom}
-use Rattle.player.specs.Promises.{Every, Tally-takes-all, Clean, Claimed-clean}
+use Rattle.player.specs.Play.{answers, heardFrom, heardOf}
+use Rattle.player.specs.Promises.{Every, Accepted, Clean, Claimed-clean}
 
--- ---- one answer
-record Takes (t : Tally) (a : Answer) : Type 0 where
-  after : Tally
-  taken : tallyOf t a ≡ tallied.Taken after
-  sum : after .begun ≡ sumOf after
-  more : after .begun ≤ t .begun + 1
-  cleared : after .cleared ≡ t .cleared + oneIf (markNumber a) 1
-  notfinite : after .notfinite ≡ t .notfinite + oneIf (markNumber a) 2
-  lost : after .lost ≡ t .lost + oneIf (markNumber a) 3
-  finished : after .finished ≡ t .finished + oneIf (markNumber a) 4
+-- ---- all begin
+accepted-most : (xs : List Answer) → acceptedIn xs ≤ length xs
+unfolding acceptedIn
+accepted-most [] = omega arith
+accepted-most (a ∷ xs) = go (accepted a) (accepted-most xs)
+  where
+    go : (b : Bool) → acceptedIn xs ≤ length xs → acceptedIn xs + cond b 1 0 ≤ suc (length xs)
+    go true h = omega arith
+    go false h = omega arith
 
--- an accepted one is counted
-module _ (t : Tally) (s : t .begun ≡ sumOf t) (h : t .begun < 4294967295) where
-  adds : addsUp t ≡ true
-  unfolding addsUp
-  adds = eq-eqb (t .begun) (sumOf t) s
-
-  room : eqb (t .begun) 4294967295 ≡ false
-  room = ne-eqb (t .begun) 4294967295 (λ e. omega arith)
-
-  takes : (a : Answer) → Takes t a
-  unfolding tallyOf markNumber counted oneIf
-  takes (answer.Clean v) = record { after = counted t 4; taken = simp (adds, room); sum = omega arith; more = omega arith; cleared = refl; notfinite = refl; lost = refl; finished = refl }
-  takes (answer.Cleared v) = record { after = counted t 1; taken = simp (adds, room); sum = omega arith; more = omega arith; cleared = refl; notfinite = refl; lost = refl; finished = refl }
-  takes (answer.NotFinite v) = record { after = counted t 2; taken = simp (adds, room); sum = omega arith; more = omega arith; cleared = refl; notfinite = refl; lost = refl; finished = refl }
-  takes (answer.Lost v) = record { after = counted t 3; taken = simp (adds, room); sum = omega arith; more = omega arith; cleared = refl; notfinite = refl; lost = refl; finished = refl }
-  takes (answer.Refused n) = record { after = t; taken = simp adds; sum = s; more = omega arith; cleared = omega arith; notfinite = omega arith; lost = omega arith; finished = omega arith }
-
--- ---- many
-record Takes-many (t u : Tally) (xs : List Answer) : Type 0 where
-  sum : u .begun ≡ sumOf u
-  cleared : u .cleared ≡ t .cleared + many 1 xs
-  notfinite : u .notfinite ≡ t .notfinite + many 2 xs
-  lost : u .lost ≡ t .lost + many 3 xs
-  finished : u .finished ≡ t .finished + many 4 xs
-
-settled : (r : Run) (a : Answer) (xs : List Answer) (k : Takes (r .tally) a) → run r (a ∷ xs) .tally ≡ run (record { tally = k .after; took = a ∷ r .took }) xs .tally
-unfolding run settle talliedNumber tallyOr
-settled r a xs k = ap (λ (u : Tallied). run (settle r a u) xs .tally) (k .taken)
-
-takes-one-more : (t u : Tally) (a : Answer) (xs : List Answer) (k : Takes t a) → Takes-many (k .after) u xs → Takes-many t u (a ∷ xs)
-unfolding many
-takes-one-more t u a xs k m =
-    record {
-      sum = m .sum;
-      cleared = omega (arith, m .cleared, k .cleared);
-      notfinite = omega (arith, m .notfinite, k .notfinite);
-      lost = omega (arith, m .lost, k .lost);
-      finished = omega (arith, m .finished, k .finished);
-    }
-
-takes-all : (xs : List Answer) (r : Run) → r .tally .begun ≡ sumOf (r .tally) → r .tally .begun + length xs ≤ 4294967295 → Takes-many (r .tally) (run r xs .tally) xs
-unfolding many run
-takes-all [] r s h = record { sum = s; cleared = omega arith; notfinite = omega arith; lost = omega arith; finished = omega arith }
-takes-all (a ∷ xs) r s h =
-    let k = takes (r .tally) s (omega arith) a in
-    rw (settled r a xs k) (takes-one-more (r .tally) _ a xs k (takes-all xs (record { tally = k .after; took = a ∷ r .took }) (k .sum) (omega (arith, k .more))))
-
-pub tally-takes-all : Tally-takes-all
-unfolding tallyFrom
-tally-takes-all xs h =
-    let m = takes-all xs newRun refl (omega arith) in
-    record {
-      cleared = omega (arith, m .cleared);
-      notfinite = omega (arith, m .notfinite);
-      lost = omega (arith, m .lost);
-      finished = omega (arith, m .finished);
-      begun = m .sum;
-    }
+pub all-begin : (xs : List Answer) → Every Accepted xs → acceptedIn xs ≡ length xs
+unfolding acceptedIn Every
+all-begin [] h = refl
+all-begin (a ∷ xs) (c, h) = let m = all-begin xs h in rw c (omega arith)
 
 -- ---- every frame is clean
 one-is : (n k : ℕ) → oneIf n k ≡ 1 → n ≡ k
@@ -154,14 +98,20 @@ pub frames-heard : (s : Score) → length (heardOf s) ≡ s .frames
 unfolding heardOf
 frames-heard s = heard-length (s .inputs) (s .hz) (s .frames)
 
+pub heard-counts : (s : Score) → s .frames ≤ 4294967295 → CountsAll (heardOf s)
+heard-counts s h = tally-takes-all (heardOf s) (omega (arith, accepted-most (heardOf s), frames-heard s))
+
 pub claimed-clean : Claimed-clean
 claimed-clean s h =
     let xs = heardOf s in
     let l = frames-heard s in
-    let c = tally-takes-all xs (omega arith) in
+    let c = heard-counts s h in
     let m = marks-most xs in
-    let w = claimed-says (s .frames) (tallyFrom xs) in
+    let w = claimed-says (s .frames) (tallyAfter xs) in
     record {
       only = λ e. all-clean xs (let (a, b) = w .only e in omega (arith, c .finished));
-      always = λ e. let n = clean-all xs e in w .always (omega (arith, c .finished, c .begun, c .cleared, c .notfinite, c .lost)) (omega (arith, c .finished, c .begun, c .cleared, c .notfinite, c .lost));
+      always =
+          λ e.
+          let n = clean-all xs e in
+          w .always (omega (arith, c .finished, c .sum, c .cleared, c .notfinite, c .lost)) (omega (arith, c .finished, c .sum, c .cleared, c .notfinite, c .lost));
     }

@@ -6,5 +6,6 @@ pub mod Whole
 pub mod Counts
 pub mod Accepted
 pub mod Range
+pub mod Unrefused
 pub mod Rendered
 pub mod Worked

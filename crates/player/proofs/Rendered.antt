@@ -1,18 +1,21 @@
 -- What holds of a score that is read; and that each contract, being equations, settles what it speaks of.
+use mathlib.Core.Path.{_∙_}
 use native.Mathlib.Omega.{arith}
 use Rattle.laws.proofs.Settled as laws
 use Rattle.player.specs.Play.{heardOf}
 use Rattle.player.specs.Player.{beginOf}
 use Rattle.player.specs.Promises.{Read-renders, Settled}
 use Rattle.player.proofs.Accepted.{frames-accepted}
-use Rattle.player.proofs.Counts.{tally-takes-all, frames-heard, claimed-clean}
+use Rattle.player.proofs.Counts.{all-begin, heard-counts, frames-heard, claimed-clean}
 use Rattle.player.proofs.Range.{read-in-range}
 
 pub read-renders : Read-renders
 read-renders text s e =
     let r = read-in-range text s e in
     let n = frames-heard s in
-    record { frames = n; accepts = frames-accepted s (r .rate); counts = tally-takes-all (heardOf s) (omega (arith, r .most)); claimed = claimed-clean s (omega (arith, r .most)) }
+    let counts = heard-counts s (omega (arith, r .most)) in
+    let accepts = frames-accepted s (r .rate) in
+    record { frames = n; accepts = accepts; counts = counts; begun = counts .begun ∙ all-begin (heardOf s) accepts ∙ n; claimed = claimed-clean s (omega (arith, r .most)) }
 
 pub settled : Settled
 settled = record { new = λ s. laws.settled (beginOf s); run = λ p out budget. laws.both _ _; finish = λ p out. laws.both _ _ }

@@ -7,7 +7,7 @@ use native.Mathlib.Numerals.{add-one}
 use native.Mathlib.Omega.{arith}
 use lib.Dec.{eqb}
 use lib.ListN.{length, length-append}
-use Rattle.answer.specs.Tally.{tallyOf, Run, settle, run, talliedNumber, tallyOr}
+use Rattle.answer.specs.Tally.{tallyOf, Run, settle, run, tallyAfter, talliedNumber, tallyOr}
 use Rattle.answer.specs.declared.Answer.{Answer}
 use Rattle.answer.specs.declared.Tally.{Tally}
 use Rattle.answer.specs.declared.Tallied.{Tallied}
@@ -18,7 +18,7 @@ use Rattle.score.specs.declared.Score.{Score}
 use Rattle.frame.specs.Frame.{frameText}
 use Rattle.frame.proofs.Lengths.{frame-length}
 use Rattle.player.specs.Begin.{rateOf}
-use Rattle.player.specs.Play.{answers, heardFrom, heardOf, oscOf, framesText, tallyFrom, playOf}
+use Rattle.player.specs.Play.{answers, heardFrom, heardOf, oscOf, framesText, playOf}
 use Rattle.player.specs.Player.{controlsOf, voicesAt, beginOf, kindOf, soundOf, answerOf, frameOf, nextOf, textOf, afterOf, finishOf}
 use Rattle.player.specs.Promises.{Plays, Piece-length}
 use Rattle.player.specs.declared.Controls.{Controls}
@@ -27,7 +27,7 @@ use Rattle.player.specs.declared.Player.{Player}
 use Rattle.player.proofs.Pieces.{frames-after}
 
 -- ---- a run's texts and tally are those of its answers
-answersFrom : Controls → ℕ → Voices → List Answer
+unfoldable pub answersFrom : Controls → ℕ → Voices → List Answer
 answersFrom c = answers (λ (v : Voices). soundOf c v .answer) (λ (v : Voices). soundOf c v .voices)
 
 frames-next : (k : ℕ) (p : Player)
@@ -71,7 +71,7 @@ simulated a n b m f ea en (suc k) s =
     ∙ ap (λ (l : List Answer). b (f s) ∷ l) (simulated a n b m f ea en k (n s) ∙ ap (answers b m k) (en s))
 
 -- so the voices answer as the score's own oscillator does
-heard-voices : (i : Inputs) (hz n : ℕ) → answersFrom (controlsOf i) n (voicesAt (rateOf hz)) ≡ heardFrom i hz n
+pub heard-voices : (i : Inputs) (hz n : ℕ) → answersFrom (controlsOf i) n (voicesAt (rateOf hz)) ≡ heardFrom i hz n
 unfolding answersFrom controlsOf soundOf voicesAt heardFrom
 heard-voices (inputs.Vco i) hz n = simulated _ _ _ _ (λ (v : Voices). v .vco) (λ v. refl) (λ v. refl) n _
 heard-voices (inputs.Lfo i) hz n = simulated _ _ _ _ (λ (v : Voices). v .lfo) (λ v. refl) (λ v. refl) n _
@@ -90,8 +90,8 @@ module _ (s : Score) where
   unfolding beginOf heardOf
   whole-text = text-frames (s .frames) (beginOf s) ∙ rw (heard-voices (s .inputs) (s .hz) (s .frames), same-kind (s .inputs))
 
-  whole-tally : afterOf (s .frames) (beginOf s) .tally ≡ tallyFrom (heardOf s)
-  unfolding beginOf heardOf tallyFrom
+  whole-tally : afterOf (s .frames) (beginOf s) .tally ≡ tallyAfter (heardOf s)
+  unfolding beginOf heardOf tallyAfter
   whole-tally = tally-after (s .frames) (beginOf s) [] ∙ rw (heard-voices (s .inputs) (s .hz) (s .frames))
 
   whole-frames : afterOf (s .frames) (beginOf s) .frames ≡ s .frames

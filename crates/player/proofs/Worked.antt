@@ -11,7 +11,7 @@ use Rattle.line.specs.Number.{digitsFrom, digitsOf, negativeOf, signedOf, numbe
 use Rattle.text.specs.Decimal.{decimalFrom, decimalText}
 use Rattle.text.specs.Hex.{glyph, hexFrom, hexText}
 use Rattle.answer.specs.Answer.{markNumber}
-use Rattle.answer.specs.Tally.{addsUp, oneIf, counted, talliedNumber, tallyOr, tallyOf, settle, run}
+use Rattle.answer.specs.Tally.{addsUp, oneIf, counted, talliedNumber, tallyOr, tallyOf, settle, run, tallyAfter}
 use Rattle.answer.specs.declared.Answer.{Answer}
 use Rattle.answer.specs.declared.Answer.the-variants as answer
 use Rattle.answer.specs.declared.Volts.{Volts}
@@ -32,7 +32,7 @@ use Rattle.vco.proofs.Frame.{first-frame}
 use Rattle.frame.specs.Frame.{wordLine, countLine, sampleLine, wavesText, outputsText, markedText, frameText}
 use Rattle.frame.specs.End.{countsText, claimedOf, endText}
 use Rattle.player.specs.Begin.{rateOf, vcoControls}
-use Rattle.player.specs.Play.{answers, heardFrom, heardOf, framesText, tallyFrom, playOf, printedOf, renderOf}
+use Rattle.player.specs.Play.{answers, heardFrom, heardOf, framesText, playOf, printedOf, renderOf}
 use Rattle.player.specs.Promises.{Worked}
 
 given : List ℕ
@@ -65,14 +65,14 @@ is-heard =
     ap (λ (a : Answer). a ∷ []) (ap (λ (r : Hertz). vcoTickOf (newVco r) (vcoControls inputs) 15 .answer) rate ∙ ap (λ (c : VcoControls). vcoTickOf (newVco frameRate) c 15 .answer) controls ∙ first-frame)
 
 printed : List Answer → List ℕ
-printed xs = framesText kind.Vco 0 xs ++ endText 1 (tallyFrom xs)
+printed xs = framesText kind.Vco 0 xs ++ endText 1 (tallyAfter xs)
 
 is-printed : playOf score ≡ printed (answer.Clean volts ∷ [])
 unfolding playOf printed score
 is-printed = ap printed is-heard
 
 text : printed (answer.Clean volts ∷ []) ≡ ascii "n=0\nmark=clean\nsin=0000000000000000\ntri=C014000000000000\nsaw=C014000000000000\nsqr=4014000000000000\nbegun=1\nfinished=1\ncleared=0\nnotfinite=0\nlost=0\nclaimed=yes\n"
-unfolding printed volts framesText frameText markedText outputsText wavesText sampleLine wordLine countLine decimalText decimalFrom glyph hexText hexFrom toBits ofBits endText countsText claimedOf tallyFrom run settle talliedNumber tallyOr tallyOf addsUp counted oneIf markNumber
+unfolding printed volts framesText frameText markedText outputsText wavesText sampleLine wordLine countLine decimalText decimalFrom glyph hexText hexFrom toBits ofBits endText countsText claimedOf tallyAfter run settle talliedNumber tallyOr tallyOf addsUp counted oneIf markNumber
 text = refl
 
 pub worked : Worked

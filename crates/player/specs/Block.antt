@@ -3,12 +3,12 @@ use mathlib.Core.Bool.{true, cond}
 use mathlib.Core.List.{List}
 use mathlib.Core.Path.{_≡_}
 use Prim.Native.Nat.{ℕ, _+_, _*_}
-use lib.Dec.{ltb}
+use lib.Dec.{eqb, ltb}
 use lib.Ieee.{Float, nan}
-use lib.ListN.{getD}
+use lib.ListN.{length, getD}
 use Rattle.laws.specs.Float.{zer}
-use Rattle.answer.specs.Answer.{answerOf}
-use Rattle.answer.specs.Block.{Block, roomFor, joined, ticksOf}
+use Rattle.answer.specs.Answer.{answerOf, refusalOf}
+use Rattle.answer.specs.Block.{Block, roomFor, joined, blockRefusalOf, ticksOf}
 use Rattle.answer.specs.Promises.{AllAccepted}
 use Rattle.answer.specs.declared.Volts.{Volts}
 use Rattle.answer.specs.declared.Answer.{Answer}
@@ -16,8 +16,11 @@ use Rattle.answer.specs.declared.Tally.{Tally}
 use Rattle.score.specs.declared.Osc.{Osc}
 use Rattle.score.specs.declared.Osc.the-variants.{Vco, Lfo, Supersaw, Formant}
 use Rattle.frame.specs.Frame.{frameText}
-use Rattle.player.specs.Player.{kindOf, soundOf}
+use Rattle.text.specs.Put.{placeOf}
+use Rattle.player.specs.Player.{kindOf, soundOf, textOf, afterOf}
+use Rattle.player.specs.declared.Part.{Part}
 use Rattle.player.specs.declared.Controls.{Controls}
+use Rattle.player.specs.declared.Player.{Player}
 use Rattle.player.specs.declared.Voices.{Voices}
 
 -- how many outputs each has
@@ -36,6 +39,11 @@ voiceNext c v = soundOf c v .voices
 
 unfoldable pub framesOf : Controls → Voices → Tally → ℕ → Block Voices
 framesOf c v t n = ticksOf (portsIn (kindOf c)) (voiceAnswer c) (voiceNext c) n v t
+
+-- 0, or what refuses a block of them
+unfoldable pub hearRefusalOf : Controls → Voices → Tally → List Float → List ℕ → ℕ
+hearRefusalOf c v t samples marks =
+    blockRefusalOf (eqb (length samples) (portsIn (kindOf c) * length marks)) (refusalOf (voiceAnswer c v)) t (length marks)
 
 -- what an accepted block of them is: its tally had room, none was refused, and it left what they leave
 pub record AllPlayed (c : Controls) (v : Voices) (t : Tally) (n : ℕ) (b : Block Voices) : Type 0 where
@@ -64,3 +72,7 @@ frameAtOf o first samples marks i = frameText o (first + i) (answerOf (getD mark
 -- the texts of the first k frames, numbered from `first` on
 unfoldable pub blockText : Osc → ℕ → List Float → List ℕ → ℕ → List ℕ
 blockText o first samples marks k = joined (frameAtOf o first samples marks) k
+
+-- ---- what a block of n frames leaves: the player after them, and the place after their texts
+unfoldable pub partOf : List ℕ → ℕ → ℕ → Player → Part
+partOf out at n p = record { player = afterOf n p; to = placeOf out at (textOf n p) }

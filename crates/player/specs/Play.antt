@@ -2,9 +2,8 @@
 -- oscillator with the same inputs and all outputs wanted; the tally is given each answer.
 use Prim.Native.Nat.{ℕ, zero, suc}
 use mathlib.Core.List.{List, [], _∷_, _++_}
-use Rattle.answer.specs.Tally.{run, newRun}
+use Rattle.answer.specs.Tally.{tallyAfter}
 use Rattle.answer.specs.declared.Answer.{Answer}
-use Rattle.answer.specs.declared.Tally.{Tally}
 use Rattle.score.specs.declared.Osc.{Osc}
 use Rattle.score.specs.declared.Osc.the-variants as osc
 use Rattle.score.specs.declared.Inputs.{Inputs}
@@ -46,12 +45,9 @@ unfoldable pub framesText : Osc → ℕ → List Answer → List ℕ
 framesText o n [] = []
 framesText o n (a ∷ xs) = frameText o n a ++ framesText o (suc n) xs
 
--- the counts of the answers that a new tally takes
-unfoldable pub tallyFrom : List Answer → Tally
-tallyFrom xs = run newRun xs .tally
-
+-- the frames, and what comes once at the end, by the counts of a new tally that is given each answer
 unfoldable pub playOf : Score → List ℕ
-playOf s = framesText (oscOf (s .inputs)) 0 (heardOf s) ++ endText (s .frames) (tallyFrom (heardOf s))
+playOf s = framesText (oscOf (s .inputs)) 0 (heardOf s) ++ endText (s .frames) (tallyAfter (heardOf s))
 
 -- what it prints of a text: the score that it reads as, or the refusal
 abbrev pub printedOf : Reading → List ℕ

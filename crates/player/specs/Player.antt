@@ -1,6 +1,10 @@
 -- A player: where the playing of a score stands. It gives the texts of k frames at a time.
 use Prim.Native.Nat.{ℕ, zero, suc, _+_, _-_, min}
+use mathlib.Core.Bool.{true, cond}
 use mathlib.Core.List.{List, [], _++_}
+use lib.Dec.{eqb}
+use Rattle.answer.specs.Answer as answer
+use Rattle.answer.specs.Block.{blockRefusalOf}
 use Rattle.answer.specs.Tally.{newTally, tallyOf, tallyOr}
 use Rattle.answer.specs.declared.Answer.{Answer}
 use Rattle.common.specs.declared.Hertz.{Hertz}
@@ -20,7 +24,6 @@ use Rattle.player.specs.Begin.{rateOf, vcoControls, lfoControls, supersa
 use Rattle.player.specs.declared.Controls.{Controls}
 use Rattle.player.specs.declared.Controls.the-variants.{Vco, Lfo, Supersaw, Formant}
 use Rattle.player.specs.declared.Voices.{Voices}
-use Rattle.player.specs.declared.Sounded.{Sounded}
 use Rattle.player.specs.declared.Player.{Player}
 use Rattle.player.specs.declared.Played.{Played}
 
@@ -42,7 +45,11 @@ kindOf (Lfo c) = osc.Lfo
 kindOf (Supersaw c) = osc.Supersaw
 kindOf (Formant c) = osc.Formant
 
--- one tick of the voice that the controls are for, all outputs wanted
+-- one tick of the voice that the controls are for, all outputs wanted: its answer, and the voices after it
+pub record Sounded : Type 0 where
+  pub answer : Answer
+  pub voices : Voices
+
 unfoldable pub soundOf : Controls → Voices → Sounded
 soundOf (Vco c) v = let t = vcoTickOf (v .vco) c 15 in record { answer = t .answer; voices = record { vco = t .vco; lfo = v .lfo; supersaw = v .supersaw; formant = v .formant } }
 soundOf (Lfo c) v = let t = lfoTickOf (v .lfo) c 31 in record { answer = t .answer; voices = record { vco = v .vco; lfo = t .lfo; supersaw = v .supersaw; formant = v .formant } }
@@ -75,13 +82,25 @@ unfoldable pub afterOf : ℕ → Player → Player
 afterOf zero p = p
 afterOf (suc k) p = afterOf k (nextOf p)
 
+-- ---- a run of the next n frames
 -- as many as the budget says, or as are left
 unfoldable pub turnsOf : Player → ℕ → ℕ
 turnsOf p budget = min budget (p .frames - p .frame)
 
--- a player, and the place after a text that was put
-unfoldable pub playedOf : List ℕ → ℕ → List ℕ → Player → Played
-playedOf out at t p = record { player = p; to = placeOf out at t }
+-- 0, or what refuses them: the refusal of the next tick, or 7 where the tally has no room for all
+unfoldable pub refusalOf : Player → ℕ → ℕ
+refusalOf p n = blockRefusalOf true (answer.refusalOf (answerOf p)) (p .tally) n
+
+-- the texts that it puts, and the player after it; a refused run puts nothing and leaves the player
+unfoldable pub runText : ℕ → Player → List ℕ
+runText n p = cond (eqb (refusalOf p n) 0) (textOf n p) []
+
+unfoldable pub runAfter : ℕ → Player → Player
+runAfter n p = cond (eqb (refusalOf p n) 0) (afterOf n p) p
+
+-- what it answers, of a buffer whose start takes the texts
+unfoldable pub ranOf : List ℕ → ℕ → Player → Played
+ranOf out n p = record { refused = refusalOf p n; player = runAfter n p; to = placeOf out 0 (runText n p) }
 
 unfoldable pub finishOf : Player → List ℕ
 finishOf p = endText (p .frames) (p .tally)

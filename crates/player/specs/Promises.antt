@@ -7,7 +7,8 @@ use lib.ListN.{length}
 use lib.Seq.{sets}
 use Rattle.laws.specs.Machine.{Settles}
 use Rattle.answer.specs.Answer.{markNumber, accepted}
-use Rattle.answer.specs.Tally.{sumOf, many}
+use Rattle.answer.specs.Promises.{CountsAll}
+use Rattle.answer.specs.Tally.{tallyAfter}
 use Rattle.answer.specs.declared.Answer.{Answer}
 use Rattle.common.specs.Tests.{rateOk}
 use Rattle.line.specs.Bytes.{ascii}
@@ -17,8 +18,8 @@ use Rattle.score.specs.declared.Reading.the-variants.{Values}
 use Rattle.text.specs.Promises.{Put}
 use Rattle.frame.specs.End.{claimedOf}
 use Rattle.player.specs.Begin.{rateOf}
-use Rattle.player.specs.Play.{heardOf, tallyFrom, playOf, renderOf}
-use Rattle.player.specs.Player.{beginOf, textOf, afterOf, turnsOf, playedOf, finishOf}
+use Rattle.player.specs.Play.{heardOf, playOf, renderOf}
+use Rattle.player.specs.Player.{beginOf, textOf, afterOf, turnsOf, refusalOf, runText, ranOf, finishOf}
 use Rattle.player.specs.declared.Player.{Player}
 use Rattle.player.specs.declared.Played.{Played}
 
@@ -54,23 +55,12 @@ Accepted a = accepted a ≡ true
 abbrev pub Frames-accepted : Type 0
 Frames-accepted = (s : Score) → rateOk (rateOf (s .hz)) ≡ true → Every Accepted (heardOf s)
 
--- ---- the tally takes the answers of all frames: it would be full after 4,294,967,295
-pub record CountsAll (xs : List Answer) : Type 0 where
-  pub cleared : tallyFrom xs .cleared ≡ many 1 xs
-  pub notfinite : tallyFrom xs .notfinite ≡ many 2 xs
-  pub lost : tallyFrom xs .lost ≡ many 3 xs
-  pub finished : tallyFrom xs .finished ≡ many 4 xs
-  pub begun : tallyFrom xs .begun ≡ sumOf (tallyFrom xs)
-
-abbrev pub Tally-takes-all : Type 0
-Tally-takes-all = (xs : List Answer) → length xs ≤ 4294967295 → CountsAll xs
-
 -- ---- a render is claimed exactly when every frame is clean
 abbrev pub Clean : Answer → Type 0
 Clean a = markNumber a ≡ 4
 
 abbrev pub claims : Score → Bool
-claims s = claimedOf (s .frames) (tallyFrom (heardOf s))
+claims s = claimedOf (s .frames) (tallyAfter (heardOf s))
 
 pub record ClaimedWhenClean (s : Score) : Type 0 where
   pub only : claims s ≡ true → Every Clean (heardOf s)
@@ -79,21 +69,27 @@ pub record ClaimedWhenClean (s : Score) : Type 0 where
 abbrev pub Claimed-clean : Type 0
 Claimed-clean = (s : Score) → s .frames ≤ 4294967295 → ClaimedWhenClean s
 
--- ---- so of a score that is read
+-- ---- so of a score that is read: a tick for each frame, all of them accepted and all begun, each counted by its mark
 pub record Rendered (s : Score) : Type 0 where
   pub frames : length (heardOf s) ≡ s .frames
   pub accepts : Every Accepted (heardOf s)
   pub counts : CountsAll (heardOf s)
+  pub begun : tallyAfter (heardOf s) .begun ≡ s .frames
   pub claimed : ClaimedWhenClean s
 
 abbrev pub Read-renders : Type 0
 Read-renders = (text : List ℕ) (s : Score) → scoreOf text ≡ Values s → Rendered s
 
+-- ---- and none of its runs is refused, from any frame on
+abbrev pub Never-refused : Type 0
+Never-refused = (text : List ℕ) (s : Score) → scoreOf text ≡ Values s → (k budget : ℕ) → k ≤ s .frames
+    → refusalOf (afterOf k (beginOf s)) (turnsOf (afterOf k (beginOf s)) budget) ≡ 0
+
 -- ---- each contract settles its answer and the lent buffer
 pub record Settled : Type 0 where
   pub new : (s : Score) → Settles (λ (p : Player). p ≡ beginOf s)
   pub run : (p : Player) (out : List ℕ) (budget : ℕ)
-      → Settles (λ (a : Played × List ℕ). (a .0 ≡ playedOf out 0 (textOf (turnsOf p budget) p) (afterOf (turnsOf p budget) p)) × (a .1 ≡ sets out 0 (textOf (turnsOf p budget) p)))
+      → Settles (λ (a : Played × List ℕ). (a .0 ≡ ranOf out (turnsOf p budget) p) × (a .1 ≡ sets out 0 (runText (turnsOf p budget) p)))
   pub finish : (p : Player) (out : List ℕ) → Settles (λ (a : ℕ × List ℕ). Put out 0 (finishOf p) (a .0) (a .1))
 
 -- ---- document 01's example

@@ -1,5 +1,4 @@
 // A score is played in blocks of frames, so many at a time.
-use answer::Answer;
 use answer::Tally;
 use answer::Volts;
 use common::EdgeDetector;
@@ -34,8 +33,8 @@ ghost use Rattle.lfo.specs.Lfo.{newLfo};
 ghost use Rattle.supersaw.specs.Supersaw.{newSupersaw};
 ghost use Rattle.formant_osc.specs.FormantOsc.{newFormantOsc};
 ghost use Rattle.player.specs.Begin.{rateOf, vcoControls, lfoControls, supersawControls, formantControls};
-ghost use Rattle.player.specs.Player.{controlsOf, voicesAt, beginOf, kindOf, soundOf, frameOf, nextOf, textOf, afterOf, turnsOf, playedOf, finishOf};
-ghost use Rattle.player.specs.Block.{portsIn, AllPlayed, outputAt, voltsAt, blockText};
+ghost use Rattle.player.specs.Player.{controlsOf, voicesAt, beginOf, kindOf, textOf, turnsOf, refusalOf, runText, ranOf, finishOf};
+ghost use Rattle.player.specs.Block.{portsIn, hearRefusalOf, AllPlayed, outputAt, voltsAt, blockText, partOf};
 
 // The inputs in volts, which say what is played.
 pub enum Controls {
@@ -62,15 +61,11 @@ pub struct Player {
     pub frames: u32,
 }
 
-// A player, and the place after the text that was put.
+// What a run leaves: 0 or the number that refused it, the player after it, and the place after the text that was put.
 pub struct Played {
+    pub refused: u32,
     pub player: Player,
     pub to: usize,
-}
-
-struct Sounded {
-    answer: Answer,
-    voices: Voices,
 }
 
 // What a block of frames leaves beside samples and marks: `refused` is 0, or the number that refused it.
@@ -78,6 +73,12 @@ struct Heard {
     refused: u32,
     voices: Voices,
     tally: Tally,
+}
+
+// The player after some frames, and the place after their texts.
+struct Part {
+    player: Player,
+    to: usize,
 }
 
 // So many frames are played by one block.
@@ -208,7 +209,7 @@ fn voices_at(sample_rate: Hertz) -> Voices
     }
 }
 
-// ---- a frame
+// ---- a block of frames
 
 fn kind_of(controls: Controls) -> Osc
     ensures { λ r. ⌜ r ≡ kindOf controls ⌝ }
@@ -220,92 +221,6 @@ fn kind_of(controls: Controls) -> Osc
         Controls::Formant(_) => Osc::Formant,
     }
 }
-
-// One tick, all outputs wanted.
-fn sound(controls: Controls, mut voices: Voices) -> Sounded
-    ensures { λ r. ⌜ r ≡ soundOf controls voices ⌝ }
-{
-    match controls {
-        Controls::Vco(c) => {
-            let vco = voices.vco;
-            let t = vco.tick(c, 15);
-            let answer = t.answer;
-            let after = t.vco;
-            voices.vco = after;
-            Sounded { answer, voices }
-        }
-        Controls::Lfo(c) => {
-            let lfo = voices.lfo;
-            let t = lfo.tick(c, 31);
-            let answer = t.answer;
-            let after = t.lfo;
-            voices.lfo = after;
-            Sounded { answer, voices }
-        }
-        Controls::Supersaw(c) => {
-            let supersaw = voices.supersaw;
-            let t = supersaw.tick(c);
-            let answer = t.answer;
-            let after = t.supersaw;
-            voices.supersaw = after;
-            Sounded { answer, voices }
-        }
-        Controls::Formant(c) => {
-            let formant = voices.formant;
-            let t = formant.tick(c);
-            let answer = t.answer;
-            let after = t.formant;
-            voices.formant = after;
-            Sounded { answer, voices }
-        }
-    }
-}
-
-// One frame: a tick, its text, and the tally of its answer.
-fn step(out: &mut [u8], at: usize, player: Player) -> Played
-    requires { ⌜ player .frame < 4294967295 ⌝ }
-    ensures { λ r. ⌜ r ≡ playedOf (now (out .entry)) at (frameOf player) (nextOf player) ⌝ }
-    ensures { λ r. ⌜ now (out .exit) ≡ sets (now (out .entry)) at (frameOf player) ⌝ }
-{
-    let controls = player.controls;
-    let before = player.voices;
-    let tally = player.tally;
-    let sounded = sound(controls, before);
-    let answer = sounded.answer;
-    let voices = sounded.voices;
-    let to = frame::put_frame(out, at, kind_of(controls), player.frame, answer);
-    Played {
-        player: Player {
-            controls,
-            voices,
-            tally: tally.take(answer).or(tally),
-            frame: player.frame + 1,
-            frames: player.frames,
-        },
-        to,
-    }
-}
-
-// The next n frames, one by one.
-fn by_steps(out: &mut [u8], at: usize, player: Player, n: u32) -> Played
-    requires { ⌜ (at ≤ length (now out)) × (player .frame + n ≤ 4294967295) ⌝ }
-    ensures { λ r. ⌜ r ≡ playedOf (now (out .entry)) at (textOf n player) (afterOf n player) ⌝ }
-    ensures { λ r. ⌜ now (out .exit) ≡ sets (now (out .entry)) at (textOf n player) ⌝ }
-{
-    let mut now = player;
-    let mut to = at;
-    let mut i = 0;
-    while i < n {
-        let played = step(&mut *out, to, now);
-        let next = played.player;
-        now = next;
-        to = played.to;
-        i += 1;
-    }
-    Played { player: now, to }
-}
-
-// ---- a block of frames
 
 // How many outputs it has: so many samples are a frame's.
 fn ports_of(osc: Osc) -> usize
@@ -327,6 +242,7 @@ fn hear(
     samples: &mut [f64],
     marks: &mut [u32],
 ) -> Heard
+    ensures { λ r. ⌜ r .refused ≡ hearRefusalOf controls voices tally (now (samples .entry)) (now (marks .entry)) ⌝ }
     ensures { λ r. ⌜ (r .refused ≡ 0 → AllPlayed controls voices tally (length (now (marks .entry))) (block 0 (r .voices) (r .tally) (now (samples .exit)) (now (marks .exit)))) ⌝ }
 {
     match controls {
@@ -430,16 +346,17 @@ fn put_frames(
     to
 }
 
-// As many frames as there are marks. A state that no block can be played from is played one by one.
+// As many frames as there are marks, of a player that nothing refuses.
 fn by_block(
     out: &mut [u8],
     at: usize,
     player: Player,
     samples: &mut [f64],
     marks: &mut [u32],
-) -> Played
-    requires { ⌜ (at ≤ length (now out)) × (player .frame + length (now marks) ≤ 4294967295) ⌝ }
-    ensures { λ r. ⌜ r ≡ playedOf (now (out .entry)) at (textOf (length (now (marks .entry))) player) (afterOf (length (now (marks .entry))) player) ⌝ }
+) -> Part
+    requires { ⌜ (at ≤ length (now out)) × (player .frame + length (now marks) ≤ 4294967295) × (refusalOf player (length (now marks)) ≡ 0)
+        × (length (now samples) ≡ portsIn (kindOf (player .controls)) * length (now marks)) ⌝ }
+    ensures { λ r. ⌜ r ≡ partOf (now (out .entry)) at (length (now (marks .entry))) player ⌝ }
     ensures { λ r. ⌜ now (out .exit) ≡ sets (now (out .entry)) at (textOf (length (now (marks .entry))) player) ⌝ }
 {
     let n = marks.len() as u32;
@@ -447,29 +364,25 @@ fn by_block(
     let before = player.voices;
     let tally = player.tally;
     let heard = hear(controls, before, tally, &mut *samples, &mut *marks);
-    if heard.refused == 0 {
-        let voices = heard.voices;
-        let counts = heard.tally;
-        let to = put_frames(out, at, kind_of(controls), player.frame, samples, marks);
-        Played {
-            player: Player {
-                controls,
-                voices,
-                tally: counts,
-                frame: player.frame + n,
-                frames: player.frames,
-            },
-            to,
-        }
-    } else {
-        by_steps(out, at, player, n)
+    let voices = heard.voices;
+    let counts = heard.tally;
+    let to = put_frames(out, at, kind_of(controls), player.frame, samples, marks);
+    Part {
+        player: Player {
+            controls,
+            voices,
+            tally: counts,
+            frame: player.frame + n,
+            frames: player.frames,
+        },
+        to,
     }
 }
 
 // The next n frames by one block.
-fn chunk(out: &mut [u8], at: usize, player: Player, n: u32) -> Played
-    requires { ⌜ (at ≤ length (now out)) × (player .frame + n ≤ 4294967295) × (n ≤ 64) ⌝ }
-    ensures { λ r. ⌜ r ≡ playedOf (now (out .entry)) at (textOf n player) (afterOf n player) ⌝ }
+fn chunk(out: &mut [u8], at: usize, player: Player, n: u32) -> Part
+    requires { ⌜ (at ≤ length (now out)) × (player .frame + n ≤ 4294967295) × (refusalOf player n ≡ 0) × (n ≤ 64) ⌝ }
+    ensures { λ r. ⌜ r ≡ partOf (now (out .entry)) at n player ⌝ }
     ensures { λ r. ⌜ now (out .exit) ≡ sets (now (out .entry)) at (textOf n player) ⌝ }
 {
     // five samples a frame at most
@@ -479,6 +392,19 @@ fn chunk(out: &mut [u8], at: usize, player: Player, n: u32) -> Played
     let size = n as usize;
     let room = ports_of(kind_of(controls)) * size;
     by_block(out, at, player, &mut samples[..room], &mut marks[..size])
+}
+
+// 0, or what refuses the next n frames. A block of none says what refuses a tick.
+fn refusal(player: Player, n: u32) -> u32
+    ensures { λ r. ⌜ r ≡ refusalOf player n ⌝ }
+{
+    let mut samples = [0.0; 1];
+    let mut marks = [0u32; 1];
+    let controls = player.controls;
+    let voices = player.voices;
+    let tally = player.tally;
+    let heard = hear(controls, voices, tally, &mut samples[..0], &mut marks[..0]);
+    answer::block_refusal(true, heard.refused, tally, n as usize)
 }
 
 // ---- a run
@@ -514,12 +440,21 @@ impl Player {
         }
     }
 
-    // The next frames, as many as the budget says or as are left. Their texts are put at the start of the buffer.
+    // The next frames, as many as the budget says or as are left. Their texts are put at the start of the buffer. A refused run
+    // puts nothing and leaves the player; no run of a score that was read is refused.
     pub fn run(self, out: &mut [u8], budget: u32) -> Played
-        ensures { λ r. ⌜ r ≡ playedOf (now (out .entry)) 0 (textOf (turnsOf self budget) self) (afterOf (turnsOf self budget) self) ⌝ }
-        ensures { λ r. ⌜ now (out .exit) ≡ sets (now (out .entry)) 0 (textOf (turnsOf self budget) self) ⌝ }
+        ensures { λ r. ⌜ r ≡ ranOf (now (out .entry)) (turnsOf self budget) self ⌝ }
+        ensures { λ r. ⌜ now (out .exit) ≡ sets (now (out .entry)) 0 (runText (turnsOf self budget) self) ⌝ }
     {
         let n = turns(self, budget);
+        let refused = refusal(self, n);
+        if refused != 0 {
+            return Played {
+                refused,
+                player: self,
+                to: 0,
+            };
+        }
         let mut player = self;
         let mut to = 0;
         let mut k = 0;
@@ -531,7 +466,11 @@ impl Player {
             to = played.to;
             k += some;
         }
-        Played { player, to }
+        Played {
+            refused,
+            player,
+            to,
+        }
     }
 
     // The text of the end.

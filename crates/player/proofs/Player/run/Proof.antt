@@ -1,27 +1,35 @@
--- `Player::run`: after k frames their texts are put.
+-- `Player::run`: nothing refuses the frames, and after k of them their texts are put; or they are refused, and nothing is put.
 use Prim.Native.Nat.{_-_, _≤_}
-use mathlib.Core.Path.{refl}
+use mathlib.Core.Path.{_≡_, refl, sym, _∙_}
 use native.Mathlib.Omega.{arith}
+use lib.ListN.{length}
 use borrow.Author.Needs.{needs}
 use Rattle.text.proofs.PutLaws.{within}
 use Rattle.text.specs.Put.{placeOf}
-use Rattle.player.specs.Player.{textOf, afterOf, turnsOf}
-use Rattle.player.proofs.Steps.{Ran, some-more, all-run, frame-now}
+use Rattle.player.specs.Player.{textOf, afterOf, turnsOf, refusalOf}
+use Rattle.player.proofs.Blocks.{free-after}
+use Rattle.player.proofs.Steps.{Ran, some-more, all-run, none-run, frame-now}
 use Rattle.player.proofs.Player.run.Statement.{statement}
 use Rattle.player.proofs.Player.run.Tie as tie
 
 abbrev Inv-loop : tie.InvT-loop
-Inv-loop out₀ budget n player₀ to₀ k₀ out player to k = ((k ≤ n) × (n ≤ player₀ .frames - player₀ .frame)) × Ran out₀ 0 player₀ out player to k
+Inv-loop out₀ budget n refused player₀ to₀ k₀ out player to k = ((k ≤ n) × (n ≤ player₀ .frames - player₀ .frame)) × Ran out₀ player₀ out player to k
 
 abbrev μ-loop : tie.MeasureT-loop
-μ-loop out₀ budget n player₀ to₀ k₀ out player to k = n - k
+μ-loop out₀ budget n refused player₀ to₀ k₀ out player to k = n - k
 
 turns-requires : tie.Need-turns-requires Inv-loop μ-loop
 turns-requires c κs = search needs
 
+refusal-requires : tie.Need-refusal-requires Inv-loop μ-loop
+refusal-requires c κs = search needs
+
+returns : tie.Need-returns Inv-loop μ-loop
+returns c = rw (← c .before .before .turns .ensures) (none-run _ _ _ _ (c .before .refusal .ensures) (c .if1 .taken))
+
 loop-holds : tie.Need-loop-holds Inv-loop μ-loop
 unfolding textOf afterOf placeOf turnsOf
-loop-holds c = ((omega arith, omega (arith, c .turns .ensures)), (refl, (omega arith, refl)))
+loop-holds c = ((omega arith, omega (arith, c .before .before .turns .ensures)), (refl, (omega arith, refl)))
 
 sub-lesser : tie.Need-sub-lesser Inv-loop μ-loop
 sub-lesser c = search needs
@@ -31,10 +39,15 @@ lesser-requires c κs = search needs
 
 chunk-requires : tie.Need-chunk-requires Inv-loop μ-loop
 chunk-requires c κs =
-    let s = c .before .before .before .loop .inv in
-    let f = frame-now _ _ _ _ _ _ _ (s .1) in
+    let at = c .before .before .before in
+    let s = at .loop .inv in
+    let begun = at .before .before .before .before .before in
+    let f = frame-now _ _ _ _ _ _ (s .1) in
     let l = c .before .lesser .ensures in
-    (within _ _ _ (s .1 .1) .0, omega (arith, f, l, s .0 .1), omega (arith, l))
+    let seven : length (begun .args .self .voices .supersaw .phases) ≡ 7 = search (needs, begun .good .0 .1 .1 .1 .0 .1 .1 .1 .1 .0 .1 .1 .0) in
+    let free : refusalOf (begun .args .self) _ ≡ 0 = sym (at .before .before .refusal .ensures) ∙ omega (arith, at .before .if1 .left) in
+    let after = free-after _ _ free seven (at .loop .k) (c .before .lesser .result) (omega (arith, l)) in
+    (within _ _ _ (s .1 .1) .0, omega (arith, f, l, s .0 .1, begun .good .0 .1 .1 .1 .1 .1), rw (s .1 .0) after, omega (arith, l))
 
 add-k : tie.Need-add-k Inv-loop μ-loop
 add-k c = let l = c .before .before .before .before .before .lesser .ensures in omega (arith, l)
@@ -46,13 +59,15 @@ loop-again : tie.Need-loop-again Inv-loop μ-loop
 loop-again c =
     let s = c .before .before .before .before .before .before .before .loop .inv in
     let l = c .before .before .before .before .before .lesser .ensures in
-    ((omega (arith, l), s .0 .1), some-more _ _ _ _ _ _ _ (s .1) _ _ _ (c .before .before .before .chunk .ensures))
+    ((omega (arith, l), s .0 .1), some-more _ _ _ _ _ _ (s .1) _ _ _ (c .before .before .before .chunk .ensures))
 
 same-length : tie.Need-same-length Inv-loop μ-loop
 same-length c = within _ _ _ (c .before .loop .inv .1 .1) .1
 
-returns : tie.Need-returns Inv-loop μ-loop
-returns c = all-run _ _ _ _ _ _ _ (c .before .loop .inv .1) _ (omega (arith, c .before .before .turns .ensures))
+returns-2 : tie.Need-returns-2 Inv-loop μ-loop
+returns-2 c =
+    let n = c .before .before .before .before .turns .ensures in
+    rw (← n) (all-run _ _ _ _ (c .before .before .before .refusal .ensures) (omega (arith, c .before .before .if1 .left)) _ _ _ _ (omega (arith, n)) (c .before .loop .inv .1))
 
 pub run-spec : {M : Type 1} → statement M
 run-spec =
@@ -61,6 +76,8 @@ run-spec =
     Inv-loop
     μ-loop
     turns-requires
+    refusal-requires
+    returns
     loop-holds
     sub-lesser
     lesser-requires
@@ -69,4 +86,4 @@ run-spec =
     loop-less
     loop-again
     same-length
-    returns)
+    returns-2)
