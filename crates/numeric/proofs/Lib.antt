@@ -3,6 +3,7 @@ pub mod FloorLaws
 pub mod SmallFloor
 pub mod MagicFloor
 pub mod DrawLaws
+pub mod NearestWhole
 pub mod PowerLaws
 pub mod PowerRange
 pub mod TrigLaws
