@@ -6,6 +6,7 @@ pub mod DrawLaws
 pub mod NearestWhole
 pub mod PowerLaws
 pub mod PowerRange
+pub mod RestLaws
 pub mod TrigLaws
 pub mod RangeLaws
 pub mod Laws
