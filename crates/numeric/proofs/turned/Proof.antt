@@ -1,5 +1,5 @@
 -- turned: what rest and quadrant_of ensure; the sum with the shift is a number, whose bits are taken.
-use lib.Ieee.{binary64, mul, ofBits}
+use lib.Ieee.{ofBits}
 use borrow.Author.Needs.{needs}
 use Rattle.laws.proofs.Number.{add-number, mul-number}
 use Rattle.numeric.specs.Trig.{shift, shiftedOf, turnedOf}
@@ -8,7 +8,7 @@ use Rattle.numeric.proofs.turned.Tie as tie
 
 float-to-bits-q : tie.Need-float-to-bits-q
 unfolding ofBits
-float-to-bits-q c = add-number (mul binary64 (c .args .x) (ofBits binary64 0x3fe45f306dc9c883)) shift tt (mul-number (c .args .x) (ofBits binary64 0x3fe45f306dc9c883) tt (c .pre .1))
+float-to-bits-q c = add-number _ shift tt (mul-number (c .args .x) _ tt (c .pre .1))
 
 add-quadrant-of : tie.Need-add-quadrant-of
 add-quadrant-of c = search needs
