@@ -17,7 +17,8 @@ use Rattle.laws.proofs.Monotone.{round-le}
 use Rattle.laws.proofs.Number.{Signed, round-signed}
 use Rattle.laws.proofs.Order.{Below, below-le, le-below, le-neg, le-of-lt-true, neg-lt-nonneg, neg-lt-pos, neg-neg, values-le}
 use Rattle.laws.proofs.Tests.{of-true}
-use Rattle.laws.proofs.Values.{add-round, exact-at, fits-small, float-mul-comm, mul-round, neg-value, round-neg, sub-round, sum-pos-neg, unlike-plus}
+use Rattle.laws.proofs.Values.{add-round, exact-at, fits-small, float-mul-comm, mul-round, neg-value, signed-value}
+use Rattle.laws.proofs.Values.{sub-mul', sub-round, sum-pos-neg, unlike-plus}
 use Rattle.laws.specs.Float.{F64, InUnit, isFin, one}
 
 -- a value that is not above a finite one is finite
@@ -40,14 +41,9 @@ abbrev pub Exact : ℕ → ℕ → Type 0
 Exact p d = HasValue (round binary64 false p d) false p d
 
 pub round-under : (s : Bool) (a c p d : ℕ) → 0 < c → 0 < d → a * d ≤ p * c → Exact p d → Under p d s (round binary64 s a c)
-round-under s a c p d C D h top = go s
-  where
-    r : Under p d false (round binary64 false a c)
-    r = under (round binary64 false a c) (round binary64 false p d) p d (round-signed false a c) D top (round-mono binary64 a c p d C D h)
-
-    go : (s : Bool) → Under p d s (round binary64 s a c)
-    go false = r
-    go true = (r .0, r .1, r .2, r .3, subst (λ (z : Float). HasValue z true (r .0) (r .1)) (sym (round-neg a c)) (neg-value (round binary64 false a c) false (r .0) (r .1) (r .4)))
+round-under s a c p d C D h top =
+    let r = under (round binary64 false a c) (round binary64 false p d) p d (round-signed false a c) D top (round-mono binary64 a c p d C D h) in
+    (r .0, r .1, r .2, r .3, signed-value s a c (r .0) (r .1) (r .4))
 
 pub sum-under : (s t : Bool) (a b c p d : ℕ) → 0 < c → 0 < d → (a + b) * d ≤ p * c → Exact p d → (r : Bool) × Under p d r (sum binary64 s a t b c)
 unfolding sum
@@ -69,6 +65,29 @@ sum-under s t a b c p d C D h top = go (Bool·beq s t) (ltb a b)
     go true y = (s, round-under s (a + b) c p d C D h top)
     go false true = (t, round-under t (b - a) c p d C D (more a b d (p * c) h) top)
     go false false = (s && ltb b a, round-under (s && ltb b a) (a - b) c p d C D (less a b d (p * c) h) top)
+
+-- two values of one sign that differ by p / q at most
+pub sub-under : (s : Bool) (x y : Float) (a c b d p q : ℕ) → 0 < c → 0 < d → 0 < q → HasValue x s a c → HasValue y s b d
+    → a * d * q ≤ b * c * q + p * (c * d) → b * c * q ≤ a * d * q + p * (c * d) → Exact p q → (r : Bool) × Under p q r (sub binary64 x y)
+unfolding sum
+sub-under s x y a c b d p q C D Q v w h k top =
+    subst (λ (z : Float). (r : Bool) × Under p q r z) (sym (sub-round x y s s a c b d C D v w)) (go s (ltb (a * d) (b * c)))
+  where
+    rounded : (r : Bool) (m n : ℕ) → m * q ≤ n * q + p * (c * d) → (t : Bool) × Under p q t (round binary64 r (m - n) (c * d))
+    rounded r m n h =
+        (r, round-under r (m - n) (c * d) p q (mul-pos C D) Q (le-trans (le-of-eq (sub-mul' m n q)) (less (m * q) (n * q) (p * (c * d)) h)) top)
+      where
+        less : (m n k : ℕ) → m ≤ n + k → m - n ≤ k
+        less m n k h = omega arith
+
+    go : (s t : Bool)
+        → (r : Bool)
+        × Under p q r (cond (Bool·beq s (not s)) (round binary64 s (a * d + b * c) (c * d))
+        (cond t (round binary64 (not s) (b * c - a * d) (c * d)) (round binary64 (s && ltb (b * c) (a * d)) (a * d - b * c) (c * d))))
+    go true true = rounded false (b * c) (a * d) k
+    go true false = rounded (ltb (b * c) (a * d)) (a * d) (b * c) h
+    go false true = rounded true (b * c) (a * d) k
+    go false false = rounded false (a * d) (b * c) h
 
 -- ---- x is from 0 to 2 ^ -i
 abbrev pub Part : ℕ → Float → Type 0
@@ -306,17 +325,12 @@ within-minus i x y I h k = within-add i x (neg y) I h (within-neg i y k)
 
 -- two values of one sign that differ by 1 at most
 pub within-sub : (s : Bool) (x y : Float) (a c b d : ℕ) → 0 < c → 0 < d → HasValue x s a c → HasValue y s b d → a * d ≤ b * c + c * d → b * c ≤ a * d + c * d → Within 0 (sub binary64 x y)
-unfolding sum
-within-sub s x y a c b d C D v w h k = subst (Within 0) (sym (sub-round x y s s a c b d C D v w)) (go s (ltb (a * d) (b * c)))
+within-sub s x y a c b d C D v w h k =
+    let r = sub-under s x y a c b d 1 1 C D (lit< tt) v w (ones (a * d) (b * c) (c * d) h) (ones (b * c) (a * d) (c * d) k) (power-exact 0 (lit≤ tt)) in
+    (r .0, sized-of (r .0) 0 (sub binary64 x y) (r .1))
   where
-    less : (m n u : ℕ) → m ≤ n + u → m - n ≤ 1 * u
-    less m n u h = omega arith
-
-    go : (s t : Bool) → Within 0 (cond (Bool·beq s (not s)) (round binary64 s (a * d + b * c) (c * d)) (cond t (round binary64 (not s) (b * c - a * d) (c * d)) (round binary64 (s && ltb (b * c) (a * d)) (a * d - b * c) (c * d))))
-    go true true = within-round 0 false (b * c - a * d) (c * d) (lit≤ tt) (mul-pos C D) (less (b * c) (a * d) (c * d) k)
-    go true false = within-round 0 (ltb (b * c) (a * d)) (a * d - b * c) (c * d) (lit≤ tt) (mul-pos C D) (less (a * d) (b * c) (c * d) h)
-    go false true = within-round 0 true (b * c - a * d) (c * d) (lit≤ tt) (mul-pos C D) (less (b * c) (a * d) (c * d) k)
-    go false false = within-round 0 false (a * d - b * c) (c * d) (lit≤ tt) (mul-pos C D) (less (a * d) (b * c) (c * d) h)
+    ones : (m n u : ℕ) → m ≤ n + u → m * 1 ≤ n * 1 + 1 * u
+    ones m n u h = omega arith
 
 -- ---- by the order: from -2 ^ i to 2 ^ i
 pub within-between : (i : ℕ) (x : Float) → T (le (fin true 1 (pos i)) x) → T (le x (fin false 1 (pos i))) → Within i x
@@ -358,6 +372,10 @@ within-le i x (s, (a, c, C, h, v)) = go s v
 pub unit-within : (x : Float) → InUnit x → Within 0 x
 unfolding ofBits neg
 unit-within x h = within-between 0 x (h .0) (h .1)
+
+pub within-unit : (x : Float) → Within 0 x → InUnit x
+unfolding ofBits neg
+within-unit x h = let r = within-le 0 x h in (r .1, r .0)
 
 -- ---- the float before 1: what is below 1 is at most 1 - 2 ^ -53
 before : (n d : ℕ) → n < d → (9007199254740992 ≤ d → n < 9007199254740992) → n * 9007199254740992 ≤ 9007199254740991 * d

@@ -55,13 +55,19 @@ rounded a c lo hi i C L H I h k =
       most = values-le r y (grid binary64 a c) (2 ^ low binary64) hi (2 ^ i) (pow-pos (low binary64)) (pow-pos i) v vy ly;
     }
 
--- a fraction whose rounding is below 1 is below 1
+-- a fraction whose rounding is below another's is below it
+pub round-below : (a c b d : ℕ) → 0 < c → 0 < d → lt (round binary64 false a c) (round binary64 false b d) ≡ true → a * d < b * c
+round-below a c b d C D h =
+    let x = round binary64 false a c in
+    let y = round binary64 false b d in
+    lt-of-not-le (λ (k : b * c ≤ a * d). lt-not-ge x y (of-true (lt x y) h) (round-mono binary64 b d a c D C k))
+
+-- so is one whose rounding is below 1
 pub round-below-one : (a c : ℕ) → 0 < c → lt (round binary64 false a c) one ≡ true → a < c
-round-below-one a c C h =
-    lt-of-not-le (λ (k : c ≤ a). lt-not-ge (round binary64 false a c) one (of-true (lt (round binary64 false a c) one) h) (subst (λ (z : Float). T (le z (round binary64 false a c))) at-one (round-mono binary64 1 1 a c (zero-lt-suc 0) C (sides a c k))))
+round-below-one a c C h = sides a c (round-below a c 1 1 C (zero-lt-suc 0) (subst (λ (z : Float). lt (round binary64 false a c) z ≡ true) at-one h))
   where
-    at-one : round binary64 false 1 1 ≡ one
+    at-one : one ≡ round binary64 false 1 1
     at-one = unfold round ofBits in refl
 
-    sides : (a c : ℕ) → c ≤ a → 1 * c ≤ a * 1
+    sides : (a c : ℕ) → a * 1 < 1 * c → a < c
     sides a c k = omega arith

@@ -118,7 +118,7 @@ float-mul-comm (fin s m e) (fin t n d) =
 scale-le : (A B C A' B' C' : ℕ) → 0 < C → A * C' ≡ A' * C → B * C' ≡ B' * C → A ≤ B → A' ≤ B'
 scale-le A B C A' B' C' H p q h = le-of-mul-le-mul-right (le-trans (le-of-eq (sym p)) (le-trans (mul-le-mul-right C' h) (le-of-eq q))) H
 
-sub-mul' : (a b c : ℕ) → (a - b) * c ≡ a * c - b * c
+pub sub-mul' : (a b c : ℕ) → (a - b) * c ≡ a * c - b * c
 sub-mul' a b c = mul-comm (a - b) c ∙ mul-sub c a b ∙ ap (λ (z : ℕ). z - c * b) (mul-comm c a) ∙ ap (λ (z : ℕ). a * c - z) (mul-comm c b)
 
 cross-sub : (A B C A' B' C' : ℕ) → A * C' ≡ A' * C → B * C' ≡ B' * C → (A - B) * C' ≡ (A' - B') * C
@@ -165,6 +165,11 @@ unfolding neg
 neg-value nan s a c p = absurd p
 neg-value (inf u) s a c p = absurd p
 neg-value (fin u m e) s a c p = (ap not (p .0), p .1)
+
+-- with a minus sign a fraction is rounded to the same size
+pub signed-value : (s : Bool) (a c p q : ℕ) → HasValue (round binary64 false a c) false p q → HasValue (round binary64 s a c) s p q
+signed-value false a c p q v = v
+signed-value true a c p q v = subst (λ (z : Float). HasValue z true p q) (sym (round-neg a c)) (neg-value (round binary64 false a c) false p q v)
 
 -- so two negative values compare as their sizes do, turned round
 pub lt-by-minus : (x y : Float) (a c b d : ℕ) → 0 < c → 0 < d → HasValue x true a c → HasValue y true b d → lt x y ≡ ltb (b * c) (a * d)

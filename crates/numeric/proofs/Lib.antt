@@ -3,8 +3,10 @@ pub mod FloorLaws
 pub mod SmallFloor
 pub mod MagicFloor
 pub mod DrawLaws
+pub mod NearestWhole
 pub mod PowerLaws
 pub mod PowerRange
+pub mod RestLaws
 pub mod TrigLaws
 pub mod RangeLaws
 pub mod Laws

@@ -1,25 +1,26 @@
 -- 2 ^ x and 3000 ^ r of a number are numbers: x is split into a whole number and a rest from -1 to 1, of which the polynomial is finite.
 use mathlib.Core.Bool.{Bool, cond, false, not, true}
-use mathlib.Core.Path.{_∙_, _≡_, ap, refl, subst, sym}
+use mathlib.Core.Logic.{inl, inr}
+use mathlib.Core.Path.{_∙_, _≡_, refl, subst, sym}
 use Prim.Native.Nat.{_*_, _+_, _-_, _<_, _≤_, suc, zero, ℕ}
-use native.Mathlib.Nat.{add-mul, le-antisymm, le-of-eq, le-trans, mul-one, not-suc-le-zero, suc-le-suc-iff}
+use native.Mathlib.Nat.{le-of-eq, le-trans, mul-le-mul-right, mul-one, not-suc-le-zero, suc-le-suc-iff}
 use native.Mathlib.Omega.{arith}
-use lib.Dec.{T, lit<, lit≤, ltb, ltb→lt}
-use lib.Ieee.{Float, add, binary64, down, eq, fin, inf, isNan, le, lt, mul, nan, neg, ofBits, round, sub, sum, up}
-use lib.Ieee.Back.{round-whole}
+use lib.Dec.{T, lit<, lit≤, ltb→lt}
+use lib.Ieee.{Float, add, binary64, down, eq, fin, inf, isNan, le, lt, mul, nan, neg, ofBits, round, sub, up}
 use lib.Ieee.Exact.{HasValue}
 use lib.Ieee.Fits.{add-fits, down-pos}
 use lib.Ieee.Positive.{positive}
 use lib.IntN.{pos, ℤ}
-use borrow.Author.Tests.{ltb-false, ltb-true}
-use Rattle.laws.proofs.Interval.{Within, unit-within, within-add, within-finite, within-mul, within-sub, within-sum, within-to}
+use Rattle.laws.proofs.Interval.{Within, unit-within, within-add, within-finite, within-mul, within-sub, within-to}
 use Rattle.laws.proofs.Monotone.{round-le}
-use Rattle.laws.proofs.Near.{near-least, near-most, whole-round}
+use Rattle.laws.proofs.Near.{Near, near-most}
 use Rattle.laws.proofs.Number.{fin-number, mul-number}
 use Rattle.laws.proofs.Order.{le-below, le-of-lt-false, le-of-lt-true}
 use Rattle.laws.proofs.Tests.{of-true}
-use Rattle.laws.proofs.Values.{add-round, sub-round, sum-neg, sum-neg-pos, sum-pos-neg}
+use Rattle.laws.proofs.Values.{sub-round, sum-pos-neg}
+use Rattle.laws.proofs.Zeros.{minus-zero}
 use Rattle.laws.specs.Float.{F64, InUnit, one, two, zer}
+use Rattle.numeric.proofs.NearestWhole.{Beside, Whole, nearest-whole}
 use Rattle.numeric.proofs.PowerLaws.{bits-pow, scale-at}
 use Rattle.numeric.specs.Power.{biased, exp2Of, expPart, midOf, pow3000Of, scaleOf, scaledOf, sixOf}
 use Rattle.numeric.specs.Promises.{Exp2-number, Pow3000-number}
@@ -32,127 +33,48 @@ biased-value : HasValue biased false 6755399441056767 1
 unfolding ofBits
 biased-value = (refl, refl)
 
-field : (N : ℕ) → 6755399441055745 ≤ N → N ≤ 6755399441057790 → (1 ≤ N - 6755399441055744) × (N - 6755399441055744 ≤ 2046) × (N ≡ 6755399441055744 + (N - 6755399441055744))
-field N h k = (omega arith, omega arith, omega arith)
-
--- t less the bias, where t is the whole number N
-over-bias : (t : Float) (N : ℕ) → HasValue t false N 1 → 6755399441056767 ≤ N → N ≤ 9007199254740992 → HasValue (sub binary64 t biased) false (N - 6755399441056767) 1
-over-bias t N v h k =
-    subst (λ (z : Float). HasValue z false (N - 6755399441056767) 1)
-    (sym (sub-round t biased false false N 1 6755399441056767 1 (lit< tt) (lit< tt) v biased-value
-    ∙ sum-pos-neg (N * 1) 6755399441056767 1 (le-trans h (le-of-eq (sym (mul-one N))))
-    ∙ ap (λ (z : ℕ). round binary64 false (z - 6755399441056767) 1) (mul-one N)))
-    (round-whole binary64 false (N - 6755399441056767) (le-trans (less N) k))
+-- the rest, where k is the whole number nearest to x
+rest : (s : Bool) (x k : Float) (n d K : ℕ) → 0 < d → HasValue x s n d → Near (K * d * 2) (n * 2) d → Whole k s K → Within 0 (sub binary64 x k)
+rest s x k n d K D v h (inl w) = within-sub s x k n d K 1 D (lit< tt) v w (one (h .1)) (two (h .0))
   where
-    less : (N : ℕ) → N - 6755399441056767 ≤ N
-    less N = omega arith
+    one : n * 2 ≤ K * d * 2 + d → n * 1 ≤ K * d + d * 1
+    one h = omega arith
 
-under-bias : (t : Float) (N : ℕ) → HasValue t false N 1 → N < 6755399441056767 → HasValue (sub binary64 t biased) true (6755399441056767 - N) 1
-under-bias t N v h =
-    subst (λ (z : Float). HasValue z true (6755399441056767 - N) 1)
-    (sym (sub-round t biased false false N 1 6755399441056767 1 (lit< tt) (lit< tt) v biased-value
-    ∙ sum-neg (N * 1) 6755399441056767 1 (subst (λ (z : ℕ). z < 6755399441056767) (sym (mul-one N)) h)
-    ∙ ap (λ (z : ℕ). round binary64 true (6755399441056767 - z) 1) (mul-one N)))
-    (round-whole binary64 true (6755399441056767 - N) (less N))
+    two : K * d * 2 ≤ n * 2 + d → K * d ≤ n * 1 + d * 1
+    two h = omega arith
+rest s x k n d K D v h (inr (z, w)) = minus-zero 0 x k false (lit≤ tt) w (s, (n, d, D, small n d (subst (λ (i : ℕ). n * 2 ≤ i * d * 2 + d) z (h .1)), v))
   where
-    less : (N : ℕ) → 6755399441056767 - N ≤ 9007199254740992
-    less N = omega arith
+    small : (n d : ℕ) → n * 2 ≤ 0 * d * 2 + d → n ≤ 1 * d
+    small n d h = omega arith
 
--- x from 0 to 1023
-split-up : (m : ℕ) (e : ℤ) → m * up e * 1 ≤ 1023 * down e → Split (fin false m e)
-split-up m e h =
-    let n = m * up e in
-    let d = down e in
-    let D = down-pos e in
-    let b = range n d D h in
-    let w = whole-round (n + 6755399441056767 * d) d D (b .0) (b .1) in
-    let N = w .0 in
-    let low : 6755399441056767 ≤ N = near-least N 6755399441056767 (n + 6755399441056767 * d) d D (b .2) (w .2 .1) in
-    let top : N ≤ 6755399441057790 = near-most N 6755399441057790 (n + 6755399441056767 * d) d D (b .3) (w .2 .0) in
-    let t : HasValue (add binary64 (fin false m e) biased) false N 1 = subst (λ (z : Float). HasValue z false N 1) (sym (add-round (fin false m e) biased false false n d 6755399441056767 1 D (lit< tt) (refl, refl) biased-value ∙ plain n d)) (w .1) in
-    let k = over-bias (add binary64 (fin false m e) biased) N t low (w .3) in
-    let g = near n d (N * d) ((N - 6755399441056767) * d) (back N low d) (w .2 .0) (w .2 .1) in
-    let f = field N (le-trans (lit≤ tt) low) top in (
-      N - 6755399441055744,
+split-of : (s : Bool) (m : ℕ) (e : ℤ) (M : ℕ) → M ≤ 2048 → m * up e * 1 ≤ M * down e
+    → ((K N : ℕ) → K ≤ M → Beside s 6755399441056767 K N → (F : ℕ) × (1 ≤ F) × (F ≤ 2046) × (N ≡ 6755399441055744 + F)) → Split (fin s m e)
+split-of s m e M L h field =
+    let x = fin s m e in
+    let l : m * up e ≤ M * down e = le-trans (le-of-eq (sym (mul-one (m * up e)))) h in
+    let r = nearest-whole biased 6755399441056767 biased-value (lit≤ tt) (lit≤ tt) s x (m * up e) (down e) (down-pos e)
+    (le-trans l (mul-le-mul-right (down e) L)) (refl, refl) in
+    let f = field (r .0) (r .1) (near-most (r .0) M (m * up e) (down e) (down-pos e) l (r .3 .0)) (r .2) in (
       f .0,
       f .1,
-      subst (λ (z : ℕ). HasValue (add binary64 (fin false m e) biased) false z 1) (f .2) t,
-      within-sub false (fin false m e) (sub binary64 (add binary64 (fin false m e) biased) biased) n d (N - 6755399441056767) 1 D (lit< tt) (refl, refl) k (g .0) (g .1),
+      f .2,
+      subst (λ (z : ℕ). HasValue (add binary64 x biased) false z 1) (f .3) (r .4),
+      rest s x (sub binary64 (add binary64 x biased) biased) (m * up e) (down e) (r .0) (down-pos e) (refl, refl) (r .3) (r .5),
     )
-  where
-    range : (n d : ℕ) → 0 < d → n * 1 ≤ 1023 * d → (4503599627370496 * d ≤ n + 6755399441056767 * d) × (n + 6755399441056767 * d < 9007199254740992 * d) × (6755399441056767 * d ≤ n + 6755399441056767 * d) × (n + 6755399441056767 * d ≤ 6755399441057790 * d)
-    range n d D h = (omega arith, omega arith, omega arith, omega arith)
 
-    plain : (n d : ℕ) → sum binary64 false (n * 1) false (6755399441056767 * d) (d * 1) ≡ round binary64 false (n + 6755399441056767 * d) d
-    plain n d = unfold sum in simp (mul-one)
+-- the field is 1023 and K, or 1023 less K
+field-up : (K N : ℕ) → K ≤ 1023 → N ≡ 6755399441056767 + K → (F : ℕ) × (1 ≤ F) × (F ≤ 2046) × (N ≡ 6755399441055744 + F)
+field-up K N h e = (1023 + K, omega arith, omega arith, omega arith)
 
-    back : (N : ℕ) → 6755399441056767 ≤ N → (d : ℕ) → N * d ≡ (N - 6755399441056767) * d + 6755399441056767 * d
-    back N h d = ap (λ (z : ℕ). z * d) (over N h) ∙ add-mul (N - 6755399441056767) 6755399441056767 d
-      where
-        over : (N : ℕ) → 6755399441056767 ≤ N → N ≡ N - 6755399441056767 + 6755399441056767
-        over N h = omega arith
-
-    near : (n d x y : ℕ) → x ≡ y + 6755399441056767 * d → x * 2 ≤ (n + 6755399441056767 * d) * 2 + d → (n + 6755399441056767 * d) * 2 ≤ x * 2 + d → (n * 1 ≤ y + d * 1) × (y ≤ n * 1 + d * 1)
-    near n d x y e h k = (omega arith, omega arith)
-
--- x from -1022 to -0
-split-down : (m : ℕ) (e : ℤ) → m * up e * 1 ≤ 1022 * down e → Split (fin true m e)
-split-down m e h =
-    let n = m * up e in
-    let d = down e in
-    let D = down-pos e in
-    let b = range n d D h in
-    let w = whole-round (6755399441056767 * d - n) d D (b .0) (b .1) in
-    let N = w .0 in
-    let low : 6755399441055745 ≤ N = near-least N 6755399441055745 (6755399441056767 * d - n) d D (b .2) (w .2 .1) in
-    let top : N ≤ 6755399441056767 = near-most N 6755399441056767 (6755399441056767 * d - n) d D (b .3) (w .2 .0) in
-    let t : HasValue (add binary64 (fin true m e) biased) false N 1 = subst (λ (z : Float). HasValue z false N 1) (sym (add-round (fin true m e) biased true false n d 6755399441056767 1 D (lit< tt) (refl, refl) biased-value ∙ sum-neg-pos (n * 1) (6755399441056767 * d) (d * 1) (b .4) ∙ plain n d)) (w .1) in
-    let g = near n d (N * d) ((6755399441056767 - N) * d) (b .4) (back N top d) (w .2 .0) (w .2 .1) in
-    let f = field N low (le-trans top (lit≤ tt)) in (
-      N - 6755399441055744,
-      f .0,
-      f .1,
-      subst (λ (z : ℕ). HasValue (add binary64 (fin true m e) biased) false z 1) (f .2) t,
-      rest (add binary64 (fin true m e) biased) N t top (g .0) (g .1) (ltb N 6755399441056767) refl,
-    )
-  where
-    range : (n d : ℕ) → 0 < d → n * 1 ≤ 1022 * d → (4503599627370496 * d ≤ 6755399441056767 * d - n) × (6755399441056767 * d - n < 9007199254740992 * d) × (6755399441055745 * d ≤ 6755399441056767 * d - n) × (6755399441056767 * d - n ≤ 6755399441056767 * d) × (n * 1 ≤ 6755399441056767 * d)
-    range n d D h = (omega arith, omega arith, omega arith, omega arith, omega arith)
-
-    plain : (n d : ℕ) → round binary64 false (6755399441056767 * d - n * 1) (d * 1) ≡ round binary64 false (6755399441056767 * d - n) d
-    plain n d = simp (mul-one)
-
-    back : (N : ℕ) → N ≤ 6755399441056767 → (d : ℕ) → 6755399441056767 * d ≡ (6755399441056767 - N) * d + N * d
-    back N h d = ap (λ (z : ℕ). z * d) (over N h) ∙ add-mul (6755399441056767 - N) N d
-      where
-        over : (N : ℕ) → N ≤ 6755399441056767 → 6755399441056767 ≡ 6755399441056767 - N + N
-        over N h = omega arith
-
-    near : (n d x y : ℕ) → n * 1 ≤ 6755399441056767 * d → 6755399441056767 * d ≡ y + x → x * 2 ≤ (6755399441056767 * d - n) * 2 + d → (6755399441056767 * d - n) * 2 ≤ x * 2 + d → (n * 1 ≤ y + d * 1) × (y ≤ n * 1 + d * 1)
-    near n d x y c e h k = (omega arith, omega arith)
-
-    -- the nearest whole number is 0, or it is below 0
-    at-zero : (t : Float) → HasValue t false 6755399441056767 1 → m * up e * 1 ≤ 0 * down e + down e * 1 → Within 0 (sub binary64 (fin true m e) (sub binary64 t biased))
-    at-zero t v h =
-        subst (Within 0) (sym (sub-round (fin true m e) (sub binary64 t biased) true false (m * up e) (down e) 0 1 (down-pos e) (lit< tt) (refl, refl) (over-bias t 6755399441056767 v (lit≤ tt) (lit≤ tt))))
-        (within-sum 0 true true (m * up e * 1) (0 * down e) (down e * 1) (lit≤ tt) (subst (λ (z : ℕ). 0 < z) (sym (mul-one (down e))) (down-pos e)) (small (m * up e) (down e) h))
-      where
-        small : (n d : ℕ) → n * 1 ≤ 0 * d + d * 1 → n * 1 + 0 * d ≤ 1 * (d * 1)
-        small n d h = omega arith
-
-    rest : (t : Float) (N : ℕ) → HasValue t false N 1 → N ≤ 6755399441056767 → m * up e * 1 ≤ (6755399441056767 - N) * down e + down e * 1 → (6755399441056767 - N) * down e ≤ m * up e * 1 + down e * 1
-        → (b : Bool) → ltb N 6755399441056767 ≡ b → Within 0 (sub binary64 (fin true m e) (sub binary64 t biased))
-    rest t N v top h k true q = within-sub true (fin true m e) (sub binary64 t biased) (m * up e) (down e) (6755399441056767 - N) 1 (down-pos e) (lit< tt) (refl, refl) (under-bias t N v (ltb-true N 6755399441056767 q)) h k
-    rest t N v top h k false q =
-        let z : N ≡ 6755399441056767 = le-antisymm top (ltb-false N 6755399441056767 q) in
-        at-zero t (subst (λ (n : ℕ). HasValue t false n 1) z v) (subst (λ (n : ℕ). m * up e * 1 ≤ (6755399441056767 - n) * down e + down e * 1) z h)
+field-down : (K N : ℕ) → K ≤ 1022 → 6755399441056767 ≡ N + K → (F : ℕ) × (1 ≤ F) × (F ≤ 2046) × (N ≡ 6755399441055744 + F)
+field-down K N h e = (1023 - K, omega arith, omega arith, omega arith)
 
 split : (x : Float) → T (le (neg (ofBits binary64 0x408ff00000000000)) x) → T (le x (ofBits binary64 0x408ff80000000000)) → Split x
 split nan l h = absurd (unfold le lt eq in h)
 split (inf true) l h = absurd (unfold le lt eq neg ofBits in l)
 split (inf false) l h = absurd (unfold le lt eq ofBits in h)
-split (fin false m e) l h = split-up m e (le-below false false m 1023 e (pos 0) (unfold ofBits in h))
-split (fin true m e) l h = split-down m e (le-below true true 511 m (pos 1) e (unfold neg ofBits in l))
+split (fin false m e) l h = split-of false m e 1023 (lit≤ tt) (le-below false false m 1023 e (pos 0) (unfold ofBits in h)) field-up
+split (fin true m e) l h = split-of true m e 1022 (lit≤ tt) (le-below true true 511 m (pos 1) e (unfold neg ofBits in l)) field-down
 
 -- ---- the polynomial
 six-within : (z c0 c1 c2 c3 c4 c5 : Float) → Within 0 z → Within 0 c0 → Within 0 c1 → Within 0 c2 → Within 0 c3 → Within 0 c4 → Within 0 c5 → Within 3 (sixOf z c0 c1 c2 c3 c4 c5)

@@ -9,9 +9,10 @@ use lib.Ieee.Bits.{is-true}
 use lib.Ieee.Fits.{and-l, and-r}
 use Rattle.laws.proofs.Interval.{Part, Sized, between-of, inPart, isBetween, neg-unit, part-add, part-mul, part-mul', part-of, part-sized, part-square, part-sub, sized-mul, unit-sub, unit-within}
 use Rattle.laws.proofs.Order.{float-le-trans}
-use Rattle.laws.specs.Float.{InUnit, one, zer}
+use Rattle.laws.specs.Float.{InUnit, one}
+use Rattle.numeric.proofs.RestLaws.{rest-inside}
 use Rattle.numeric.specs.Promises.{Cos-inside, Cos-minus-zero, Cos-outside, Cos-zero, Inside, Sin-inside, Sin-minus-zero, Sin-outside, Sin-zero}
-use Rattle.numeric.specs.Trig.{boundOf, cosOf, farOf, isNear, kernelCos, kernelSin, pairsOf, quadrant, sinOf, turnedOf}
+use Rattle.numeric.specs.Trig.{cosOf, farOf, isNear, kernelCos, kernelSin, pairsOf, quadrant, restOf, shift, shiftedOf, sinOf, turnedOf}
 
 pub sin-zero : Sin-zero
 unfolding sinOf isNear kernelSin pairsOf ofBits add sub mul le lt eq neg
@@ -127,10 +128,6 @@ cos-unit s r p =
     let Z : Part 0 (mul binary64 r r) = part-square s r p in
     unit-sub false one _ (1, 1, lit< tt, lit≤ tt, unfold ofBits in (refl, refl)) (part-sized (mul binary64 (mul binary64 r r) _) (part-mul 0 (mul binary64 r r) _ (lit≤ tt) Z (cos-pairs (mul binary64 r r) Z)))
 
-zer-unit : InUnit zer
-unfolding le lt eq neg ofBits
-zer-unit = (tt, tt)
-
 quadrant-unit : (q : ℕ) (r : Float) → InUnit (kernelSin r) → InUnit (kernelCos r) → InUnit (quadrant q r)
 unfolding quadrant
 quadrant-unit q r s c = go (eqb q 0) (eqb q 1) (eqb q 2)
@@ -144,18 +141,17 @@ quadrant-unit q r s c = go (eqb q 0) (eqb q 1) (eqb q 2)
 kernels-unit : (r : Float) → T (le r one) → T (le (neg one) r) → InUnit (kernelSin r) × InUnit (kernelCos r)
 kernels-unit r h k = let w = unit-within r (k, h) in (sin-unit (w .0) r (w .1), cos-unit (w .0) r (w .1))
 
-bound-unit : (q : ℕ) (r : Float) → InUnit (boundOf q r)
-unfolding boundOf
-bound-unit q r = go (le r one) (le (neg one) r) (λ h. h) (λ h. h)
-  where
-    go : (a b : Bool) → (T a → T (le r one)) → (T b → T (le (neg one) r)) → InUnit (cond a (cond b (quadrant q r) zer) zer)
-    go true true f g = let k = kernels-unit r (f tt) (g tt) in quadrant-unit q r (k .0) (k .1)
-    go true false f g = zer-unit
-    go false b f g = zer-unit
+turned-unit : (a : ℕ) (x : Float) → Inside x → InUnit (turnedOf a x)
+unfolding turnedOf
+turned-unit a x h =
+    let r = restOf x (sub binary64 (shiftedOf x) shift) in
+    let u : InUnit r = rest-inside x h in
+    let k = kernels-unit r (u .1) (u .0) in
+    quadrant-unit _ r (k .0) (k .1)
 
 far-unit : (a : ℕ) (x : Float) → Inside x → InUnit (farOf a x)
-unfolding farOf turnedOf
-far-unit a x h = simp (is-true (le x high) (h .0), is-true (le (neg high) x) (h .1)) (bound-unit _ _)
+unfolding farOf
+far-unit a x h = simp (is-true (le x high) (h .0), is-true (le (neg high) x) (h .1)) (turned-unit a x h)
 
 -- what is near is from -1 to 1
 near-unit : (x : Float) → T (isNear x) → InUnit (kernelSin x) × InUnit (kernelCos x)

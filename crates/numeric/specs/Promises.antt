@@ -13,12 +13,16 @@ use Rattle.numeric.specs.Basic.{clampOf, minOf, maxOf, wholeOf, realOf}
 use Rattle.numeric.specs.Floor.{floorOf}
 use Rattle.numeric.specs.Draw.{drawOf, bipolarOf}
 use Rattle.numeric.specs.Power.{exp2Of, pow3000Of}
-use Rattle.numeric.specs.Trig.{sinOf, cosOf}
+use Rattle.numeric.specs.Trig.{shift, shiftedOf, restOf, sinOf, cosOf}
 
 -- ---- sine and cosine
 -- |x| is at most 512
 abbrev pub Inside : Float → Type 0
 Inside x = T (le x (ofBits binary64 0x4080000000000000)) × T (le (neg (ofBits binary64 0x4080000000000000)) x)
+
+-- what is left of x after the nearest number of right angles is taken off lies from -1 to 1
+abbrev pub Rest-inside : Type 0
+Rest-inside = (x : Float) → Inside x → InUnit (restOf x (sub binary64 (shiftedOf x) shift))
 
 abbrev pub Sin-inside : Type 0
 Sin-inside = (x : Float) → Inside x → InUnit (sinOf x)

@@ -3,7 +3,7 @@ use mathlib.Core.Bool.{Bool, false, cond}
 use Prim.Native.Nat.{ℕ, _+_, _%_}
 use lib.Dec.{eqb}
 use lib.Ieee.{Float, nan, binary64, le, neg, add, sub, mul, toBits, ofBits}
-use Rattle.laws.specs.Float.{zer, one}
+use Rattle.laws.specs.Float.{one}
 
 -- c1 - c2 z + c3 z ^ 2 - .. + c7 z ^ 6, taken in pairs
 unfoldable pub pairsOf : Float → Float → Float → Float → Float → Float → Float → Float → Float
@@ -60,13 +60,9 @@ restOf x k = sub binary64 (sub binary64 x (mul binary64 k (ofBits binary64 0x3ff
 unfoldable pub quadrant : ℕ → Float → Float
 quadrant q r = cond (eqb q 0) (kernelSin r) (cond (eqb q 1) (kernelCos r) (cond (eqb q 2) (neg (kernelSin r)) (neg (kernelCos r))))
 
--- of a rest beyond 1, which is not expected, 0
-unfoldable pub boundOf : ℕ → Float → Float
-boundOf q r = cond (le r one) (cond (le (neg one) r) (quadrant q r) zer) zer
-
 -- the sine of x and `ahead` right angles
 unfoldable pub turnedOf : ℕ → Float → Float
-turnedOf ahead x = boundOf ((toBits binary64 (shiftedOf x) % 4 + ahead) % 4) (restOf x (sub binary64 (shiftedOf x) shift))
+turnedOf ahead x = quadrant ((toBits binary64 (shiftedOf x) % 4 + ahead) % 4) (restOf x (sub binary64 (shiftedOf x) shift))
 
 unfoldable pub farOf : ℕ → Float → Float
 farOf ahead x = cond (le x (ofBits binary64 0x4080000000000000)) (cond (le (neg (ofBits binary64 0x4080000000000000)) x) (turnedOf ahead x) nan) nan

@@ -11,7 +11,7 @@ ghost use Rattle.numeric.specs.Basic.{fabsOf, clampOf, minOf, maxOf, who
 ghost use Rattle.numeric.specs.Floor.{floorOf};
 ghost use Rattle.numeric.specs.Draw.{drawOf, bipolarOf};
 ghost use Rattle.numeric.specs.Power.{sixOf, expPart, scaleOf, midOf, exp2Of, pow3000Of};
-ghost use Rattle.numeric.specs.Trig.{pairsOf, kernelSin, kernelCos, isNear, restOf, quadrant, boundOf, turnedOf, farOf, sinOf, cosOf};
+ghost use Rattle.numeric.specs.Trig.{pairsOf, kernelSin, kernelCos, isNear, restOf, quadrant, turnedOf, farOf, sinOf, cosOf};
 
 // ---- small functions
 
@@ -335,17 +335,6 @@ fn quadrant_of(q: u64, r: f64) -> f64
     }
 }
 
-// A rest beyond 1 isn't expected, nor proved never to come; testing it here spares a clamp of the result.
-fn bound(q: u64, r: f64) -> f64
-    ensures { λ v. ⌜ v ≡ boundOf q r ⌝ }
-{
-    if r <= 1.0 {
-        if r >= -1.0 { quadrant_of(q, r) } else { 0.0 }
-    } else {
-        0.0
-    }
-}
-
 // The sine of x and `ahead` right angles, x in right angles rounded by a sum.
 fn turned(ahead: u64, x: f64) -> f64
     requires { ⌜ (ahead ≤ 1) × T (not (Ieee.isNan x)) ⌝ }
@@ -353,7 +342,7 @@ fn turned(ahead: u64, x: f64) -> f64
 {
     let t = x * 0.6366197723675814 + 6755399441055744.0;
     let q = f64::to_bits(t) % 4;
-    bound((q + ahead) % 4, rest(x, t - 6755399441055744.0))
+    quadrant_of((q + ahead) % 4, rest(x, t - 6755399441055744.0))
 }
 
 // Beyond 512 NaN.

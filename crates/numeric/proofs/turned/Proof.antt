@@ -1,5 +1,5 @@
--- turned: what rest and bound ensure; the sum with the shift is a number, whose bits are taken.
-use lib.Ieee.{binary64, mul, ofBits}
+-- turned: what rest and quadrant_of ensure; the sum with the shift is a number, whose bits are taken.
+use lib.Ieee.{ofBits}
 use borrow.Author.Needs.{needs}
 use Rattle.laws.proofs.Number.{add-number, mul-number}
 use Rattle.numeric.specs.Trig.{shift, shiftedOf, turnedOf}
@@ -8,20 +8,20 @@ use Rattle.numeric.proofs.turned.Tie as tie
 
 float-to-bits-q : tie.Need-float-to-bits-q
 unfolding ofBits
-float-to-bits-q c = add-number (mul binary64 (c .args .x) (ofBits binary64 0x3fe45f306dc9c883)) shift tt (mul-number (c .args .x) (ofBits binary64 0x3fe45f306dc9c883) tt (c .pre .1))
+float-to-bits-q c = add-number _ shift tt (mul-number (c .args .x) _ tt (c .pre .1))
 
-add-bound : tie.Need-add-bound
-add-bound c = search needs
+add-quadrant-of : tie.Need-add-quadrant-of
+add-quadrant-of c = search needs
 
 rest-requires : tie.Need-rest-requires
 rest-requires c κs = search needs
 
-bound-requires : tie.Need-bound-requires
-bound-requires c κs = search needs
+quadrant-of-requires : tie.Need-quadrant-of-requires
+quadrant-of-requires c κs = search needs
 
 returns : tie.Need-returns
 unfolding turnedOf shiftedOf
-returns c = simp (c .bound .ensures, c .before .rest .ensures)
+returns c = simp (c .quadrant-of .ensures, c .before .rest .ensures)
 
 pub turned-spec : {M : Type 1} → statement M
-turned-spec = tie.close (tie.spec float-to-bits-q add-bound rest-requires bound-requires returns)
+turned-spec = tie.close (tie.spec float-to-bits-q add-quadrant-of rest-requires quadrant-of-requires returns)
