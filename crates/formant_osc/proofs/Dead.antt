@@ -7,7 +7,7 @@ use Prim.Native.Nat.{ℕ, zero, suc, _*_, _<_}
 use native.Mathlib.Nat.{mul-pos}
 use native.Mathlib.Omega.{arith}
 use lib.Dec.{lit<}
-use lib.Ieee.{Float, nan, inf, fin, binary64, add, sub, mul, div, neg, ofBits, round, up, down, unlike}
+use lib.Ieee.{Float, nan, inf, fin, binary64, add, sub, mul, div, ofBits, round, up, down, unlike}
 use lib.Ieee.Fits.{down-pos}
 use lib.IntN.{pos}
 use lib.ListN.{length, getD}
@@ -94,11 +94,11 @@ coefs-dead c (inr d) rate = unfold formantOf in coef-dead _ rate (times-nought _
 -- ---- the first resonator
 out-dead : (b0 a1 a2 s0 s1 x : Float) → b0 ≡ nan → resonateOf b0 a1 a2 s0 s1 x .out ≡ nan
 unfolding resonateOf
-out-dead b0 a1 a2 s0 s1 x e = rw (e, mul-nan-l x) (add-nan-l s0)
+out-dead b0 a1 a2 s0 s1 x e = rw (e, mul-nan-l) (add-nan-l _)
 
 cell-dead : (b0 a1 a2 s0 s1 x : Float) → b0 ≡ nan → resonateOf b0 a1 a2 s0 s1 x .s0 ≡ nan
 unfolding resonateOf
-cell-dead b0 a1 a2 s0 s1 x e = rw (e, mul-nan-l x, add-nan-l s0, mul-nan-r (neg a1)) (add-nan-l s1)
+cell-dead b0 a1 a2 s0 s1 x e = rw (e, mul-nan-l, add-nan-l, mul-nan-r) (add-nan-l _)
 
 sum-dead : (c l : List Float) (x : Float) → getD c 0 nan ≡ nan → isFin (rungOf c l x .sum) ≡ false
 unfolding rungOf

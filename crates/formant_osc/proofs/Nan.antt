@@ -4,7 +4,7 @@ use mathlib.Core.Logic.{_⊎_, inl, inr, _≢_}
 use mathlib.Core.Path.{_≡_, refl, sym, ap, _∙_, subst}
 use Prim.Native.Nat.{ℕ}
 use native.Mathlib.Omega.{arith}
-use lib.Ieee.{Float, nan, fits}
+use lib.Ieee.{Float, nan, binary64, add, div, fits}
 use Rattle.answer.proofs.Laws.{mark-says}
 use Rattle.answer.specs.Answer.{markNumber}
 use Rattle.answer.specs.Block.{answerAt}
@@ -27,7 +27,7 @@ use Rattle.formant_osc.specs.declared.FormantControls.{FormantControls}
 use Rattle.formant_osc.specs.declared.FormantOsc.{FormantOsc}
 use Rattle.formant_osc.specs.declared.FormantTicked.{FormantTicked}
 use Rattle.laws.proofs.Number.{add-nan-l, add-nan-r, mul-nan-l, mul-nan-r, div-nan-l}
-use Rattle.laws.specs.Float.{zer, one}
+use Rattle.laws.specs.Float.{zer, one, isFin}
 use Rattle.numeric.proofs.Laws.{clamp-nan, exp2-nan}
 use Rattle.numeric.specs.Basic.{clampOf}
 
@@ -60,9 +60,12 @@ unclean v sums phases e q = go (sums && allFinite v) (sym (mark-says v false sum
     go true h = omega arith
     go false h = omega arith
 
+phases-lost : (phase freq rate : Float) (other : Bool) → freq ≡ nan → (isFin (add binary64 phase (div binary64 freq rate)) && other) ≡ false
+phases-lost phase freq rate other e = rw (e, div-nan-l, add-nan-r) refl
+
 sound-lost : (s : FormantOsc) (c : FormantControls) → freqMemoOf s c .val .0 ≡ nan → markNumber (formantSoundOf s c .answer) ≢ 4
 unfolding formantSoundOf incrementOf
-sound-lost s c e = unclean _ _ _ (rw (e, div-nan-l, add-nan-r) refl)
+sound-lost s c e = unclean _ _ _ (phases-lost _ _ _ _ e)
 
 tick-lost : (s : FormantOsc) → ReachedFormant s → (c : FormantControls) → (c .«v_oct» .0 ≡ nan) ⊎ (c .vibrato ≡ nan)
     → markNumber (formantTickOf s c .answer) ≢ 4
