@@ -5,7 +5,7 @@ use mathlib.Core.Logic.{_⊎_, _≢_}
 use mathlib.Core.Path.{_≡_}
 use Prim.Native.Nat.{ℕ, suc, _<_, _*_}
 use lib.Dec.{eqb}
-use lib.Ieee.{Float, nan, binary64, div}
+use lib.Ieee.{Float, nan, binary64, div, ofBits}
 use lib.ListN.{length, getD}
 use Rattle.answer.specs.Answer.{markNumber, accepted, outcomeNumber}
 use Rattle.answer.specs.Block.{Block, blockRefusalOf}
@@ -15,7 +15,8 @@ use Rattle.common.specs.Consts.{five}
 use Rattle.common.specs.Tests.{rateOk, phaseOk}
 use Rattle.common.specs.declared.Hertz.{Hertz}
 use Rattle.formant_osc.specs.Calls.{reply, FitCall, First, ReachedFormant, Later, Tick, Reset, SetSampleRate, Told}
-use Rattle.formant_osc.specs.FormantOsc.{newFormantOsc, formantNewOf, formantRung, formantTickOf, formantBlockOf, formantResetOf, formantSetSampleRateOf, formantRefusalOf, formantAnswerOf, formantNextOf}
+use Rattle.formant_osc.specs.FormantOsc.{newFormantOsc, formantNewOf, formantRung, formantTickOf, formantBlockOf, formantResetOf}
+use Rattle.formant_osc.specs.FormantOsc.{formantSetSampleRateOf, formantRefusalOf, formantAnswerOf, formantNextOf}
 use Rattle.formant_osc.specs.declared.FormantControls.{FormantControls}
 use Rattle.formant_osc.specs.declared.FormantMade.{FormantMade}
 use Rattle.formant_osc.specs.declared.FormantOsc.{FormantOsc}
@@ -51,6 +52,16 @@ Sum-marks = (s : FormantOsc) (c : FormantControls) → isFin (formantRung s c .s
 -- so the sum of a clean tick is finite
 abbrev pub Clean-finite : Type 0
 Clean-finite = (s : FormantOsc) (c : FormantControls) → markNumber (formantTickOf s c .answer) ≡ 4 → isFin (formantRung s c .sum) ≡ true
+
+-- ---- a clean tick is there: the first of a new one at 48,000 Hz, with every control 0
+abbrev pub firstRate : Hertz
+firstRate = record { 0 = ofBits binary64 0x40e7700000000000 }
+
+abbrev pub noControls : FormantControls
+noControls = record { «v_oct» = record { 0 = zer }; vowel = zer; «formant_shift» = zer; vibrato = zer }
+
+abbrev pub First-clean : Type 0
+First-clean = markNumber (formantTickOf (newFormantOsc firstRate) noControls .answer) ≡ 4
 
 -- ---- a resonator is spoiled once its first cell isn't finite, NaN or infinite: from then on every tick is notfinite, whatever its
 -- controls, until a reset
@@ -141,6 +152,7 @@ Block-tallies = (s : FormantOsc) (c : FormantControls) → formantRefusalOf s �
 pub record Settled : Type 0 where
   pub new : (r : Hertz) → Settles (λ (a : FormantMade). a ≡ formantNewOf r)
   pub tick : (s : FormantOsc) (c : FormantControls) → Settles (λ (a : FormantTicked). a ≡ formantTickOf s c)
-  pub block : (s : FormantOsc) (c : FormantControls) (t : Tally) (o : List Float) (m : List ℕ) → Settles (λ (b : Block FormantOsc). b ≡ formantBlockOf s c t o m)
+  pub block : (s : FormantOsc) (c : FormantControls) (t : Tally) (o : List Float) (m : List ℕ)
+      → Settles (λ (b : Block FormantOsc). b ≡ formantBlockOf s c t o m)
   pub reset : (s : FormantOsc) → Settles (λ (a : FormantMade). a ≡ formantResetOf s)
   pub «set_sample_rate» : (s : FormantOsc) (r : Hertz) → Settles (λ (a : FormantMade). a ≡ formantSetSampleRateOf s r)
