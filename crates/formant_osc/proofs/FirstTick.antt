@@ -1,5 +1,5 @@
 -- The first tick of a new one with every control 0: its pulse is 0, its resonators are silent, and all that it works out is finite.
-use mathlib.Core.Bool.{Bool, true, false, _&&_}
+use mathlib.Core.Bool.{Bool, true, false}
 use mathlib.Core.List.{List, [], _∷_}
 use mathlib.Core.Path.{_≡_, refl, sym, ap, _∙_, subst}
 use Prim.Native.Nat.{ℕ, _+_, _-_, _*_, _≤_, _<_}
@@ -13,7 +13,7 @@ use lib.IntN.{pos}
 use lib.ListN.{getD}
 use Rattle.answer.proofs.Laws.{mark-says}
 use Rattle.answer.specs.Answer.{markNumber}
-use Rattle.answer.specs.Mark.{allFinite, ruleOf, markOf}
+use Rattle.answer.specs.Mark.{allFinite, ruleOf}
 use Rattle.common.proofs.Bounds.{sin-within}
 use Rattle.common.specs.Consts.{c4, five, half}
 use Rattle.common.specs.Memo.{voctToHzAt, recall1, hits1, filled1}
@@ -22,7 +22,7 @@ use Rattle.common.specs.Pitch.{voctToHz}
 use Rattle.common.specs.Tests.{rateOk}
 use Rattle.formant_osc.proofs.Reached.{tick-sounds, good, new-accepts}
 use Rattle.formant_osc.specs.Coefs.{spotOf, formantOf, getFormants, coefOf, resonatorCoefs}
-use Rattle.formant_osc.specs.Consts.{pi, omegaLow, omegaHigh, twelve, vibratoRate, amplitude3, amplitude4, amplitude5}
+use Rattle.formant_osc.specs.Consts.{pi, omegaLow, omegaHigh, twelve, amplitude3, amplitude4, amplitude5}
 use Rattle.formant_osc.specs.Consts.{bandwidth1, bandwidth2, bandwidth3, bandwidth4, bandwidth5}
 use Rattle.formant_osc.specs.FormantOsc.{newFormantOsc, formantAtRest, freqMemoOf, coefMemoOf, formantRung, formantSoundOf}
 use Rattle.formant_osc.specs.Memo.{newCoefMemo, coefHits, coefFilled, coefRecall}
@@ -192,21 +192,9 @@ hertz-first : freqMemoOf new noControls .val .0 ≡ mul binary64 c4 (fin false 1
 unfolding freqMemoOf recall1 hits1 filled1 newFormantOsc formantAtRest
 hertz-first = ap (λ (x : Float). voctToHzAt x .0) tone-zero ∙ hertz-zero
 
-phases-kept : (freq : Float) → freq ≡ mul binary64 c4 (fin false 1 (pos 0))
-    → (isFin (add binary64 zer (div binary64 freq (firstRate .0))) && isFin (add binary64 zer (div binary64 (vibratoRate .0) (firstRate .0)))) ≡ true
-unfolding add mul div ofBits
-phases-kept freq e = ap (λ (x : Float). isFin (add binary64 zer (div binary64 x (firstRate .0))) && true) e
-
-clean-mark : (sum : Float) (phases : Bool) → sum ≡ zer → phases ≡ true
-    → markNumber (markOf (onlyOf (mul binary64 (clampOf sum (neg one) one) five)) false (isFin sum) phases) ≡ 4
-unfolding ruleOf allFinite onlyOf clampOf lt neg mul ofBits
-clean-mark sum phases e p =
-    (λ i. markNumber (markOf (onlyOf (mul binary64 (clampOf (e i) (neg one) one) five)) false (isFin (e i)) (p i)))
-    ∙ mark-says (onlyOf (mul binary64 (clampOf zer (neg one) one) five)) false true true .number
-
 sound-clean : markNumber (formantSoundOf new noControls .answer) ≡ 4
-unfolding formantSoundOf incrementOf newFormantOsc formantAtRest
-sound-clean = clean-mark _ _ sum-zero (phases-kept _ hertz-first)
+unfolding formantSoundOf incrementOf newFormantOsc formantAtRest ruleOf allFinite onlyOf clampOf lt neg add mul div ofBits
+sound-clean = simp (sum-zero, hertz-first) (mark-says (onlyOf (mul binary64 (clampOf zer (neg one) one) five)) false true true .number)
 
 pub first-clean : First-clean
 unfolding rateOk le lt ofBits
