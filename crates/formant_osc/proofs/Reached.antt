@@ -1,5 +1,5 @@
--- What every reached FormantOsc has: a good rate, two phases in [0, 1), and coefficients that it would compute. So no call refuses it
--- but for what the call is lent.
+-- What every reached FormantOsc has: a good rate, two phases in [0, 1), and a pitch and coefficients that it would compute. So no call
+-- refuses it but for what the call is lent.
 use mathlib.Core.Bool.{Bool, true, false, cond}
 use mathlib.Core.Logic.{inl}
 use mathlib.Core.Path.{_≡_, refl, sym, ap, subst, _∙_}
@@ -14,15 +14,19 @@ use Rattle.answer.proofs.Laws.{mark-says}
 use Rattle.answer.specs.Answer.{accepted, outcomeNumber}
 use Rattle.answer.specs.Block.{blockRefusalOf}
 use Rattle.answer.specs.declared.Outcome.the-variants as outcome
+use Rattle.common.proofs.MemoLaws.{recalled1}
 use Rattle.common.proofs.PhaseLaws.{wrap-in, zero-in}
+use Rattle.common.specs.Memo.{voctToHzAt}
+use Rattle.common.specs.Promises.{Coherent1}
 use Rattle.common.specs.Tests.{rateOk, phaseOk}
 use Rattle.common.specs.declared.Hertz.{Hertz}
 use Rattle.formant_osc.proofs.Coherent.{Coherent, tick-coherent}
 use Rattle.formant_osc.proofs.Either.{unless-either}
 use Rattle.formant_osc.specs.Calls.{Call, Tick, Play, Reset, SetSampleRate, Told, after, reply, First, FitCall, ReachedFormant}
-use Rattle.formant_osc.specs.FormantOsc.{formantAtRest, newFormantOsc, formantRefusalOf, formantUnless, formantNewOf, formantSoundOf, formantTickOf, formantBlockOf, formantResetOf, rated, formantSetSampleRateOf}
+use Rattle.formant_osc.specs.FormantOsc.{formantAtRest, newFormantOsc, formantRefusalOf, formantUnless, formantNewOf, freqMemoOf, formantSoundOf, formantTickOf, formantBlockOf, formantResetOf, rated, formantSetSampleRateOf}
 use Rattle.formant_osc.specs.Memo.{newCoefMemo}
 use Rattle.formant_osc.specs.Promises.{New-accepts, Never-refused}
+use Rattle.formant_osc.specs.Sound.{pitchOf}
 use Rattle.formant_osc.specs.declared.FormantControls.{FormantControls}
 use Rattle.formant_osc.specs.declared.FormantMade.{FormantMade}
 use Rattle.formant_osc.specs.declared.FormantOsc.{FormantOsc}
@@ -35,6 +39,7 @@ pub record Good (s : FormantOsc) : Type 0 where
   pub fit : F64 (s .«sample_rate» .0)
   pub phase : phaseOk (s .phase) ≡ true
   pub vibrato : phaseOk (s .«vibrato_phase») ≡ true
+  pub pitch : Coherent1 voctToHzAt (s .«freq_memo»)
   pub coefs : Coherent (s .«coef_memo»)
 
 -- ---- a good state is refused by nothing
@@ -53,11 +58,11 @@ sound-accepted s c = mark-says _ _ _ _ .is-accepted
 -- ---- it stays good
 rest-good : (s : FormantOsc) → Good s → Good (formantAtRest (s .«sample_rate») (s .«freq_memo») (s .«coef_memo»))
 unfolding formantAtRest
-rest-good s g = record { rate = g .rate; fit = g .fit; phase = zero-in; vibrato = zero-in; coefs = g .coefs }
+rest-good s g = record { rate = g .rate; fit = g .fit; phase = zero-in; vibrato = zero-in; pitch = g .pitch; coefs = g .coefs }
 
 new-good : (r : Hertz) → rateOk r ≡ true → F64 (r .0) → Good (newFormantOsc r)
 unfolding newFormantOsc formantAtRest newCoefMemo
-new-good r h f = record { rate = h; fit = f; phase = zero-in; vibrato = zero-in; coefs = inl refl }
+new-good r h f = record { rate = h; fit = f; phase = zero-in; vibrato = zero-in; pitch = inl refl; coefs = inl refl }
 
 first-good : (s : FormantOsc) → First s → Good s
 unfolding formantNewOf formantUnless
@@ -78,6 +83,7 @@ sound-good s c g f =
       fit = g .fit;
       phase = wrap-in _ (add-fits binary64 _ _);
       vibrato = wrap-in _ (add-fits binary64 _ _);
+      pitch = unfold freqMemoOf pitchOf in recalled1 voctToHzAt (s .«freq_memo») (g .pitch) _ (add-fits binary64 _ _);
       coefs = tick-coherent s c (g .coefs) f (g .fit);
     }
 
@@ -91,8 +97,11 @@ after-good s (Play c t o m) g f = unfold formantBlockOf in block-keeps 1 _ _ _ G
 after-good s Reset g f = unfold formantResetOf in unless-either Good (formantRefusalOf s) _ s (rest-good s g) g
 after-good s (SetSampleRate r) g f = unfold formantSetSampleRateOf in go (rateOk r) refl
   where
+    rated-good : rateOk r ≡ true → Good (rated s r)
+    rated-good e = record { rate = e; fit = f; phase = g .phase; vibrato = g .vibrato; pitch = g .pitch; coefs = g .coefs }
+
     go : (b : Bool) → rateOk r ≡ b → Good (formantUnless (cond b (formantRefusalOf s) 1) (rated s r) s .formant)
-    go true e = unless-either Good (formantRefusalOf s) (rated s r) s (record { rate = e; fit = f; phase = g .phase; vibrato = g .vibrato; coefs = g .coefs }) g
+    go true e = unless-either Good (formantRefusalOf s) (rated s r) s (rated-good e) g
     go false e = unfold formantUnless in g
 
 pub good : {s : FormantOsc} → ReachedFormant s → Good s

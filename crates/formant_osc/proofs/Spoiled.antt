@@ -1,31 +1,29 @@
--- A sum that isn't finite makes a tick notfinite; and a NaN in a resonator's first cell stays there, and goes through the sum.
+-- A sum that isn't finite makes a tick notfinite; and what isn't finite in a resonator's first cell stays so, and goes through the sum.
 use mathlib.Core.Bool.{Bool, true, false, false≢true, _&&_}
 use mathlib.Core.List.{List}
 use mathlib.Core.Path.{_≡_, refl, sym, ap, _∙_, subst}
-use Prim.Native.Nat.{ℕ, zero, suc, _<_, _*_}
+use Prim.Native.Nat.{ℕ, zero, suc, _+_, _<_, _*_}
 use native.Mathlib.Omega.{arith}
-use lib.Ieee.{Float, nan, binary64, mul, neg}
+use lib.Ieee.{Float, nan}
 use lib.ListN.{length, getD}
-use Rattle.answer.proofs.Blocks.{ticks-keep, block-keeps, block-refusal, block-fits}
+use Rattle.answer.proofs.Blocks.{ticks-keep, block-keeps}
 use Rattle.answer.proofs.Laws.{mark-says}
-use Rattle.answer.specs.Answer.{markNumber, hostNumber, accepted}
-use Rattle.answer.specs.Block.{afterTicks, answerAt, markAt, ticksOf, blockOf}
+use Rattle.answer.specs.Answer.{markNumber, accepted}
+use Rattle.answer.specs.Block.{afterTicks, answerAt, markAt}
 use Rattle.answer.specs.Mark.{allFinite, ruleOf, markOf}
-use Rattle.answer.specs.declared.Answer.{Answer}
-use Rattle.answer.specs.declared.Answer.the-variants as answer
 use Rattle.answer.specs.declared.Tally.{Tally}
 use Rattle.answer.specs.declared.Volts.{Volts}
 use Rattle.formant_osc.proofs.Either.{tick-either, unless-either}
-use Rattle.formant_osc.proofs.Held.{block-accepts}
+use Rattle.formant_osc.proofs.Taken.{taken-accepts, taken-marks, told}
 use Rattle.formant_osc.specs.Calls.{Call, Tick, Play, Reset, SetSampleRate, after, NoReset, Later}
-use Rattle.formant_osc.specs.FormantOsc.{coefMemoOf, formantRung, formantRefusalOf, formantSoundOf, formantTickOf, formantAnswerOf, formantNextOf, formantBlockOf, rated, formantSetSampleRateOf}
+use Rattle.formant_osc.specs.FormantOsc.{coefMemoOf, formantRung, formantSoundOf, formantTickOf, formantAnswerOf, formantNextOf, formantBlockOf, rated, formantSetSampleRateOf}
 use Rattle.formant_osc.specs.Promises.{Sum-marks, Clean-finite, Spoiled, Stays-spoiled, Blocks-spoiled}
 use Rattle.formant_osc.specs.Sound.{glottalPulse, resonateOf, plus, rungOf}
 use Rattle.formant_osc.specs.declared.FormantControls.{FormantControls}
 use Rattle.formant_osc.specs.declared.FormantOsc.{FormantOsc}
 use Rattle.formant_osc.specs.declared.FormantTicked.{FormantTicked}
 use Rattle.laws.proofs.Always.{always}
-use Rattle.laws.proofs.Number.{add-nan-l, add-nan-r, mul-nan-l, mul-nan-r}
+use Rattle.laws.proofs.Number.{add-wild-l, add-wild-r, mul-wild-l, mul-wild-r}
 use Rattle.laws.proofs.Over.{tab-ext}
 use Rattle.laws.specs.Float.{isFin}
 use Rattle.laws.specs.Lists.{tab}
@@ -55,49 +53,49 @@ clean-finite s c = tick-either (λ (t : FormantTicked). markNumber (t .answer) �
     go false e h = absurd (let k = sound-unfinished s c e in omega arith)
 
 -- ---- through a resonator
-out-nan : (b0 a1 a2 s0 s1 x : Float) → s0 ≡ nan → resonateOf b0 a1 a2 s0 s1 x .out ≡ nan
+out-wild : (b0 a1 a2 s0 s1 x : Float) → isFin s0 ≡ false → isFin (resonateOf b0 a1 a2 s0 s1 x .out) ≡ false
 unfolding resonateOf
-out-nan b0 a1 a2 s0 s1 x e = rw e (add-nan-r (mul binary64 b0 x))
+out-wild b0 a1 a2 s0 s1 x h = add-wild-r _ _ h
 
-cell-nan : (b0 a1 a2 s0 s1 x : Float) → s0 ≡ nan → resonateOf b0 a1 a2 s0 s1 x .s0 ≡ nan
+cell-wild : (b0 a1 a2 s0 s1 x : Float) → isFin s0 ≡ false → isFin (resonateOf b0 a1 a2 s0 s1 x .s0) ≡ false
 unfolding resonateOf
-cell-nan b0 a1 a2 s0 s1 x e = rw (e, add-nan-r (mul binary64 b0 x), mul-nan-r (neg a1)) (add-nan-l s1)
+cell-wild b0 a1 a2 s0 s1 x h = add-wild-l _ _ (mul-wild-r _ _ (add-wild-r _ _ h))
 
 -- ---- through the sum
-pub plus-out : (sum out amplitude : Float) → out ≡ nan → plus sum out amplitude ≡ nan
-plus-out sum out amplitude e = rw (e, mul-nan-l amplitude) (add-nan-r sum)
+pub plus-out : (sum out amplitude : Float) → isFin out ≡ false → isFin (plus sum out amplitude) ≡ false
+plus-out sum out amplitude h = add-wild-r _ _ (mul-wild-l _ _ h)
 
-pub plus-sum : (sum out amplitude : Float) → sum ≡ nan → plus sum out amplitude ≡ nan
-plus-sum sum out amplitude e = rw e (add-nan-l (mul binary64 out amplitude))
+pub plus-sum : (sum out amplitude : Float) → isFin sum ≡ false → isFin (plus sum out amplitude) ≡ false
+plus-sum sum out amplitude h = add-wild-l _ _ h
 
-rung-sum : (c l : List Float) (x : Float) (i : ℕ) → i < 5 → getD l (2 * i) nan ≡ nan → rungOf c l x .sum ≡ nan
+rung-sum : (c l : List Float) (x : Float) (i : ℕ) → i < 5 → isFin (getD l (2 * i) nan) ≡ false → isFin (rungOf c l x .sum) ≡ false
 unfolding rungOf
-rung-sum c l x zero h e = plus-sum _ _ _ (plus-sum _ _ _ (plus-sum _ _ _ (plus-sum _ _ _ (plus-out _ _ _ (out-nan _ _ _ _ _ x e)))))
-rung-sum c l x (suc zero) h e = plus-sum _ _ _ (plus-sum _ _ _ (plus-sum _ _ _ (plus-out _ _ _ (out-nan _ _ _ _ _ x e))))
-rung-sum c l x (suc (suc zero)) h e = plus-sum _ _ _ (plus-sum _ _ _ (plus-out _ _ _ (out-nan _ _ _ _ _ x e)))
-rung-sum c l x (suc (suc (suc zero))) h e = plus-sum _ _ _ (plus-out _ _ _ (out-nan _ _ _ _ _ x e))
-rung-sum c l x (suc (suc (suc (suc zero)))) h e = plus-out _ _ _ (out-nan _ _ _ _ _ x e)
+rung-sum c l x zero h e = plus-sum _ _ _ (plus-sum _ _ _ (plus-sum _ _ _ (plus-sum _ _ _ (plus-out _ _ _ (out-wild _ _ _ _ _ x e)))))
+rung-sum c l x (suc zero) h e = plus-sum _ _ _ (plus-sum _ _ _ (plus-sum _ _ _ (plus-out _ _ _ (out-wild _ _ _ _ _ x e))))
+rung-sum c l x (suc (suc zero)) h e = plus-sum _ _ _ (plus-sum _ _ _ (plus-out _ _ _ (out-wild _ _ _ _ _ x e)))
+rung-sum c l x (suc (suc (suc zero))) h e = plus-sum _ _ _ (plus-out _ _ _ (out-wild _ _ _ _ _ x e))
+rung-sum c l x (suc (suc (suc (suc zero)))) h e = plus-out _ _ _ (out-wild _ _ _ _ _ x e)
 rung-sum c l x (suc (suc (suc (suc (suc i))))) h e = absurd (omega arith)
 
-rung-cell : (c l : List Float) (x : Float) (i : ℕ) → i < 5 → getD l (2 * i) nan ≡ nan → getD (rungOf c l x .state) (2 * i) nan ≡ nan
+pub rung-cell : (c l : List Float) (x : Float) (i : ℕ) → i < 5 → isFin (getD l (2 * i) nan) ≡ false → isFin (getD (rungOf c l x .state) (2 * i) nan) ≡ false
 unfolding rungOf
-rung-cell c l x zero h e = cell-nan _ _ _ _ _ x e
-rung-cell c l x (suc zero) h e = cell-nan _ _ _ _ _ x e
-rung-cell c l x (suc (suc zero)) h e = cell-nan _ _ _ _ _ x e
-rung-cell c l x (suc (suc (suc zero))) h e = cell-nan _ _ _ _ _ x e
-rung-cell c l x (suc (suc (suc (suc zero)))) h e = cell-nan _ _ _ _ _ x e
+rung-cell c l x zero h e = cell-wild _ _ _ _ _ x e
+rung-cell c l x (suc zero) h e = cell-wild _ _ _ _ _ x e
+rung-cell c l x (suc (suc zero)) h e = cell-wild _ _ _ _ _ x e
+rung-cell c l x (suc (suc (suc zero))) h e = cell-wild _ _ _ _ _ x e
+rung-cell c l x (suc (suc (suc (suc zero)))) h e = cell-wild _ _ _ _ _ x e
 rung-cell c l x (suc (suc (suc (suc (suc i))))) h e = absurd (omega arith)
 
 -- ---- a spoiled state sounds notfinite, and stays spoiled until a reset
-spoiled-sum : (s : FormantOsc) (c : FormantControls) → Spoiled s → isFin (formantRung s c .sum) ≡ false
+pub spoiled-sum : (s : FormantOsc) (c : FormantControls) → Spoiled s → isFin (formantRung s c .sum) ≡ false
 unfolding formantRung
-spoiled-sum s c p = ap isFin (rung-sum (coefMemoOf s c .val) (s .«resonator_state») (glottalPulse (s .phase .0)) (p .0) (p .1) (p .2))
+spoiled-sum s c p = rung-sum (coefMemoOf s c .val) (s .«resonator_state») (glottalPulse (s .phase .0)) (p .0) (p .1) (p .2)
 
 spoiled-sound : (s : FormantOsc) (c : FormantControls) → Spoiled s → Spoiled (formantSoundOf s c .formant)
 unfolding formantSoundOf formantRung
 spoiled-sound s c p = (p .0, p .1, rung-cell (coefMemoOf s c .val) (s .«resonator_state») (glottalPulse (s .phase .0)) (p .0) (p .1) (p .2))
 
-spoiled-tick : (c : FormantControls) (s : FormantOsc) → Spoiled s → Spoiled (formantTickOf s c .formant)
+pub spoiled-tick : (c : FormantControls) (s : FormantOsc) → Spoiled s → Spoiled (formantTickOf s c .formant)
 spoiled-tick c s p = tick-either (λ (t : FormantTicked). Spoiled (t .formant)) s c (spoiled-sound s c p) (λ n. p)
 
 spoiled-after : (s : FormantOsc) (c : Call) → Spoiled s → NoReset c → Spoiled (after s c)
@@ -113,28 +111,13 @@ spoiled-later s p = always Spoiled (λ t e. subst Spoiled (sym e) p) spoiled-aft
 pub stays-spoiled : Stays-spoiled
 stays-spoiled s t p h c = sum-marks t c (spoiled-sum t c (spoiled-later s p h))
 
--- ---- and so do its blocks
-two-told : (a : Answer) → markNumber a ≡ 2 → hostNumber a ≡ 12
-unfolding markNumber hostNumber accepted
-two-told (answer.Clean v) h = absurd (omega arith)
-two-told (answer.Cleared v) h = absurd (omega arith)
-two-told (answer.NotFinite v) h = refl
-two-told (answer.Lost v) h = absurd (omega arith)
-two-told (answer.Refused n) h = absurd (omega arith)
-
--- a block that is taken, each of whose ticks is notfinite
+-- ---- and so do its blocks: one that is taken, each of whose ticks is notfinite
 pub unfinished-marks : (s : FormantOsc) (c : FormantControls) (t : Tally) (o : List Float) (m : List ℕ) → formantBlockOf s c t o m .refused ≡ 0
     → ((i : ℕ) → markNumber (answerAt (formantAnswerOf c) (formantNextOf c) s i) ≡ 2) → formantBlockOf s c t o m .marks ≡ tab (λ i. 12) (length m)
-unfolding formantBlockOf blockOf ticksOf
-unfinished-marks s c t o m r h =
-    let e = sym (block-refusal 1 (formantRefusalOf s) (formantAnswerOf c) (formantNextOf c) s t o m) ∙ r in
-    simp e (tab-ext (markAt (formantAnswerOf c) (formantNextOf c) s) (λ i. 12) (length m) (λ i l. two-told (answerAt (formantAnswerOf c) (formantNextOf c) s i) (h i)))
-
--- its first tick isn't refused
-pub block-taken : (s : FormantOsc) (c : FormantControls) (t : Tally) (o : List Float) (m : List ℕ) → formantBlockOf s c t o m .refused ≡ 0
-    → formantRefusalOf s ≡ 0
-unfolding formantBlockOf
-block-taken s c t o m r = block-fits 1 (formantRefusalOf s) t o m _ (block-refusal 1 (formantRefusalOf s) (formantAnswerOf c) (formantNextOf c) s t o m) r .1
+unfinished-marks s c t o m r h = taken-marks s c t o m r ∙ tab-ext (markAt (formantAnswerOf c) (formantNextOf c) s) (λ i. 12) (length m) (λ i l. twelve i)
+  where
+    twelve : (i : ℕ) → markAt (formantAnswerOf c) (formantNextOf c) s i ≡ 12
+    twelve i = told (answerAt (formantAnswerOf c) (formantNextOf c) s i) (taken-accepts s c t o m r i) ∙ ap (λ (n : ℕ). 10 + n) (h i)
 
 pub blocks-spoiled : Blocks-spoiled
 unfolding answerAt
@@ -143,4 +126,4 @@ blocks-spoiled s t p h c y o m r =
     (λ i.
     let u = afterTicks (formantNextOf c) i t in
     let k = ticks-keep Spoiled (formantNextOf c) (spoiled-tick c) t (spoiled-later s p h) i in
-    sum-marks u c (spoiled-sum u c k) (block-accepts t c (block-taken t c y o m r) i))
+    sum-marks u c (spoiled-sum u c k) (taken-accepts t c y o m r i))

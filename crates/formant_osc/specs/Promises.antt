@@ -1,11 +1,11 @@
 -- Theorems about the FormantOsc: the statements. proofs/ proves each under the same name in small letters.
 use mathlib.Core.Bool.{true, false, cond}
 use mathlib.Core.List.{List}
-use mathlib.Core.Logic.{_⊎_}
+use mathlib.Core.Logic.{_⊎_, _≢_}
 use mathlib.Core.Path.{_≡_}
-use Prim.Native.Nat.{ℕ, _<_, _*_}
+use Prim.Native.Nat.{ℕ, suc, _<_, _*_}
 use lib.Dec.{eqb}
-use lib.Ieee.{Float, nan, binary64, div}
+use lib.Ieee.{Float, nan, binary64, div, ofBits}
 use lib.ListN.{length, getD}
 use Rattle.answer.specs.Answer.{markNumber, accepted, outcomeNumber}
 use Rattle.answer.specs.Block.{Block, blockRefusalOf}
@@ -15,7 +15,8 @@ use Rattle.common.specs.Consts.{five}
 use Rattle.common.specs.Tests.{rateOk, phaseOk}
 use Rattle.common.specs.declared.Hertz.{Hertz}
 use Rattle.formant_osc.specs.Calls.{reply, FitCall, First, ReachedFormant, Later, Tick, Reset, SetSampleRate, Told}
-use Rattle.formant_osc.specs.FormantOsc.{newFormantOsc, formantNewOf, formantRung, formantTickOf, formantBlockOf, formantResetOf, formantSetSampleRateOf, formantRefusalOf, formantAnswerOf, formantNextOf}
+use Rattle.formant_osc.specs.FormantOsc.{newFormantOsc, formantNewOf, formantRung, formantTickOf, formantBlockOf, formantResetOf}
+use Rattle.formant_osc.specs.FormantOsc.{formantSetSampleRateOf, formantRefusalOf, formantAnswerOf, formantNextOf}
 use Rattle.formant_osc.specs.declared.FormantControls.{FormantControls}
 use Rattle.formant_osc.specs.declared.FormantMade.{FormantMade}
 use Rattle.formant_osc.specs.declared.FormantOsc.{FormantOsc}
@@ -52,9 +53,20 @@ Sum-marks = (s : FormantOsc) (c : FormantControls) → isFin (formantRung s c .s
 abbrev pub Clean-finite : Type 0
 Clean-finite = (s : FormantOsc) (c : FormantControls) → markNumber (formantTickOf s c .answer) ≡ 4 → isFin (formantRung s c .sum) ≡ true
 
--- ---- a resonator is spoiled once its first cell is NaN: from then on every tick is notfinite, whatever its controls, until a reset
+-- ---- a clean tick is there: the first of a new one at 48,000 Hz, with every control 0
+abbrev pub firstRate : Hertz
+firstRate = record { 0 = ofBits binary64 0x40e7700000000000 }
+
+abbrev pub noControls : FormantControls
+noControls = record { «v_oct» = record { 0 = zer }; vowel = zer; «formant_shift» = zer; vibrato = zer }
+
+abbrev pub First-clean : Type 0
+First-clean = markNumber (formantTickOf (newFormantOsc firstRate) noControls .answer) ≡ 4
+
+-- ---- a resonator is spoiled once its first cell isn't finite, NaN or infinite: from then on every tick is notfinite, whatever its
+-- controls, until a reset
 abbrev pub Spoiled : FormantOsc → Type 0
-Spoiled s = (i : ℕ) × (i < 5) × (getD (s .«resonator_state») (2 * i) nan ≡ nan)
+Spoiled s = (i : ℕ) × (i < 5) × (isFin (getD (s .«resonator_state») (2 * i) nan) ≡ false)
 
 abbrev pub Stays-spoiled : Type 0
 Stays-spoiled = (s t : FormantOsc) → Spoiled s → Later s t → (c : FormantControls) → accepted (formantTickOf t c .answer) ≡ true
@@ -65,19 +77,69 @@ abbrev pub Blocks-spoiled : Type 0
 Blocks-spoiled = (s t : FormantOsc) → Spoiled s → Later s t → (c : FormantControls) (y : Tally) (o : List Float) (m : List ℕ)
     → formantBlockOf t c y o m .refused ≡ 0 → formantBlockOf t c y o m .marks ≡ tab (λ i. 12) (length m)
 
--- ---- a shift that kills the pitch: where its factor is 0 or NaN the tick is notfinite, and leaves a spoiled resonator
+-- ---- a second cell that isn't finite spoils too, a tick later: the rule of marks asks for the sum, which the second cells don't go into.
+-- So a state of a caller's own, with an infinite second cell and all first cells finite, may have one clean tick, and no other
+abbrev pub Wild-cell : FormantOsc → Type 0
+Wild-cell s = (i : ℕ) × (i < 10) × (isFin (getD (s .«resonator_state») i nan) ≡ false)
+
+abbrev pub Any-cell-spoils : Type 0
+Any-cell-spoils = (s : FormantOsc) (c : FormantControls) → Wild-cell s → accepted (formantTickOf s c .answer) ≡ true
+    → Spoiled (formantTickOf s c .formant)
+
+-- once any cell isn't finite, every later tick but the first one is notfinite until a reset; t has that first tick, and u any later one
+abbrev pub Any-cell-stays : Type 0
+Any-cell-stays = (s t u : FormantOsc) → Wild-cell s → Later s t → (c : FormantControls) → accepted (formantTickOf t c .answer) ≡ true
+    → Later (formantTickOf t c .formant) u → (d : FormantControls) → accepted (formantTickOf u d .answer) ≡ true
+    → markNumber (formantTickOf u d .answer) ≡ 2
+
+-- in a block too: every mark after the first is 12, and it leaves a spoiled resonator
+abbrev pub Blocks-any-cell : Type 0
+Blocks-any-cell = (s t : FormantOsc) → Wild-cell s → Later s t → (c : FormantControls) (y : Tally) (o : List Float) (m : List ℕ)
+    → formantBlockOf t c y o m .refused ≡ 0 → 0 < length m
+    → ((i : ℕ) → suc i < length m → getD (formantBlockOf t c y o m .marks) (suc i) 0 ≡ 12) × Spoiled (formantBlockOf t c y o m .state)
+
+-- ---- controls that kill the first resonator: where the vowel is NaN, or the shift's factor is 0 or NaN, the tick is notfinite, and
+-- leaves NaN in that resonator's first cell
 abbrev pub shiftFactor : FormantControls → Float
 shiftFactor c = exp2Of (div binary64 (c .«formant_shift») five)
 
+abbrev pub Dead : FormantOsc → Type 0
+Dead s = getD (s .«resonator_state») 0 nan ≡ nan
+
 abbrev pub Dead-shift : Type 0
 Dead-shift = (s : FormantOsc) → ReachedFormant s → (c : FormantControls) → FitCall (Tick c) → (shiftFactor c ≡ zer) ⊎ (shiftFactor c ≡ nan)
-    → (markNumber (formantTickOf s c .answer) ≡ 2) × Spoiled (formantTickOf s c .formant)
+    → (markNumber (formantTickOf s c .answer) ≡ 2) × Dead (formantTickOf s c .formant)
+
+abbrev pub Nan-vowel : Type 0
+Nan-vowel = (s : FormantOsc) → ReachedFormant s → (c : FormantControls) → FitCall (Tick c) → c .vowel ≡ nan
+    → (markNumber (formantTickOf s c .answer) ≡ 2) × Dead (formantTickOf s c .formant)
 
 -- so are the ticks of a block
+abbrev pub Deadly : FormantControls → Type 0
+Deadly c = (c .vowel ≡ nan) ⊎ ((shiftFactor c ≡ zer) ⊎ (shiftFactor c ≡ nan))
+
 abbrev pub Blocks-dead : Type 0
-Blocks-dead = (s : FormantOsc) → ReachedFormant s → (c : FormantControls) → FitCall (Tick c) → (shiftFactor c ≡ zer) ⊎ (shiftFactor c ≡ nan)
+Blocks-dead = (s : FormantOsc) → ReachedFormant s → (c : FormantControls) → FitCall (Tick c) → Deadly c
     → (t : Tally) (o : List Float) (m : List ℕ) → formantBlockOf s c t o m .refused ≡ 0 → 0 < length m
-    → (formantBlockOf s c t o m .marks ≡ tab (λ i. 12) (length m)) × Spoiled (formantBlockOf s c t o m .state)
+    → (formantBlockOf s c t o m .marks ≡ tab (λ i. 12) (length m)) × Dead (formantBlockOf s c t o m .state)
+
+-- and such a resonator is spoiled
+abbrev pub Dead-spoiled : Type 0
+Dead-spoiled = (s : FormantOsc) → Dead s → Spoiled s
+
+-- ---- no tick is clean with a control that is NaN, whichever it is
+abbrev pub SomeNan : FormantControls → Type 0
+SomeNan c = (c .«v_oct» .0 ≡ nan) ⊎ ((c .vowel ≡ nan) ⊎ ((c .«formant_shift» ≡ nan) ⊎ (c .vibrato ≡ nan)))
+
+abbrev pub Nan-never-clean : Type 0
+Nan-never-clean = (s : FormantOsc) → ReachedFormant s → (c : FormantControls) → FitCall (Tick c) → SomeNan c
+    → markNumber (formantTickOf s c .answer) ≢ 4
+
+-- so no mark of a block with such controls is 14
+abbrev pub Blocks-never-clean : Type 0
+Blocks-never-clean = (s : FormantOsc) → ReachedFormant s → (c : FormantControls) → FitCall (Tick c) → SomeNan c
+    → (t : Tally) (o : List Float) (m : List ℕ) → formantBlockOf s c t o m .refused ≡ 0
+    → (i : ℕ) → i < length m → getD (formantBlockOf s c t o m .marks) i 0 ≢ 14
 
 -- ---- no tick of a block is refused whose first isn't, and a tally with room takes each of their answers
 abbrev pub Block-accepts : Type 0
@@ -90,6 +152,7 @@ Block-tallies = (s : FormantOsc) (c : FormantControls) → formantRefusalOf s �
 pub record Settled : Type 0 where
   pub new : (r : Hertz) → Settles (λ (a : FormantMade). a ≡ formantNewOf r)
   pub tick : (s : FormantOsc) (c : FormantControls) → Settles (λ (a : FormantTicked). a ≡ formantTickOf s c)
-  pub block : (s : FormantOsc) (c : FormantControls) (t : Tally) (o : List Float) (m : List ℕ) → Settles (λ (b : Block FormantOsc). b ≡ formantBlockOf s c t o m)
+  pub block : (s : FormantOsc) (c : FormantControls) (t : Tally) (o : List Float) (m : List ℕ)
+      → Settles (λ (b : Block FormantOsc). b ≡ formantBlockOf s c t o m)
   pub reset : (s : FormantOsc) → Settles (λ (a : FormantMade). a ≡ formantResetOf s)
   pub «set_sample_rate» : (s : FormantOsc) (r : Hertz) → Settles (λ (a : FormantMade). a ≡ formantSetSampleRateOf s r)

@@ -1,4 +1,4 @@
--- Which values are numbers, that is no NaN.
+-- Which values are numbers, that is no NaN; and what NaN and an infinity leave of a sum, a product and a quotient.
 use mathlib.Core.Bool.{Bool, Bool·beq, _&&_, cond, false, false≢true, not, true, true≢false}
 use mathlib.Core.Path.{_≡_, refl, subst, sym}
 use Prim.Native.Nat.{_*_, _+_, _-_, _^_, suc, zero, ℕ}
@@ -7,6 +7,7 @@ use lib.Ieee.{Float, add, binary64, div, down, eq, fin, inf, isNan, le, lt, mul,
 use lib.Ieee.Exact.{HasValue}
 use lib.Ieee.Fits.{round-is}
 use lib.Ieee.Positive.{positive}
+use lib.IntN.{pos}
 use Rattle.laws.specs.Float.{isFin}
 
 -- ---- a rounded fraction has the sign it is given
@@ -131,6 +132,69 @@ unfolding div
 div-nan-r nan = refl
 div-nan-r (inf s) = refl
 div-nan-r (fin s m e) = refl
+
+pub div-nan-l : (x : Float) → div binary64 nan x ≡ nan
+unfolding div
+div-nan-l x = refl
+
+-- ---- what isn't finite, NaN or infinite, leaves no finite sum and no finite product, and no finite quotient by a zero
+pub add-wild-r : (x y : Float) → isFin y ≡ false → isFin (add binary64 x y) ≡ false
+unfolding add
+add-wild-r nan y h = refl
+add-wild-r (inf s) nan h = refl
+add-wild-r (inf s) (inf t) h = go (Bool·beq s t)
+  where
+    go : (b : Bool) → isFin (cond b (inf s) nan) ≡ false
+    go true = refl
+    go false = refl
+add-wild-r (inf s) (fin t n d) h = refl
+add-wild-r (fin s m e) nan h = refl
+add-wild-r (fin s m e) (inf t) h = refl
+add-wild-r (fin s m e) (fin t n d) h = absurd (true≢false h)
+
+pub add-wild-l : (x y : Float) → isFin x ≡ false → isFin (add binary64 x y) ≡ false
+unfolding add
+add-wild-l nan y h = refl
+add-wild-l (inf s) nan h = refl
+add-wild-l (inf s) (inf t) h = add-wild-r (inf s) (inf t) refl
+add-wild-l (inf s) (fin t n d) h = refl
+add-wild-l (fin s m e) y h = absurd (true≢false h)
+
+pub mul-wild-r : (x y : Float) → isFin y ≡ false → isFin (mul binary64 x y) ≡ false
+unfolding mul
+mul-wild-r nan y h = refl
+mul-wild-r (inf s) nan h = refl
+mul-wild-r (inf s) (inf t) h = refl
+mul-wild-r (inf s) (fin t n d) h = absurd (true≢false h)
+mul-wild-r (fin s m e) nan h = refl
+mul-wild-r (fin s m e) (inf t) h = go (eqb m 0)
+  where
+    go : (b : Bool) → isFin (cond b nan (inf (unlike s t))) ≡ false
+    go true = refl
+    go false = refl
+mul-wild-r (fin s m e) (fin t n d) h = absurd (true≢false h)
+
+pub mul-wild-l : (x y : Float) → isFin x ≡ false → isFin (mul binary64 x y) ≡ false
+unfolding mul
+mul-wild-l nan y h = refl
+mul-wild-l (inf s) nan h = refl
+mul-wild-l (inf s) (inf t) h = refl
+mul-wild-l (inf s) (fin t n d) h = go (eqb n 0)
+  where
+    go : (b : Bool) → isFin (cond b nan (inf (unlike s t))) ≡ false
+    go true = refl
+    go false = refl
+mul-wild-l (fin s m e) y h = absurd (true≢false h)
+
+pub div-zero-wild : (x : Float) (s : Bool) → isFin (div binary64 x (fin s 0 (pos 0))) ≡ false
+unfolding div
+div-zero-wild nan s = refl
+div-zero-wild (inf t) s = refl
+div-zero-wild (fin t m e) s = go (eqb m 0)
+  where
+    go : (b : Bool) → isFin (cond b nan (inf (unlike t s))) ≡ false
+    go true = refl
+    go false = refl
 
 -- ---- what passes a test is a number
 pub lt-number : (x y : Float) → lt x y ≡ true → T (not (isNan x))

@@ -1,0 +1,92 @@
+-- No tick is clean with a control that is NaN: a NaN pitch or vibrato makes the phase's increment NaN, a NaN vowel or shift kills a resonator.
+use mathlib.Core.Bool.{Bool, true, false, _&&_, cond}
+use mathlib.Core.Logic.{_⊎_, inl, inr, _≢_}
+use mathlib.Core.Path.{_≡_, refl, sym, ap, _∙_, subst}
+use Prim.Native.Nat.{ℕ}
+use native.Mathlib.Omega.{arith}
+use lib.Ieee.{Float, nan, binary64, add, div, fits}
+use Rattle.answer.proofs.Laws.{mark-says}
+use Rattle.answer.specs.Answer.{markNumber}
+use Rattle.answer.specs.Block.{answerAt}
+use Rattle.answer.specs.Mark.{allFinite, ruleOf, markOf}
+use Rattle.answer.specs.declared.Volts.{Volts}
+use Rattle.common.proofs.MemoLaws.{recall1-is}
+use Rattle.common.specs.Memo.{voctToHzAt, recall1, filled1}
+use Rattle.common.specs.Phase.{incrementOf}
+use Rattle.common.specs.Pitch.{voctToHz}
+use Rattle.common.specs.Promises.{Coherent1}
+use Rattle.common.specs.declared.Memo1.{Memo1}
+use Rattle.formant_osc.proofs.Dead.{dead-shift, nan-vowel, reached-at}
+use Rattle.formant_osc.proofs.Reached.{tick-sounds, good}
+use Rattle.formant_osc.proofs.Taken.{taken-mark}
+use Rattle.formant_osc.specs.Calls.{ReachedFormant}
+use Rattle.formant_osc.specs.FormantOsc.{freqMemoOf, formantSoundOf, formantTickOf}
+use Rattle.formant_osc.specs.Promises.{shiftFactor, Nan-never-clean, Blocks-never-clean}
+use Rattle.formant_osc.specs.Sound.{pitchOf}
+use Rattle.formant_osc.specs.declared.FormantControls.{FormantControls}
+use Rattle.formant_osc.specs.declared.FormantOsc.{FormantOsc}
+use Rattle.formant_osc.specs.declared.FormantTicked.{FormantTicked}
+use Rattle.laws.proofs.Number.{add-nan-l, add-nan-r, mul-nan-l, mul-nan-r, div-nan-l}
+use Rattle.laws.specs.Float.{zer, one, isFin}
+use Rattle.numeric.proofs.Laws.{clamp-nan, exp2-nan}
+use Rattle.numeric.specs.Basic.{clampOf}
+
+-- ---- the pitch, and what is heard of it
+abbrev tone : FormantOsc → FormantControls → Float
+tone s c = pitchOf (c .«v_oct») (clampOf (c .vibrato) zer one) (s .«vibrato_phase» .0) .0
+
+tone-nan : (s : FormantOsc) (c : FormantControls) → (c .«v_oct» .0 ≡ nan) ⊎ (c .vibrato ≡ nan) → tone s c ≡ nan
+unfolding pitchOf
+tone-nan s c (inl e) = rw e (add-nan-l _)
+tone-nan s c (inr e) = rw (e, clamp-nan, mul-nan-r, mul-nan-l, div-nan-l) (add-nan-r _)
+
+hertz-nan : voctToHzAt nan .0 ≡ nan
+unfolding voctToHz
+hertz-nan = simp (clamp-nan, exp2-nan, mul-nan-r)
+
+memo-nan : (s : FormantOsc) (c : FormantControls) → Coherent1 voctToHzAt (s .«freq_memo») → tone s c ≡ nan → freqMemoOf s c .val .0 ≡ nan
+unfolding freqMemoOf filled1 fits
+memo-nan s c h e =
+    ap (λ (x : Float). recall1 voctToHzAt (s .«freq_memo») x .val .0) e
+    ∙ ap (λ (m : Memo1). m .val .0) (recall1-is voctToHzAt (s .«freq_memo») h nan tt)
+    ∙ hertz-nan
+
+-- ---- a phase that isn't finite is notfinite or lost
+unclean : (v : Volts) (sums phases : Bool) → phases ≡ false → markNumber (markOf v false sums phases) ≢ 4
+unfolding ruleOf
+unclean v sums phases e q = go (sums && allFinite v) (sym (mark-says v false sums phases .number ∙ ap (ruleOf false (sums && allFinite v)) e) ∙ q)
+  where
+    go : (b : Bool) → _≡_ {A = ℕ} (cond b 3 2) 4 → ⊥
+    go true h = omega arith
+    go false h = omega arith
+
+phases-lost : (phase freq rate : Float) (other : Bool) → freq ≡ nan → (isFin (add binary64 phase (div binary64 freq rate)) && other) ≡ false
+phases-lost phase freq rate other e = rw (e, div-nan-l, add-nan-r) refl
+
+sound-lost : (s : FormantOsc) (c : FormantControls) → freqMemoOf s c .val .0 ≡ nan → markNumber (formantSoundOf s c .answer) ≢ 4
+unfolding formantSoundOf incrementOf
+sound-lost s c e = unclean _ _ _ (phases-lost _ _ _ _ e)
+
+tick-lost : (s : FormantOsc) → ReachedFormant s → (c : FormantControls) → (c .«v_oct» .0 ≡ nan) ⊎ (c .vibrato ≡ nan)
+    → markNumber (formantTickOf s c .answer) ≢ 4
+tick-lost s h c d =
+    let g = good h in
+    subst (λ (t : FormantTicked). markNumber (t .answer) ≢ 4) (sym (tick-sounds s c g)) (sound-lost s c (memo-nan s c (g .pitch) (tone-nan s c d)))
+
+-- ---- a shift that is NaN has that factor
+factor-nan : (c : FormantControls) → c .«formant_shift» ≡ nan → shiftFactor c ≡ nan
+factor-nan c e = rw (e, div-nan-l) exp2-nan
+
+two-unclean : (n : ℕ) → n ≡ 2 → n ≢ 4
+two-unclean n e q = omega arith
+
+pub nan-never-clean : Nan-never-clean
+nan-never-clean s h c f (inl e) = tick-lost s h c (inl e)
+nan-never-clean s h c f (inr (inl e)) = two-unclean _ (nan-vowel s h c f e .0)
+nan-never-clean s h c f (inr (inr (inl e))) = two-unclean _ (dead-shift s h c f (inr (factor-nan c e)) .0)
+nan-never-clean s h c f (inr (inr (inr e))) = tick-lost s h c (inr e)
+
+-- ---- the ticks of a block: each state in it is reached
+pub blocks-never-clean : Blocks-never-clean
+unfolding answerAt
+blocks-never-clean s h c f d t o m r i l q = nan-never-clean _ (reached-at s h c f i) c f d (let e = sym (taken-mark s c t o m r i l) ∙ q in omega arith)
