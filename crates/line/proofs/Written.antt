@@ -33,7 +33,8 @@ module _ (n d : ℕ) (h : d ≤ 9) where
   abbrev More : ℕ → List ℕ → Type 0
   More m xs = digitsFrom m xs ≡ Whole false n → digitsFrom m (xs ++ ((48 + d) ∷ [])) ≡ Whole false (n * 10 + d)
 
-  byte : (m b : ℕ) (bs : List ℕ) (t u : Bool) → More (m * 10 + (b - 48)) bs → cond t Malformed (cond u Malformed (digitsFrom (m * 10 + (b - 48)) bs)) ≡ Whole false n
+  byte : (m b : ℕ) (bs : List ℕ) (t u : Bool) → More (m * 10 + (b - 48)) bs
+      → cond t Malformed (cond u Malformed (digitsFrom (m * 10 + (b - 48)) bs)) ≡ Whole false n
       → cond t Malformed (cond u Malformed (digitsFrom (m * 10 + (b - 48)) (bs ++ ((48 + d) ∷ [])))) ≡ Whole false (n * 10 + d)
   byte m b bs true u f e = absurd (no-number e)
   byte m b bs false true f e = absurd (no-number e)
