@@ -66,7 +66,7 @@ module _ (s t : List ℕ) (i : ℕ) (h : i < length s) (g : i < length t) where
   unfolding sameOf
   same-next e = simp (add-one, drop-cons s i 0 h, drop-cons t i 0 g, eq-eqb (getD s i 0) (getD t i 0) e)
 
-no : false ≡ true → ⊥
+pub no : false ≡ true → ⊥
 no p = let z : _≡_ {A = ℕ} 0 1 = cc in omega arith
 
 -- a test whose arms are both false

@@ -5,17 +5,15 @@ use mathlib.Core.List.{List}
 use mathlib.Core.Path.{_≡_, refl, sym, ap, subst, _∙_}
 use native.Mathlib.Nat.{not-suc-le-zero}
 use native.Mathlib.Omega.{arith}
-use lib.Dec.{eqb, ltb}
+use lib.Dec.{eqb}
 use lib.IntN.{ℤ, pos, negsuc}
 use lib.ListN.{length, take}
-use lib.Seq.{length-take-le, take-all}
+use lib.Seq.{length-take-le}
 use lib.Signed.{ltZ}
-use borrow.Author.Tests.{ltb-true, ltb-false, eqb-false, lt-ltb, eq-eqb, ne-eqb}
+use borrow.Author.Tests.{ltb-true, eqb-false, eq-eqb, ne-eqb}
 use Rattle.io.specs.Counts.{clamped}
-use Rattle.score.specs.Score.{scoreOf}
-use Rattle.score.specs.declared.Reading.the-variants.{Refused}
 use Rattle.render.specs.Reads.{stepOf, stepBy, Within, Reaches, takenOf}
-use Rattle.render.specs.Promises.{Failed-read, Enough-read}
+use Rattle.render.specs.Promises.{Failed-read}
 use Rattle.render.specs.declared.Taken.{Taken}
 use Rattle.render.specs.declared.Taken.the-variants.{Text, Failed}
 use Rattle.render.specs.declared.Step.{Step}
@@ -78,21 +76,7 @@ pub within-text : (taken : Taken) (n : ℕ) (input : List ℕ) → Within taken 
 unfolding Within
 within-text taken n input h e = subst (λ (t : Taken). Within t input) e h .1
 
--- ---- the promises
+-- ---- the promise
 pub failed-read : Failed-read
 unfolding stepOf takenOf
 failed-read n k room input = (refl, refl)
-
-too-long : (text : List ℕ) → 1024 < length text → scoreOf text ≡ Refused 20
-unfolding scoreOf
-too-long text h = simp (lt-ltb 1024 (length text) h)
-
-pub enough-read : Enough-read
-enough-read text = go (ltb 1024 (length text)) refl
-  where
-    go : (b : Bool) → ltb 1024 (length text) ≡ b → scoreOf (take 1025 text) ≡ scoreOf text
-    go true z =
-        let h = ltb-true 1024 (length text) z in
-        let l : length (take 1025 text) ≡ 1025 = length-take-le 1025 text h in
-        too-long (take 1025 text) (omega (arith, l)) ∙ sym (too-long text h)
-    go false z = let h = ltb-false 1024 (length text) z in ap scoreOf (take-all 1025 text (omega (arith, h)))

@@ -3,8 +3,6 @@ use Prim.Native.Nat.{ℕ, _+_, _≤_, min}
 use mathlib.Core.List.{List, _++_}
 use mathlib.Core.Path.{_≡_}
 use lib.IntN.{negsuc}
-use lib.ListN.{take}
-use Rattle.score.specs.Score.{scoreOf}
 use Rattle.score.specs.declared.Score.{Score}
 use Rattle.score.specs.declared.Reading.the-variants.{Refused}
 use Rattle.player.specs.Play.{playOf}
@@ -17,10 +15,6 @@ use Rattle.render.specs.declared.Step.the-variants.{Stop}
 -- a read that fails ends the reading, and the input is refused by 21, whatever was read before it
 abbrev pub Failed-read : Type 0
 Failed-read = (n k room : ℕ) (input : List ℕ) → (stepOf n (negsuc k) room ≡ Stop Failed) × (takenOf Failed input ≡ Refused 21)
-
--- of a longer text 1,025 bytes decide
-abbrev pub Enough-read : Type 0
-Enough-read = (text : List ℕ) → scoreOf (take 1025 text) ≡ scoreOf text
 
 -- what was written up to the frame n, and the piece from there, is what is written up to the next piece
 abbrev pub Pieces-join : Type 0

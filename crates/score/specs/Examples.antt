@@ -11,7 +11,7 @@ use Rattle.score.specs.Control.{voltsOf}
 use Rattle.score.specs.Score.{scoreOf}
 use Rattle.score.specs.declared.Control.{Control}
 use Rattle.score.specs.declared.Control.the-variants.{Microvolts, Nan}
-use Rattle.score.specs.declared.Inputs.the-variants.{Vco, Lfo}
+use Rattle.score.specs.declared.Inputs.the-variants.{Vco, Lfo, Supersaw, Formant}
 use Rattle.score.specs.declared.Reading.{Reading}
 use Rattle.score.specs.declared.Reading.the-variants.{Values, Refused}
 
@@ -40,6 +40,51 @@ lfo hz frames rate = "osc=lfo\nhz=" ++ hz ++ "\nframes=" ++ frames ++ "\nrate=" 
 abbrev lfoValues : ℕ → ℕ → Control → Reading
 lfoValues hz frames rate = Values (record { hz = hz; frames = frames; inputs = Lfo (record { rate = rate; depth = Microvolts (pos 0); reset = Nan }) })
 
+-- the other oscillators: ends of the ranges, nan, and numbers less than 0
+abbrev vco : String
+vco = "osc=vco\nhz=1000\nframes=480000\nvoct=-10000000\nfm=10000000\npw=nan\nsync=1\nfm_lin=-1\n"
+
+abbrev vcoValues : Reading
+vcoValues =
+    Values (record {
+      hz = 1000;
+      frames = 480000;
+      inputs = Vco (record {
+        voct = Microvolts (negsuc 9999999);
+        fm = Microvolts (pos 10000000);
+        pw = Nan;
+        sync = Microvolts (pos 1);
+        «fm_lin» = Microvolts (negsuc 0);
+      });
+    })
+
+abbrev supersaw : String
+supersaw = "osc=supersaw\nhz=192000\nframes=1\nvoct=10000000\ndetune=-10000000\nmix=nan\n"
+
+abbrev supersawValues : Reading
+supersawValues =
+    Values (record {
+      hz = 192000;
+      frames = 1;
+      inputs = Supersaw (record { voct = Microvolts (pos 10000000); detune = Microvolts (negsuc 9999999); mix = Nan });
+    })
+
+abbrev formant : String
+formant = "osc=formant\nhz=44100\nframes=480000\nv_oct=-1\nvowel=nan\nformant_shift=10000000\nvibrato=-10000000\n"
+
+abbrev formantValues : Reading
+formantValues =
+    Values (record {
+      hz = 44100;
+      frames = 480000;
+      inputs = Formant (record {
+        «v_oct» = Microvolts (negsuc 0);
+        vowel = Nan;
+        «formant_shift» = Microvolts (pos 10000000);
+        vibrato = Microvolts (negsuc 9999999);
+      });
+    })
+
 pub record Row : Type 0 where
   pub text : List ℕ
   pub reads : Reading
@@ -50,10 +95,13 @@ row text reads = record { text = ascii text; reads = reads }
 abbrev pub table : List Row
 table =
     row worked workedValues
-    -- the ends of the ranges, and nan
+    -- the ends of the ranges, nan, and each oscillator
     ∷ row (lfo "1000" "1" "-10000000") (lfoValues 1000 1 (Microvolts (negsuc 9999999)))
     ∷ row (lfo "192000" "480000" "10000000") (lfoValues 192000 480000 (Microvolts (pos 10000000)))
     ∷ row (lfo "48000" "1" "nan") (lfoValues 48000 1 Nan)
+    ∷ row vco vcoValues
+    ∷ row supersaw supersawValues
+    ∷ row formant formantValues
     -- one past each end; a number less than 0; 12 digits
     ∷ row (lfo "999" "1" "0") (Refused 23)
     ∷ row (lfo "192001" "1" "0") (Refused 23)

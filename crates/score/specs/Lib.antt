@@ -4,4 +4,5 @@ pub mod Score
 pub mod Places
 pub mod Examples
 pub mod Text
+pub mod Promises
 pub mod Settled

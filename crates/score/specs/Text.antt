@@ -1,20 +1,17 @@
--- The text of a score: what is accepted determines it. Assumes nothing.
+-- The text of a score. Assumes nothing.
 use Prim.Native.Nat.{ℕ, suc}
 use Prim.Native.String.{String}
-use mathlib.Core.Path.{_≡_}
 use mathlib.Core.List.{List, [], _∷_, _++_}
 use mathlib.Core.Bool.{true, false}
 use lib.IntN.{pos, negsuc}
 use Rattle.line.specs.Bytes.{ascii}
 use Rattle.line.specs.Number.{numberText}
 use Rattle.line.specs.declared.Number.the-variants.{Whole, Nan}
-use Rattle.score.specs.Score.{scoreOf}
 use Rattle.score.specs.declared.Control.{Control}
 use Rattle.score.specs.declared.Control.the-variants as C
 use Rattle.score.specs.declared.Inputs.{Inputs}
 use Rattle.score.specs.declared.Inputs.the-variants.{Vco, Lfo, Supersaw, Formant}
 use Rattle.score.specs.declared.Score.{Score}
-use Rattle.score.specs.declared.Reading.the-variants.{Values}
 
 -- the value of an input line, and of a line of a whole number
 abbrev pub controlText : Control → List ℕ
@@ -62,7 +59,3 @@ textOf s =
     ++ (lineText "hz" (wholeText (s .hz))
     ++ (lineText "frames" (wholeText (s .frames))
     ++ inputsText (s .inputs)))
-
--- a text that is accepted is the text of its values, so no two texts have the same values
-abbrev pub Score-text : Type 0
-Score-text = (text : List ℕ) (score : Score) → scoreOf text ≡ Values score → textOf score ≡ text

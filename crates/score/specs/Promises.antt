@@ -1,0 +1,57 @@
+-- Theorems about scores: the statements. The proofs of the same names in small letters stand in proofs/.
+use Prim.Native.Nat.{ℕ, _≤_, _<_}
+use mathlib.Core.List.{List}
+use mathlib.Core.Path.{_≡_}
+use lib.IntN.{natAbs}
+use lib.ListN.{length, take}
+use Rattle.score.specs.Score.{scoreOf}
+use Rattle.score.specs.Text.{textOf}
+use Rattle.score.specs.declared.Control.{Control}
+use Rattle.score.specs.declared.Control.the-variants.{Microvolts, Nan}
+use Rattle.score.specs.declared.Inputs.{Inputs}
+use Rattle.score.specs.declared.Inputs.the-variants.{Vco, Lfo, Supersaw, Formant}
+use Rattle.score.specs.declared.Score.{Score}
+use Rattle.score.specs.declared.Reading.the-variants.{Values, Refused}
+
+-- ---- the scores of document 01: hz is 1000 to 192000, frames 1 to 480000, an input microvolts from -10000000 to 10000000 or nan
+abbrev pub ValidInput : Control → Type 0
+ValidInput (Microvolts n) = natAbs n ≤ 10000000
+ValidInput Nan = Unit {0}
+
+abbrev pub ValidInputs : Inputs → Type 0
+ValidInputs (Vco i) = ValidInput (i .voct) × ValidInput (i .fm) × ValidInput (i .pw) × ValidInput (i .sync) × ValidInput (i .«fm_lin»)
+ValidInputs (Lfo i) = ValidInput (i .rate) × ValidInput (i .depth) × ValidInput (i .reset)
+ValidInputs (Supersaw i) = ValidInput (i .voct) × ValidInput (i .detune) × ValidInput (i .mix)
+ValidInputs (Formant i) = ValidInput (i .«v_oct») × ValidInput (i .vowel) × ValidInput (i .«formant_shift») × ValidInput (i .vibrato)
+
+pub record Valid (s : Score) : Type 0 where
+  pub hz-least : 1000 ≤ s .hz
+  pub hz-most : s .hz ≤ 192000
+  pub frames-least : 1 ≤ s .frames
+  pub frames-most : s .frames ≤ 480000
+  pub inputs : ValidInputs (s .inputs)
+
+-- ---- the texts that are accepted are those of the valid scores, one text each
+-- every valid score is read: its text has at most 1,024 bytes, and reads as its values
+abbrev pub Valid-read : Type 0
+Valid-read = (s : Score) → Valid s → scoreOf (textOf s) ≡ Values s
+
+-- no other is
+abbrev pub Read-valid : Type 0
+Read-valid = (text : List ℕ) (s : Score) → scoreOf text ≡ Values s → Valid s
+
+-- and a text that is accepted is the text of its values, so no two texts have the same values
+abbrev pub Score-text : Type 0
+Score-text = (text : List ℕ) (score : Score) → scoreOf text ≡ Values score → textOf score ≡ text
+
+-- ---- the others are refused by 20 to 23
+abbrev pub Refusals : Type 0
+Refusals = (text : List ℕ) (n : ℕ) → scoreOf text ≡ Refused n → (20 ≤ n) × (n ≤ 23)
+
+-- by 20 exactly those over 1,024 bytes
+abbrev pub Long-refused : Type 0
+Long-refused = (text : List ℕ) → (1024 < length text → scoreOf text ≡ Refused 20) × (scoreOf text ≡ Refused 20 → 1024 < length text)
+
+-- so of a longer text 1,025 bytes decide
+abbrev pub Enough-read : Type 0
+Enough-read = (text : List ℕ) → scoreOf (take 1025 text) ≡ scoreOf text
