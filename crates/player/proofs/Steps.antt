@@ -55,3 +55,11 @@ module _ (out : List ℕ) (n : ℕ) (p : Player) (number : ℕ) (e : number ≡ 
   pub none-run : (number ≡ 0 → ⊥) → Answered out n p (record { refused = number; player = p; to = 0 }) out
   unfolding ranOf runText runAfter placeOf
   none-run z = let f = ne-eqb (refusalOf p n) 0 (λ h. z (e ∙ h)) in let start : 0 ≡ min (length out) (0 + 0) = omega arith in rw f (λ i. record { refused = e i; player = p; to = start i }, refl)
+
+-- one that isn't refused has run
+pub has-run : (out q : List ℕ) (n : ℕ) (p : Player) (r : Played) → refusalOf p n ≡ 0 → Answered out n p r q → Ran out p q (r .player) (r .to) n
+unfolding ranOf runText runAfter
+has-run out q n p r free (e, eq) =
+    let t = eq-eqb (refusalOf p n) 0 free in
+    let ran : Ran out p q (r .player) (r .to) n = rw t at (ap (λ (r : Played). r .player) e, (ap (λ (r : Played). r .to) e, eq)) in
+    ran

@@ -1,22 +1,34 @@
 -- What is written, piece by piece, is what is printed of the score.
-use Prim.Native.Nat.{ℕ, _+_, _-_, _≤_, _<_, min}
-use mathlib.Core.List.{List}
+use Prim.Native.Nat.{ℕ, zero, suc, _+_, _-_, _*_, _≤_, _<_, min}
+use mathlib.Core.Bool.{Bool, true, false}
+use mathlib.Core.List.{List, _++_, append-nil}
 use mathlib.Core.Path.{_≡_, refl, sym, ap, _∙_}
+use native.Mathlib.Nat.{min-eq-left, min-eq-right, suc-mul}
 use native.Mathlib.Omega.{arith}
+use lib.Dec.{leb}
 use lib.ListN.{length, take}
+use borrow.Author.Tests.{leb-true, leb-false}
 use Rattle.text.specs.Promises.{Put}
+use Rattle.score.proofs.Lines.{not-refused}
+use Rattle.score.specs.Score.{scoreOf}
+use Rattle.score.specs.declared.Reading.the-variants.{Values}
 use Rattle.score.specs.declared.Score.{Score}
 use Rattle.frame.specs.Promises.{ShortTally}
 use Rattle.frame.specs.End.{refusedText}
 use Rattle.frame.proofs.Lengths.{put-whole, end-length, refused-length}
-use Rattle.player.specs.Player.{beginOf, textOf, afterOf, turnsOf, playedOf, finishOf}
+use Rattle.player.specs.Play.{printedOf, renderOf}
+use Rattle.player.specs.Player.{beginOf, textOf, afterOf, turnsOf, refusalOf, finishOf}
 use Rattle.player.specs.declared.Player.{Player}
 use Rattle.player.specs.declared.Played.{Played}
 use Rattle.player.proofs.Pieces.{pieces, frame-after, frames-after}
-use Rattle.player.proofs.Steps.{Done}
+use Rattle.player.proofs.Steps.{Ran, Answered, has-run}
+use Rattle.player.proofs.Unrefused.{never-refused}
 use Rattle.player.proofs.Whole.{plays, piece-length}
-use Rattle.render.specs.Writes.{pieceOf, endOf}
-use Rattle.render.specs.Promises.{Pieces-join, All-written}
+use Rattle.render.specs.Reads.{takenOf}
+use Rattle.render.specs.Writes.{pieceOf, piecesOf, endOf}
+use Rattle.render.specs.Promises.{Pieces-join}
+use Rattle.render.specs.declared.Taken.{Taken}
+use Rattle.render.specs.declared.Taken.the-variants.{Text, Failed}
 
 -- ---- where the playing stands between two pieces
 abbrev pub Stands : Score → Player → Type 0
@@ -30,13 +42,18 @@ same-frames : (s : Score) (n : ℕ) → afterOf n (beginOf s) .frames ≡ s .fra
 unfolding beginOf
 same-frames s n = frames-after (beginOf s) n
 
+-- a score that was read of some text
+abbrev pub IsRead : Score → Type 0
+IsRead s = (text : List ℕ) × (scoreOf text ≡ Values s)
+
+pub was-read : (taken : Taken) (input : List ℕ) (s : Score) → takenOf taken input ≡ Values s → IsRead s
+unfolding takenOf
+was-read (Text n) input s e = (take n input, e)
+was-read Failed input s e = absurd (not-refused e)
+
 module _ (s : Score) (p : Player) (at : Stands s p) where
   frames-left : p .frames ≡ s .frames
   frames-left = ap (λ (p : Player). p .frames) (at .0) ∙ same-frames s (p .frame)
-
-  pub put-piece : (out q : List ℕ) (k : ℕ) (r : Played) → Done out 0 (textOf k p) (afterOf k p) r q → Put out 0 (textOf k p) (r .to) q
-  unfolding playedOf
-  put-piece out q k r (e, eq) = (ap (λ (r : Played). r .to) e, eq)
 
   turns-most : (k : ℕ) → turnsOf p k ≤ k
   unfolding turnsOf
@@ -50,36 +67,43 @@ module _ (s : Score) (p : Player) (at : Stands s p) where
   unfolding pieceOf
   same-piece k = ap (λ (p : Player). textOf (turnsOf p k) p) (at .0)
 
-  -- the buffer holds the whole piece
-  pub piece-written : (out q : List ℕ) (r : Played) → s .frames ≤ 4294967295 → length out ≡ 65536 → Done out 0 (textOf (turnsOf p 400) p) (afterOf (turnsOf p 400) p) r q
-      → take (r .to) q ≡ pieceOf s (p .frame) 400
-  piece-written out q r top n d =
-      let a = turns-most 400 in
-      let b = turns-fit 400 in
-      let l = piece-length p (turnsOf p 400) (omega arith) in
-      put-whole out (textOf (turnsOf p 400) p) (r .to) q (put-piece out q (turnsOf p 400) r d) (omega arith) ∙ same-piece 400
+  -- a run of the next frames, which nothing refuses
+  module _ (read : IsRead s) (out q : List ℕ) (k : ℕ) (r : Played) (answered : Answered out (turnsOf p k) p r q) where
+    free : refusalOf p (turnsOf p k) ≡ 0
+    free = ap (λ (p : Player). refusalOf p (turnsOf p k)) (at .0) ∙ never-refused (read .0) s (read .1) (p .frame) k (at .1)
 
-  next-stands : (k : ℕ) (n : Player) → n ≡ afterOf (turnsOf p k) p → Stands s n
-  next-stands k n e =
-      let f : n .frame ≡ p .frame + turnsOf p k = ap (λ (p : Player). p .frame) e ∙ frame-after p (turnsOf p k) in
-      let b = turns-fit k in
-      (e ∙ ap (afterOf (turnsOf p k)) (at .0) ∙ sym (pieces (beginOf s) (p .frame) (turnsOf p k) .1) ∙ ap (λ (m : ℕ). afterOf m (beginOf s)) (sym f), omega arith)
+    ran : Ran out p q (r .player) (r .to) (turnsOf p k)
+    ran = has-run out q (turnsOf p k) p r free answered
 
-  pub stands-next : (out q : List ℕ) (k : ℕ) (r : Played) → Done out 0 (textOf (turnsOf p k) p) (afterOf (turnsOf p k) p) r q → Stands s (r .player)
-  unfolding playedOf
-  stands-next out q k r (e, eq) = next-stands k (r .player) (ap (λ (r : Played). r .player) e)
+    pub put-piece : Put out 0 (textOf (turnsOf p k) p) (r .to) q
+    put-piece = ran .1
 
-  turns-some : p .frame < p .frames → 0 < turnsOf p 400
-  unfolding turnsOf
-  turns-some h = omega arith
+    next-frame : r .player .frame ≡ p .frame + turnsOf p k
+    next-frame = ap (λ (p : Player). p .frame) (ran .0) ∙ frame-after p (turnsOf p k)
 
-  -- fewer frames are left
-  pub less-left : (out q : List ℕ) (r : Played) → Done out 0 (textOf (turnsOf p 400) p) (afterOf (turnsOf p 400) p) r q → p .frame < p .frames
-      → s .frames - r .player .frame < s .frames - p .frame
-  unfolding playedOf
-  less-left out q r (e, eq) h =
-      let f : r .player .frame ≡ p .frame + turnsOf p 400 = ap (λ (r : Played). r .player .frame) e ∙ frame-after p (turnsOf p 400) in
-      omega (arith, turns-fit 400, turns-some h)
+    pub stands-next : Stands s (r .player)
+    stands-next =
+        let b = turns-fit k in
+        let f = next-frame in (
+          ran .0 ∙ ap (afterOf (turnsOf p k)) (at .0) ∙ sym (pieces (beginOf s) (p .frame) (turnsOf p k) .1) ∙ ap (λ (m : ℕ). afterOf m (beginOf s)) (sym f),
+          omega arith,
+        )
+
+    -- the buffer holds the whole piece
+    pub piece-written : k ≤ 400 → s .frames ≤ 4294967295 → length out ≡ 65536 → take (r .to) q ≡ pieceOf s (p .frame) k
+    piece-written few top n =
+        let a = turns-most k in
+        let b = turns-fit k in
+        let l = piece-length p (turnsOf p k) (omega arith) in
+        put-whole out (textOf (turnsOf p k) p) (r .to) q put-piece (omega arith) ∙ same-piece k
+
+    turns-some : 0 < k → p .frame < p .frames → 0 < turnsOf p k
+    unfolding turnsOf
+    turns-some z h = omega arith
+
+    -- fewer frames are left
+    pub less-left : 0 < k → p .frame < p .frames → s .frames - r .player .frame < s .frames - p .frame
+    less-left z h = omega (arith, turns-fit k, turns-some z h, next-frame)
 
   -- after the last frame
   pub end-written : (out q : List ℕ) (r : ℕ) → p .frames ≤ p .frame → ShortTally (p .tally) → length out ≡ 65536 → Put out 0 (finishOf p) r q → take r q ≡ endOf s
@@ -92,21 +116,45 @@ module _ (s : Score) (p : Player) (at : Stands s p) where
       put-whole out (finishOf p) r q put (omega arith) ∙ ap finishOf (at .0 ∙ ap (λ (m : ℕ). afterOf m (beginOf s)) last)
 
 -- ---- the pieces join
-turns-to : (s : Score) (n k : ℕ) → n ≤ s .frames → n + turnsOf (afterOf n (beginOf s)) k ≡ min (n + k) (s .frames)
-unfolding turnsOf
-turns-to s n k h = omega (arith, same-frames s n, frame-after (beginOf s) n, first s)
-  where
-    first : (s : Score) → beginOf s .frame ≡ 0
-    first s = unfold beginOf in refl
+module _ (s : Score) (k : ℕ) where
+  -- the frame that a piece from n on begins with, and those that are left from there
+  turns-from : (n : ℕ) → turnsOf (afterOf n (beginOf s)) k ≡ min k (s .frames - n)
+  unfolding turnsOf
+  turns-from n = omega (arith, same-frames s n, frame-after (beginOf s) n, first)
+    where
+      first : beginOf s .frame ≡ 0
+      first = unfold beginOf in refl
+
+  -- what is written up to the frame n, and the piece from there, is what is written up to the next piece
+  next-piece : (n : ℕ) → textOf (min n (s .frames)) (beginOf s) ++ pieceOf s n k ≡ textOf (min (n + k) (s .frames)) (beginOf s)
+  unfolding pieceOf
+  next-piece n = go (leb n (s .frames)) refl
+    where
+      turns : ℕ
+      turns = turnsOf (afterOf n (beginOf s)) k
+
+      within-frames : n ≤ s .frames → textOf n (beginOf s) ++ textOf turns (afterOf n (beginOf s)) ≡ textOf (min (n + k) (s .frames)) (beginOf s)
+      within-frames h = sym (pieces (beginOf s) n turns .0) ∙ ap (λ (m : ℕ). textOf m (beginOf s)) (omega (arith, turns-from n, h))
+
+      past-frames : s .frames < n → textOf (s .frames) (beginOf s) ++ textOf turns (afterOf n (beginOf s)) ≡ textOf (min (n + k) (s .frames)) (beginOf s)
+      past-frames h =
+          ap (λ (m : ℕ). textOf (s .frames) (beginOf s) ++ textOf m (afterOf n (beginOf s))) (omega (arith, turns-from n, h))
+          ∙ (unfold textOf in append-nil (textOf (s .frames) (beginOf s)))
+          ∙ ap (λ (m : ℕ). textOf m (beginOf s)) (omega (arith, h))
+
+      go : (b : Bool) → leb n (s .frames) ≡ b → textOf (min n (s .frames)) (beginOf s) ++ textOf turns (afterOf n (beginOf s)) ≡ textOf (min (n + k) (s .frames)) (beginOf s)
+      go true e = let h = leb-true n (s .frames) e in rw (min-eq-left h) (within-frames h)
+      go false e = let h = leb-false n (s .frames) e in ap (λ (m : ℕ). textOf m (beginOf s) ++ textOf turns (afterOf n (beginOf s))) (omega (arith, h)) ∙ past-frames h
+
+  pieces-to : (m : ℕ) → piecesOf s k m ≡ textOf (min (m * k) (s .frames)) (beginOf s)
+  unfolding piecesOf
+  pieces-to zero = unfold textOf in ap (λ (m : ℕ). textOf m (beginOf s)) (omega arith)
+  pieces-to (suc m) = ap (λ (t : List ℕ). t ++ pieceOf s (m * k) k) (pieces-to m) ∙ next-piece (m * k) ∙ ap (λ (n : ℕ). textOf (min n (s .frames)) (beginOf s)) (sym (suc-mul m k))
 
 pub pieces-join : Pieces-join
-unfolding pieceOf
-pieces-join s n k h =
-    sym (pieces (beginOf s) n (turnsOf (afterOf n (beginOf s)) k) .0) ∙ ap (λ (m : ℕ). textOf m (beginOf s)) (turns-to s n k h)
-
-pub all-written : All-written
-unfolding endOf
-all-written s = plays s
+unfolding endOf renderOf
+pieces-join text s k m e h =
+    ap (λ (t : List ℕ). t ++ endOf s) (pieces-to s k m ∙ ap (λ (n : ℕ). textOf n (beginOf s)) (min-eq-right h)) ∙ plays s ∙ sym (ap printedOf e)
 
 -- ---- a refusal
 pub refused-written : (out q : List ℕ) (r n : ℕ) → n < 4294967296 → length out ≡ 65536 → Put out 0 (refusedText n) r q → take r q ≡ refusedText n

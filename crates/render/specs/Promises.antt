@@ -1,14 +1,14 @@
 -- Theorems about what the program reads and writes: the statements. The proofs of the same names in small letters stand in proofs/.
-use Prim.Native.Nat.{ℕ, _+_, _≤_, min}
+use Prim.Native.Nat.{ℕ, _*_, _≤_}
 use mathlib.Core.List.{List, _++_}
 use mathlib.Core.Path.{_≡_}
 use lib.IntN.{negsuc}
+use Rattle.score.specs.Score.{scoreOf}
 use Rattle.score.specs.declared.Score.{Score}
-use Rattle.score.specs.declared.Reading.the-variants.{Refused}
-use Rattle.player.specs.Play.{playOf}
-use Rattle.player.specs.Player.{beginOf, textOf}
+use Rattle.score.specs.declared.Reading.the-variants.{Values, Refused}
+use Rattle.player.specs.Play.{renderOf}
 use Rattle.render.specs.Reads.{stepOf, takenOf}
-use Rattle.render.specs.Writes.{pieceOf, endOf}
+use Rattle.render.specs.Writes.{piecesOf, endOf}
 use Rattle.render.specs.declared.Taken.the-variants.{Failed}
 use Rattle.render.specs.declared.Step.the-variants.{Stop}
 
@@ -16,10 +16,6 @@ use Rattle.render.specs.declared.Step.the-variants.{Stop}
 abbrev pub Failed-read : Type 0
 Failed-read = (n k room : ℕ) (input : List ℕ) → (stepOf n (negsuc k) room ≡ Stop Failed) × (takenOf Failed input ≡ Refused 21)
 
--- what was written up to the frame n, and the piece from there, is what is written up to the next piece
+-- the pieces of k frames each, as many as the frames need, and the end join to what document 01 prints of the text
 abbrev pub Pieces-join : Type 0
-Pieces-join = (s : Score) (n k : ℕ) → n ≤ s .frames → textOf n (beginOf s) ++ pieceOf s n k ≡ textOf (min (n + k) (s .frames)) (beginOf s)
-
--- and all of it, with the last piece, is what document 01 prints
-abbrev pub All-written : Type 0
-All-written = (s : Score) → textOf (s .frames) (beginOf s) ++ endOf s ≡ playOf s
+Pieces-join = (text : List ℕ) (s : Score) (k m : ℕ) → scoreOf text ≡ Values s → s .frames ≤ m * k → piecesOf s k m ++ endOf s ≡ renderOf text

@@ -1,12 +1,17 @@
 -- What the program writes of a score, piece by piece.
-use Prim.Native.Nat.{ℕ}
-use mathlib.Core.List.{List}
+use Prim.Native.Nat.{ℕ, zero, suc, _*_}
+use mathlib.Core.List.{List, [], _++_}
 use Rattle.score.specs.declared.Score.{Score}
 use Rattle.player.specs.Player.{beginOf, textOf, afterOf, turnsOf, finishOf}
 
 -- the piece that begins with the frame n: k frames, or as many as are left
 unfoldable pub pieceOf : Score → ℕ → ℕ → List ℕ
 pieceOf s n k = let p = afterOf n (beginOf s) in textOf (turnsOf p k) p
+
+-- the first m pieces of k frames each, one after another
+unfoldable pub piecesOf : Score → ℕ → ℕ → List ℕ
+piecesOf s k zero = []
+piecesOf s k (suc m) = piecesOf s k m ++ pieceOf s (m * k) k
 
 -- the last one, after all frames
 unfoldable pub endOf : Score → List ℕ

@@ -188,7 +188,7 @@ pub data Says (P : Score → Type 0) : Reading → Type 0 where
   values : (score : Score) → P score → Says P (Values score)
   refused : (n : ℕ) → LineRefused n → Says P (Refused n)
 
-not-refused : {n : ℕ} {score : Score} → Refused n ≡ Values score → ⊥
+pub not-refused : {n : ℕ} {score : Score} → Refused n ≡ Values score → ⊥
 not-refused p = let z : _≡_ {A = ℕ} 0 1 = cc in omega arith
 
 pub said-values : {P : Score → Type 0} {r : Reading} (score : Score) → Says P r → r ≡ Values score → P score
