@@ -1,4 +1,4 @@
--- What an answer stands for: document 01's number of each case, and its values.
+-- What an answer stands for: the scope's number of each case, and its values.
 use mathlib.Core.Bool.{Bool, true, false, cond}
 use Prim.Native.Nat.{ℕ, _+_}
 use lib.Dec.{eqb}
@@ -9,7 +9,7 @@ use Rattle.answer.specs.declared.Answer.the-variants as answer
 use Rattle.answer.specs.declared.Outcome.{Outcome}
 use Rattle.answer.specs.declared.Outcome.the-variants as outcome
 
--- 1 cleared, 2 notfinite, 3 lost, 4 clean, as document 01 numbers its rules; 0 of a refused tick
+-- 1 cleared, 2 notfinite, 3 lost, 4 clean, as the scope numbers its rules; 0 of a refused tick
 unfoldable pub markNumber : Answer → ℕ
 markNumber (answer.Clean v) = 4
 markNumber (answer.Cleared v) = 1
@@ -25,7 +25,7 @@ voltsOf (answer.NotFinite v) = v
 voltsOf (answer.Lost v) = v
 voltsOf (answer.Refused n) = record { p10 = zer; p11 = zer; p12 = zer; p13 = zer; p14 = zer }
 
--- document 01's number of a refusal; 0 of an accepted tick
+-- the scope's number of a refusal; 0 of an accepted tick
 unfoldable pub refusalOf : Answer → ℕ
 refusalOf (answer.Clean v) = 0
 refusalOf (answer.Cleared v) = 0

@@ -1,4 +1,4 @@
--- The mark of an accepted tick: document 01, "Marks and tally".
+-- The mark of an accepted tick: the scope, "Marks and tally".
 use mathlib.Core.Bool.{Bool, cond, _&&_}
 use Prim.Native.Nat.{ℕ, _+_}
 use Rattle.laws.specs.Float.{isFin}

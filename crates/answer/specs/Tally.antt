@@ -1,4 +1,4 @@
--- The tally: document 01, "Marks and tally" and refusal 7.
+-- The tally: the scope, "Marks and tally" and refusal 7.
 use mathlib.Core.Bool.{Bool, cond}
 use mathlib.Core.List.{List, [], _∷_}
 use Prim.Native.Nat.{ℕ, _+_}
@@ -26,7 +26,7 @@ oneIf n k = cond (eqb n k) 1 0
 unfoldable pub counted : Tally → ℕ → Tally
 counted t n = record { begun = t .begun + 1; finished = t .finished + oneIf n 4; cleared = t .cleared + oneIf n 1; notfinite = t .notfinite + oneIf n 2; lost = t .lost + oneIf n 3 }
 
--- document 01's number of each case: 0 taken, or what refused; and its tally, of a refusal the one that stays
+-- the scope's number of each case: 0 taken, or what refused; and its tally, of a refusal the one that stays
 unfoldable pub talliedNumber : Tallied → ℕ
 talliedNumber (tallied.Taken t) = 0
 talliedNumber (tallied.Refused n) = n

@@ -1,4 +1,4 @@
-// Added by document 01: what a tick answers, how it is marked, and the tally of the answers. One text for all oscillators.
+// Added by the scope: what a tick answers, how it is marked, and the tally of the answers. One text for all oscillators.
 ghost use mathlib.Core.Path.{_≡_};
 ghost use Prim.Native.Nat.{_<_, _≤_, _+_};
 ghost use lib.ListN.{length};
@@ -33,7 +33,7 @@ pub enum Outcome {
     Refused(u32),
 }
 
-// Document 01's number of a mark: 1 cleared, 2 notfinite, 3 lost, 4 clean; 0 of a refused tick.
+// The scope's number of a mark: 1 cleared, 2 notfinite, 3 lost, 4 clean; 0 of a refused tick.
 pub fn mark_number(a: Answer) -> u32
     ensures { λ r. ⌜ r ≡ markNumber a ⌝ }
 {

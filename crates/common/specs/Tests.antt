@@ -1,4 +1,4 @@
--- The tests behind document 01's refusals 1, 2, 5 and 6.
+-- The tests behind the scope's refusals 1, 2, 5 and 6.
 use mathlib.Core.Bool.{Bool, true, cond, _&&_}
 use mathlib.Core.List.{List}
 use Prim.Native.Nat.{ℕ, zero, suc}

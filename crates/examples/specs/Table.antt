@@ -1,4 +1,4 @@
--- Document 01's ten examples: one table, about the definitions that the contracts cite, and the statement that every row holds.
+-- The scope's ten examples: one table, about the definitions that the contracts cite, and the statement that every row holds.
 use Prim.Native.Nat.{ℕ}
 use Prim.Native.String.{String, _++_}
 use mathlib.Core.Bool.{Bool, true, false}
@@ -35,7 +35,7 @@ pub data Row : Type 0 where
 abbrev f64 : ℕ → Float
 f64 = ofBits binary64
 
--- the score of document 01, and what `render` prints of it
+-- the score of the scope, and what `render` prints of it
 abbrev score : String
 score = "osc=vco\nhz=48000\nframes=1\nvoct=0\nfm=0\npw=500000\nsync=0\nfm_lin=-5000000\n"
 

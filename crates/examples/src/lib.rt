@@ -1,1 +1,1 @@
-// The ten examples of document 01: specs/ has the table, proofs/ the theorem. There is no code.
+// The ten examples of the scope: specs/ has the table, proofs/ the theorem. There is no code.

@@ -2,7 +2,7 @@
 // pink2.running_sum, correlation, last_white] and wholes [pink.index, pink2.index], of each the low 32 bits; samples are
 // [white, pink, white2, pink2]. A `given` of 0 leaves a tick's correlation to the stored one.
 // Each call but `needed` and `needed_by` answers a number: 0 done; of an accepted tick 12 notfinite, 14 clean (11 and 13 are
-// other oscillators'); of a refused call 5 to 7 as document 01 has them, or 50, 51, 52, 53 where floats, wholes, samples or
+// other oscillators'); of a refused call 5 to 7 as the scope has them, or 50, 51, 52, 53 where floats, wholes, samples or
 // counts have another length. A refused call writes nothing. A block answers 0, with the ticks' samples one after another,
 // their marks by the same numbers, and the tally's five counts: begun, finished, cleared, notfinite, lost.
 use answer::Tallied;

@@ -1,6 +1,6 @@
 // The score's reader for hosts, over lent slices. What is read goes to floats, the inputs' volts in port order, 0.0 past
 // the oscillator's last one, and to wholes [osc, hz, frames], with osc 0 vco, 1 lfo, 2 supersaw, 3 formant.
-// The call answers a number: 0 read; 20 to 23 as document 01 refuses a score, or 50, 51 where floats or wholes have another
+// The call answers a number: 0 read; 20 to 23 as the scope refuses a score, or 50, 51 where floats or wholes have another
 // length. A refused call writes nothing.
 use score::FormantInputs;
 use score::Inputs;

@@ -1,6 +1,6 @@
 // The Vco for hosts. A state is two lent slices: floats [phase, sample_rate, sync_edge.prev, freq_memo.val] and
 // wholes [key0, key1, key2, valid]; samples are [sin, tri, saw, sqr]. A call answers 0 (done), 10 and the number of the
-// mark of an accepted tick (11 cleared, 12 notfinite, 13 lost, 14 clean), or what refused it: document 01's number, or
+// mark of an accepted tick (11 cleared, 12 notfinite, 13 lost, 14 clean), or what refused it: the scope's number, or
 // 50, 51, 52, 53 for floats, wholes, samples, counts of another length. A refused call leaves every slice as it stood.
 // A block answers 0; its samples come tick by tick, its marks by the same numbers, and counts are
 // the tally's [begun, finished, cleared, notfinite, lost].

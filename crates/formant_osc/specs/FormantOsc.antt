@@ -1,4 +1,4 @@
--- The FormantOsc's calls, written from oscillators.rs, with document 01's refusals and marks.
+-- The FormantOsc's calls, written from oscillators.rs, with the scope's refusals and marks.
 use mathlib.Core.Bool.{false, cond, _&&_}
 use mathlib.Core.List.{List, [], _∷_}
 use Prim.Native.Nat.{ℕ}

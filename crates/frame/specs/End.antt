@@ -1,4 +1,4 @@
--- The text of the end, and that of a refused score, written from document 01, "The score and its program".
+-- The text of the end, and that of a refused score, written from the scope, "The score and its program".
 use Prim.Native.Nat.{ℕ}
 use mathlib.Core.Bool.{Bool, cond, _&&_}
 use mathlib.Core.List.{List, _++_}

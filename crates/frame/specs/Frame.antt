@@ -1,4 +1,4 @@
--- The text of a frame, written from document 01, "The score and its program".
+-- The text of a frame, written from the scope, "The score and its program".
 use Prim.Native.Nat.{ℕ}
 use mathlib.Core.List.{List, [], _++_}
 use lib.Ieee.{Float, binary64, toBits}

@@ -1,4 +1,4 @@
--- A block of ticks of one set of controls, by document 01's refusals. Each is lent the same draws; only the first can need them.
+-- A block of ticks of one set of controls, by the scope's refusals. Each is lent the same draws; only the first can need them.
 use mathlib.Core.Bool.{cond}
 use mathlib.Core.List.{List}
 use Prim.Native.Nat.{ℕ}

@@ -1,4 +1,4 @@
--- The Lfo's calls, written from oscillators.rs, with document 01's refusals and marks.
+-- The Lfo's calls, written from oscillators.rs, with the scope's refusals and marks.
 use mathlib.Core.Bool.{true, false, cond}
 use mathlib.Core.List.{List}
 use Prim.Native.Nat.{ℕ}
@@ -79,7 +79,7 @@ lfoNextOf c wanted s = lfoTickOf s c wanted .lfo
 unfoldable pub lfoBlockOf : Lfo → LfoControls → ℕ → Tally → List Float → List ℕ → Block Lfo
 lfoBlockOf s c wanted t o m = blockOf 5 (lfoRefusalOf s) (lfoAnswerOf c wanted) (lfoNextOf c wanted) s t o m
 
--- document 01's number of what a call made, 0 unless it was refused, and the state then: a refusal leaves the old one
+-- the scope's number of what a call made, 0 unless it was refused, and the state then: a refusal leaves the old one
 unfoldable pub madeNumber : LfoMade → ℕ
 madeNumber (made.Made t) = 0
 madeNumber (made.Refused n) = n

@@ -1,4 +1,4 @@
--- The NoiseGenerator's calls, written from oscillators.rs, with document 01's marks and its refusals 5 and 6. The draws are lent.
+-- The NoiseGenerator's calls, written from oscillators.rs, with the scope's marks and its refusals 5 and 6. The draws are lent.
 use mathlib.Core.Bool.{false, true, cond}
 use mathlib.Core.List.{List}
 use Prim.Native.Nat.{ℕ, zero, suc, _+_, _*_}

@@ -1,4 +1,4 @@
--- What document 01 promises of these functions, for all x, and what the crates above need of them: the statements.
+-- What the scope promises of these functions, for all x, and what the crates above need of them: the statements.
 -- proofs/Laws.antt has the proof of each under the same name in small letters.
 use mathlib.Core.Path.{_≡_}
 use mathlib.Core.Bool.{Bool, true, false, not, cond}

@@ -1,4 +1,4 @@
--- Document 01's example, from the score's bytes to what is printed. The frame's answer is the Vco's own theorem.
+-- The scope's example, from the score's bytes to what is printed. The frame's answer is the Vco's own theorem.
 use mathlib.Core.List.{List, [], _∷_, _++_}
 use mathlib.Core.Path.{_≡_, refl, ap, _∙_}
 use Prim.Native.Nat.{ℕ}

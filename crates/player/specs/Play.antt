@@ -1,4 +1,4 @@
--- What `render` prints of a score, written from document 01, "The score and its program": each frame is one tick of a new
+-- What `render` prints of a score, written from the scope, "The score and its program": each frame is one tick of a new
 -- oscillator with the same inputs and all outputs wanted; the tally is given each answer.
 use Prim.Native.Nat.{ℕ, zero, suc}
 use mathlib.Core.List.{List, [], _∷_, _++_}

@@ -92,7 +92,7 @@ pub record Settled : Type 0 where
       → Settles (λ (a : Played × List ℕ). (a .0 ≡ ranOf out (turnsOf p budget) p) × (a .1 ≡ sets out 0 (runText (turnsOf p budget) p)))
   pub finish : (p : Player) (out : List ℕ) → Settles (λ (a : ℕ × List ℕ). Put out 0 (finishOf p) (a .0) (a .1))
 
--- ---- document 01's example
+-- ---- the scope's example
 abbrev pub Worked : Type 0
 Worked =
     renderOf (ascii "osc=vco\nhz=48000\nframes=1\nvoct=0\nfm=0\npw=500000\nsync=0\nfm_lin=-5000000\n")

@@ -16,6 +16,6 @@ use Rattle.render.specs.declared.Step.the-variants.{Stop}
 abbrev pub Failed-read : Type 0
 Failed-read = (n k room : ℕ) (input : List ℕ) → (stepOf n (negsuc k) room ≡ Stop Failed) × (takenOf Failed input ≡ Refused 21)
 
--- the pieces of k frames each, as many as the frames need, and the end join to what document 01 prints of the text
+-- the pieces of k frames each, as many as the frames need, and the end join to what the scope prints of the text
 abbrev pub Pieces-join : Type 0
 Pieces-join = (text : List ℕ) (s : Score) (k m : ℕ) → scoreOf text ≡ Values s → s .frames ≤ m * k → piecesOf s k m ++ endOf s ≡ renderOf text

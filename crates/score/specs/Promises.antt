@@ -13,7 +13,7 @@ use Rattle.score.specs.declared.Inputs.the-variants.{Vco, Lfo, Supersaw,
 use Rattle.score.specs.declared.Score.{Score}
 use Rattle.score.specs.declared.Reading.the-variants.{Values, Refused}
 
--- ---- the scores of document 01: hz is 1000 to 192000, frames 1 to 480000, an input microvolts from -10000000 to 10000000 or nan
+-- ---- the scores of the scope: hz is 1000 to 192000, frames 1 to 480000, an input microvolts from -10000000 to 10000000 or nan
 abbrev pub ValidInput : Control → Type 0
 ValidInput (Microvolts n) = natAbs n ≤ 10000000
 ValidInput Nan = Unit {0}

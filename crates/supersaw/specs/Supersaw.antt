@@ -1,4 +1,4 @@
--- The Supersaw's calls, written from oscillators.rs, with document 01's refusals and marks.
+-- The Supersaw's calls, written from oscillators.rs, with the scope's refusals and marks.
 use mathlib.Core.Bool.{Bool, true, false, cond, _&&_}
 use mathlib.Core.List.{List}
 use Prim.Native.Nat.{ℕ}

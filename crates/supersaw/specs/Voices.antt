@@ -30,7 +30,7 @@ subDtOf base rate = incrementOf base (record { 0 = mul binary64 two (rate .0) })
 unfoldable pub sawOf : Float → Float → Float
 sawOf phase dt = sub binary64 (sub binary64 (mul binary64 two phase) one) (polyblepOf phase dt)
 
--- the loop's locals; finite is document 01's: each phase plus its increment was
+-- the loop's locals; finite is the scope's: each phase plus its increment was
 pub record Voices : Type 0 where
   pub phases : List Float
   pub sum : Float

@@ -1,4 +1,4 @@
--- Document 01's printed frame. Of the powers and the sine it uses only that 2 ^ 0 is 1 and the sine of 0 is 0.
+-- The scope's printed frame. Of the powers and the sine it uses only that 2 ^ 0 is 1 and the sine of 0 is 0.
 use mathlib.Core.Bool.{true, false}
 use mathlib.Core.Path.{_≡_, refl, ap, _∙_}
 use lib.Dec.{lit≤}

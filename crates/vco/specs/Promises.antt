@@ -93,7 +93,7 @@ pub record Settled : Type 0 where
   pub reset : (s : Vco) → Settles (λ (m : VcoMade). m ≡ vcoResetOf s)
   pub rate : (s : Vco) (r : Hertz) → Settles (λ (m : VcoMade). m ≡ vcoSetSampleRateOf s r)
 
--- ---- document 01's example 10: the frame that `render` prints
+-- ---- the scope's example 10: the frame that `render` prints
 -- 48,000 Hz; voct 0, fm 0, pw 0.5, sync 0 and fm_lin -5 V
 abbrev pub frameRate : Hertz
 frameRate = record { 0 = ofBits binary64 0x40e7700000000000 }

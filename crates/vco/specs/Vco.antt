@@ -1,4 +1,4 @@
--- The Vco's calls, written from oscillators.rs line by line, with document 01's marks and refusals.
+-- The Vco's calls, written from oscillators.rs line by line, with the scope's marks and refusals.
 use mathlib.Core.Bool.{Bool, true, false, cond}
 use mathlib.Core.List.{List}
 use Prim.Native.Nat.{ℕ}
@@ -121,7 +121,7 @@ vcoNextOf c wanted s = vcoTickOf s c wanted .vco
 unfoldable pub vcoBlockOf : Vco → VcoControls → ℕ → Tally → List Float → List ℕ → Block Vco
 vcoBlockOf s c wanted t o m = blockOf 4 (vcoRefusalOf s) (vcoToldOf c wanted) (vcoNextOf c wanted) s t o m
 
--- document 01's number of what a call made, 0 unless it was refused, and the state then: a refusal leaves the old one
+-- the scope's number of what a call made, 0 unless it was refused, and the state then: a refusal leaves the old one
 unfoldable pub madeNumber : VcoMade → ℕ
 madeNumber (made.Made t) = 0
 madeNumber (made.Refused n) = n

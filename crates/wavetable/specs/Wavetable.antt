@@ -1,4 +1,4 @@
--- The Wavetable's calls, written from oscillators.rs, with document 01's refusals and marks.
+-- The Wavetable's calls, written from oscillators.rs, with the scope's refusals and marks.
 use mathlib.Core.Bool.{true, false, cond}
 use mathlib.Core.List.{List}
 use Prim.Native.Nat.{ℕ}

@@ -1,4 +1,4 @@
-//! The Rust's oscillators with the mark that document 01 gives each of their ticks.
+//! The Rust's oscillators with the mark that the scope gives each of their ticks.
 use crate::pair::{used, wanted_of};
 use crate::script::mark;
 use gruttisol::answer::Mark;

@@ -76,7 +76,7 @@ pub fn refusal(rate: f64, phases: &[f64]) -> u32 {
     }
 }
 
-/// Whether a gate rises, as document 01 has it.
+/// Whether a gate rises, as the scope has it.
 pub fn rises(previous: f64, v: f64) -> bool {
     v > 2.5 && previous <= 2.5
 }

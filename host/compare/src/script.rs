@@ -34,11 +34,11 @@ pub trait Pair: Sized {
     fn put_ours(&mut self, floats: &Self::Floats, wholes: &Self::Wholes);
     /// Puts the Rust's to a state that isn't refused.
     fn put_theirs(&mut self, floats: &Self::Floats, wholes: &Self::Wholes, draw: &mut Draw);
-    /// The number that document 01 refuses a state by, or 0.
+    /// The number that the scope refuses a state by, or 0.
     fn refusal(floats: &Self::Floats, wholes: &Self::Wholes) -> u32;
 
     fn ours_tick(&mut self, controls: &[f64], wanted: u32, samples: &mut [f64]) -> Result<Mark, Refused>;
-    /// The mark is document 01's, of the Rust's values.
+    /// The mark is the scope's, of the Rust's values.
     fn theirs_tick(&mut self, controls: &[f64], wanted: u32, samples: &mut [f64]) -> Mark;
     /// As many ticks as there are marks.
     fn ours_block(
@@ -158,7 +158,7 @@ pub fn run<P: Pair>(seed: u64, ticks: u64) -> Result<Counts, String> {
 }
 
 /// So many ticks from a seed, in the words of the list that the program `replay` runs: a state, controls, the mask and what is
-/// lent, and what the Rust makes of them. A state that document 01 refuses is answered by its number and left as it stood.
+/// lent, and what the Rust makes of them. A state that the scope refuses is answered by its number and left as it stood.
 pub fn ticks<P: Pair>(seed: u64, n: usize) -> Result<Vec<Vec<u64>>, String> {
     const CALLS: usize = 20; // of one oscillator
     let (mut draw, mut counts) = (Draw::new(seed), Counts::default());
@@ -505,7 +505,7 @@ fn refused(answer: Result<(), Refused>, number: u32, counts: &mut Counts) -> Res
         *counts.refused.entry(number).or_default() += 1;
         Ok(())
     } else {
-        Err(format!("answered {answer:?}, and document 01 refuses it by {number}"))
+        Err(format!("answered {answer:?}, and the scope refuses it by {number}"))
     }
 }
 
@@ -543,7 +543,7 @@ pub fn bad_phase(phase: f64) -> bool {
     !(0.0..1.0).contains(&phase)
 }
 
-/// The mark by document 01's rule: `outputs` are the wanted ones, `sums` what stands before a clamp, `phases` each phase
+/// The mark by the scope's rule: `outputs` are the wanted ones, `sums` what stands before a clamp, `phases` each phase
 /// plus its increment.
 pub fn mark(
     outputs: impl IntoIterator<Item = f64>,

@@ -7,7 +7,7 @@ pub const LIMIT: usize = 1024;
 /// Microvolts either way that an input may have.
 pub const LARGEST: i64 = 10_000_000;
 
-/// Why a score is refused, by document 01's numbers.
+/// Why a score is refused, by the scope's numbers.
 #[derive(Clone, Copy, PartialEq, Eq, Debug)]
 pub enum Refusal {
     /// More than `LIMIT` bytes.

@@ -1,4 +1,4 @@
-//! The score that document 01 prints in full.
+//! The score that the scope prints in full.
 
 #[test]
 fn the_worked_example() {

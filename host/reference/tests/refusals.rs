@@ -1,4 +1,4 @@
-//! Scores and the number that each is refused by, written by hand from document 01; 0 says that it is played.
+//! Scores and the number that each is refused by, written by hand from the scope; 0 says that it is played.
 use reference::score::read;
 
 /// The number by what the program prints.
