@@ -9,7 +9,21 @@ use gruttisol::wavetable::{self, Wavetable};
 use random::Random;
 use std::fmt::Write;
 
-const RATE: f64 = 48000.0;
+/// Frames a second.
+pub const HZ: u32 = 48000;
+const RATE: f64 = HZ as f64;
+/// What there is, as `text` names it.
+pub const NAMES: [&str; 3] = ["wavetable", "string", "noise"];
+
+/// The text of a name; of another than `NAMES` there is none.
+pub fn text(name: &str) -> Option<Result<String, Refused>> {
+    match name {
+        "wavetable" => Some(wavetable()),
+        "string" => Some(string()),
+        "noise" => Some(noise()),
+        _ => None,
+    }
+}
 
 /// The frames so far and their tally.
 #[derive(Default)]
@@ -45,7 +59,7 @@ impl Text {
 }
 
 /// Middle C, gliding from the first table of the bank to the last.
-pub fn wavetable() -> Result<String, Refused> {
+fn wavetable() -> Result<String, Refused> {
     const FRAMES: u32 = 1920;
     let mut bank = vec![0.0; Wavetable::BANK];
     Wavetable::fill_bank(&mut bank)?;
@@ -61,7 +75,7 @@ pub fn wavetable() -> Result<String, Refused> {
 }
 
 /// A string an octave above middle C, plucked in its first frame.
-pub fn string() -> Result<String, Refused> {
+fn string() -> Result<String, Refused> {
     const FRAMES: u32 = 2400;
     let mut line = vec![0.0; KarplusStrong::cells(RATE)];
     let mut random = Random::new(1);
@@ -78,7 +92,7 @@ pub fn string() -> Result<String, Refused> {
 }
 
 /// White and pink noise; the second of each turns from a noise of its own into the first.
-pub fn noise() -> Result<String, Refused> {
+fn noise() -> Result<String, Refused> {
     const FRAMES: u32 = 480;
     let mut random = Random::new(1);
     let mut noise = NoiseGenerator::new();

@@ -56,19 +56,23 @@ fn the_gallery_is_drawn_anew() {
     let page = fs::read_to_string(repository().join("docs/gallery.md")).unwrap();
     let pictures = names("docs/gallery", "svg");
     for name in &pictures {
-        let text = match name.as_str() {
-            // render doesn't play these
-            "wavetable" => frames::wavetable().unwrap(),
-            "string" => frames::string().unwrap(),
-            "noise" => frames::noise().unwrap(),
-            _ => String::from_utf8(program::render(&fs::read(preset(name)).unwrap())).unwrap(),
+        let (text, hz) = match frames::text(name) {
+            Some(text) => (text.unwrap(), frames::HZ),
+            None => {
+                let score = fs::read(preset(name)).unwrap();
+                let hz = reference::score::read(&score).unwrap().hz;
+                (String::from_utf8(program::render(&score)).unwrap(), hz)
+            }
         };
         assert!(text.contains("begun="), "{name}");
         let stored = fs::read_to_string(repository().join("docs/gallery").join(name).with_extension("svg")).unwrap();
-        assert!(picture::svg(&text).unwrap() == stored, "{name}: its picture is drawn otherwise today");
+        assert!(picture::svg(&text, hz).unwrap() == stored, "{name}: its picture is drawn otherwise today");
         assert!(stored.len() < 60_000, "{name}: {} bytes", stored.len());
         assert!(page.contains(&format!("(gallery/{name}.svg)")), "{name} isn't on the page");
     }
     assert_eq!(page.matches(".svg)").count(), pictures.len());
+    for name in frames::NAMES {
+        assert!(pictures.contains(name), "{name} has no picture");
+    }
     println!("{} pictures", pictures.len());
 }
