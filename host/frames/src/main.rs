@@ -1,4 +1,4 @@
-//! Prints the frames of the Wavetable, the string or noise: `cargo run --offline --release -q -p frames -- NAME`, the NAME being one of `frames::NAMES`.
+//! Prints frames that no score can ask of `render`: `cargo run --offline --release -q -p frames -- NAME`, the NAME being one of `frames::NAMES`.
 use std::process::ExitCode;
 
 fn main() -> ExitCode {
