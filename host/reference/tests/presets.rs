@@ -20,11 +20,12 @@ fn names(folder: &str, ending: &str) -> BTreeSet<String> {
         .collect()
 }
 
-/// Each row of the table: a preset's name and what `render` claims at its end.
-fn described() -> Vec<(String, String)> {
+/// Each row of the tables, or of those below a heading: a preset's name and what `render` claims at its end.
+fn described(heading: &str) -> Vec<(String, String)> {
     let readme = fs::read_to_string(repository().join("presets/README.md")).unwrap();
+    let (_, tables) = readme.split_once(heading).expect(heading);
     let cell = |cell: &str| cell.trim().trim_matches('`').to_owned();
-    let rows = readme.lines().filter_map(|line| line.strip_prefix("| `"));
+    let rows = tables.lines().filter_map(|line| line.strip_prefix("| `"));
     rows.map(|row| {
         let cells: Vec<&str> = row.trim_end_matches('|').split('|').collect();
         (cell(cells[0]), cell(cells[cells.len() - 1]))
@@ -34,7 +35,7 @@ fn described() -> Vec<(String, String)> {
 
 #[test]
 fn presets_are_as_described() {
-    let described = described();
+    let described = described("# Presets\n");
     let named: BTreeSet<String> = described.iter().map(|(name, _)| name.clone()).collect();
     assert_eq!(named, names("presets", "score"));
     assert!(named.len() >= 12);
@@ -49,6 +50,16 @@ fn presets_are_as_described() {
         assert!(!refused, "{name}");
     }
     println!("{} presets", described.len());
+}
+
+#[test]
+fn long_presets_last_a_second() {
+    let long = described("\n## A second or more\n");
+    assert!(long.len() >= 7);
+    for (name, _) in long {
+        let score = reference::score::read(&fs::read(preset(&name)).unwrap()).unwrap();
+        assert!(score.frames >= score.hz && score.hz >= 44100, "{name}: {score:?}");
+    }
 }
 
 #[test]
