@@ -1,7 +1,8 @@
-//! The three oscillators that `render` doesn't play, over the safe crate, in the text that `render` prints: each frame with its mark,
-//! and the tally at the end. It shows how a service drives an oscillator, lends it a bank, a line or draws, and counts what is
-//! finished.
+//! What no score can ask of `render`, over the safe crate, in the text that `render` prints: the three oscillators that it doesn't
+//! play, and vowels that change. Each frame has its mark, and the tally stands at the end. It shows how a service drives an
+//! oscillator, lends it a bank, a line or draws, and counts what is finished.
 use gruttisol::answer::{Mark, Refused};
+use gruttisol::formant_osc::{self, FormantOsc};
 use gruttisol::karplus_strong::{self, KarplusStrong};
 use gruttisol::noise_generator::{self, NoiseGenerator};
 use gruttisol::tally::Tally;
@@ -9,7 +10,23 @@ use gruttisol::wavetable::{self, Wavetable};
 use random::Random;
 use std::fmt::Write;
 
-const RATE: f64 = 48000.0;
+/// Frames a second.
+pub const HZ: u32 = 48000;
+const RATE: f64 = HZ as f64;
+/// What there is, as `text` names it.
+pub const NAMES: [&str; 5] = ["wavetable", "string", "noise", "vowels", "vowels_begin"];
+
+/// The text of a name; of another than `NAMES` there is none.
+pub fn text(name: &str) -> Option<Result<String, Refused>> {
+    match name {
+        "wavetable" => Some(wavetable()),
+        "string" => Some(string()),
+        "noise" => Some(noise()),
+        "vowels" => Some(vowels(20_000)),
+        "vowels_begin" => Some(vowels(480)),
+        _ => None,
+    }
+}
 
 /// The frames so far and their tally.
 #[derive(Default)]
@@ -45,7 +62,7 @@ impl Text {
 }
 
 /// Middle C, gliding from the first table of the bank to the last.
-pub fn wavetable() -> Result<String, Refused> {
+fn wavetable() -> Result<String, Refused> {
     const FRAMES: u32 = 1920;
     let mut bank = vec![0.0; Wavetable::BANK];
     Wavetable::fill_bank(&mut bank)?;
@@ -61,7 +78,7 @@ pub fn wavetable() -> Result<String, Refused> {
 }
 
 /// A string an octave above middle C, plucked in its first frame.
-pub fn string() -> Result<String, Refused> {
+fn string() -> Result<String, Refused> {
     const FRAMES: u32 = 2400;
     let mut line = vec![0.0; KarplusStrong::cells(RATE)];
     let mut random = Random::new(1);
@@ -78,7 +95,7 @@ pub fn string() -> Result<String, Refused> {
 }
 
 /// White and pink noise; the second of each turns from a noise of its own into the first.
-pub fn noise() -> Result<String, Refused> {
+fn noise() -> Result<String, Refused> {
     const FRAMES: u32 = 480;
     let mut random = Random::new(1);
     let mut noise = NoiseGenerator::new();
@@ -91,4 +108,18 @@ pub fn noise() -> Result<String, Refused> {
         text.frame(ticked.mark, &[("white", white), ("pink", pink), ("white2", white2), ("pink2", pink2)])?;
     }
     Ok(text.end(FRAMES))
+}
+
+/// So many frames of middle C, sung by turns on two vowels: six frames "see", eight frames "father". A resonator goes on with the
+/// other vowel's coefficients from what it held, and grows.
+fn vowels(frames: u32) -> Result<String, Refused> {
+    let mut oscillator = FormantOsc::new(RATE)?;
+    let mut text = Text::default();
+    for frame in 0..frames {
+        let vowel = if frame % 14 < 6 { 0.5 } else { 0.0 };
+        let controls = formant_osc::Controls { v_oct: 0.0, vowel, formant_shift: 0.0, vibrato: 0.0 };
+        let ticked = oscillator.tick(&controls)?;
+        text.frame(ticked.mark, &[("out", ticked.volts.out)])?;
+    }
+    Ok(text.end(frames))
 }

@@ -1,22 +1,24 @@
-//! Prints the frames of the Wavetable, the string or noise: `cargo run --offline --release -q -p frames -- wavetable`, `string` or `noise`.
+//! Prints frames that no score can ask of `render`: `cargo run --offline --release -q -p frames -- NAME`, the NAME being one of `frames::NAMES`.
 use std::process::ExitCode;
 
 fn main() -> ExitCode {
-    let text = match std::env::args().nth(1).as_deref() {
-        Some("wavetable") => frames::wavetable(),
-        Some("string") => frames::string(),
-        Some("noise") => frames::noise(),
-        _ => {
-            eprintln!("usage: frames wavetable|string|noise");
-            return ExitCode::from(2);
-        }
+    let words: Vec<_> = std::env::args_os().skip(1).collect();
+    let text = match &words[..] {
+        [name] => name.to_str().and_then(frames::text),
+        _ => None,
     };
     match text {
-        Ok(text) => print!("{text}"),
-        Err(refused) => {
+        Some(Ok(text)) => {
+            print!("{text}");
+            ExitCode::SUCCESS
+        }
+        Some(Err(refused)) => {
             eprintln!("{refused}");
-            return ExitCode::FAILURE;
+            ExitCode::FAILURE
+        }
+        None => {
+            eprintln!("usage: frames {}", frames::NAMES.join("|"));
+            ExitCode::from(2)
         }
     }
-    ExitCode::SUCCESS
 }

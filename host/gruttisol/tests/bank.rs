@@ -1,4 +1,4 @@
-//! A bank or part of another size, and a table that there isn't, are refused by 4 and left as they stood.
+//! A bank or part of another size, and a table that there isn't, are refused by 4 and left as they stood; and how loud the tables are.
 use gruttisol::answer::Refused;
 use gruttisol::wavetable::Wavetable;
 
@@ -36,4 +36,14 @@ fn a_part_is_filled_as_the_bank() {
         Wavetable::fill_table(table as u64, &mut part).unwrap();
         assert_eq!(part, expected, "table {table}");
     }
+}
+
+/// The most volts of each table, over all its levels, in thousandths: the two pulses aren't held to 5 V.
+#[test]
+fn how_loud_the_tables_are() {
+    let mut bank = vec![MARK; Wavetable::BANK];
+    Wavetable::fill_bank(&mut bank).unwrap();
+    let most = |table: &[f64]| table.iter().fold(0.0, |most: f64, x| most.max((x * 5.0).abs()));
+    let loudest: Vec<u32> = bank.chunks(Wavetable::TABLE).map(|table| (most(table) * 1000.0).round() as u32).collect();
+    assert_eq!(loudest, [5000, 4937, 5817, 6366, 25414, 22345, 3591, 4236]);
 }

@@ -9,6 +9,7 @@ pub struct Render {
     pub end: Vec<String>,
 }
 
+const MARKS: [&str; 4] = ["clean", "cleared", "notfinite", "lost"];
 /// The lines at the end, by their keys.
 const END: [&str; 6] = ["begun", "finished", "cleared", "notfinite", "lost", "claimed"];
 
@@ -24,7 +25,11 @@ pub fn read(text: &str) -> Result<Render, String> {
         if value != marks.len().to_string() {
             return Err(lines.wrong("isn't the next frame"));
         }
-        marks.push(lines.keyed("mark")?.to_owned());
+        let mark = lines.keyed("mark")?;
+        if !MARKS.contains(&mark) {
+            return Err(lines.wrong("isn't the line of a mark"));
+        }
+        marks.push(mark.to_owned());
         (key, value) = lines.next()?;
         let mut port = 0;
         while key != "n" && key != END[0] {

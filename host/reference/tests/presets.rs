@@ -20,11 +20,12 @@ fn names(folder: &str, ending: &str) -> BTreeSet<String> {
         .collect()
 }
 
-/// Each row of the table: a preset's name and what `render` claims at its end.
-fn described() -> Vec<(String, String)> {
+/// Each row of the tables, or of those below a heading: a preset's name and what `render` claims at its end.
+fn described(heading: &str) -> Vec<(String, String)> {
     let readme = fs::read_to_string(repository().join("presets/README.md")).unwrap();
+    let (_, tables) = readme.split_once(heading).expect(heading);
     let cell = |cell: &str| cell.trim().trim_matches('`').to_owned();
-    let rows = readme.lines().filter_map(|line| line.strip_prefix("| `"));
+    let rows = tables.lines().filter_map(|line| line.strip_prefix("| `"));
     rows.map(|row| {
         let cells: Vec<&str> = row.trim_end_matches('|').split('|').collect();
         (cell(cells[0]), cell(cells[cells.len() - 1]))
@@ -34,7 +35,7 @@ fn described() -> Vec<(String, String)> {
 
 #[test]
 fn presets_are_as_described() {
-    let described = described();
+    let described = described("# Presets\n");
     let named: BTreeSet<String> = described.iter().map(|(name, _)| name.clone()).collect();
     assert_eq!(named, names("presets", "score"));
     assert!(named.len() >= 12);
@@ -52,23 +53,37 @@ fn presets_are_as_described() {
 }
 
 #[test]
+fn long_presets_last_a_second() {
+    let long = described("\n## A second or more\n");
+    assert!(long.len() >= 7);
+    for (name, _) in long {
+        let score = reference::score::read(&fs::read(preset(&name)).unwrap()).unwrap();
+        assert!(score.frames >= score.hz && score.hz >= 44100, "{name}: {score:?}");
+    }
+}
+
+#[test]
 fn the_gallery_is_drawn_anew() {
     let page = fs::read_to_string(repository().join("docs/gallery.md")).unwrap();
     let pictures = names("docs/gallery", "svg");
     for name in &pictures {
-        let text = match name.as_str() {
-            // render doesn't play these
-            "wavetable" => frames::wavetable().unwrap(),
-            "string" => frames::string().unwrap(),
-            "noise" => frames::noise().unwrap(),
-            _ => String::from_utf8(program::render(&fs::read(preset(name)).unwrap())).unwrap(),
+        let (text, hz) = match frames::text(name) {
+            Some(text) => (text.unwrap(), frames::HZ),
+            None => {
+                let score = fs::read(preset(name)).unwrap();
+                let hz = reference::score::read(&score).unwrap().hz;
+                (String::from_utf8(program::render(&score)).unwrap(), hz)
+            }
         };
         assert!(text.contains("begun="), "{name}");
         let stored = fs::read_to_string(repository().join("docs/gallery").join(name).with_extension("svg")).unwrap();
-        assert!(picture::svg(&text).unwrap() == stored, "{name}: its picture is drawn otherwise today");
+        assert!(picture::svg(&text, hz).unwrap() == stored, "{name}: its picture is drawn otherwise today");
         assert!(stored.len() < 60_000, "{name}: {} bytes", stored.len());
         assert!(page.contains(&format!("(gallery/{name}.svg)")), "{name} isn't on the page");
     }
     assert_eq!(page.matches(".svg)").count(), pictures.len());
+    for name in frames::NAMES {
+        assert!(pictures.contains(name), "{name} has no picture");
+    }
     println!("{} pictures", pictures.len());
 }
