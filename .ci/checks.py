@@ -273,16 +273,16 @@ DECLARED = {
 
 
 def map_holds(files):
-    """Each name of the proof map stands in the file that the map gives."""
-    path = "docs/PROOFS.md"
-    text = files.get(path, "")
-    spans = list(re.finditer(r"`([\w/]+(\.antt|\.rt|\.rs)):([^`\s]+)`", text))
-    if not spans:
-        yield f"{path}: names nothing"
-    for m in spans:
-        declared = DECLARED[m[2]].format(re.escape(m[3]))
-        if m[1] not in files or not re.search(declared, files[m[1]], re.M):
-            yield f"{path}:{line(text, m.start())}: {m[1]} has no {m[3]}"
+    """Each name of the proof map, and of the scope's sentences, stands in the file that the page gives."""
+    for path in "docs/PROOFS.md", "docs/SCOPE.md":
+        text = files.get(path, "")
+        spans = list(re.finditer(r"`([\w/]+(\.antt|\.rt|\.rs)):([^`\s]+)`", text))
+        if not spans:
+            yield f"{path}: names nothing"
+        for m in spans:
+            declared = DECLARED[m[2]].format(re.escape(m[3]))
+            if m[1] not in files or not re.search(declared, files[m[1]], re.M):
+                yield f"{path}:{line(text, m.start())}: {m[1]} has no {m[3]}"
 
 
 def counted(files):
@@ -493,6 +493,8 @@ CHECKS = {
         {"docs/PROOFS.md": "`crates/laws/specs/Gone.antt:Settles`\n"},
         {"docs/PROOFS.md": "`host/gruttisol/tests/grid.rs:tangent`\n"},
         {"docs/PROOFS.md": "nothing\n"},
+        {"docs/SCOPE.md": "`crates/laws/specs/Machine.antt:Settle`\n"},
+        {"docs/SCOPE.md": "nothing\n"},
     ],
     counted: [{"docs/PROOFS.md": "nothing\n"}],
     tests_counted: [

@@ -61,5 +61,6 @@ pub has-run : (out q : List ℕ) (n : ℕ) (p : Player) (r : Played) → refusal
 unfolding ranOf runText runAfter
 has-run out q n p r free (e, eq) =
     let t = eq-eqb (refusalOf p n) 0 free in
-    let ran : Ran out p q (r .player) (r .to) n = rw t at (ap (λ (r : Played). r .player) e, (ap (λ (r : Played). r .to) e, eq)) in
-    ran
+    let who = ap (λ (r : Played). r .player) e in
+    let place = ap (λ (r : Played). r .to) e in
+    (rw t at who, (rw t at place, rw t at eq))

@@ -117,7 +117,7 @@ module _ (s : Score) (p : Player) (at : Stands s p) where
 
 -- ---- the pieces join
 module _ (s : Score) (k : ℕ) where
-  -- the frame that a piece from n on begins with, and those that are left from there
+  -- how many frames a piece has
   turns-from : (n : ℕ) → turnsOf (afterOf n (beginOf s)) k ≡ min k (s .frames - n)
   unfolding turnsOf
   turns-from n = omega (arith, same-frames s n, frame-after (beginOf s) n, first)
@@ -125,31 +125,37 @@ module _ (s : Score) (k : ℕ) where
       first : beginOf s .frame ≡ 0
       first = unfold beginOf in refl
 
-  -- what is written up to the frame n, and the piece from there, is what is written up to the next piece
-  next-piece : (n : ℕ) → textOf (min n (s .frames)) (beginOf s) ++ pieceOf s n k ≡ textOf (min (n + k) (s .frames)) (beginOf s)
+  -- the text of the first n frames, or of all
+  abbrev upTo : ℕ → List ℕ
+  upTo n = textOf (min n (s .frames)) (beginOf s)
+
+  within-frames : (n : ℕ) → n ≤ s .frames → upTo n ++ pieceOf s n k ≡ upTo (n + k)
   unfolding pieceOf
+  within-frames n h =
+      let turns = turnsOf (afterOf n (beginOf s)) k in
+      let to : n + turns ≡ min (n + k) (s .frames) = omega (arith, turns-from n) in
+      ap (λ (m : ℕ). textOf m (beginOf s) ++ textOf turns (afterOf n (beginOf s))) (min-eq-left h)
+      ∙ sym (pieces (beginOf s) n turns .0) ∙ ap (λ (m : ℕ). textOf m (beginOf s)) to
+
+  past-frames : (n : ℕ) → s .frames < n → upTo n ++ pieceOf s n k ≡ upTo (n + k)
+  unfolding pieceOf textOf
+  past-frames n h =
+      let none : turnsOf (afterOf n (beginOf s)) k ≡ 0 = omega (arith, turns-from n) in
+      let all : min n (s .frames) ≡ min (n + k) (s .frames) = omega arith in
+      ap (λ (m : ℕ). upTo n ++ textOf m (afterOf n (beginOf s))) none ∙ append-nil (upTo n) ∙ ap (λ (m : ℕ). textOf m (beginOf s)) all
+
+  -- what is written up to the frame n, and the piece from there, is what is written up to the next piece
+  next-piece : (n : ℕ) → upTo n ++ pieceOf s n k ≡ upTo (n + k)
   next-piece n = go (leb n (s .frames)) refl
     where
-      turns : ℕ
-      turns = turnsOf (afterOf n (beginOf s)) k
+      go : (b : Bool) → leb n (s .frames) ≡ b → upTo n ++ pieceOf s n k ≡ upTo (n + k)
+      go true e = within-frames n (leb-true n (s .frames) e)
+      go false e = past-frames n (leb-false n (s .frames) e)
 
-      within-frames : n ≤ s .frames → textOf n (beginOf s) ++ textOf turns (afterOf n (beginOf s)) ≡ textOf (min (n + k) (s .frames)) (beginOf s)
-      within-frames h = sym (pieces (beginOf s) n turns .0) ∙ ap (λ (m : ℕ). textOf m (beginOf s)) (omega (arith, turns-from n, h))
-
-      past-frames : s .frames < n → textOf (s .frames) (beginOf s) ++ textOf turns (afterOf n (beginOf s)) ≡ textOf (min (n + k) (s .frames)) (beginOf s)
-      past-frames h =
-          ap (λ (m : ℕ). textOf (s .frames) (beginOf s) ++ textOf m (afterOf n (beginOf s))) (omega (arith, turns-from n, h))
-          ∙ (unfold textOf in append-nil (textOf (s .frames) (beginOf s)))
-          ∙ ap (λ (m : ℕ). textOf m (beginOf s)) (omega (arith, h))
-
-      go : (b : Bool) → leb n (s .frames) ≡ b → textOf (min n (s .frames)) (beginOf s) ++ textOf turns (afterOf n (beginOf s)) ≡ textOf (min (n + k) (s .frames)) (beginOf s)
-      go true e = let h = leb-true n (s .frames) e in rw (min-eq-left h) (within-frames h)
-      go false e = let h = leb-false n (s .frames) e in ap (λ (m : ℕ). textOf m (beginOf s) ++ textOf turns (afterOf n (beginOf s))) (omega (arith, h)) ∙ past-frames h
-
-  pieces-to : (m : ℕ) → piecesOf s k m ≡ textOf (min (m * k) (s .frames)) (beginOf s)
-  unfolding piecesOf
-  pieces-to zero = unfold textOf in ap (λ (m : ℕ). textOf m (beginOf s)) (omega arith)
-  pieces-to (suc m) = ap (λ (t : List ℕ). t ++ pieceOf s (m * k) k) (pieces-to m) ∙ next-piece (m * k) ∙ ap (λ (n : ℕ). textOf (min n (s .frames)) (beginOf s)) (sym (suc-mul m k))
+  pieces-to : (m : ℕ) → piecesOf s k m ≡ upTo (m * k)
+  unfolding piecesOf textOf
+  pieces-to zero = let none : 0 ≡ min (0 * k) (s .frames) = omega arith in ap (λ (m : ℕ). textOf m (beginOf s)) none
+  pieces-to (suc m) = ap (λ (t : List ℕ). t ++ pieceOf s (m * k) k) (pieces-to m) ∙ next-piece (m * k) ∙ ap upTo (sym (suc-mul m k))
 
 pub pieces-join : Pieces-join
 unfolding endOf renderOf

@@ -83,12 +83,13 @@ slice-aggregate-write-end c = sym (length-take-le _ _ (within _ _ _ (c .before .
 
 write-end-requires : tie.Need-write-end-requires Inv-loop μ-loop
 write-end-requires c κs =
-    let at = c .before .before .before .before .before .before .before in
-    let s = at .loop .inv in
-    let k = c .before .before .before .before .before .before .struct-known .given in
-    let short = record { begun = omega arith; finished = omega arith; cleared = omega arith; notfinite = omega arith; lost = omega arith } in
-    let left = c .before .before .before .before .before .if1 .left in
-    (at .before .before .before .before .pre .1, end-written _ _ (s .1) _ _ _ left short (s .0) (c .before .before .before .finish .ensures), s .2)
+    let k = c .before .before .before .before .before .before .struct-known .given in (
+      c .before .before .before .before .before .before .before .before .before .before .before .pre .1,
+      end-written _ _ (c .before .before .before .before .before .before .before .loop .inv .1) _ _ _ (c .before .before .before .before .before .if1 .left)
+          (record { begun = omega arith; finished = omega arith; cleared = omega arith; notfinite = omega arith; lost = omega arith })
+          (c .before .before .before .before .before .before .before .loop .inv .0) (c .before .before .before .finish .ensures),
+      c .before .before .before .before .before .before .before .loop .inv .2,
+    )
 
 same-length-2 : tie.Need-same-length-2 Inv-loop μ-loop
 same-length-2 c =
