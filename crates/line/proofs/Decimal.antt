@@ -5,7 +5,7 @@ use mathlib.Core.List.{List, [], _∷_, _++_, append-assoc, append-nil}
 use mathlib.Core.Bool.{Bool, true, false, cond}
 use native.Mathlib.Omega.{arith}
 use lib.ListN.{length, getD, drop}
-use lib.Dec.{ltb, eqb}
+use lib.Dec.{ltb, eqb, lit≤}
 use borrow.Author.Tests.{lt-ltb, le-ltb, ltb-true, ltb-false, eqb-true, eqb-false}
 use Rattle.line.specs.Bytes.{ascii, sameOf}
 use Rattle.line.specs.Number.{digitsFrom, digitsOf, negativeOf, signedOf, numberOf, decimalOf, numberText}
@@ -72,21 +72,21 @@ module _ (b : ℕ) (bs : List ℕ) where
       let l : 48 < b = omega (arith, ltb-false b 48 et, ne) in
       run l (ltb-false 57 b eu) s (after (suc (11 - length bs)) (0 * 10 + (b - 48)) bs (omega arith))
 
-  form : (t u w z : Bool) → ltb 12 (suc (length bs)) ≡ u → eqb b 48 ≡ w → eqb (suc (length bs)) 1 ≡ z
+  form : (most : ℕ) → most ≤ 12 → (t u w z : Bool) → ltb most (suc (length bs)) ≡ u → eqb b 48 ≡ w → eqb (suc (length bs)) 1 ≡ z
       → Digits (b ∷ bs) (cond t Malformed (cond u Malformed (cond w (cond z (Whole false 0) Malformed) (digitsFrom 0 (b ∷ bs)))))
   unfolding digitsFrom decimalOf
-  form true u w z eu ew ez = none
-  form false true w z eu ew ez = none
-  form false false true true eu ew ez =
+  form most m true u w z eu ew ez = none
+  form most m false true w z eu ew ez = none
+  form most m false false true true eu ew ez =
       let e : length bs ≡ 0 = omega (arith, eqb-true (suc (length bs)) 1 ez) in
       digits 0 (ap (λ (i : ℕ). i ∷ []) (sym (eqb-true b 48 ew)) ∙ ap (λ (l : List ℕ). b ∷ l) (sym (empty bs e)))
-  form false false true false eu ew ez = none
-  form false false false z eu ew ez = bytes (ltb b 48) (ltb 57 b) refl refl (eqb-false b 48 ew) (omega (arith, ltb-false 12 (suc (length bs)) eu))
+  form most m false false true false eu ew ez = none
+  form most m false false false z eu ew ez = bytes (ltb b 48) (ltb 57 b) refl refl (eqb-false b 48 ew) (omega (arith, ltb-false most (suc (length bs)) eu))
 
 digits-of : (v : List ℕ) → Digits v (digitsOf v)
 unfolding digitsOf
 digits-of [] = none
-digits-of (b ∷ bs) = form b bs (eqb (suc (length bs)) 0) (ltb 12 (suc (length bs))) (eqb b 48) (eqb (suc (length bs)) 1) refl refl refl
+digits-of (b ∷ bs) = form b bs _ (lit≤ tt) (eqb (suc (length bs)) 0) (ltb _ (suc (length bs))) (eqb b 48) (eqb (suc (length bs)) 1) refl refl refl
 
 -- a value, and what it reads as
 data Text (v : List ℕ) : Number → Type 0 where

@@ -1,5 +1,5 @@
--- A line's inversion. Of a reading that begins with a line: the line was accepted, and the reading goes on, or it was refused. A line that was accepted is the
--- text of its value, which is in range; one that was refused was by 21, 22 or 23.
+-- A line's inversion. A reading that begins with a line goes on after it, where the line was accepted, and is the line's refusal otherwise; a line that was
+-- accepted is the text of its value, which is in range.
 -- Assumes nothing.
 use Prim.Native.Nat.{ℕ, zero, suc, _≤_}
 use Prim.Native.String.{String}
@@ -69,17 +69,17 @@ record InputLine (key : String) (t : List ℕ) (c : Control) : Type 0 where
   valid : ValidInput c
 
 module _ (key : String) (t : List ℕ) (c : Control) where
-  none : {n : ℕ} → CL.Refused n ≡ CL.Read c → InputLine key t c
-  none p = absurd (let z : _≡_ {A = ℕ} 0 1 = cc in omega arith)
+  no-input : {n : ℕ} → CL.Refused n ≡ CL.Read c → InputLine key t c
+  no-input p = absurd (let z : _≡_ {A = ℕ} 0 1 = cc in omega arith)
 
-  its-own : {made : Control} → CL.Read made ≡ CL.Read c → InputLine key t made → InputLine key t c
-  its-own {made} p h = let e : made ≡ c = cc in subst (InputLine key t) e h
+  its-input : {made : Control} → CL.Read made ≡ CL.Read c → InputLine key t made → InputLine key t c
+  its-input {made} p h = let e : made ≡ c = cc in subst (InputLine key t) e h
 
   input-ranged : (minus : Bool) (size : ℕ) (b : Bool) → ltb 10000000 size ≡ b → isLine (ascii key) t ≡ true → numberOf (valueOf t) ≡ Whole minus size
       → cond b (CL.Refused 23) (CL.Read (C.Microvolts (signed minus size))) ≡ CL.Read c → InputLine key t c
-  input-ranged minus size true l i e p = none p
+  input-ranged minus size true l i e p = no-input p
   input-ranged minus size false l i e p =
-      its-own p (record {
+      its-input p (record {
         text = line-text key _ t i (signed-text (valueOf t) minus size e ∙ number-is t (Whole minus size) e not-malformed);
         valid = signed-valid minus size (ltb-false 10000000 size l);
       })
@@ -87,8 +87,8 @@ module _ (key : String) (t : List ℕ) (c : Control) where
   input-number : (x : Number) → isLine (ascii key) t ≡ true → numberOf (valueOf t) ≡ x → controlOf x ≡ CL.Read c → InputLine key t c
   unfolding controlOf
   input-number (Whole minus size) i e p = input-ranged minus size (ltb 10000000 size) refl i e p
-  input-number Nan i e p = its-own p (record { text = line-text key _ t i (number-is t Nan e nan-is-one); valid = tt })
-  input-number Malformed i e p = none p
+  input-number Nan i e p = its-input p (record { text = line-text key _ t i (number-is t Nan e nan-is-one); valid = tt })
+  input-number Malformed i e p = no-input p
 
   input-line : controlLine (ascii key) t ≡ CL.Read c → InputLine key t c
   unfolding controlLine
@@ -96,7 +96,7 @@ module _ (key : String) (t : List ℕ) (c : Control) where
     where
       go : (b : Bool) → isLine (ascii key) t ≡ b → cond b (controlOf (numberOf (valueOf t))) (CL.Refused 21) ≡ CL.Read c → InputLine key t c
       go true i p = input-number (numberOf (valueOf t)) i refl p
-      go false i p = none p
+      go false i p = no-input p
 
 record CountLine (key : String) (least most : ℕ) (t : List ℕ) (n : ℕ) : Type 0 where
   text : lineText key (wholeText n) ++ afterLine t ≡ t

@@ -108,7 +108,7 @@ too-long t h = simp (lt-ltb 1024 (length t) h)
 
 pub refusals : Refusals
 unfolding scoreOf
-refusals t n p = go (ltb 1024 (length t)) p
+refusals t n p = go (ltb _ (length t)) p
   where
     go : (b : Bool) → cond b (Refused 20) (linesOf t) ≡ Refused n → (20 ≤ n) × (n ≤ 23)
     go true p = let e : 20 ≡ n = cc in (omega arith, omega arith)

@@ -75,7 +75,7 @@ lines-valid t =
 -- ---- a text that was accepted was read line by line
 accepted : (P : Score → Type 0) (t : List ℕ) (s : Score) → Says P (linesOf t) → scoreOf t ≡ Values s → P s
 unfolding scoreOf
-accepted P t s h p = go (ltb 1024 (length t)) p
+accepted P t s h p = go (ltb _ (length t)) p
   where
     go : (b : Bool) → cond b (Refused 20) (linesOf t) ≡ Values s → P s
     go true p = absurd (let z : _≡_ {A = ℕ} 0 1 = cc in omega arith)

@@ -3,10 +3,10 @@ use Prim.Native.Nat.{ℕ, suc, _+_, _≤_, _<_, _^_}
 use Prim.Native.String.{String}
 use mathlib.Core.Path.{_≡_, refl, ap, sym, subst, _∙_}
 use mathlib.Core.List.{List, [], _∷_, _++_, append-assoc}
-use mathlib.Core.Bool.{true, false}
+use mathlib.Core.Bool.{true, false, cond}
 use native.Mathlib.Omega.{arith}
 use lib.ListN.{length, length-append}
-use lib.Dec.{lit≤}
+use lib.Dec.{ltb, lit≤}
 use lib.IntN.{pos, negsuc}
 use borrow.Author.Tests.{le-ltb}
 use Rattle.line.specs.Bytes.{ascii, sameOf, hasOf}
@@ -34,7 +34,7 @@ use Rattle.score.specs.declared.LfoInputs.{LfoInputs}
 use Rattle.score.specs.declared.SupersawInputs.{SupersawInputs}
 use Rattle.score.specs.declared.FormantInputs.{FormantInputs}
 use Rattle.score.specs.declared.Reading.{Reading}
-use Rattle.score.specs.declared.Reading.the-variants.{Values}
+use Rattle.score.specs.declared.Reading.the-variants.{Values, Refused}
 
 -- ---- a text of at most n bytes, and a reading of it
 record Written (n : ℕ) (t : List ℕ) (r : Reading) (score : Score) : Type 0 where
@@ -42,7 +42,7 @@ record Written (n : ℕ) (t : List ℕ) (r : Reading) (score : Score) : Type 0 w
   reads : r ≡ Values score
 
 -- a line has at most 28 bytes, where key and value have 13
-pub record ShortKey (key : String) : Type 0 where
+record ShortKey (key : String) : Type 0 where
   plain : Key (ascii key)
   few : length (ascii key) ≤ 13
 
@@ -215,9 +215,12 @@ lines-written s v =
     (whole-written _ _ _ "frames" _ _ (s .frames) _ (key refl refl (lit≤ tt)) (omega arith) (omega arith) (omega arith)
     (inputs-written (s .hz) (s .frames) (s .inputs) (v .inputs))))
 
+short-enough : (most : ℕ) (t : List ℕ) → 224 ≤ most → length t ≤ 224 → cond (ltb most (length t)) (Refused 20) (linesOf t) ≡ linesOf t
+short-enough most t l h = simp (le-ltb most (length t) (omega arith))
+
 lines-read : (t : List ℕ) (s : Score) → Written 224 t (linesOf t) s → scoreOf t ≡ Values s
 unfolding scoreOf
-lines-read t s w = let h : length t ≤ 1024 = omega (arith, w .short) in simp (le-ltb 1024 (length t) h, w .reads)
+lines-read t s w = short-enough _ t (lit≤ tt) (w .short) ∙ w .reads
 
 pub valid-read : Valid-read
 unfolding textOf
