@@ -1,4 +1,4 @@
-//! Finite vowels, two by turns, spoil a FormantOsc: the frames of the gallery's picture, and the Rust alike.
+//! Finite vowels, two by turns, spoil a FormantOsc: the frames of the gallery's pictures. `compare` holds the same of the Rust (`moving_vowel`).
 
 /// The first frame of 5 V, to which the sum is clamped, and the first that is notfinite. The first frame of all is 0.
 const CLAMPED: usize = 166;
@@ -23,23 +23,4 @@ fn when_they_clip_and_when_they_are_spoiled() {
         assert!(n >= SPOILED || frame.contains("mark=clean\n"), "{frame}");
     }
     assert_eq!(frames_of("vowels_begin"), all[..480]);
-}
-
-#[test]
-#[cfg_attr(not(quiver), ignore = "skipped: QUIVER_SRC not found")]
-fn the_rust() {
-    #[cfg(quiver)]
-    {
-        use compare::marked::Marked;
-        use compare::script::one_nan;
-
-        let mut theirs = quiver::modules::oscillators::FormantOsc::new(48000.0);
-        for (n, ours) in frames_of("vowels").iter().enumerate() {
-            let vowel = if n % 14 < 6 { 0.5 } else { 0.0 };
-            let mut out = [0.0];
-            let mark = theirs.marked_tick(&[0.0, vowel, 0.0, 0.0], 1, &mut out).word();
-            assert_eq!(*ours, format!("n={n}\nmark={mark}\nout={:016X}\n", one_nan(out[0].to_bits())));
-        }
-        println!("the Rust's own vowels are notfinite from frame {SPOILED} on");
-    }
 }
