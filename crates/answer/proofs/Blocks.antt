@@ -84,7 +84,9 @@ room-left t n room f k j h = rw (eq-eqb (countedTo t f k .begun) (sumOf (counted
 
 room-none : (t : Tally) (n : ℕ) → roomFor t n ≡ true → roomFor t 0 ≡ true
 unfolding roomFor addsUp
-room-none t n room = let says = room-says t n (unfold roomFor addsUp in room) in rw (eq-eqb (t .begun) (sumOf t) (says .0), le-leb (t .begun + 0) 4294967295 (omega (arith, says .1))) refl
+room-none t n room =
+    let says = room-says t n (unfold roomFor addsUp in room) in
+    rw (eq-eqb (t .begun) (sumOf t) (says .0), le-leb (t .begun + 0) 4294967295 (omega (arith, says .1))) refl
 
 pub many-ext : (k : ℕ) (f g : ℕ → ℕ) (n : ℕ) → ((i : ℕ) → i < n → f i ≡ g i) → manyTo k f n ≡ manyTo k g n
 unfolding manyTo

@@ -2,7 +2,7 @@
 use mathlib.Core.Bool.{Bool, _&&_, true, false, cond, true≢false}
 use mathlib.Core.List.{List, [], _∷_}
 use mathlib.Core.Path.{_≡_, refl, sym, ap, _∙_, subst}
-use Prim.Native.Nat.{ℕ, _+_, _≤_, _<_}
+use Prim.Native.Nat.{ℕ, _+_, _≤_}
 use native.Mathlib.Nat.{add-zero}
 use native.Mathlib.Numerals.{add-one}
 use native.Mathlib.Omega.{arith}
@@ -12,7 +12,7 @@ use borrow.Author.Tests.{eqb-true, eq-eqb, eqb-false, ne-eqb}
 use Rattle.laws.specs.Machine.{begun}
 use Rattle.answer.specs.Answer.{markNumber, voltsOf, refusalOf, accepted, answerOf}
 use Rattle.answer.specs.Mark.{allFinite, ruleOf, markOf}
-use Rattle.answer.specs.Promises.{Mark-says, Counts, Tally-counts, CountsAll, Tally-takes-all, Takes, Refused-nowhere}
+use Rattle.answer.specs.Promises.{Mark-says, Counts, Tally-counts, Tally-takes-all, Takes, Refused-nowhere}
 use Rattle.answer.specs.Tally.{sumOf, addsUp, oneIf, counted, talliedNumber, tallyOr, tallyOf, Run, settle, run, newRun, many, acceptedIn, tallyAfter}
 use Rattle.answer.specs.declared.Volts.{Volts}
 use Rattle.answer.specs.declared.Answer.{Answer}
@@ -58,7 +58,8 @@ accepted-unrefused (answer.Lost v) h = refl
 accepted-unrefused (answer.Refused n) h = absurd (true≢false (sym h))
 
 -- a tick that is x where n is 0, and else y, refused by n: its refusal is n
-pub refused-by : {T : Type 0} (told : T → Answer) (n : ℕ) (x y : T) → accepted (told x) ≡ true → told y ≡ answer.Refused n → refusalOf (told (cond (eqb n 0) x y)) ≡ n
+pub refused-by : {T : Type 0} (told : T → Answer) (n : ℕ) (x y : T) → accepted (told x) ≡ true → told y ≡ answer.Refused n
+    → refusalOf (told (cond (eqb n 0) x y)) ≡ n
 unfolding refusalOf
 refused-by {T} told n x y h e = go (eqb n 0) refl
   where
@@ -182,7 +183,8 @@ settled r a k = ap (settle r a) (k .taken)
 
 -- so what is summed over the answers taken is summed over all
 module _ (f : List Answer → ℕ) (w : Answer → ℕ) (more : (a : Answer) (xs : List Answer) → f (a ∷ xs) ≡ f xs + w a) (none : f [] ≡ 0) where
-  took-all : (xs : List Answer) (r : Run) → r .tally .begun ≡ sumOf (r .tally) → r .tally .begun + acceptedIn xs ≤ 4294967295 → f (run r xs .took) ≡ f xs + f (r .took)
+  took-all : (xs : List Answer) (r : Run) → r .tally .begun ≡ sumOf (r .tally) → r .tally .begun + acceptedIn xs ≤ 4294967295
+      → f (run r xs .took) ≡ f xs + f (r .took)
   unfolding run acceptedIn
   took-all [] r s h = omega (arith, none)
   took-all (a ∷ xs) r s h =

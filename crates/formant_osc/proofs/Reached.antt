@@ -23,7 +23,8 @@ use Rattle.common.specs.declared.Hertz.{Hertz}
 use Rattle.formant_osc.proofs.Coherent.{Coherent, tick-coherent}
 use Rattle.formant_osc.proofs.Either.{unless-either}
 use Rattle.formant_osc.specs.Calls.{Call, Tick, Play, Reset, SetSampleRate, Told, after, reply, First, FitCall, ReachedFormant}
-use Rattle.formant_osc.specs.FormantOsc.{formantAtRest, newFormantOsc, formantRefusalOf, formantUnless, formantNewOf, freqMemoOf, formantSoundOf, formantTickOf, formantBlockOf, formantResetOf, rated, formantSetSampleRateOf}
+use Rattle.formant_osc.specs.FormantOsc.{formantAtRest, newFormantOsc, formantRefusalOf, formantUnless, formantNewOf, freqMemoOf}
+use Rattle.formant_osc.specs.FormantOsc.{formantSoundOf, formantTickOf, formantBlockOf, formantResetOf, rated, formantSetSampleRateOf}
 use Rattle.formant_osc.specs.Memo.{newCoefMemo}
 use Rattle.formant_osc.specs.Promises.{New-accepts, Never-refused}
 use Rattle.formant_osc.specs.Sound.{pitchOf}

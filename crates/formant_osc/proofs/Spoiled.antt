@@ -16,7 +16,8 @@ use Rattle.answer.specs.declared.Volts.{Volts}
 use Rattle.formant_osc.proofs.Either.{tick-either, unless-either}
 use Rattle.formant_osc.proofs.Taken.{taken-accepts, taken-marks, told}
 use Rattle.formant_osc.specs.Calls.{Call, Tick, Play, Reset, SetSampleRate, after, NoReset, Later}
-use Rattle.formant_osc.specs.FormantOsc.{coefMemoOf, formantRung, formantSoundOf, formantTickOf, formantAnswerOf, formantNextOf, formantBlockOf, rated, formantSetSampleRateOf}
+use Rattle.formant_osc.specs.FormantOsc.{coefMemoOf, formantRung, formantSoundOf, formantTickOf, formantAnswerOf, formantNextOf, formantBlockOf}
+use Rattle.formant_osc.specs.FormantOsc.{rated, formantSetSampleRateOf}
 use Rattle.formant_osc.specs.Promises.{Sum-marks, Clean-finite, Spoiled, Stays-spoiled, Blocks-spoiled}
 use Rattle.formant_osc.specs.Sound.{glottalPulse, resonateOf, plus, rungOf}
 use Rattle.formant_osc.specs.declared.FormantControls.{FormantControls}

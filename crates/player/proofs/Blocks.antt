@@ -11,7 +11,7 @@ use lib.Dec.{eqb, lit≤}
 use lib.Ieee.{Float, nan}
 use lib.ListN.{length, getD, take, length-take, List·getD-append}
 use lib.Seq.{sets}
-use borrow.Author.Tests.{eq-eqb, le-leb, eqb-true, eqb-false}
+use borrow.Author.Tests.{eq-eqb, eqb-true, eqb-false}
 use Rattle.laws.specs.Lists.{tab}
 use Rattle.laws.proofs.Over.{getD-tab, length-tab}
 use Rattle.line.specs.Bytes.{ascii}
@@ -21,13 +21,14 @@ use Rattle.text.proofs.PutLaws.{after}
 use Rattle.answer.specs.Answer.{markNumber, hostNumber, voltsOf, refusalOf, accepted}
 use Rattle.answer.specs.Answer as marks
 use Rattle.answer.specs.Promises.{AllAccepted}
-use Rattle.answer.specs.Block.{Block, block, manyTo, countedTo, grownBy, roomFor, afterTicks, portsOf, joined, blockRefusalOf, answerAt, markAt, frameAt, ticksOf, blockOf}
-use Rattle.answer.specs.Tally.{sumOf, addsUp}
+use Rattle.answer.specs.Block.{Block, block, manyTo, countedTo, grownBy, roomFor, afterTicks, portsOf, joined, blockRefusalOf, answerAt, markAt}
+use Rattle.answer.specs.Block.{frameAt, ticksOf, blockOf}
 use Rattle.answer.specs.declared.Volts.{Volts}
 use Rattle.answer.specs.declared.Answer.{Answer}
 use Rattle.answer.specs.declared.Answer.the-variants as answer
 use Rattle.answer.specs.declared.Tally.{Tally}
-use Rattle.answer.proofs.Blocks.{room-left, not-refused, twice-asked, block-fits, block-refusal, all-taken, joined-length, one-port, two-ports, four-ports, five-ports}
+use Rattle.answer.proofs.Blocks.{room-left, not-refused, twice-asked, block-fits, block-refusal, all-taken, joined-length, one-port, two-ports}
+use Rattle.answer.proofs.Blocks.{four-ports, five-ports}
 use Rattle.answer.proofs.Laws.{accepted-unrefused}
 use Rattle.score.specs.declared.Osc.{Osc}
 use Rattle.score.specs.declared.Osc.the-variants as osc
@@ -75,35 +76,45 @@ module _ {S : Type 0} (ports number : ℕ) (answer : S → Answer) (next : S →
           (fits .1, fits .2, ap (λ (k : ℕ). block k s′ t′ o′ m′) (sym z) ∙ e)
       go false q e = absurd (eqb-false number-of 0 q (sym (ap (λ (b : Block S). b .refused) e) ∙ z))
 
-module _ {S U : Type 0} (answer : S → Answer) (next : S → S) (told : U → Answer) (step : U → U) (embed : S → U) (ea : (s : S) → told (embed s) ≡ answer s) (en : (s : S) → step (embed s) ≡ embed (next s)) where
-  after-carried : (n : ℕ) (s : S) → afterTicks step n (embed s) ≡ embed (afterTicks next n s)
+-- what its block leaves is what a block of frames is
+abbrev pub Hears : Controls → Voices → Tally → List Float → List ℕ → ℕ → Block Voices → Type 0
+Hears c v t o m r b = (r ≡ hearRefusalOf c v t o m) × (r ≡ 0 → AllPlayed c v t (length m) b)
+
+module _ {S : Type 0} (c : Controls) (answer : S → Answer) (next : S → S) (among : S → Voices)
+    (same-answer : (s : S) → voiceAnswer c (among s) ≡ answer s) (same-next : (s : S) → voiceNext c (among s) ≡ among (next s)) where
+  after-carried : (n : ℕ) (s : S) → afterTicks (voiceNext c) n (among s) ≡ among (afterTicks next n s)
   unfolding afterTicks
   after-carried zero s = refl
-  after-carried (suc n) s = ap step (after-carried n s) ∙ en (afterTicks next n s)
+  after-carried (suc n) s = ap (voiceNext c) (after-carried n s) ∙ same-next (afterTicks next n s)
 
-  answer-carried : (s : S) (i : ℕ) → answerAt answer next s i ≡ answerAt told step (embed s) i
+  answer-carried : (s : S) (i : ℕ) → answerAt answer next s i ≡ answerAt (voiceAnswer c) (voiceNext c) (among s) i
   unfolding answerAt
-  answer-carried s i = sym (ap told (after-carried i s) ∙ ea (afterTicks next i s))
+  answer-carried s i = sym (ap (voiceAnswer c) (after-carried i s) ∙ same-answer (afterTicks next i s))
 
-  ticks-carried : (ports n : ℕ) (s : S) (t : Tally) → block 0 (embed (ticksOf ports answer next n s t .state)) (ticksOf ports answer next n s t .tally) (ticksOf ports answer next n s t .samples) (ticksOf ports answer next n s t .marks) ≡ ticksOf ports told step n (embed s) t
-  unfolding ticksOf
-  ticks-carried ports n s t =
-      λ i. block 0 (sym (after-carried n s) i) (countedTo t (λ (k : ℕ). hostNumber (answer-carried s k i)) n)
-      (joined (λ (k : ℕ). portsOf ports (voltsOf (answer-carried s k i))) n) (tab (λ (k : ℕ). hostNumber (answer-carried s k i)) n)
-
-  accepted-carried : (s : S) → AllAccepted answer next s → AllAccepted told step (embed s)
+  accepted-carried : (s : S) → AllAccepted answer next s → AllAccepted (voiceAnswer c) (voiceNext c) (among s)
   accepted-carried s all i = ap accepted (sym (answer-carried s i)) ∙ all i
 
-  heard : (ports number : ℕ) (s : S) (t : Tally) (o : List Float) (m : List ℕ) (r : ℕ) (s′ : S) (t′ : Tally) (o′ : List Float) (m′ : List ℕ)
-      → (number ≡ 0 → AllAccepted answer next s)
-      → block r s′ t′ o′ m′ ≡ blockOf ports number answer next s t o m → r ≡ 0
-      → (roomFor t (length m) ≡ true) × AllAccepted told step (embed s) × (block 0 (embed s′) t′ o′ m′ ≡ ticksOf ports told step (length m) (embed s) t)
-  heard ports number s t o m r s′ t′ o′ m′ all e z =
-      let k = accepted-says ports number answer next s t o m r s′ t′ o′ m′ e z in (
-        k .1,
-        accepted-carried s (all (k .0)),
-        ap (λ (b : Block S). block 0 (embed (b .state)) (b .tally) (b .samples) (b .marks)) (k .2) ∙ ticks-carried ports (length m) s t,
-      )
+  -- a block of the voice, with the voice put among the others
+  carried : Block S → Block Voices
+  carried b = block 0 (among (b .state)) (b .tally) (b .samples) (b .marks)
+
+  ticks-carried : (n : ℕ) (s : S) (t : Tally) → carried (ticksOf (portsIn (kindOf c)) answer next n s t) ≡ framesOf c (among s) t n
+  unfolding ticksOf framesOf carried
+  ticks-carried n s t =
+      λ i. block 0 (sym (after-carried n s) i) (countedTo t (λ (k : ℕ). hostNumber (answer-carried s k i)) n)
+      (joined (λ (k : ℕ). portsOf (portsIn (kindOf c)) (voltsOf (answer-carried s k i))) n) (tab (λ (k : ℕ). hostNumber (answer-carried s k i)) n)
+
+  hears : (number : ℕ) (s : S) (t : Tally) (o : List Float) (m : List ℕ) (r : ℕ) (s′ : S) (t′ : Tally) (o′ : List Float) (m′ : List ℕ)
+      → refusalOf (answer s) ≡ number → (number ≡ 0 → AllAccepted answer next s)
+      → block r s′ t′ o′ m′ ≡ blockOf (portsIn (kindOf c)) number answer next s t o m → Hears c (among s) t o m r (block 0 (among s′) t′ o′ m′)
+  unfolding hearRefusalOf carried
+  hears number s t o m r s′ t′ o′ m′ refusal all e = (
+    ap (λ (b : Block S). b .refused) e ∙ block-refusal (portsIn (kindOf c)) number answer next s t o m
+        ∙ ap (λ (n : ℕ). blockRefusalOf (eqb (length o) (portsIn (kindOf c) * length m)) n t (length m)) (sym (ap refusalOf (same-answer s) ∙ refusal)),
+    λ z.
+        let k = accepted-says (portsIn (kindOf c)) number answer next s t o m r s′ t′ o′ m′ e z in
+        record { room = k .1; taken = accepted-carried s (all (k .0)); frames = ap carried (k .2) ∙ ticks-carried (length m) s t },
+  )
 
 -- ---- the player after k frames, as a block has it
 blockAfter : Player → ℕ → Player
@@ -121,7 +132,8 @@ module _ (p : Player) (n : ℕ) (room : roomFor (p .tally) n ≡ true) (all : Al
   unfolding nextOf blockAfter afterTicks answerOf answerAt
   block-next k h =
       let f = markAt (voiceAnswer (p .controls)) (voiceNext (p .controls)) (p .voices) in
-      let counts = all-taken (voiceAnswer (p .controls)) (voiceNext (p .controls)) (p .voices) all (p .tally) n room k h .1 ∙ ap (countedTo (p .tally) f) (add-one k) in
+      let taken = all-taken (voiceAnswer (p .controls)) (voiceNext (p .controls)) (p .voices) all (p .tally) n room k h in
+      let counts = taken .1 ∙ ap (countedTo (p .tally) f) (add-one k) in
       let number = one-suc (p .frame) k in
       λ i. record { controls = p .controls; voices = afterTicks (voiceNext (p .controls)) (suc k) (p .voices); tally = counts i; frame = number i; frames = p .frames }
     where
@@ -322,74 +334,47 @@ pub voice-accepts : (c : Controls) (v : Voices) → length (v .supersaw .phases)
     → AllAccepted (voiceAnswer c) (voiceNext c) v
 unfolding soundOf
 voice-accepts (controls.Vco c) v seven h =
-    accepted-carried _ _ (voiceAnswer (controls.Vco c)) (voiceNext (controls.Vco c)) (with-vco v) (λ s. refl) (λ s. refl) (v .vco)
+    accepted-carried (controls.Vco c) _ _ (with-vco v) (λ s. refl) (λ s. refl) (v .vco)
     (vco-held.block-accepts (v .vco) c 15 (sym (vco-held.tick-refusal (v .vco) c 15) ∙ h))
 voice-accepts (controls.Lfo c) v seven h =
-    accepted-carried _ _ (voiceAnswer (controls.Lfo c)) (voiceNext (controls.Lfo c)) (with-lfo v) (λ s. refl) (λ s. refl) (v .lfo)
+    accepted-carried (controls.Lfo c) _ _ (with-lfo v) (λ s. refl) (λ s. refl) (v .lfo)
     (lfo-held.block-accepts (v .lfo) c 31 (sym (lfo-held.tick-refusal (v .lfo) c 31) ∙ h))
 voice-accepts (controls.Supersaw c) v seven h =
-    accepted-carried _ _ (voiceAnswer (controls.Supersaw c)) (voiceNext (controls.Supersaw c)) (with-supersaw v) (λ s. refl) (λ s. refl) (v .supersaw)
+    accepted-carried (controls.Supersaw c) _ _ (with-supersaw v) (λ s. refl) (λ s. refl) (v .supersaw)
     (supersaw-held.block-accepts (v .supersaw) c seven (sym (supersaw-held.tick-refusal (v .supersaw) c) ∙ h))
 voice-accepts (controls.Formant c) v seven h =
-    accepted-carried _ _ (voiceAnswer (controls.Formant c)) (voiceNext (controls.Formant c)) (with-formant v) (λ s. refl) (λ s. refl) (v .formant)
+    accepted-carried (controls.Formant c) _ _ (with-formant v) (λ s. refl) (λ s. refl) (v .formant)
     (formant-held.block-accepts (v .formant) c (sym (formant-held.tick-refusal (v .formant) c) ∙ h))
-
--- what its block leaves is what a block of frames is
-abbrev pub Hears : Controls → Voices → Tally → List Float → List ℕ → ℕ → Block Voices → Type 0
-Hears c v t o m r b = (r ≡ hearRefusalOf c v t o m) × (r ≡ 0 → AllPlayed c v t (length m) b)
 
 module _ (v : Voices) (t u : Tally) (samples after : List Float) (marks marked : List ℕ) (r : ℕ) where
   pub vco-heard : (c : VcoControls) (s : Vco) → block r s u after marked ≡ vcoBlockOf (v .vco) c 15 t samples marks
       → Hears (controls.Vco c) v t samples marks r (block 0 (with-vco v s) u after marked)
-  unfolding vcoBlockOf framesOf hearRefusalOf kindOf portsIn soundOf
-  vco-heard c s e = (
-    ap (λ (b : Block Vco). b .refused) e ∙ block-refusal 4 _ _ _ (v .vco) t samples marks
-        ∙ ap (λ (n : ℕ). blockRefusalOf (eqb (length samples) (4 * length marks)) n t (length marks)) (sym (vco-held.tick-refusal (v .vco) c 15)),
-    λ z.
-        let k =
-        heard _ _ (voiceAnswer (controls.Vco c)) (voiceNext (controls.Vco c)) (with-vco v) (λ s. refl) (λ s. refl) 4 _ (v .vco) t samples marks r s u after marked
-        (vco-held.block-accepts (v .vco) c 15) e z in
-        record { room = k .0; taken = k .1; frames = k .2 },
-  )
+  unfolding vcoBlockOf kindOf portsIn soundOf
+  vco-heard c s =
+      hears (controls.Vco c) _ _ (with-vco v) (λ s. refl) (λ s. refl) _ (v .vco) t samples marks r s u after marked
+      (vco-held.tick-refusal (v .vco) c 15) (vco-held.block-accepts (v .vco) c 15)
 
   pub lfo-heard : (c : LfoControls) (s : Lfo) → block r s u after marked ≡ lfoBlockOf (v .lfo) c 31 t samples marks
       → Hears (controls.Lfo c) v t samples marks r (block 0 (with-lfo v s) u after marked)
-  unfolding lfoBlockOf framesOf hearRefusalOf kindOf portsIn soundOf
-  lfo-heard c s e = (
-    ap (λ (b : Block Lfo). b .refused) e ∙ block-refusal 5 _ _ _ (v .lfo) t samples marks
-        ∙ ap (λ (n : ℕ). blockRefusalOf (eqb (length samples) (5 * length marks)) n t (length marks)) (sym (lfo-held.tick-refusal (v .lfo) c 31)),
-    λ z.
-        let k =
-        heard _ _ (voiceAnswer (controls.Lfo c)) (voiceNext (controls.Lfo c)) (with-lfo v) (λ s. refl) (λ s. refl) 5 _ (v .lfo) t samples marks r s u after marked
-        (lfo-held.block-accepts (v .lfo) c 31) e z in
-        record { room = k .0; taken = k .1; frames = k .2 },
-  )
+  unfolding lfoBlockOf kindOf portsIn soundOf
+  lfo-heard c s =
+      hears (controls.Lfo c) _ _ (with-lfo v) (λ s. refl) (λ s. refl) _ (v .lfo) t samples marks r s u after marked
+      (lfo-held.tick-refusal (v .lfo) c 31) (lfo-held.block-accepts (v .lfo) c 31)
 
-  pub supersaw-heard : length (v .supersaw .phases) ≡ 7 → (c : SupersawControls) (s : Supersaw) → block r s u after marked ≡ supersawBlockOf (v .supersaw) c t samples marks
+  pub supersaw-heard : length (v .supersaw .phases) ≡ 7 → (c : SupersawControls) (s : Supersaw)
+      → block r s u after marked ≡ supersawBlockOf (v .supersaw) c t samples marks
       → Hears (controls.Supersaw c) v t samples marks r (block 0 (with-supersaw v s) u after marked)
-  unfolding supersawBlockOf framesOf hearRefusalOf kindOf portsIn soundOf
-  supersaw-heard seven c s e = (
-    ap (λ (b : Block Supersaw). b .refused) e ∙ block-refusal 2 _ _ _ (v .supersaw) t samples marks
-        ∙ ap (λ (n : ℕ). blockRefusalOf (eqb (length samples) (2 * length marks)) n t (length marks)) (sym (supersaw-held.tick-refusal (v .supersaw) c)),
-    λ z.
-        let k =
-        heard _ _ (voiceAnswer (controls.Supersaw c)) (voiceNext (controls.Supersaw c)) (with-supersaw v) (λ s. refl) (λ s. refl) 2 _ (v .supersaw) t samples marks r s u after marked
-        (supersaw-held.block-accepts (v .supersaw) c seven) e z in
-        record { room = k .0; taken = k .1; frames = k .2 },
-  )
+  unfolding supersawBlockOf kindOf portsIn soundOf
+  supersaw-heard seven c s =
+      hears (controls.Supersaw c) _ _ (with-supersaw v) (λ s. refl) (λ s. refl) _ (v .supersaw) t samples marks r s u after marked
+      (supersaw-held.tick-refusal (v .supersaw) c) (supersaw-held.block-accepts (v .supersaw) c seven)
 
   pub formant-heard : (c : FormantControls) (s : FormantOsc) → block r s u after marked ≡ formantBlockOf (v .formant) c t samples marks
       → Hears (controls.Formant c) v t samples marks r (block 0 (with-formant v s) u after marked)
-  unfolding formantBlockOf framesOf hearRefusalOf kindOf portsIn soundOf
-  formant-heard c s e = (
-    ap (λ (b : Block FormantOsc). b .refused) e ∙ block-refusal 1 _ _ _ (v .formant) t samples marks
-        ∙ ap (λ (n : ℕ). blockRefusalOf (eqb (length samples) (1 * length marks)) n t (length marks)) (sym (formant-held.tick-refusal (v .formant) c)),
-    λ z.
-        let k =
-        heard _ _ (voiceAnswer (controls.Formant c)) (voiceNext (controls.Formant c)) (with-formant v) (λ s. refl) (λ s. refl) 1 _ (v .formant) t samples marks r s u after marked
-        (formant-held.block-accepts (v .formant) c) e z in
-        record { room = k .0; taken = k .1; frames = k .2 },
-  )
+  unfolding formantBlockOf kindOf portsIn soundOf
+  formant-heard c s =
+      hears (controls.Formant c) _ _ (with-formant v) (λ s. refl) (λ s. refl) _ (v .formant) t samples marks r s u after marked
+      (formant-held.tick-refusal (v .formant) c) (formant-held.block-accepts (v .formant) c)
 
 -- ---- a player whose next n frames nothing refuses
 module _ (p : Player) (n : ℕ) (free : player.refusalOf p n ≡ 0) where
@@ -407,15 +392,16 @@ module _ (p : Player) (n : ℕ) (free : player.refusalOf p n ≡ 0) where
   free-after seven = free-at p n (free-says .2) (voice-accepts (p .controls) (p .voices) seven (unfold answerOf in free-says .1))
 
 -- what a chunk of n frames asks of its block, whose samples and marks are cut off longer ones
-pub part-asks : {A B : Type 0} (p : Player) (n ports : ℕ) (o : Osc) (l : List A) (m : List B) → o ≡ kindOf (p .controls) → ports ≡ portsIn o → ports * n ≤ length l → n ≤ length m
-    → player.refusalOf p n ≡ 0 → (player.refusalOf p (length (take n m)) ≡ 0) × (length (take (ports * n) l) ≡ portsIn (kindOf (p .controls)) * length (take n m))
+pub part-asks : {A B : Type 0} (p : Player) (n ports : ℕ) (o : Osc) (l : List A) (m : List B) → o ≡ kindOf (p .controls) → ports ≡ portsIn o
+    → ports * n ≤ length l → n ≤ length m → player.refusalOf p n ≡ 0
+    → (player.refusalOf p (length (take n m)) ≡ 0) × (length (take (ports * n) l) ≡ portsIn (kindOf (p .controls)) * length (take n m))
 part-asks p n ports o l m eo ep hl hm free =
     let marks = take-size n m hm in
     (rw (← marks) free, sym (take-size (ports * n) l hl) ∙ rw (← marks, ep, eo) refl)
 
 -- a block of none is asked first
-pub asked-first : (p : Player) (o : List Float) (m : List ℕ) (n r : ℕ) → length o ≡ 0 → length m ≡ 0 → r ≡ hearRefusalOf (p .controls) (p .voices) (p .tally) o m
-    → blockRefusalOf true r (p .tally) n ≡ player.refusalOf p n
+pub asked-first : (p : Player) (o : List Float) (m : List ℕ) (n r : ℕ) → length o ≡ 0 → length m ≡ 0
+    → r ≡ hearRefusalOf (p .controls) (p .voices) (p .tally) o m → blockRefusalOf true r (p .tally) n ≡ player.refusalOf p n
 unfolding hearRefusalOf player.refusalOf answerOf
 asked-first p o m n r eo em e =
     ap (λ (k : ℕ). blockRefusalOf true k (p .tally) n) (e ∙ none) ∙ twice-asked _ (p .tally) n

@@ -15,7 +15,13 @@ read-renders text s e =
     let n = frames-heard s in
     let counts = heard-counts s (omega (arith, r .most)) in
     let accepts = frames-accepted s (r .rate) in
-    record { frames = n; accepts = accepts; counts = counts; begun = counts .begun ∙ all-begin (heardOf s) accepts ∙ n; claimed = claimed-clean s (omega (arith, r .most)) }
+    record {
+      frames = n;
+      accepts = accepts;
+      counts = counts;
+      begun = counts .begun ∙ all-begin (heardOf s) accepts ∙ n;
+      claimed = claimed-clean s (omega (arith, r .most));
+    }
 
 pub settled : Settled
 settled = record { new = λ s. laws.settled (beginOf s); run = λ p out budget. laws.both _ _; finish = λ p out. laws.both _ _ }

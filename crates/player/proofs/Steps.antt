@@ -45,7 +45,8 @@ abbrev pub Answered : List ℕ → ℕ → Player → Played → List ℕ → Ty
 Answered out n p r q = (r ≡ ranOf out n p) × (q ≡ sets out 0 (runText n p))
 
 module _ (out : List ℕ) (n : ℕ) (p : Player) (number : ℕ) (e : number ≡ refusalOf p n) where
-  pub all-run : number ≡ 0 → (q : List ℕ) (now : Player) (to k : ℕ) → k ≡ n → Ran out p q now to k → Answered out n p (record { refused = number; player = now; to = to }) q
+  pub all-run : number ≡ 0 → (q : List ℕ) (now : Player) (to k : ℕ) → k ≡ n → Ran out p q now to k
+      → Answered out n p (record { refused = number; player = now; to = to }) q
   unfolding ranOf runText runAfter
   all-run z q now to k h ran =
       let t = eq-eqb (refusalOf p n) 0 (sym e ∙ z) in
@@ -54,7 +55,10 @@ module _ (out : List ℕ) (n : ℕ) (p : Player) (number : ℕ) (e : number ≡ 
 
   pub none-run : (number ≡ 0 → ⊥) → Answered out n p (record { refused = number; player = p; to = 0 }) out
   unfolding ranOf runText runAfter placeOf
-  none-run z = let f = ne-eqb (refusalOf p n) 0 (λ h. z (e ∙ h)) in let start : 0 ≡ min (length out) (0 + 0) = omega arith in rw f (λ i. record { refused = e i; player = p; to = start i }, refl)
+  none-run z =
+      let f = ne-eqb (refusalOf p n) 0 (λ h. z (e ∙ h)) in
+      let start : 0 ≡ min (length out) (0 + 0) = omega arith in
+      rw f (λ i. record { refused = e i; player = p; to = start i }, refl)
 
 -- one that isn't refused has run
 pub has-run : (out q : List ℕ) (n : ℕ) (p : Player) (r : Played) → refusalOf p n ≡ 0 → Answered out n p r q → Ran out p q (r .player) (r .to) n

@@ -39,7 +39,10 @@ same-length : tie.Need-same-length
 same-length c = search needs
 
 returns : tie.Need-returns
-returns c = same-frames _ _ _ _ _ _ _ (sym (take-size _ _ (c .before .before .before .before .before .before .before .before .before .before .before .pre .3))) (c .before .before .before .before .by-block .ensures)
+returns c =
+    let played = c .before .before .before .before in
+    let begun = played .before .before .before .before .before .before .before in
+    same-frames _ _ _ _ _ _ _ (sym (take-size _ _ (begun .pre .3))) (played .by-block .ensures)
 
 pub chunk-spec : {M : Type 1} → statement M
 chunk-spec =

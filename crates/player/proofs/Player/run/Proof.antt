@@ -67,7 +67,9 @@ same-length c = within _ _ _ (c .before .loop .inv .1 .1) .1
 returns-2 : tie.Need-returns-2 Inv-loop μ-loop
 returns-2 c =
     let n = c .before .before .before .before .turns .ensures in
-    rw (← n) (all-run _ _ _ _ (c .before .before .before .refusal .ensures) (omega (arith, c .before .before .if1 .left)) _ _ _ _ (omega (arith, n)) (c .before .loop .inv .1))
+    rw (← n)
+    (all-run _ _ _ _ (c .before .before .before .refusal .ensures) (omega (arith, c .before .before .if1 .left)) _ _ _ _ (omega (arith, n))
+    (c .before .loop .inv .1))
 
 pub run-spec : {M : Type 1} → statement M
 run-spec =
