@@ -13,8 +13,7 @@ use borrow.Author.Tests.{lt-ltb, le-ltb, leb-true, leb-false, eqb-true, ne-eqb, 
 use Rattle.line.specs.Bytes.{sameOf, hasOf, untilOf, pastOf}
 use Rattle.line.specs.Line.{lineOf, afterLine, keyOf, valueOf, isLine, nextOf}
 use Rattle.line.specs.Number.{digitsFrom}
-use Rattle.line.specs.declared.Number.{Number}
-use Rattle.line.specs.declared.Number.the-variants.{Whole, Nan, Malformed}
+use Rattle.line.specs.declared.Number.the-variants.{Whole, Malformed}
 
 module _ (s : List ℕ) (i : ℕ) (h : i < length s) where
   pub until-here : (x : ℕ) → getD s i 0 ≡ x → untilOf x (drop i s) ≡ []
