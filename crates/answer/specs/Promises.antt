@@ -35,7 +35,7 @@ pub record Counts (r : Run) : Type 0 where
 abbrev pub Tally-counts : Type 0
 Tally-counts = (xs : List Answer) → Counts (run newRun xs)
 
--- and it takes all of them while the accepted ticks are at most 4,294,967,295: none is refused, so none is missing from a count
+-- and while the accepted ticks are at most 4,294,967,295 it takes each of them, so that none is missing from a count
 pub record CountsAll (xs : List Answer) : Type 0 where
   pub cleared : tallyAfter xs .cleared ≡ many 1 xs
   pub notfinite : tallyAfter xs .notfinite ≡ many 2 xs

@@ -87,7 +87,7 @@ afterOf (suc k) p = afterOf k (nextOf p)
 unfoldable pub turnsOf : Player → ℕ → ℕ
 turnsOf p budget = min budget (p .frames - p .frame)
 
--- 0, or what refuses them: the refusal of the next tick, or 7 where the tally has no room for all
+-- 0, or what refuses them, be they none: the refusal of the next tick, or 7 where the tally has no room for all
 unfoldable pub refusalOf : Player → ℕ → ℕ
 refusalOf p n = blockRefusalOf true (answer.refusalOf (answerOf p)) (p .tally) n
 

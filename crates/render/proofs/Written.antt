@@ -2,6 +2,7 @@
 use Prim.Native.Nat.{ℕ, zero, suc, _+_, _-_, _*_, _≤_, _<_, min}
 use mathlib.Core.Bool.{Bool, true, false}
 use mathlib.Core.List.{List, _++_, append-nil}
+use mathlib.Core.Logic.{_⊎_, inl, inr}
 use mathlib.Core.Path.{_≡_, refl, sym, ap, _∙_}
 use native.Mathlib.Nat.{min-eq-left, min-eq-right, suc-mul}
 use native.Mathlib.Omega.{arith}
@@ -25,18 +26,20 @@ use Rattle.player.proofs.Steps.{Ran, Answered, has-run}
 use Rattle.player.proofs.Unrefused.{never-refused}
 use Rattle.player.proofs.Whole.{plays, piece-length}
 use Rattle.render.specs.Reads.{takenOf}
-use Rattle.render.specs.Writes.{pieceOf, piecesOf, endOf}
+use Rattle.render.specs.Writes.{pieceOf, Begins, piecesOf, endOf}
 use Rattle.render.specs.Promises.{Pieces-join}
 use Rattle.render.specs.declared.Taken.{Taken}
 use Rattle.render.specs.declared.Taken.the-variants.{Text, Failed}
 
--- ---- where the playing stands between two pieces
-abbrev pub Stands : Score → Player → Type 0
-Stands s p = (p ≡ afterOf (p .frame) (beginOf s)) × (p .frame ≤ s .frames)
+-- ---- where the playing stands between two pieces: after so many frames of the score, which are so many whole pieces, or all of it
+pub record Stands (s : Score) (p : Player) : Type 0 where
+  pub after : p ≡ afterOf (p .frame) (beginOf s)
+  pub within : p .frame ≤ s .frames
+  pub whole : ((m : ℕ) × (p .frame ≡ m * 400)) ⊎ (p .frame ≡ s .frames)
 
 pub stands-first : (s : Score) (p : Player) → p ≡ beginOf s → Stands s p
 unfolding beginOf afterOf
-stands-first s p e = rw e (refl, omega arith)
+stands-first s p e = rw e (record { after = refl; within = omega arith; whole = inl (0, refl) })
 
 same-frames : (s : Score) (n : ℕ) → afterOf n (beginOf s) .frames ≡ s .frames
 unfolding beginOf
@@ -53,7 +56,18 @@ was-read Failed input s e = absurd (not-refused e)
 
 module _ (s : Score) (p : Player) (at : Stands s p) where
   frames-left : p .frames ≡ s .frames
-  frames-left = ap (λ (p : Player). p .frames) (at .0) ∙ same-frames s (p .frame)
+  frames-left = ap (λ (p : Player). p .frames) (at .after) ∙ same-frames s (p .frame)
+
+  -- before the last frame a piece begins
+  pub piece-begins : p .frame < p .frames → Begins s (p .frame)
+  piece-begins h = go (at .whole)
+    where
+      some : p .frame < s .frames
+      some = omega (arith, frames-left)
+
+      go : ((m : ℕ) × (p .frame ≡ m * 400)) ⊎ (p .frame ≡ s .frames) → Begins s (p .frame)
+      go (inl w) = (some, w)
+      go (inr e) = absurd (omega (arith, some))
 
   turns-most : (k : ℕ) → turnsOf p k ≤ k
   unfolding turnsOf
@@ -61,16 +75,16 @@ module _ (s : Score) (p : Player) (at : Stands s p) where
 
   turns-fit : (k : ℕ) → p .frame + turnsOf p k ≤ s .frames
   unfolding turnsOf
-  turns-fit k = let f = frames-left in let h = at .1 in omega arith
+  turns-fit k = let f = frames-left in let h = at .within in omega arith
 
   same-piece : (k : ℕ) → textOf (turnsOf p k) p ≡ pieceOf s (p .frame) k
   unfolding pieceOf
-  same-piece k = ap (λ (p : Player). textOf (turnsOf p k) p) (at .0)
+  same-piece k = ap (λ (p : Player). textOf (turnsOf p k) p) (at .after)
 
   -- a run of the next frames, which nothing refuses
   module _ (read : IsRead s) (out q : List ℕ) (k : ℕ) (r : Played) (answered : Answered out (turnsOf p k) p r q) where
     free : refusalOf p (turnsOf p k) ≡ 0
-    free = ap (λ (p : Player). refusalOf p (turnsOf p k)) (at .0) ∙ never-refused (read .0) s (read .1) (p .frame) k (at .1)
+    free = ap (λ (p : Player). refusalOf p (turnsOf p k)) (at .after) ∙ never-refused (read .0) s (read .1) (p .frame) k (at .within)
 
     ran : Ran out p q (r .player) (r .to) (turnsOf p k)
     ran = has-run out q (turnsOf p k) p r free answered
@@ -81,13 +95,27 @@ module _ (s : Score) (p : Player) (at : Stands s p) where
     next-frame : r .player .frame ≡ p .frame + turnsOf p k
     next-frame = ap (λ (p : Player). p .frame) (ran .0) ∙ frame-after p (turnsOf p k)
 
-    pub stands-next : Stands s (r .player)
-    stands-next =
-        let b = turns-fit k in
-        let f = next-frame in (
-          ran .0 ∙ ap (afterOf (turnsOf p k)) (at .0) ∙ sym (pieces (beginOf s) (p .frame) (turnsOf p k) .1) ∙ ap (λ (m : ℕ). afterOf m (beginOf s)) (sym f),
-          omega arith,
-        )
+    next-after : r .player ≡ afterOf (r .player .frame) (beginOf s)
+    next-after =
+        ran .0 ∙ ap (afterOf (turnsOf p k)) (at .after) ∙ sym (pieces (beginOf s) (p .frame) (turnsOf p k) .1)
+        ∙ ap (λ (m : ℕ). afterOf m (beginOf s)) (sym next-frame)
+
+    turns-are : turnsOf p k ≡ min k (s .frames - p .frame)
+    unfolding turnsOf
+    turns-are = omega (arith, frames-left)
+
+    -- a whole piece more, or all that is left
+    next-whole : k ≡ 400 → (m : ℕ) → p .frame ≡ m * 400 → ((m : ℕ) × (r .player .frame ≡ m * 400)) ⊎ (r .player .frame ≡ s .frames)
+    next-whole e m h = go (leb 400 (s .frames - p .frame)) refl
+      where
+        go : (b : Bool) → leb 400 (s .frames - p .frame) ≡ b → ((m : ℕ) × (r .player .frame ≡ m * 400)) ⊎ (r .player .frame ≡ s .frames)
+        go true z = inl (suc m, omega (arith, leb-true 400 (s .frames - p .frame) z, next-frame, turns-are))
+        go false z = inr (omega (arith, leb-false 400 (s .frames - p .frame) z, next-frame, turns-are, at .within))
+
+    pub stands-next : k ≡ 400 → p .frame < p .frames → Stands s (r .player)
+    stands-next e h =
+        let w = piece-begins h .1 in
+        record { after = next-after; within = omega (arith, turns-fit k, next-frame); whole = next-whole e (w .0) (w .1) }
 
     -- the buffer holds the whole piece
     pub piece-written : k ≤ 400 → s .frames ≤ 4294967295 → length out ≡ 65536 → take (r .to) q ≡ pieceOf s (p .frame) k
@@ -111,9 +139,9 @@ module _ (s : Score) (p : Player) (at : Stands s p) where
   end-written out q r h short n put =
       let l = end-length (p .frames) (p .tally) short in
       let f = frames-left in
-      let m = at .1 in
+      let m = at .within in
       let last : p .frame ≡ s .frames = omega arith in
-      put-whole out (finishOf p) r q put (omega arith) ∙ ap finishOf (at .0 ∙ ap (λ (m : ℕ). afterOf m (beginOf s)) last)
+      put-whole out (finishOf p) r q put (omega arith) ∙ ap finishOf (at .after ∙ ap (λ (m : ℕ). afterOf m (beginOf s)) last)
 
 -- ---- the pieces join
 module _ (s : Score) (k : ℕ) where

@@ -1,12 +1,17 @@
 -- What the program writes of a score, piece by piece.
-use Prim.Native.Nat.{ℕ, zero, suc, _*_}
+use Prim.Native.Nat.{ℕ, zero, suc, _*_, _<_}
 use mathlib.Core.List.{List, [], _++_}
+use mathlib.Core.Path.{_≡_}
 use Rattle.score.specs.declared.Score.{Score}
 use Rattle.player.specs.Player.{beginOf, textOf, afterOf, turnsOf, finishOf}
 
 -- the piece that begins with the frame n: k frames, or as many as are left
 unfoldable pub pieceOf : Score → ℕ → ℕ → List ℕ
 pieceOf s n k = let p = afterOf n (beginOf s) in textOf (turnsOf p k) p
+
+-- a piece of 400 frames begins there: the frame is one of the score's, and a multiple of 400
+abbrev pub Begins : Score → ℕ → Type 0
+Begins s n = (n < s .frames) × ((m : ℕ) × (n ≡ m * 400))
 
 -- the first m pieces of k frames each, one after another
 unfoldable pub piecesOf : Score → ℕ → ℕ → List ℕ

@@ -12,7 +12,7 @@ ghost use lib.ListN.{length};
 ghost use Rattle.frame.specs.End.{refusedText};
 ghost use Rattle.score.specs.declared.Reading.the-variants.{Values, Refused};
 ghost use Rattle.render.specs.Reads.{stepOf, Within, Reaches, takenOf};
-ghost use Rattle.render.specs.Writes.{pieceOf, endOf};
+ghost use Rattle.render.specs.Writes.{pieceOf, Begins, endOf};
 
 // So many frames are written at once: their texts fit into the buffer.
 const AT_ONCE: u32 = 400;
@@ -40,7 +40,7 @@ fn write_piece(
     frame: u32,
     wrote: bool,
 ) -> bool
-    requires { ⌜ (takenOf taken (now input) ≡ Values score) × (now text ≡ pieceOf score frame 400) × (wrote ≡ true) ⌝ }
+    requires { ⌜ (takenOf taken (now input) ≡ Values score) × (now text ≡ pieceOf score frame 400) × Begins score frame × (wrote ≡ true) ⌝ }
 {
     io::write_all(STDOUT_FILENO, text)
 }
@@ -116,6 +116,7 @@ fn play(out: &mut [u8], input: &[u8], taken: Taken, score: Score) -> bool
     let mut player = Player::new(score);
     let mut wrote = true;
     while player.frame < player.frames {
+        // no run of a score that was read is refused
         let played = player.run(&mut *out, AT_ONCE);
         let to = played.to;
         wrote = write_piece(&out[..to], input, taken, score, player.frame, wrote);

@@ -36,7 +36,7 @@ pub record Valid (s : Score) : Type 0 where
 abbrev pub Valid-read : Type 0
 Valid-read = (s : Score) → Valid s → scoreOf (textOf s) ≡ Values s
 
--- no other is
+-- and only valid ones are
 abbrev pub Read-valid : Type 0
 Read-valid = (text : List ℕ) (s : Score) → scoreOf text ≡ Values s → Valid s
 

@@ -66,6 +66,18 @@ fn each_oscillator_has_the_inputs_that_the_page_lists() {
     }
 }
 
+/// With a pulse width of `nan`: never high, and low beyond 5 V where a turn begins.
+#[test]
+fn the_square_of_a_width_that_is_nan() {
+    let text = rendered(&score(&page(), "vco", ("pw", "nan")).replace("frames=10\n", "frames=4800\n"));
+    let bits = text.lines().filter_map(|line| line.strip_prefix("sqr="));
+    let volts: Vec<f64> = bits.map(|bits| f64::from_bits(u64::from_str_radix(bits, 16).unwrap())).collect();
+    let least = volts.iter().copied().fold(0.0, f64::min);
+    let most = volts.iter().copied().fold(-10.0, f64::max);
+    assert!(least == -10.0 && (-0.5..=0.0).contains(&most), "{least} to {most}");
+    assert!(volts.iter().filter(|&&volts| volts == -5.0).count() > 4000);
+}
+
 /// Each text that the page says is refused, in the place of the line of its key.
 #[test]
 fn refusals() {

@@ -8,7 +8,7 @@ use lib.Seq.{length-take-le}
 use borrow.Author.Needs.{needs}
 use borrow.Author.Tests.{not-false}
 use Rattle.text.proofs.PutLaws.{within}
-use Rattle.render.proofs.Written.{Stands, IsRead, was-read, stands-first, put-piece, piece-written, stands-next, less-left, end-written}
+use Rattle.render.proofs.Written.{Stands, IsRead, was-read, stands-first, piece-begins, put-piece, piece-written, stands-next, less-left, end-written}
 use Rattle.render.proofs.play.Statement.{statement}
 use Rattle.render.proofs.play.Tie as tie
 
@@ -44,7 +44,7 @@ write-piece-requires c κs =
     let s = at .loop .inv in
     let top = begun .good .1 .1 .1 .0 in
     let written = piece-written _ _ (s .1) (s .3) _ _ _ _ (c .before .before .before .run .ensures) (omega arith) (omega arith) (s .0) in
-    (begun .pre .1, written, s .2)
+    (begun .pre .1, written, piece-begins _ _ (s .1) (c .before .before .before .before .before .if1 .taken), s .2)
 
 same-length : tie.Need-same-length Inv-loop μ-loop
 same-length c =
@@ -67,7 +67,7 @@ loop-again c =
     let s = c .before .before .before .before .before .before .before .before .before .before .loop .inv in
     let ran = c .before .before .before .before .before .before .run .ensures in (
       within _ _ _ (put-piece _ _ (s .1) (s .3) _ _ _ _ ran) .1 ∙ s .0,
-      stands-next _ _ (s .1) (s .3) _ _ _ _ ran,
+      stands-next _ _ (s .1) (s .3) _ _ _ _ ran refl (c .before .before .before .before .before .before .before .before .if1 .taken),
       not-false _ (c .before .if2 .left),
       s .3,
     )

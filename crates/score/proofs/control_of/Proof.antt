@@ -1,4 +1,5 @@
 -- `score::control_of` meets its contract. Assumes nothing.
+use lib.Dec.{lit≤}
 use borrow.Author.Needs.{needs}
 use borrow.Author.Tests.{lt-ltb, le-ltb}
 use Rattle.score.proofs.Signed.{plus-value, minus-fits, minus-value}
@@ -13,7 +14,7 @@ cast-t9 : tie.Need-cast-t9
 cast-t9 c = search needs
 
 sub-t10 : tie.Need-sub-t10
-sub-t10 c = minus-fits _ (c .before .if1 .left)
+sub-t10 c = minus-fits _ (c .before .if1 .left) (lit≤ tt)
 
 cast-t12 : tie.Need-cast-t12
 cast-t12 c = search needs
@@ -30,11 +31,11 @@ returns c = simp (c .before .before .n .given .1, lt-ltb _ _ (c .if1 .taken))
 
 returns-2 : tie.Need-returns-2
 unfolding controlOf
-returns-2 c = simp (c .before .before .before .n .given .1, le-ltb _ _ (c .before .if1 .left), c .if2 .taken, minus-value _ (c .before .if1 .left))
+returns-2 c = simp (c .before .before .before .n .given .1, le-ltb _ _ (c .before .if1 .left), c .if2 .taken, minus-value _ (c .before .if1 .left) (lit≤ tt))
 
 returns-3 : tie.Need-returns-3
 unfolding controlOf
-returns-3 c = simp (c .before .before .before .n .given .1, le-ltb _ _ (c .before .if1 .left), c .if2 .left, plus-value _ (c .before .if1 .left))
+returns-3 c = simp (c .before .before .before .n .given .1, le-ltb _ _ (c .before .if1 .left), c .if2 .left, plus-value _ (c .before .if1 .left) (lit≤ tt))
 
 returns-4 : tie.Need-returns-4
 unfolding controlOf
