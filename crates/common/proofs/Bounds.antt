@@ -1,4 +1,4 @@
--- The size of a phase, of the constants and of a sine, by powers of two; and an output that is finite.
+-- The size of a phase, of the constants, of a sine and a cosine, by powers of two; and an output that is finite.
 use mathlib.Core.Bool.{Bool, true, false, _&&_}
 use mathlib.Core.Path.{_≡_, refl}
 use Prim.Native.Nat.{ℕ, _+_, _≤_}
@@ -9,8 +9,8 @@ use Rattle.laws.proofs.Interval.{Within, unit-within, within-finite, within-le,
 use Rattle.laws.proofs.Order.{float-le-trans, le-of-lt-true}
 use Rattle.laws.proofs.Tests.{of-true}
 use Rattle.laws.specs.Float.{zer, one, two, isFin}
-use Rattle.numeric.proofs.TrigLaws.{sin-inside}
-use Rattle.numeric.specs.Trig.{sinOf}
+use Rattle.numeric.proofs.TrigLaws.{cos-inside, sin-inside}
+use Rattle.numeric.specs.Trig.{cosOf, sinOf}
 use Rattle.common.specs.Consts.{four, five, half, tau}
 use Rattle.common.specs.Phase.{turns}
 use Rattle.common.specs.Ports.{outOf}
@@ -50,9 +50,12 @@ pub tau-within : Within 3 tau
 unfolding ofBits
 tau-within = within-of 3 tau tt
 
--- the sine of what is at most 512 in size
+-- the sine and the cosine of what is at most 512 in size
 pub sin-within : (i : ℕ) (x : Float) → i ≤ 9 → Within i x → Within 0 (sinOf x)
 sin-within i x l h = unit-within (sinOf x) (sin-inside x (unfold ofBits neg in within-le 9 x (within-to i 9 x l h)))
+
+pub cos-within : (i : ℕ) (x : Float) → i ≤ 9 → Within i x → Within 0 (cosOf x)
+cos-within i x l h = unit-within (cosOf x) (cos-inside x (unfold ofBits neg in within-le 9 x (within-to i 9 x l h)))
 
 -- an output is finite, scaled or unwanted
 pub out-finite : (want : Bool) (k : ℕ) (x : Float) → k + 3 ≤ 1023 → Within k x → isFin (outOf want x) ≡ true

@@ -40,7 +40,7 @@ rung-second c l x (suc (suc (suc (suc zero)))) h e = second-wild _ _ _ _ _ x e
 rung-second c l x (suc (suc (suc (suc (suc i))))) h e = absurd (omega arith)
 
 -- ---- a cell is a resonator's first or its second
-parity : (i : ℕ) → (j : ℕ) × ((i ≡ 2 * j) ⊎ (i ≡ 2 * j + 1))
+pub parity : (i : ℕ) → (j : ℕ) × ((i ≡ 2 * j) ⊎ (i ≡ 2 * j + 1))
 parity zero = (0, inl refl)
 parity (suc i) = next (parity i)
   where

@@ -5,6 +5,7 @@ use mathlib.Core.Path.{_≡_, refl, sym, ap, _∙_}
 use lib.Dec.{eqb}
 use lib.Ieee.{Float, binary64, lt, toBits}
 use lib.Ieee.Bits.{ofBits-fits}
+use lib.Ieee.Fits.{cond-fits}
 use borrow.Author.Tests.{eqb-true, eq-eqb}
 use Rattle.laws.proofs.Tests.{both-true}
 use Rattle.common.proofs.MemoLaws.{bits-same}
@@ -55,23 +56,23 @@ recall-is m h x y z t u v = go (m .valid && (p && (q && r))) refl
         k .6 ∙ (λ w. made (i w) (j w) (l w)))
         h
 
-clamp-fits : (x : Float) → F64 x → F64 (clampOf x zer one)
+pub clamp-fits : (x lo hi : Float) → F64 x → F64 lo → F64 hi → F64 (clampOf x lo hi)
 unfolding clampOf
-clamp-fits x h = go (lt x zer) (lt one x)
-  where
-    go : (a b : Bool) → F64 (cond a zer (cond b one x))
-    go true b = ofBits-fits binary64 0
-    go false true = ofBits-fits binary64 0x3ff0000000000000
-    go false false = h
+clamp-fits x lo hi h l u = cond-fits binary64 (lt x lo) lo (cond (lt hi x) hi x) l (cond-fits binary64 (lt hi x) hi x u h)
+
+unit-fits : (x : Float) → F64 x → F64 (clampOf x zer one)
+unit-fits x h = clamp-fits x zer one h (ofBits-fits binary64 0) (ofBits-fits binary64 0x3ff0000000000000)
 
 -- the memo after a tick
 pub tick-made : (s : FormantOsc) (c : FormantControls) → Coherent (s .«coef_memo») → FitCall (Tick c) → F64 (s .«sample_rate» .0)
     → coefMemoOf s c ≡ made (clampOf (c .vowel) zer one) (c .«formant_shift») (s .«sample_rate» .0)
 unfolding coefMemoOf
-tick-made s c h f r = recall-is (s .«coef_memo») h (clampOf (c .vowel) zer one) (c .«formant_shift») (s .«sample_rate» .0) (clamp-fits (c .vowel) (f .0)) (f .1) r
+tick-made s c h f r =
+    recall-is (s .«coef_memo») h (clampOf (c .vowel) zer one) (c .«formant_shift») (s .«sample_rate» .0)
+    (unit-fits (c .vowel) (f .0)) (f .1) r
 
 pub tick-coherent : (s : FormantOsc) (c : FormantControls) → Coherent (s .«coef_memo») → FitCall (Tick c) → F64 (s .«sample_rate» .0) → Coherent (coefMemoOf s c)
-tick-coherent s c h f r = inr (clampOf (c .vowel) zer one, c .«formant_shift», s .«sample_rate» .0, clamp-fits (c .vowel) (f .0), f .1, r, tick-made s c h f r)
+tick-coherent s c h f r = inr (clampOf (c .vowel) zer one, c .«formant_shift», s .«sample_rate» .0, unit-fits (c .vowel) (f .0), f .1, r, tick-made s c h f r)
 
 -- so its coefficients are those of the tick's own vowel, shift and rate
 pub tick-coefs : (s : FormantOsc) (c : FormantControls) → Coherent (s .«coef_memo») → FitCall (Tick c) → F64 (s .«sample_rate» .0)

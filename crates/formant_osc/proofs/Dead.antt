@@ -71,7 +71,7 @@ by-nought x y (inl e) = rw (e, div-nan-r x) refl
 by-nought x y (inr (s, e)) = rw e (div-zero-wild x s)
 
 -- alpha / (1.0 + alpha)
-wild-share : (alpha : Float) → isFin alpha ≡ false → div binary64 alpha (add binary64 one alpha) ≡ nan
+pub wild-share : (alpha : Float) → isFin alpha ≡ false → div binary64 alpha (add binary64 one alpha) ≡ nan
 unfolding div add ofBits
 wild-share nan h = refl
 wild-share (inf s) h = refl

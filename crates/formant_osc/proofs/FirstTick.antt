@@ -2,13 +2,13 @@
 use mathlib.Core.Bool.{Bool, true, false}
 use mathlib.Core.List.{List, [], _∷_}
 use mathlib.Core.Path.{_≡_, refl, sym, ap, _∙_, subst}
-use Prim.Native.Nat.{ℕ, _+_, _-_, _*_, _≤_, _<_}
-use native.Mathlib.Nat.{le-trans, le-of-eq, mul-assoc, mul-le-mul, mul-le-mul-left, mul-le-mul-right, mul-pos, one-mul}
+use Prim.Native.Nat.{ℕ, _-_, _*_, _≤_, _<_}
+use native.Mathlib.Nat.{le-trans, le-of-eq, mul-assoc, mul-le-mul, mul-pos, one-mul}
 use native.Mathlib.Omega.{arith}
 use lib.Dec.{T, leb, leb→le, lit<, lit≤}
 use lib.Ieee.{Float, nan, inf, fin, binary64, add, sub, mul, div, neg, lt, le, ofBits, ofInt, toUnsigned, sum, up, down}
 use lib.Ieee.Bits.{ofBits-fits}
-use lib.Ieee.Fits.{down-pos}
+use lib.Ieee.Fits.{div-fits, down-pos}
 use lib.IntN.{pos}
 use lib.ListN.{getD}
 use Rattle.answer.proofs.Laws.{mark-says}
@@ -20,6 +20,7 @@ use Rattle.common.specs.Memo.{voctToHzAt, recall1, hits1, filled1}
 use Rattle.common.specs.Phase.{incrementOf}
 use Rattle.common.specs.Pitch.{voctToHz}
 use Rattle.common.specs.Tests.{rateOk}
+use Rattle.formant_osc.proofs.Positive.{alpha-plus, shares}
 use Rattle.formant_osc.proofs.Reached.{tick-sounds, good, new-accepts}
 use Rattle.formant_osc.specs.Coefs.{spotOf, formantOf, getFormants, coefOf, resonatorCoefs}
 use Rattle.formant_osc.specs.Consts.{pi, omegaLow, omegaHigh, twelve, amplitude3, amplitude4, amplitude5}
@@ -30,9 +31,10 @@ use Rattle.formant_osc.specs.Promises.{firstRate, noControls, First-clea
 use Rattle.formant_osc.specs.Sound.{glottalPulse, pitchOf, resonateOf, plus, rungOf, onlyOf}
 use Rattle.formant_osc.specs.declared.FormantOsc.{FormantOsc}
 use Rattle.formant_osc.specs.declared.FormantTicked.{FormantTicked}
-use Rattle.laws.proofs.Interval.{Under, round-under, Sized, round-sized, Within, within-finite, isWithin, within-of}
-use Rattle.laws.proofs.Rounded.{Rounded, rounded}
-use Rattle.laws.proofs.Values.{add-round, div-round, exact-at, sum-pos-neg}
+use Rattle.laws.proofs.Interval.{Under, round-under, Within, within-finite, isWithin, within-of}
+use Rattle.laws.proofs.Number.{value-finite}
+use Rattle.laws.proofs.Sign.{Plus}
+use Rattle.laws.proofs.Values.{div-round, exact-at}
 use Rattle.laws.proofs.Zeros.{times-nought}
 use Rattle.laws.specs.Float.{zer, one, two, isFin}
 use Rattle.laws.specs.Machine.{begun}
@@ -41,7 +43,7 @@ use Rattle.numeric.specs.Basic.{clampOf}
 use Rattle.numeric.specs.Power.{exp2Of}
 use Rattle.numeric.specs.Trig.{sinOf}
 
--- ---- alpha / (1.0 + alpha) is at most 1 in size, where alpha is a number of at most 1 by one of at least 2
+-- ---- alpha is finite, where it is a number of at most 1 by one of at least 2
 abbrev isTwice : Float → Bool
 isTwice nan = false
 isTwice (inf s) = false
@@ -74,50 +76,20 @@ half-of x (fin false m e) (s, (a, c, C, l, v)) h =
     least : a * d * 2 ≤ 1 * (c * b)
     least = le-trans (le-of-eq (mul-assoc a d 2)) (le-trans (mul-le-mul (le-trans l (le-of-eq (one-mul c))) D) (le-of-eq (sym (one-mul (c * b)))))
 
-one-plus : (alpha : Float) (s : Bool) → Under 1 2 s alpha → Rounded (add binary64 one alpha) 1 4 1
-one-plus alpha s (a, c, C, l, v) =
-    subst (λ (x : Float). Rounded x 1 4 1) (sym (add-round one alpha false s 1 1 a c (lit< tt) C (unfold ofBits in (refl, refl)) v)) (go s)
-  where
-    C' : 0 < 1 * c
-    C' = omega arith
-
-    go : (s : Bool) → Rounded (sum binary64 false (1 * c) s (a * 1) (1 * c)) 1 4 1
-    go false = unfold sum in rounded (1 * c + a * 1) (1 * c) 1 4 1 C' (lit< tt) (lit< tt) (lit≤ tt) (omega arith) (omega arith)
-    go true =
-        subst (λ (x : Float). Rounded x 1 4 1) (sym (sum-pos-neg (1 * c) (a * 1) (1 * c) (omega arith)))
-        (rounded (1 * c - a * 1) (1 * c) 1 4 1 C' (lit< tt) (lit< tt) (lit≤ tt) (omega arith) (omega arith))
-
-share-within : (alpha : Float) (s : Bool) → Under 1 2 s alpha → Within 0 (div binary64 alpha (add binary64 one alpha))
-share-within alpha s (a, c, C, l, v) = go (one-plus alpha s (a, c, C, l, v))
-  where
-    go : Rounded (add binary64 one alpha) 1 4 1 → Within 0 (div binary64 alpha (add binary64 one alpha))
-    go r =
-        let t = r .top in
-        let d = r .bottom in
-        let D = r .bottom-pos in
-        let L : 1 * d ≤ t * 2 = r .least in
-        let P : 0 < t = omega arith in
-        let H : a * 2 ≤ 1 * c = l in
-        let K : a * 2 ≤ c = omega arith in
-        let M : d ≤ t * 2 = omega arith in
-        let swap : a * (t * 2) ≡ a * 2 * t = omega arith in
-        let top : a * 2 * t ≤ 1 * (c * t) = le-trans (mul-le-mul-right t K) (le-of-eq (sym (one-mul (c * t)))) in
-        let least : a * d ≤ 1 * (c * t) = le-trans (mul-le-mul-left a M) (le-trans (le-of-eq swap) top) in
-        let rounds = div-round alpha (add binary64 one alpha) s a c t d C D P v (r .value) in
-        (s, subst (Sized s 0) (sym rounds) (round-sized s 0 (a * d) (c * t) (lit≤ tt) (mul-pos C P) least))
-
 -- ---- so the first coefficient of a resonator is finite
 abbrev omegaAt : Float → Float
 omegaAt freq = clampOf (div binary64 (mul binary64 (mul binary64 two pi) freq) (firstRate .0)) omegaLow (mul binary64 pi omegaHigh)
 
 coef-finite : (freq bandwidth : Float) → T (isWithin 1 (omegaAt freq)) → T (isTwice (mul binary64 two (div binary64 freq bandwidth)))
-    → T (isFin (coefOf freq bandwidth (firstRate .0) .b0))
+    → Plus freq → Plus bandwidth → T (isFin (coefOf freq bandwidth (firstRate .0) .b0))
 unfolding coefOf
-coef-finite freq bandwidth h k =
+coef-finite freq bandwidth h k p q =
     let sine = sin-within 1 (omegaAt freq) (lit≤ tt) (within-of 1 (omegaAt freq) h) in
     let alpha = div binary64 (sinOf (omegaAt freq)) (mul binary64 two (div binary64 freq bandwidth)) in
     let small = half-of (sinOf (omegaAt freq)) (mul binary64 two (div binary64 freq bandwidth)) sine k in
-    within-finite 0 (div binary64 alpha (add binary64 one alpha)) (share-within alpha (small .0) (small .1))
+    let finite = value-finite alpha (small .0) (small .1 .0) (small .1 .1) (small .1 .4) in
+    within-finite 0 (div binary64 alpha (add binary64 one alpha))
+    (shares alpha (div-fits binary64 _ _) (alpha-plus freq bandwidth (firstRate .0) p q) finite .0)
 
 -- ---- a silent resonator stays silent
 silent : (s : Bool) → add binary64 (fin s 0 (pos 0)) zer ≡ zer
@@ -165,16 +137,17 @@ tone-zero = ap (λ (x : Float). add binary64 zer (div binary64 (mul binary64 (mu
 -- ---- the coefficients
 coef-at : (i : ℕ) (bandwidth : Float) → T (isWithin 1 (omegaAt (formantOf (spotOf zer) i (fin false 1 (pos 0)))))
     → T (isTwice (mul binary64 two (div binary64 (formantOf (spotOf zer) i (fin false 1 (pos 0))) bandwidth)))
+    → Plus (formantOf (spotOf zer) i (fin false 1 (pos 0))) → Plus bandwidth
     → T (isFin (coefOf (formantOf (spotOf zer) i (exp2Of (div binary64 zer five))) bandwidth (firstRate .0) .b0))
-coef-at i bandwidth h k =
+coef-at i bandwidth h k p q =
     subst (λ (by : Float). T (isFin (coefOf (formantOf (spotOf zer) i by) bandwidth (firstRate .0) .b0))) (sym factor-one)
-    (coef-finite (formantOf (spotOf zer) i (fin false 1 (pos 0))) bandwidth h k)
+    (coef-finite (formantOf (spotOf zer) i (fin false 1 (pos 0))) bandwidth h k p q)
 
 sum-silent : rungOf (resonatorCoefs zer zer (firstRate .0)) rest zer .sum ≡ zer
 unfolding resonatorCoefs getFormants formantOf spotOf clampOf lt add sub mul div toUnsigned ofInt ofBits
 sum-silent =
-    rung-silent (resonatorCoefs zer zer (firstRate .0)) (coef-at 0 bandwidth1 tt tt) (coef-at 1 bandwidth2 tt tt) (coef-at 2 bandwidth3 tt tt)
-    (coef-at 3 bandwidth4 tt tt) (coef-at 4 bandwidth5 tt tt)
+    rung-silent (resonatorCoefs zer zer (firstRate .0)) (coef-at 0 bandwidth1 tt tt tt tt) (coef-at 1 bandwidth2 tt tt tt tt) (coef-at 2 bandwidth3 tt tt tt tt)
+    (coef-at 3 bandwidth4 tt tt tt tt) (coef-at 4 bandwidth5 tt tt tt tt)
 
 -- ---- the tick
 abbrev new : FormantOsc

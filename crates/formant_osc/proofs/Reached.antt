@@ -65,7 +65,7 @@ new-good : (r : Hertz) → rateOk r ≡ true → F64 (r .0) → Good (newFormant
 unfolding newFormantOsc formantAtRest newCoefMemo
 new-good r h f = record { rate = h; fit = f; phase = zero-in; vibrato = zero-in; pitch = inl refl; coefs = inl refl }
 
-first-good : (s : FormantOsc) → First s → Good s
+pub first-good : (s : FormantOsc) → First s → Good s
 unfolding formantNewOf formantUnless
 first-good s f = go (rateOk (f .0)) refl (f .2)
   where
@@ -88,10 +88,10 @@ sound-good s c g f =
       coefs = tick-coherent s c (g .coefs) f (g .fit);
     }
 
-tick-good : (c : FormantControls) → FitCall (Tick c) → (s : FormantOsc) → Good s → Good (formantTickOf s c .formant)
+pub tick-good : (c : FormantControls) → FitCall (Tick c) → (s : FormantOsc) → Good s → Good (formantTickOf s c .formant)
 tick-good c f s g = subst (λ (t : FormantTicked). Good (t .formant)) (sym (tick-sounds s c g)) (sound-good s c g f)
 
-after-good : (s : FormantOsc) (c : Call) → Good s → FitCall c → Good (after s c)
+pub after-good : (s : FormantOsc) (c : Call) → Good s → FitCall c → Good (after s c)
 unfolding after
 after-good s (Tick c) g f = tick-good c f s g
 after-good s (Play c t o m) g f = unfold formantBlockOf in block-keeps 1 _ _ _ Good (tick-good c f) s g t o m

@@ -98,6 +98,19 @@ Blocks-any-cell = (s t : FormantOsc) → Wild-cell s → Later s t → (c : Form
     → formantBlockOf t c y o m .refused ≡ 0 → 0 < length m
     → ((i : ℕ) → suc i < length m → getD (formantBlockOf t c y o m .marks) (suc i) 0 ≡ 12) × Spoiled (formantBlockOf t c y o m .state)
 
+-- ---- a state that is reached is spoiled as soon as any of its cells isn't finite: a second cell is infinite or NaN beside none but such a first
+abbrev pub Reached-cells : Type 0
+Reached-cells = (s : FormantOsc) → ReachedFormant s → Wild-cell s → Spoiled s
+
+-- so from then on it has no clean tick, not one, until a reset
+abbrev pub Never-clean-again : Type 0
+Never-clean-again = (s t : FormantOsc) → ReachedFormant s → Wild-cell s → Later s t → (c : FormantControls)
+    → accepted (formantTickOf t c .answer) ≡ true → markNumber (formantTickOf t c .answer) ≡ 2
+
+abbrev pub Blocks-never-again : Type 0
+Blocks-never-again = (s t : FormantOsc) → ReachedFormant s → Wild-cell s → Later s t → (c : FormantControls) (y : Tally) (o : List Float) (m : List ℕ)
+    → formantBlockOf t c y o m .refused ≡ 0 → formantBlockOf t c y o m .marks ≡ tab (λ i. 12) (length m)
+
 -- ---- controls that kill the first resonator: where the vowel is NaN, or the shift's factor is 0 or NaN, the tick is notfinite, and
 -- leaves NaN in that resonator's first cell
 abbrev pub shiftFactor : FormantControls → Float

@@ -14,7 +14,7 @@ use lib.Ieee.Positive.{den, den-pos, num, own-value, positive}
 use lib.IntN.{negsuc, pos, ℤ}
 use lib.Pow.{pow-add, pow-lt, pow-mono, pow-pos}
 use Rattle.laws.proofs.Monotone.{round-le}
-use Rattle.laws.proofs.Number.{Signed, round-signed}
+use Rattle.laws.proofs.Number.{Signed, round-signed, sum-by}
 use Rattle.laws.proofs.Order.{Below, below-le, le-below, le-neg, le-of-lt-true, neg-lt-nonneg, neg-lt-pos, neg-neg, values-le}
 use Rattle.laws.proofs.Tests.{of-true}
 use Rattle.laws.proofs.Values.{add-round, exact-at, fits-small, float-mul-comm, mul-round, neg-value, signed-value}
@@ -22,7 +22,8 @@ use Rattle.laws.proofs.Values.{sub-mul', sub-round, sum-pos-neg, unlike
 use Rattle.laws.specs.Float.{F64, InUnit, isFin, one}
 
 -- a value that is not above a finite one is finite
-under : (x y : Float) (b d : ℕ) → Signed false x → 0 < d → HasValue y false b d → T (le x y) → (a : ℕ) × (c : ℕ) × (0 < c) × (a * d ≤ b * c) × HasValue x false a c
+pub under : (x y : Float) (b d : ℕ) → Signed false x → 0 < d → HasValue y false b d → T (le x y)
+    → (a : ℕ) × (c : ℕ) × (0 < c) × (a * d ≤ b * c) × HasValue x false a c
 unfolding le lt eq
 under nan y b d p D v h = absurd p
 under (inf true) y b d p D v h = absurd (true≢false p)
@@ -46,25 +47,8 @@ round-under s a c p d C D h top =
     (r .0, r .1, r .2, r .3, signed-value s a c (r .0) (r .1) (r .4))
 
 pub sum-under : (s t : Bool) (a b c p d : ℕ) → 0 < c → 0 < d → (a + b) * d ≤ p * c → Exact p d → (r : Bool) × Under p d r (sum binary64 s a t b c)
-unfolding sum
-sum-under s t a b c p d C D h top = go (Bool·beq s t) (ltb a b)
-  where
-    less : (m n d k : ℕ) → (m + n) * d ≤ k → (m - n) * d ≤ k
-    less m n d k h = le-trans (mul-le-mul-right d (under m n)) h
-      where
-        under : (m n : ℕ) → m - n ≤ m + n
-        under m n = omega arith
-
-    more : (m n d k : ℕ) → (m + n) * d ≤ k → (n - m) * d ≤ k
-    more m n d k h = le-trans (mul-le-mul-right d (under m n)) h
-      where
-        under : (m n : ℕ) → n - m ≤ m + n
-        under m n = omega arith
-
-    go : (x y : Bool) → (r : Bool) × Under p d r (cond x (round binary64 s (a + b) c) (cond y (round binary64 t (b - a) c) (round binary64 (s && ltb b a) (a - b) c)))
-    go true y = (s, round-under s (a + b) c p d C D h top)
-    go false true = (t, round-under t (b - a) c p d C D (more a b d (p * c) h) top)
-    go false false = (s && ltb b a, round-under (s && ltb b a) (a - b) c p d C D (less a b d (p * c) h) top)
+sum-under s t a b c p d C D h top =
+    sum-by (λ x. (r : Bool) × Under p d r x) s t a b c (λ r q l. (r, round-under r q c p d C D (le-trans (mul-le-mul-right d l) h) top))
 
 -- two values of one sign that differ by p / q at most
 pub sub-under : (s : Bool) (x y : Float) (a c b d p q : ℕ) → 0 < c → 0 < d → 0 < q → HasValue x s a c → HasValue y s b d

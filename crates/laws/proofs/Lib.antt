@@ -10,6 +10,7 @@ pub mod Interval
 pub mod Rounded
 pub mod Weights
 pub mod Zeros
+pub mod Greatest
 pub mod Over
 pub mod All
 pub mod Always

@@ -1,7 +1,8 @@
 -- Which values are numbers, that is no NaN; and what NaN and an infinity leave of a sum, a product and a quotient.
 use mathlib.Core.Bool.{Bool, Bool·beq, _&&_, cond, false, false≢true, not, true, true≢false}
 use mathlib.Core.Path.{_≡_, refl, subst, sym}
-use Prim.Native.Nat.{_*_, _+_, _-_, _^_, suc, zero, ℕ}
+use Prim.Native.Nat.{_*_, _+_, _-_, _^_, _≤_, suc, zero, ℕ}
+use native.Mathlib.Nat.{le-add-left, le-add-right, le-refl, le-trans, sub-le}
 use lib.Dec.{T, eqb, eqb·suc-zero, ltb}
 use lib.Ieee.{Float, add, binary64, div, down, eq, fin, inf, isNan, le, lt, mul, nan, neg, odd, round, sub, sum, units, unlike, up}
 use lib.Ieee.Exact.{HasValue}
@@ -45,14 +46,18 @@ pub pos-eqb : (n : ℕ) → T (ltb 0 n) → eqb n 0 ≡ false
 pos-eqb zero h = absurd h
 pos-eqb (suc n) h = eqb·suc-zero n
 
-sum-number : (s : Bool) (a : ℕ) (t : Bool) (b c : ℕ) → T (not (isNan (sum binary64 s a t b c)))
+-- a sum of two signs is a rounding of at most their sizes' sum
+pub sum-by : (P : Float → Type 0) (s t : Bool) (a b c : ℕ) → ((r : Bool) (q : ℕ) → q ≤ a + b → P (round binary64 r q c)) → P (sum binary64 s a t b c)
 unfolding sum
-sum-number s a t b c = go (Bool·beq s t) (ltb a b)
+sum-by P s t a b c f = go (Bool·beq s t) (ltb a b)
   where
-    go : (x y : Bool) → T (not (isNan (cond x (round binary64 s (a + b) c) (cond y (round binary64 t (b - a) c) (round binary64 (s && ltb b a) (a - b) c)))))
-    go true y = round-number s (a + b) c
-    go false true = round-number t (b - a) c
-    go false false = round-number (s && ltb b a) (a - b) c
+    go : (x y : Bool) → P (cond x (round binary64 s (a + b) c) (cond y (round binary64 t (b - a) c) (round binary64 (s && ltb b a) (a - b) c)))
+    go true y = f s (a + b) (le-refl (a + b))
+    go false true = f t (b - a) (le-trans (sub-le b a) (le-add-left b a))
+    go false false = f (s && ltb b a) (a - b) (le-trans (sub-le a b) (le-add-right a b))
+
+sum-number : (s : Bool) (a : ℕ) (t : Bool) (b c : ℕ) → T (not (isNan (sum binary64 s a t b c)))
+sum-number s a t b c = sum-by (λ x. T (not (isNan x))) s t a b c (λ r q l. round-number r q c)
 
 -- a sum and a difference with a finite number, a product with one above 0, a quotient of one above 0
 pub add-number : (x y : Float) → T (isFin y) → T (not (isNan x)) → T (not (isNan (add binary64 x y)))

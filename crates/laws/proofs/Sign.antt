@@ -1,18 +1,20 @@
 -- Values that have no minus sign: sums, products and quotients of such have none, and a number less one of them isn't above itself.
 use mathlib.Core.Bool.{Bool, true, false, not, cond, _&&_, true≢false, false≢true}
-use mathlib.Core.Path.{_≡_, refl, sym, subst}
-use Prim.Native.Nat.{ℕ, _+_, _-_, _*_, _<_, _≤_}
-use native.Mathlib.Nat.{mul-pos, mul-le-mul-right, sub-le, le-add-right}
+use mathlib.Core.Path.{_≡_, refl, sym, ap, subst, _∙_}
+use Prim.Native.Nat.{ℕ, _+_, _-_, _*_, _<_, _≤_, zero-le}
+use native.Mathlib.Nat.{mul-pos, mul-le-mul-right, sub-le, le-add-right, le-trans, le-of-eq, zero-mul}
 use native.Mathlib.Omega.{arith}
-use lib.Dec.{T, eqb, ltb}
+use lib.Dec.{T, eqb, lit<, ltb}
 use lib.Ieee.{Float, nan, inf, fin, binary64, up, down, round, sum, add, sub, mul, div, neg, lt, le, eq, isNan, ofBits}
 use lib.Ieee.Fits.{down-pos}
 use lib.Ieee.Order.{round-mono}
+use lib.Ieee.Positive.{positive}
 use lib.IntN.{pos, ℤ}
 use borrow.Author.Tests.{le-ltb}
 use Rattle.laws.proofs.Monotone.{round-le, unit-law}
 use Rattle.laws.proofs.Number.{Signed, round-signed}
-use Rattle.laws.proofs.Order.{le-below, neg-neg}
+use Rattle.laws.proofs.Order.{below-le, le-below, neg-neg}
+use Rattle.laws.proofs.Tests.{zero-of}
 use Rattle.laws.proofs.Unique.{round-own}
 use Rattle.laws.proofs.Values.{round-neg}
 use Rattle.laws.specs.Float.{F64, zer, one}
@@ -95,18 +97,79 @@ above-plus (inf false) h = tt
 above-plus (fin true m e) h = absurd (false≢true h)
 above-plus (fin false m e) h = tt
 
--- 1 less a number of at most 1 has none
-pub one-less : (y : Float) → T (le y one) → Plus (sub binary64 one y)
-unfolding sub add neg sum ofBits
-one-less nan h = absurd (unfold le lt eq in h)
-one-less (inf true) h = tt
-one-less (inf false) h = absurd (unfold le lt eq in h)
-one-less (fin true n d) h = round-plus (1 * down d + n * up d * 1) (1 * down d)
-one-less (fin false n d) h = go (ltb (1 * down d) (n * up d * 1)) (le-ltb (1 * down d) (n * up d * 1) (le-below false false n 1 d (pos 0) h))
+pub positive-plus : (x : Float) → T (positive x) → Plus x
+positive-plus nan p = absurd p
+positive-plus (inf s) p = absurd p
+positive-plus (fin true m e) p = absurd p
+positive-plus (fin false m e) p = tt
+
+-- a number with none less one that isn't above it has none
+pub less-plus : (x y : Float) → Plus x → T (le y x) → Plus (sub binary64 x y)
+unfolding sub add neg sum
+less-plus nan y p h = tt
+less-plus (inf true) y p h = absurd p
+less-plus (inf false) nan p h = tt
+less-plus (inf false) (inf true) p h = tt
+less-plus (inf false) (inf false) p h = tt
+less-plus (inf false) (fin t n d) p h = tt
+less-plus (fin true m e) y p h = absurd p
+less-plus (fin false m e) nan p h = tt
+less-plus (fin false m e) (inf true) p h = tt
+less-plus (fin false m e) (inf false) p h = absurd (unfold le lt eq in h)
+less-plus (fin false m e) (fin true n d) p h = round-plus (m * up e * down d + n * up d * down e) (down e * down d)
+less-plus (fin false m e) (fin false n d) p h = go (ltb A B) (le-ltb A B (le-below false false n m d e h))
   where
-    go : (t : Bool) → t ≡ false → Plus (cond t (round binary64 true (n * up d * 1 - 1 * down d) (1 * down d)) (round binary64 (false && ltb (n * up d * 1) (1 * down d)) (1 * down d - n * up d * 1) (1 * down d)))
-    go true e = absurd (true≢false e)
-    go false e = round-plus (1 * down d - n * up d * 1) (1 * down d)
+    A : ℕ
+    A = m * up e * down d
+
+    B : ℕ
+    B = n * up d * down e
+
+    go : (t : Bool) → t ≡ false → Plus (cond t (round binary64 true (B - A) (down e * down d)) (round binary64 (false && ltb B A) (A - B) (down e * down d)))
+    go true q = absurd (true≢false q)
+    go false q = round-plus (A - B) (down e * down d)
+
+-- so has 1 less a number of at most 1
+pub one-less : (y : Float) → T (le y one) → Plus (sub binary64 one y)
+one-less y h = less-plus one y (unfold ofBits in tt) h
+
+-- and one with none plus one that isn't below 0, be that -0.0
+pub more-plus : (x y : Float) → Plus x → T (le zer y) → Plus (add binary64 x y)
+unfolding add sum ofBits
+more-plus nan y p h = tt
+more-plus (inf true) y p h = absurd p
+more-plus (inf false) nan p h = tt
+more-plus (inf false) (inf true) p h = absurd (unfold le lt eq in h)
+more-plus (inf false) (inf false) p h = tt
+more-plus (inf false) (fin t n d) p h = tt
+more-plus (fin true m e) y p h = absurd p
+more-plus (fin false m e) nan p h = tt
+more-plus (fin false m e) (inf true) p h = absurd (unfold le lt eq in h)
+more-plus (fin false m e) (inf false) p h = tt
+more-plus (fin false m e) (fin false n d) p h = round-plus (m * up e * down d + n * up d * down e) (down e * down d)
+more-plus (fin false m e) (fin true n d) p h = go (ltb A B) (le-ltb A B (le-trans (le-of-eq nil) zero-le))
+  where
+    A : ℕ
+    A = m * up e * down d
+
+    B : ℕ
+    B = n * up d * down e
+
+    nil : B ≡ 0
+    nil = ap (λ (z : ℕ). z * down e) (zero-of (n * up d) 1 (lit< tt) (le-of-eq (le-below false true 0 n (pos 0) d h .1))) ∙ zero-mul (down e)
+
+    go : (t : Bool) → t ≡ false → Plus (cond t (round binary64 true (B - A) (down e * down d)) (round binary64 (false && ltb B A) (A - B) (down e * down d)))
+    go true q = absurd (true≢false q)
+    go false q = round-plus (A - B) (down e * down d)
+
+-- a number with none isn't below 0
+pub plus-above : (x : Float) → Plus x → T (not (isNan x)) → T (le zer x)
+unfolding ofBits isNan
+plus-above nan p q = absurd q
+plus-above (inf true) p q = absurd p
+plus-above (inf false) p q = unfold le lt eq in tt
+plus-above (fin true m e) p q = absurd p
+plus-above (fin false m e) p q = below-le false false 0 m (pos 0) e (le-trans (le-of-eq (zero-mul (down e))) zero-le)
 
 -- nor have 1 less and 1 plus what lies from -1 to 1
 around : (r : Float) → Plus r → T (le r one) → Plus (sub binary64 one r) × Plus (add binary64 one r) × Plus (sub binary64 one (neg r)) × Plus (add binary64 one (neg r))
@@ -154,3 +217,25 @@ sub-below (fin s m e) (fin true n d) f p q = absurd p
 sub-below (fin s m e) (fin false n d) f p q =
     subst (λ (z : Float). T (le (sum binary64 s (m * up e * down d) true (n * up d * down e) (down e * down d)) z)) (own s m e (down d) (down-pos d) f)
     (sum-below s (m * up e * down d) (n * up d * down e) (down e * down d) (mul-pos (down-pos e) (down-pos d)))
+
+-- ---- and one of these plus another
+pub add-above : (x y : Float) → F64 x → Plus x → Plus y → T (not (isNan (add binary64 x y))) → T (le x (add binary64 x y))
+unfolding add sum isNan
+add-above nan y f p r q = absurd q
+add-above (inf true) y f p r q = absurd p
+add-above (inf false) nan f p r q = absurd q
+add-above (inf false) (inf true) f p r q = absurd r
+add-above (inf false) (inf false) f p r q = unfold le lt eq in tt
+add-above (inf false) (fin t n d) f p r q = unfold le lt eq in tt
+add-above (fin true m e) y f p r q = absurd p
+add-above (fin false m e) nan f p r q = absurd q
+add-above (fin false m e) (inf true) f p r q = absurd r
+add-above (fin false m e) (inf false) f p r q = unfold le lt eq in tt
+add-above (fin false m e) (fin true n d) f p r q = absurd r
+add-above (fin false m e) (fin false n d) f p r q =
+    subst (λ (z : Float). T (le z (round binary64 false (m * up e * down d + n * up d * down e) (down e * down d)))) (own false m e (down d) (down-pos d) f)
+    (round-mono binary64 (m * up e * down d) (down e * down d) (m * up e * down d + n * up d * down e) (down e * down d) C C
+    (mul-le-mul-right (down e * down d) (le-add-right (m * up e * down d) (n * up d * down e))))
+  where
+    C : 0 < down e * down d
+    C = mul-pos (down-pos e) (down-pos d)

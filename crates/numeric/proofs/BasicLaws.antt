@@ -14,6 +14,7 @@ use borrow.Author.Tests.{le-ltb, lt-ltb, ltb-false}
 use lib.Ieee.Exact.{HasValue}
 use Rattle.laws.proofs.Interval.{Within}
 use Rattle.laws.proofs.Number.{is-nan}
+use Rattle.laws.proofs.Sign.{Plus}
 use Rattle.laws.proofs.Unique.{round-own}
 use Rattle.laws.proofs.Values.{sub-round, sub-self-zero}
 use Rattle.laws.specs.Float.{F64, isFin, zer}
@@ -73,6 +74,28 @@ unfolding fabsOf
 fabs-twice nan = refl
 fabs-twice (inf s) = refl
 fabs-twice (fin s m e) = refl
+
+-- without a minus sign, and only so, a number is its own size
+pub plus-own : (x : Float) → Plus x → fabsOf x ≡ x
+unfolding fabsOf
+plus-own nan p = refl
+plus-own (inf true) p = absurd p
+plus-own (inf false) p = refl
+plus-own (fin true m e) p = absurd p
+plus-own (fin false m e) p = refl
+
+abbrev minus : Float → Bool
+minus nan = false
+minus (inf s) = s
+minus (fin s m e) = s
+
+pub own-plus : (x : Float) → fabsOf x ≡ x → Plus x
+unfolding fabsOf
+own-plus nan h = tt
+own-plus (inf true) h = false≢true (ap minus h)
+own-plus (inf false) h = tt
+own-plus (fin true m e) h = false≢true (ap minus h)
+own-plus (fin false m e) h = tt
 
 pub within-fabs : (i : ℕ) (x : Float) → Within i x → Within i (fabsOf x)
 unfolding fabsOf

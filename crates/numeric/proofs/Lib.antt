@@ -8,6 +8,8 @@ pub mod PowerLaws
 pub mod PowerRange
 pub mod RestLaws
 pub mod TrigLaws
+pub mod SinSign
+pub mod PowerSign
 pub mod RangeLaws
 pub mod Laws
 pub mod Settled

@@ -69,7 +69,7 @@ field-up K N h e = (1023 + K, omega arith, omega arith, omega arith)
 field-down : (K N : ℕ) → K ≤ 1022 → 6755399441056767 ≡ N + K → (F : ℕ) × (1 ≤ F) × (F ≤ 2046) × (N ≡ 6755399441055744 + F)
 field-down K N h e = (1023 - K, omega arith, omega arith, omega arith)
 
-split : (x : Float) → T (le (neg (ofBits binary64 0x408ff00000000000)) x) → T (le x (ofBits binary64 0x408ff80000000000)) → Split x
+pub split : (x : Float) → T (le (neg (ofBits binary64 0x408ff00000000000)) x) → T (le x (ofBits binary64 0x408ff80000000000)) → Split x
 split nan l h = absurd (unfold le lt eq in h)
 split (inf true) l h = absurd (unfold le lt eq neg ofBits in l)
 split (inf false) l h = absurd (unfold le lt eq ofBits in h)
@@ -104,7 +104,7 @@ odds : Unit-bits 0x3fe62e42fefa39ef × Unit-bits 0x3fac6b08d704a0c2 × Unit-bits
 unfolding le lt eq neg ofBits
 odds = ((tt, tt), (tt, tt), (tt, tt), (tt, tt), (tt, tt), (tt, tt))
 
-exp-within : (f : Float) → Within 0 f → Within 4 (expPart f)
+pub exp-within : (f : Float) → Within 0 f → Within 4 (expPart f)
 unfolding expPart
 exp-within f h =
     let z = mul binary64 f f in
@@ -119,7 +119,7 @@ exp-within f h =
     u b h = unit-within (ofBits binary64 b) h
 
 -- ---- 2 ^ x
-scale-positive : (t : Float) (F : ℕ) → 1 ≤ F → F ≤ 2046 → F64 t → HasValue t false (6755399441055744 + F) 1 → T (positive (scaleOf t))
+pub scale-positive : (t : Float) (F : ℕ) → 1 ≤ F → F ≤ 2046 → F64 t → HasValue t false (6755399441055744 + F) 1 → T (positive (scaleOf t))
 scale-positive t zero l h f v = absurd (not-suc-le-zero l)
 scale-positive t (suc x) l h f v = simp (scale-at t (suc x) h f v, bits-pow x (suc-le-suc-iff .1 h)) tt
 
@@ -133,7 +133,8 @@ mid-number x l h =
     (fin-number (expPart f) (within-finite 4 (expPart f) (exp-within f (k .4))))
 
 -- x from 1023 to below 1024, less 1
-less-one : (x : Float) → T (le (ofBits binary64 0x408ff80000000000) x) → T (lt x (ofBits binary64 0x4090000000000000)) → T (le (neg (ofBits binary64 0x408ff00000000000)) (sub binary64 x one)) × T (le (sub binary64 x one) (ofBits binary64 0x408ff80000000000))
+pub less-one : (x : Float) → T (le (ofBits binary64 0x408ff80000000000) x) → T (lt x (ofBits binary64 0x4090000000000000))
+    → T (le (neg (ofBits binary64 0x408ff00000000000)) (sub binary64 x one)) × T (le (sub binary64 x one) (ofBits binary64 0x408ff80000000000))
 less-one nan l h = absurd (unfold lt in h)
 less-one (inf true) l h = absurd (unfold le lt eq ofBits in l)
 less-one (inf false) l h = absurd (unfold lt ofBits in h)

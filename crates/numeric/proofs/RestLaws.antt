@@ -23,7 +23,7 @@ use Rattle.numeric.specs.Trig.{restOf, shift, shiftedOf}
 
 -- ---- the constants
 -- 2 / pi, and a right angle in two parts
-abbrev turns : Float
+abbrev pub turns : Float
 turns = ofBits binary64 0x3fe45f306dc9c883
 
 abbrev angle : Float
@@ -32,7 +32,7 @@ angle = ofBits binary64 0x3ff921fb54442000
 abbrev little : Float
 little = ofBits binary64 0x3d6a308d313198a3
 
-turns-value : HasValue turns false 5734161139222659 9007199254740992
+pub turns-value : HasValue turns false 5734161139222659 9007199254740992
 unfolding ofBits
 turns-value = (refl, refl)
 
@@ -44,7 +44,7 @@ little-value : HasValue little false 7371732368332963 99035203142830421991929937
 unfolding ofBits
 little-value = (refl, refl)
 
-shift-value : HasValue shift false 6755399441055744 1
+pub shift-value : HasValue shift false 6755399441055744 1
 unfolding ofBits
 shift-value = (refl, refl)
 

@@ -8,8 +8,8 @@ use lib.IntN.{ℤ, pos, negsuc}
 use lib.Dec.{T, ltb}
 use lib.Ieee.{Float, nan, inf, fin, binary64, up, down, lt, le, neg, sub, ofInt, ofBits, isNan}
 use lib.Ieee.Exact.{HasValue}
-use Rattle.laws.specs.Float.{zer, one, F64, isFin, InUnit}
-use Rattle.numeric.specs.Basic.{clampOf, minOf, maxOf, wholeOf, realOf}
+use Rattle.laws.specs.Float.{zer, one, two, F64, isFin, InUnit}
+use Rattle.numeric.specs.Basic.{fabsOf, clampOf, minOf, maxOf, wholeOf, realOf}
 use Rattle.numeric.specs.Floor.{floorOf}
 use Rattle.numeric.specs.Draw.{drawOf, bipolarOf}
 use Rattle.numeric.specs.Power.{exp2Of, pow3000Of}
@@ -49,6 +49,10 @@ Sin-minus-zero = sinOf (neg zer) ≡ zer
 abbrev pub Cos-minus-zero : Type 0
 Cos-minus-zero = cosOf (neg zer) ≡ one
 
+-- above 0 and up to 2 the sine has no minus sign: it is its own size
+abbrev pub Sin-positive : Type 0
+Sin-positive = (x : Float) → F64 x → T (lt zer x) → T (le x two) → fabsOf (sinOf x) ≡ sinOf x
+
 -- ---- 2 ^ x
 -- z is from -1022 to 1023
 abbrev pub InRange : ℤ → Type 0
@@ -78,6 +82,10 @@ Exp2-nan = exp2Of nan ≡ nan
 -- and a number of a number
 abbrev pub Exp2-number : Type 0
 Exp2-number = (x : Float) → T (not (isNan x)) → T (not (isNan (exp2Of x)))
+
+-- never with a minus sign
+abbrev pub Exp2-positive : Type 0
+Exp2-positive = (x : Float) → fabsOf (exp2Of x) ≡ exp2Of x
 
 -- ---- 3000 ^ r
 abbrev pub Pow3000-zero : Type 0
