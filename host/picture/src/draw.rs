@@ -117,9 +117,9 @@ fn draw(svg: &mut String, name: &str, wave: &[f64], middle: f64, colour: &str) {
         "<g text-anchor=\"end\"><text x=\"{beside}\" y=\"{}\">{volts} V</text>\
          <text x=\"{beside}\" y=\"{}\">0</text><text x=\"{beside}\" y=\"{}\">-{volts} V</text></g>\n\
          <path d=\"M{LEFT} {middle}H{end}\" {LIGHT}/>",
-        y(range) + 8.0,
+        y(range) + 4.0,
         middle + 4.0,
-        y(-range),
+        y(-range) + 4.0,
     )
     .unwrap();
     for curve in curves {

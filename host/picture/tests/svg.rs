@@ -122,7 +122,7 @@ fn volts_are_round() {
         let svg = svg(&wave([0.0, largest]), HZ).unwrap();
         well_formed(&svg);
         let labels = labels(&svg);
-        for (label, y) in [(format!("{range} V"), 40.0), ("0".into(), 80.0), (format!("-{range} V"), 120.0)] {
+        for (label, y) in [(format!("{range} V"), 36.0), ("0".into(), 80.0), (format!("-{range} V"), 124.0)] {
             assert!(labels.contains(&(90.0, y, &label)), "{label} of {largest}: {labels:?}");
         }
         // what ends there doesn't reach the wave, which begins at 96, nor stand at the names
