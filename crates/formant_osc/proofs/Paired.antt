@@ -109,9 +109,9 @@ second-finite b0 a1 a2 s0 s1 x share w h = go (isFin out) refl
         sub-finite (mul binary64 (neg b0) x) (mul binary64 a2 out) (within-mul 0 0 (neg b0) x (lit≤ tt) (within-neg 0 b0 (k .0)) w) (mul-fits binary64 a2 out)
         (mul-finite a2 out (k .1) (add-fits binary64 (mul binary64 b0 x) s0) f)
 
-    go : (b : Bool) → isFin out ≡ b → isFin (add binary64 (mul binary64 (neg a1) out) s1) ≡ false
+    go : (b : Bool) → isFin out ≡ b → isFin (resonateOf b0 a1 a2 s0 s1 x .s0) ≡ false
     go true e = absurd (subst T h (second (of-true (isFin out) e)))
-    go false e = add-wild-l (mul binary64 (neg a1) out) s1 (mul-wild-r (neg a1) out e)
+    go false e = add-wild-l _ _ (mul-wild-r _ _ e)
 
 -- ---- the five of a tick
 abbrev Paired : List Float → Type 0

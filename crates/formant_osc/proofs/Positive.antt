@@ -7,7 +7,7 @@ use Prim.Native.Nat.{ℕ, zero, suc, _+_, _-_, _*_, _<_, _≤_, min}
 use native.Mathlib.Nat.{le-trans, le-of-eq, mul-pos, le-add-left, le-add-right}
 use native.Mathlib.Omega.{arith}
 use lib.Dec.{T, lit<, lit≤}
-use lib.Ieee.{Float, nan, inf, fin, binary64, add, sub, mul, div, neg, lt, le, eq, isNan, ofBits, ofInt, round, sum, toUnsigned, up, down}
+use lib.Ieee.{Float, nan, inf, fin, binary64, add, sub, mul, div, lt, le, eq, isNan, ofBits, ofInt, round, sum, toUnsigned, up, down}
 use lib.Ieee.Bits.{ofBits-fits}
 use lib.Ieee.Exact.{HasValue}
 use lib.Ieee.Fits.{and-l, and-r, div-fits, down-pos, mul-fits}
@@ -25,13 +25,12 @@ use Rattle.formant_osc.specs.declared.Spot.{Spot}
 use Rattle.laws.proofs.Greatest.{over-round, add-finite}
 use Rattle.laws.proofs.Interval.{Within}
 use Rattle.laws.proofs.Monotone.{mul-le, unit-law}
-use Rattle.laws.proofs.Number.{add-nan-l, add-nan-r, is-nan, mul-nan-l, mul-nan-r, sum-by}
+use Rattle.laws.proofs.Number.{add-nan-r, is-nan, mul-nan-l, mul-nan-r, sub-nan-l, sum-by}
 use Rattle.laws.proofs.Order.{float-le-trans, le-below, le-of-lt-false, lt-le-trans, values-le, le-of-lt-true}
-use Rattle.laws.proofs.Sign.{Plus, div-plus, more-plus, mul-plus, one-less, plus-above, positive-plus}
+use Rattle.laws.proofs.Sign.{Plus, div-plus, more-plus, mul-plus, one-less, plus-above, positive-plus, times-above}
 use Rattle.laws.proofs.Tests.{of-false, of-true}
 use Rattle.laws.proofs.Unique.{round-own}
-use Rattle.laws.proofs.Values.{add-round, float-mul-comm, ofInt-val, round-zero, sub-round, sum-pos-neg}
-use Rattle.laws.proofs.Zeros.{times-nought}
+use Rattle.laws.proofs.Values.{add-round, ofInt-val, round-zero, sub-round, sum-pos-neg}
 use Rattle.laws.specs.Float.{F64, zer, one, two, isFin}
 use Rattle.numeric.proofs.BasicLaws.{own-plus}
 use Rattle.numeric.proofs.Laws.{clamp-nan, clamp-range, sin-outside, sin-positive, whole-below, whole-monotone, whole-real}
@@ -148,10 +147,6 @@ rest-unit (inf false) l h = absurd (unfold le lt eq ofBits in h)
 rest-unit (fin true m e) l h = minus-unit m e l
 rest-unit (fin false m e) l h = plain-unit m e h
 
-less-nan : (y : Float) → sub binary64 nan y ≡ nan
-unfolding sub
-less-nan y = add-nan-l (neg y)
-
 -- NaN for a vowel that is NaN
 frac-unit : (v : Float) → (spotOf v .frac ≡ nan) ⊎ Unit-part (spotOf v .frac)
 unfolding spotOf
@@ -161,28 +156,12 @@ frac-unit v = go (isNan v) refl
     scaled = mul-le four (unfold ofBits in tt)
 
     go : (b : Bool) → isNan v ≡ b → (restOf (mul binary64 (clampOf v zer one) four) ≡ nan) ⊎ Unit-part (restOf (mul binary64 (clampOf v zer one) four))
-    go true e = inl (rw (is-nan v e, clamp-nan, mul-nan-l) (less-nan _))
+    go true e = inl (rw (is-nan v e, clamp-nan, mul-nan-l) (sub-nan-l _))
     go false e =
         let r = clamp-range v zer one (unfold le lt eq ofBits in tt) (of-false (isNan v) e) in
         inr (rest-unit _ (unfold mul ofBits in scaled zer (clampOf v zer one) (r .0)) (unfold mul ofBits in scaled (clampOf v zer one) one (r .1)))
 
 -- ---- so a formant has no minus sign
-times-above : (k y : Float) → T (positive k) → T (le zer y) → T (le zer (mul binary64 k y))
-times-above k y p h =
-    let z = times-nought k zer (finite k p) (unfold eq ofBits in tt) in
-    float-le-trans zer (mul binary64 k zer) (mul binary64 k y) (subst (λ (x : Float). T (le zer x)) (sym (z .1)) (nought (z .0)))
-    (subst (λ (x : Float). T (le x (mul binary64 k y))) (float-mul-comm zer k)
-    (subst (λ (x : Float). T (le (mul binary64 zer k) x)) (float-mul-comm y k) (mul-le k p zer y h)))
-  where
-    finite : (k : Float) → T (positive k) → T (isFin k)
-    finite nan p = absurd p
-    finite (inf s) p = absurd p
-    finite (fin s m e) p = tt
-
-    nought : (s : Bool) → T (le zer (fin s 0 (pos 0)))
-    nought true = unfold le lt eq ofBits in tt
-    nought false = unfold le lt eq ofBits in tt
-
 pub formant-plus : (v : Float) (i : ℕ) (by : Float) → i < 5 → Plus by → Plus (formantOf (spotOf v) i by)
 unfolding formantOf
 formant-plus v i by I p = mul-plus _ by (go (frac-unit v)) p
@@ -206,8 +185,9 @@ formant-plus v i by I p = mul-plus _ by (go (frac-unit v)) p
     p1 = formant-positive (5 * (at .index + 1) + i) (omega (arith, few, I))
 
     go : (at .frac ≡ nan) ⊎ Unit-part (at .frac) → Plus (add binary64 (mul binary64 f0 (sub binary64 one (at .frac))) (mul binary64 f1 (at .frac)))
-    go (inl e) = subst Plus (sym (ap (λ (x : Float). add binary64 (mul binary64 f0 (sub binary64 one (at .frac))) (mul binary64 f1 x)) e ∙ ap
-        (add binary64 _) (mul-nan-r f1) ∙ add-nan-r _)) tt
+    go (inl e) =
+        let there : Float → Float = λ x. add binary64 (mul binary64 f0 (sub binary64 one (at .frac))) x in
+        subst Plus (sym (ap (λ (x : Float). there (mul binary64 f1 x)) e ∙ ap there (mul-nan-r f1) ∙ add-nan-r _)) tt
     go (inr u) = more-plus _ _ (mul-plus f0 _ (positive-plus f0 p0) (one-less (at .frac) (u .1))) (times-above f1 (at .frac) p1 (u .0))
 
 -- ---- alpha
@@ -228,8 +208,9 @@ omega-sine x f = go (isNan x) refl
     outside h = unfold le lt eq in h .0
 
     go : (b : Bool) → isNan x ≡ b → Plus (sinOf (clampOf x omegaLow high))
-    go true e = subst Plus (sym (ap (λ (y : Float). sinOf (clampOf y omegaLow high)) (is-nan x e) ∙ ap sinOf
-        (clamp-nan omegaLow high) ∙ sin-outside nan outside)) tt
+    go true e =
+        let nought = ap (λ (y : Float). sinOf (clampOf y omegaLow high)) (is-nan x e) ∙ ap sinOf (clamp-nan omegaLow high) in
+        subst Plus (sym (nought ∙ sin-outside nan outside)) tt
     go false e =
         let w = clampOf x omegaLow high in
         let r = clamp-range x omegaLow high (unfold mul le lt eq ofBits in tt) (of-false (isNan x) e) in

@@ -50,8 +50,8 @@ powers m k l h = go (leb k 971) (leb→le k 971) (nleb→lt k 971)
 
     large : (j : ℕ) → k ≡ j + 971 → m * 2 ^ k ≤ 9007199254740991 * 2 ^ 971
     large j e =
-        let split : m * 2 ^ k ≡ m * 2 ^ j * 2 ^ 971 = ap (λ (z : ℕ). m * 2 ^ z) e ∙ ap (λ (z : ℕ). m * z) (pow-add 2 j 971) ∙ sym
-        (mul-assoc m (2 ^ j) (2 ^ 971)) in
+        let split : m * 2 ^ k ≡ m * 2 ^ j * 2 ^ 971 = ap (λ (z : ℕ). m * 2 ^ z) e ∙ ap (λ (z : ℕ). m * z) (pow-add 2 j 971)
+        ∙ sym (mul-assoc m (2 ^ j) (2 ^ 971)) in
         let less : m * 2 ^ j * 2 ^ 971 < 9007199254740992 * 2 ^ 971 = subst (λ (z : ℕ). z < 2 ^ 1024) split h in
         le-trans (le-of-eq split) (mul-le-mul-right (2 ^ 971) (few (m * 2 ^ j) (lt-of-mul-lt-mul-right (2 ^ 971) less)))
 

@@ -120,6 +120,10 @@ add-nan-l nan = refl
 add-nan-l (inf s) = refl
 add-nan-l (fin s m e) = refl
 
+pub sub-nan-l : (x : Float) → sub binary64 nan x ≡ nan
+unfolding sub
+sub-nan-l x = add-nan-l (neg x)
+
 pub mul-nan-r : (x : Float) → mul binary64 x nan ≡ nan
 unfolding mul
 mul-nan-r nan = refl

@@ -11,13 +11,14 @@ use lib.Ieee.Order.{round-mono}
 use lib.Ieee.Positive.{positive}
 use lib.IntN.{pos, ℤ}
 use borrow.Author.Tests.{le-ltb}
-use Rattle.laws.proofs.Monotone.{round-le, unit-law}
+use Rattle.laws.proofs.Monotone.{mul-le, round-le, unit-law}
 use Rattle.laws.proofs.Number.{Signed, round-signed}
-use Rattle.laws.proofs.Order.{below-le, le-below, neg-neg}
+use Rattle.laws.proofs.Order.{below-le, float-le-trans, le-below, neg-neg}
 use Rattle.laws.proofs.Tests.{zero-of}
 use Rattle.laws.proofs.Unique.{round-own}
-use Rattle.laws.proofs.Values.{round-neg}
-use Rattle.laws.specs.Float.{F64, zer, one}
+use Rattle.laws.proofs.Values.{float-mul-comm, round-neg}
+use Rattle.laws.proofs.Zeros.{times-nought}
+use Rattle.laws.specs.Float.{F64, isFin, zer, one}
 
 -- a NaN has none
 abbrev pub Plus : Float → Type 0
@@ -170,6 +171,23 @@ plus-above (inf true) p q = absurd p
 plus-above (inf false) p q = unfold le lt eq in tt
 plus-above (fin true m e) p q = absurd p
 plus-above (fin false m e) p q = below-le false false 0 m (pos 0) e (le-trans (le-of-eq (zero-mul (down e))) zero-le)
+
+-- a number above 0 times one that isn't below 0 isn't below 0
+pub times-above : (k y : Float) → T (positive k) → T (le zer y) → T (le zer (mul binary64 k y))
+times-above k y p h =
+    let z = times-nought k zer (finite k p) (unfold eq ofBits in tt) in
+    float-le-trans zer (mul binary64 k zer) (mul binary64 k y) (subst (λ (x : Float). T (le zer x)) (sym (z .1)) (nought (z .0)))
+    (subst (λ (x : Float). T (le x (mul binary64 k y))) (float-mul-comm zer k)
+    (subst (λ (x : Float). T (le (mul binary64 zer k) x)) (float-mul-comm y k) (mul-le k p zer y h)))
+  where
+    finite : (k : Float) → T (positive k) → T (isFin k)
+    finite nan p = absurd p
+    finite (inf s) p = absurd p
+    finite (fin s m e) p = tt
+
+    nought : (s : Bool) → T (le zer (fin s 0 (pos 0)))
+    nought true = unfold le lt eq ofBits in tt
+    nought false = unfold le lt eq ofBits in tt
 
 -- nor have 1 less and 1 plus what lies from -1 to 1
 around : (r : Float) → Plus r → T (le r one) → Plus (sub binary64 one r) × Plus (add binary64 one r) × Plus (sub binary64 one (neg r)) × Plus (add binary64 one (neg r))
