@@ -108,11 +108,15 @@ pairs-part j1 j3 j5 z c1 c2 c3 c4 c5 c6 c7 Z l1 l3 l5 f =
     pair : (j i : ℕ) (c d : Float) → i ≤ 1074 → j ≤ 1074 → T (isBetween j i c && inPart j d) → Part i (sub binary64 c (mul binary64 z d))
     pair j i c d I J t = part-sub j i c (mul binary64 z d) I (between-of j i c (and-l (isBetween j i c) (inPart j d) t)) (part-mul' j z d J Z (part-of j d (and-r (isBetween j i c) (inPart j d) t)))
 
-pub sin-pairs : (z : Float) → Part 0 z → Part 0 (pairsOf z (ofBits binary64 0x3fc5555555555555) (ofBits binary64 0x3f81111111111111) (ofBits binary64 0x3f2a01a01a01a01a) (ofBits binary64 0x3ec71de3a556c734) (ofBits binary64 0x3e5ae64567f544e4) (ofBits binary64 0x3de6124613a86d09) (ofBits binary64 0x3d6ae7f3e733b81f))
+pub sin-pairs : (z : Float) → Part 0 z
+    → Part 0 (pairsOf z (ofBits binary64 0x3fc5555555555555) (ofBits binary64 0x3f81111111111111) (ofBits binary64 0x3f2a01a01a01a01a)
+    (ofBits binary64 0x3ec71de3a556c734) (ofBits binary64 0x3e5ae64567f544e4) (ofBits binary64 0x3de6124613a86d09) (ofBits binary64 0x3d6ae7f3e733b81f))
 unfolding ofBits
 sin-pairs z Z = pairs-part 3 13 26 z _ _ _ _ _ _ _ Z (lit≤ tt) (lit≤ tt) (lit≤ tt) tt
 
-pub cos-pairs : (z : Float) → Part 0 z → Part 0 (pairsOf z (ofBits binary64 0x3fe0000000000000) (ofBits binary64 0x3fa5555555555555) (ofBits binary64 0x3f56c16c16c16c17) (ofBits binary64 0x3efa01a01a01a01a) (ofBits binary64 0x3e927e4fb7789f5c) (ofBits binary64 0x3e21eed8eff8d898) (ofBits binary64 0x3da93974a8c07c9d))
+pub cos-pairs : (z : Float) → Part 0 z
+    → Part 0 (pairsOf z (ofBits binary64 0x3fe0000000000000) (ofBits binary64 0x3fa5555555555555) (ofBits binary64 0x3f56c16c16c16c17)
+    (ofBits binary64 0x3efa01a01a01a01a) (ofBits binary64 0x3e927e4fb7789f5c) (ofBits binary64 0x3e21eed8eff8d898) (ofBits binary64 0x3da93974a8c07c9d))
 unfolding ofBits
 cos-pairs z Z = pairs-part 1 10 22 z _ _ _ _ _ _ _ Z (lit≤ tt) (lit≤ tt) (lit≤ tt) tt
 
