@@ -15,7 +15,7 @@ use Rattle.laws.proofs.Tests.{eqb-iff}
 use Rattle.laws.specs.Lists.{tab, over}
 use Rattle.laws.proofs.Slices.{stored, sets-append}
 use Rattle.laws.proofs.Over.{getD-tab, length-tab, tab-ext, over-more, over-done}
-use Rattle.answer.specs.Answer.{markNumber, hostNumber, voltsOf, accepted}
+use Rattle.answer.specs.Answer.{markNumber, hostNumber, voltsOf, accepted, cleared, notfinite, lost, clean, told}
 use Rattle.answer.specs.Block.{manyTo, countedTo, cellsOf, roomFor, marksTaken, joined, afterTicks, answerAt, markAt, frameAt, portsOf, block, blockRefusalOf, ticksOf, blockOf, grownBy}
 use Rattle.answer.specs.Tally.{addsUp, oneIf, sumOf, counted, tallyOf, tallyOr}
 use Rattle.answer.specs.declared.Volts.{Volts}
@@ -44,11 +44,11 @@ room-says t n h = go (eqb (t .begun) (sumOf t)) (leb (t .begun + n) 4294967295) 
     go false b e q z = absurd (false≢true z)
 
 -- ---- how many
-one-of : (n : ℕ) → oneIf n 14 + oneIf n 11 + oneIf n 12 + oneIf n 13 ≤ 1
+one-of : (n : ℕ) → oneIf n (told clean) + oneIf n (told cleared) + oneIf n (told notfinite) + oneIf n (told lost) ≤ 1
 unfolding oneIf
-one-of n = go (eqb n 14) (eqb n 11) (eqb n 12) (eqb n 13) (eqb-true n 14) (eqb-true n 11) (eqb-true n 12) (eqb-true n 13)
+one-of n = go (eqb n (told clean)) (eqb n (told cleared)) (eqb n (told notfinite)) (eqb n (told lost)) (eqb-true n (told clean)) (eqb-true n (told cleared)) (eqb-true n (told notfinite)) (eqb-true n (told lost))
   where
-    go : (a b c d : Bool) → (a ≡ true → n ≡ 14) → (b ≡ true → n ≡ 11) → (c ≡ true → n ≡ 12) → (d ≡ true → n ≡ 13)
+    go : (a b c d : Bool) → (a ≡ true → n ≡ (told clean)) → (b ≡ true → n ≡ (told cleared)) → (c ≡ true → n ≡ (told notfinite)) → (d ≡ true → n ≡ (told lost))
         → cond a 1 0 + cond b 1 0 + cond c 1 0 + cond d 1 0 ≤ 1
     go true true c d p q r s = let x = p refl in let y = q refl in absurd (omega arith)
     go true false true d p q r s = let x = p refl in let y = r refl in absurd (omega arith)
@@ -63,7 +63,7 @@ one-of n = go (eqb n 14) (eqb n 11) (eqb n 12) (eqb n 13) (eqb-true n 14) (eqb-t
     go false false false false p q r s = lit≤ tt
 
 -- the four counts of n marks together
-pub many-most : (f : ℕ → ℕ) (n : ℕ) → manyTo 14 f n + manyTo 11 f n + manyTo 12 f n + manyTo 13 f n ≤ n
+pub many-most : (f : ℕ → ℕ) (n : ℕ) → manyTo (told clean) f n + manyTo (told cleared) f n + manyTo (told notfinite) f n + manyTo (told lost) f n ≤ n
 unfolding manyTo
 many-most f zero = lit≤ tt
 many-most f (suc n) = let a = many-most f n in let b = one-of (f n) in omega arith
@@ -107,7 +107,7 @@ counted-tab t f n h = go (length-tab f n)
     go : length (tab f n) ≡ n
         → tallyOr t (cond (roomFor t (length (tab f n))) (tallied.Taken (countedTo t (cellsOf (tab f n)) (length (tab f n)))) (tallied.Refused 7))
         ≡ countedTo t f n
-    go e = simp (e, h, same 11, same 12, same 13, same 14)
+    go e = simp (e, h, same (told cleared), same (told notfinite), same (told lost), same (told clean))
 
 -- ---- frames
 pub joined-length : {A : Type 0} (f : ℕ → List A) (k n : ℕ) → ((i : ℕ) → length (f i) ≡ k) → length (joined f n) ≡ k * n
@@ -350,7 +350,7 @@ module _ {S : Type 0} (next : S → S) (s r : S) (e : next s ≡ next r) where
       block-same h =
           let frames = joined-ext (frameAt ports answer next s) (frameAt ports answer next r) (length m) same-frames in
           let marks = tab-ext (markAt answer next s) (markAt answer next r) (length m) (λ i l. same-marks i) in
-          simp (h .0, ticks-meet (length m) (h .1), same-many 11, same-many 12, same-many 13, same-many 14, frames, marks)
+          simp (h .0, ticks-meet (length m) (h .1), same-many (told cleared), same-many (told notfinite), same-many (told lost), same-many (told clean), frames, marks)
 
 -- ---- the tally of a block is the one that is given each answer
 -- one more answer that a host was told by the number n
@@ -358,15 +358,15 @@ abbrev counted-by : Tally → ℕ → Tally
 counted-by t n =
     record {
       begun = t .begun + 1;
-      finished = t .finished + oneIf n 14;
-      cleared = t .cleared + oneIf n 11;
-      notfinite = t .notfinite + oneIf n 12;
-      lost = t .lost + oneIf n 13;
+      finished = t .finished + oneIf n (told clean);
+      cleared = t .cleared + oneIf n (told cleared);
+      notfinite = t .notfinite + oneIf n (told notfinite);
+      lost = t .lost + oneIf n (told lost);
     }
 
 -- one of the four counts grows, and it is the one that the tick's mark has
 record Marks-one (a : Answer) : Type 0 where
-  pub one : oneIf (hostNumber a) 14 + oneIf (hostNumber a) 11 + oneIf (hostNumber a) 12 + oneIf (hostNumber a) 13 ≡ 1
+  pub one : oneIf (hostNumber a) (told clean) + oneIf (hostNumber a) (told cleared) + oneIf (hostNumber a) (told notfinite) + oneIf (hostNumber a) (told lost) ≡ 1
   pub marked : eqb (markNumber a) 0 ≡ false
   pub same : (t : Tally) → counted t (markNumber a) ≡ counted-by t (hostNumber a)
 
@@ -382,7 +382,7 @@ module _ (t : Tally) (a : ℕ → Answer) (n : ℕ) (h : (i : ℕ) → i < n →
   abbrev marks : ℕ → ℕ
   marks j = hostNumber (a j)
 
-  many-all : (i : ℕ) → i ≤ n → manyTo 14 marks i + manyTo 11 marks i + manyTo 12 marks i + manyTo 13 marks i ≡ i
+  many-all : (i : ℕ) → i ≤ n → manyTo (told clean) marks i + manyTo (told cleared) marks i + manyTo (told notfinite) marks i + manyTo (told lost) marks i ≡ i
   unfolding manyTo
   many-all zero l = refl
   many-all (suc i) l = let p = many-all i (omega arith) in let q = mark-one (a i) (h i l) .one in omega arith
@@ -399,13 +399,13 @@ module _ (t : Tally) (a : ℕ → Answer) (n : ℕ) (h : (i : ℕ) → i < n →
   unfolding countedTo grownBy manyTo
   one-more i k =
       let q = mark-one (a i) (h i k) .one in
-      let b : t .begun + (manyTo 14 marks i + manyTo 11 marks i + manyTo 12 marks i + manyTo 13 marks i) + 1
+      let b : t .begun + (manyTo (told clean) marks i + manyTo (told cleared) marks i + manyTo (told notfinite) marks i + manyTo (told lost) marks i) + 1
       ≡ t .begun
-      + (manyTo 14 marks i + oneIf (marks i) 14 + (manyTo 11 marks i + oneIf (marks i) 11) + (manyTo 12 marks i + oneIf (marks i) 12) + (manyTo 13 marks i + oneIf (marks i) 13)) = omega arith in
-      let f : t .finished + manyTo 14 marks i + oneIf (marks i) 14 ≡ t .finished + (manyTo 14 marks i + oneIf (marks i) 14) = omega arith in
-      let c : t .cleared + manyTo 11 marks i + oneIf (marks i) 11 ≡ t .cleared + (manyTo 11 marks i + oneIf (marks i) 11) = omega arith in
-      let n : t .notfinite + manyTo 12 marks i + oneIf (marks i) 12 ≡ t .notfinite + (manyTo 12 marks i + oneIf (marks i) 12) = omega arith in
-      let l : t .lost + manyTo 13 marks i + oneIf (marks i) 13 ≡ t .lost + (manyTo 13 marks i + oneIf (marks i) 13) = omega arith in
+      + (manyTo (told clean) marks i + oneIf (marks i) (told clean) + (manyTo (told cleared) marks i + oneIf (marks i) (told cleared)) + (manyTo (told notfinite) marks i + oneIf (marks i) (told notfinite)) + (manyTo (told lost) marks i + oneIf (marks i) (told lost))) = omega arith in
+      let f : t .finished + manyTo (told clean) marks i + oneIf (marks i) (told clean) ≡ t .finished + (manyTo (told clean) marks i + oneIf (marks i) (told clean)) = omega arith in
+      let c : t .cleared + manyTo (told cleared) marks i + oneIf (marks i) (told cleared) ≡ t .cleared + (manyTo (told cleared) marks i + oneIf (marks i) (told cleared)) = omega arith in
+      let n : t .notfinite + manyTo (told notfinite) marks i + oneIf (marks i) (told notfinite) ≡ t .notfinite + (manyTo (told notfinite) marks i + oneIf (marks i) (told notfinite)) = omega arith in
+      let l : t .lost + manyTo (told lost) marks i + oneIf (marks i) (told lost) ≡ t .lost + (manyTo (told lost) marks i + oneIf (marks i) (told lost)) = omega arith in
       (λ j. record { begun = b j; finished = f j; cleared = c j; notfinite = n j; lost = l j })
 
   taken-at : (i : ℕ) → roomFor t n ≡ true → i < n → tallyOf (countedTo t marks i) (a i) ≡ tallied.Taken (countedTo t marks (suc i))

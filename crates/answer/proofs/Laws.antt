@@ -1,5 +1,5 @@
 -- A mark keeps its volts; and from new a tally counts what it took, which is all that it is given while there is room.
-use mathlib.Core.Bool.{Bool, _&&_, true, false, cond, true≢false}
+use mathlib.Core.Bool.{Bool, _&&_, true, false, cond, not, true≢false}
 use mathlib.Core.List.{List, [], _∷_}
 use mathlib.Core.Path.{_≡_, refl, sym, ap, _∙_, subst}
 use Prim.Native.Nat.{ℕ, _+_, _≤_}
@@ -10,8 +10,8 @@ use lib.Arith.{lt-of-le-ne}
 use lib.Dec.{eqb, lit≤}
 use borrow.Author.Tests.{eqb-true, eq-eqb, eqb-false, ne-eqb}
 use Rattle.laws.specs.Machine.{begun}
-use Rattle.answer.specs.Answer.{markNumber, voltsOf, refusalOf, accepted, answerOf}
-use Rattle.answer.specs.Mark.{allFinite, ruleOf, markOf}
+use Rattle.answer.specs.Answer.{markNumber, voltsOf, refusalOf, accepted, answerOf, cleared, notfinite, lost, clean}
+use Rattle.answer.specs.Mark.{allFinite, ruleOf, markedOf, markOf}
 use Rattle.answer.specs.Promises.{Mark-says, Counts, Tally-counts, Tally-takes-all, Takes, Refused-nowhere}
 use Rattle.answer.specs.Tally.{sumOf, addsUp, oneIf, counted, talliedNumber, tallyOr, tallyOf, Run, settle, run, newRun, many, acceptedIn, tallyAfter}
 use Rattle.answer.specs.declared.Volts.{Volts}
@@ -37,8 +37,8 @@ at-most-one r n k e = subst (λ (z : ℕ). z ≤ 1) (sym e) (one-most n k)
 
 -- ---- marks
 rule-says : (v : Volts) (a b c : Bool)
-    → (accepted (answerOf (10 + ruleOf a b c) v) ≡ true) × (voltsOf (answerOf (10 + ruleOf a b c) v) ≡ v) × (markNumber (answerOf (10 + ruleOf a b c) v) ≡ ruleOf a b c)
-unfolding ruleOf answerOf accepted voltsOf markNumber
+    → (accepted (markedOf v a b c) ≡ true) × (voltsOf (markedOf v a b c) ≡ v) × (markNumber (markedOf v a b c) ≡ ruleOf a b c)
+unfolding markedOf ruleOf answerOf accepted voltsOf markNumber
 rule-says v true b c = (refl, refl, refl)
 rule-says v false true true = (refl, refl, refl)
 rule-says v false true false = (refl, refl, refl)
@@ -46,7 +46,23 @@ rule-says v false false c = (refl, refl, refl)
 
 pub mark-says : Mark-says
 unfolding markOf
-mark-says v cleared sums phases = let r = rule-says v cleared (sums && allFinite v) phases in record { is-accepted = r .0; volts = r .1; number = r .2 }
+mark-says v zeroed sums phases =
+    let r = rule-says v zeroed (sums && allFinite v) phases in
+    record { is-accepted = r .0; volts = r .1; number = r .2 }
+
+-- volts that are known to be finite needn't be tested
+pub mark-known : (v : Volts) (zeroed phases : Bool) → allFinite v ≡ true → markedOf v zeroed true phases ≡ markOf v zeroed true phases
+unfolding markOf
+mark-known v zeroed phases h = simp h
+
+-- a refused tick's mark has the number 0
+pub mark-accepted : (a : Answer) → not (eqb (markNumber a) 0) ≡ accepted a
+unfolding markNumber accepted
+mark-accepted (answer.Clean v) = refl
+mark-accepted (answer.Cleared v) = refl
+mark-accepted (answer.NotFinite v) = refl
+mark-accepted (answer.Lost v) = refl
+mark-accepted (answer.Refused n) = refl
 
 -- ---- refusals
 pub accepted-unrefused : (a : Answer) → accepted a ≡ true → refusalOf a ≡ 0
@@ -69,7 +85,7 @@ refused-by {T} told n x y h e = go (eqb n 0) refl
 
 -- ---- the tally
 -- the four marks of an accepted answer: one of the counts grows by one
-mark-one : (a : Answer) → (markNumber a ≡ 0 → ⊥) → oneIf (markNumber a) 4 + oneIf (markNumber a) 1 + oneIf (markNumber a) 2 + oneIf (markNumber a) 3 ≡ 1
+mark-one : (a : Answer) → (markNumber a ≡ 0 → ⊥) → oneIf (markNumber a) clean + oneIf (markNumber a) cleared + oneIf (markNumber a) notfinite + oneIf (markNumber a) lost ≡ 1
 unfolding markNumber oneIf
 mark-one (answer.Clean v) h = refl
 mark-one (answer.Cleared v) h = refl
@@ -102,10 +118,10 @@ counts-refused : (r : Run) (a : Answer) → markNumber a ≡ 0 → Counts r → 
 unfolding many oneIf
 counts-refused r a z h =
     record {
-      cleared = h .cleared ∙ plus (many 1 (r .took)) 1 refl;
-      notfinite = h .notfinite ∙ plus (many 2 (r .took)) 2 refl;
-      lost = h .lost ∙ plus (many 3 (r .took)) 3 refl;
-      finished = h .finished ∙ plus (many 4 (r .took)) 4 refl;
+      cleared = h .cleared ∙ plus (many cleared (r .took)) cleared refl;
+      notfinite = h .notfinite ∙ plus (many notfinite (r .took)) notfinite refl;
+      lost = h .lost ∙ plus (many lost (r .took)) lost refl;
+      finished = h .finished ∙ plus (many clean (r .took)) clean refl;
       begun = h .begun ∙ sym (not-ticked a (r .took) z);
       sum = h .sum;
       top = h .top;
@@ -118,10 +134,10 @@ counts-more : (r : Run) (a : Answer) → (markNumber a ≡ 0 → ⊥) → (r .ta
 unfolding counted many
 counts-more r a n t h =
     record {
-      cleared = ap (λ (m : ℕ). m + oneIf (markNumber a) 1) (h .cleared);
-      notfinite = ap (λ (m : ℕ). m + oneIf (markNumber a) 2) (h .notfinite);
-      lost = ap (λ (m : ℕ). m + oneIf (markNumber a) 3) (h .lost);
-      finished = ap (λ (m : ℕ). m + oneIf (markNumber a) 4) (h .finished);
+      cleared = ap (λ (m : ℕ). m + oneIf (markNumber a) cleared) (h .cleared);
+      notfinite = ap (λ (m : ℕ). m + oneIf (markNumber a) notfinite) (h .notfinite);
+      lost = ap (λ (m : ℕ). m + oneIf (markNumber a) lost) (h .lost);
+      finished = ap (λ (m : ℕ). m + oneIf (markNumber a) clean) (h .finished);
       begun = ap (λ (m : ℕ). m + 1) (h .begun) ∙ sym (ticked a (r .took) n);
       sum = unfold counted in counted-sum (r .tally) a n (h .sum);
       top = room (r .tally .begun) (h .top) t;
@@ -171,10 +187,10 @@ module _ (t : Tally) (s : t .begun ≡ sumOf t) where
 
   takes-one : (a : Answer) → t .begun + weight a ≤ 4294967295 → Taken t a
   unfolding tallyOf markNumber counted oneIf weight accepted
-  takes-one (answer.Clean v) h = record { after = counted t 4; taken = simp (adds-up, not-full h); sum = omega arith; begun = refl }
-  takes-one (answer.Cleared v) h = record { after = counted t 1; taken = simp (adds-up, not-full h); sum = omega arith; begun = refl }
-  takes-one (answer.NotFinite v) h = record { after = counted t 2; taken = simp (adds-up, not-full h); sum = omega arith; begun = refl }
-  takes-one (answer.Lost v) h = record { after = counted t 3; taken = simp (adds-up, not-full h); sum = omega arith; begun = refl }
+  takes-one (answer.Clean v) h = record { after = counted t clean; taken = simp (adds-up, not-full h); sum = omega arith; begun = refl }
+  takes-one (answer.Cleared v) h = record { after = counted t cleared; taken = simp (adds-up, not-full h); sum = omega arith; begun = refl }
+  takes-one (answer.NotFinite v) h = record { after = counted t notfinite; taken = simp (adds-up, not-full h); sum = omega arith; begun = refl }
+  takes-one (answer.Lost v) h = record { after = counted t lost; taken = simp (adds-up, not-full h); sum = omega arith; begun = refl }
   takes-one (answer.Refused n) h = record { after = t; taken = simp adds-up; sum = s; begun = omega arith }
 
 settled : (r : Run) (a : Answer) (k : Taken (r .tally) a) → settle r a (tallyOf (r .tally) a) ≡ record { tally = k .after; took = a ∷ r .took }
@@ -206,10 +222,10 @@ unfolding tallyAfter
 tally-takes-all xs h =
     let c = tally-counts xs in
     record {
-      cleared = c .cleared ∙ many-took 1 xs h;
-      notfinite = c .notfinite ∙ many-took 2 xs h;
-      lost = c .lost ∙ many-took 3 xs h;
-      finished = c .finished ∙ many-took 4 xs h;
+      cleared = c .cleared ∙ many-took cleared xs h;
+      notfinite = c .notfinite ∙ many-took notfinite xs h;
+      lost = c .lost ∙ many-took lost xs h;
+      finished = c .finished ∙ many-took clean xs h;
       begun = c .begun ∙ accepted-took xs h;
       sum = c .sum;
     }

@@ -1,24 +1,26 @@
--- Every contract is one equation, or two of which each settles its part.
+-- Every contract is one equation.
 use Rattle.laws.proofs.Settled as laws
 use Rattle.answer.specs.Settled.{Settled}
 
 pub settled : Settled
 settled =
     record {
+      volts5 = λ a b c d e. laws.settled _;
+      volts4 = λ a b c d. laws.settled _;
+      volts2 = λ a b. laws.settled _;
+      volts1 = λ a. laws.settled _;
       mark-number = λ a. laws.settled _;
       is-accepted = λ a. laws.settled _;
       host-number = λ a. laws.settled _;
-      mark = λ v cleared sums phases. laws.settled _;
+      marked = λ v zeroed finite phases. laws.settled _;
+      mark = λ v zeroed sums phases. laws.settled _;
       tally-new = laws.settled _;
       tally-take = λ t a. laws.settled _;
       answer-of = λ number v. laws.settled _;
       samples = λ a. laws.settled _;
-      tally-from-counts = λ counts. laws.settled _;
-      tally-put-counts = λ t counts. laws.both _ _;
       tally-has-room = λ t n. laws.settled _;
       tally-take-marks = λ t marks. laws.settled _;
       tallied-or = λ a kept. laws.settled _;
-      block-refusal = λ fits number t n. laws.settled _;
-      sizes = λ nf nw f w. laws.settled _;
-      tick-sizes = λ nf nw ns f w o. laws.settled _;
+      block-refusal = λ ports samples number t n. laws.settled _;
+      put = λ v part. laws.settled _;
     }

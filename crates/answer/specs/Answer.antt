@@ -1,7 +1,8 @@
--- What an answer stands for: the scope's number of each case, and its values.
+-- What an answer stands for: the scope's number of each case, and its values; and the volts of so many outputs.
 use mathlib.Core.Bool.{Bool, true, false, cond}
 use Prim.Native.Nat.{ℕ, _+_}
 use lib.Dec.{eqb}
+use lib.Ieee.{Float}
 use Rattle.laws.specs.Float.{zer}
 use Rattle.answer.specs.declared.Volts.{Volts}
 use Rattle.answer.specs.declared.Answer.{Answer}
@@ -9,12 +10,42 @@ use Rattle.answer.specs.declared.Answer.the-variants as answer
 use Rattle.answer.specs.declared.Outcome.{Outcome}
 use Rattle.answer.specs.declared.Outcome.the-variants as outcome
 
--- 1 cleared, 2 notfinite, 3 lost, 4 clean, as the scope numbers its rules; 0 of a refused tick
+-- ---- volts: port 10 first; an output that an oscillator doesn't have reads 0.0
+abbrev pub volts5 : Float → Float → Float → Float → Float → Volts
+volts5 a b c d e = record { p10 = a; p11 = b; p12 = c; p13 = d; p14 = e }
+
+abbrev pub volts4 : Float → Float → Float → Float → Volts
+volts4 a b c d = volts5 a b c d zer
+
+abbrev pub volts2 : Float → Float → Volts
+volts2 a b = volts4 a b zer zer
+
+abbrev pub volts1 : Float → Volts
+volts1 a = volts2 a zer
+
+-- ---- the marks, as the scope numbers its rules
+abbrev pub cleared : ℕ
+cleared = 1
+
+abbrev pub notfinite : ℕ
+notfinite = 2
+
+abbrev pub lost : ℕ
+lost = 3
+
+abbrev pub clean : ℕ
+clean = 4
+
+-- what a host is told of a mark, by a tick and in the marks of a block
+abbrev pub told : ℕ → ℕ
+told mark = 10 + mark
+
+-- an answer's mark; 0 of a refused tick
 unfoldable pub markNumber : Answer → ℕ
-markNumber (answer.Clean v) = 4
-markNumber (answer.Cleared v) = 1
-markNumber (answer.NotFinite v) = 2
-markNumber (answer.Lost v) = 3
+markNumber (answer.Clean v) = clean
+markNumber (answer.Cleared v) = cleared
+markNumber (answer.NotFinite v) = notfinite
+markNumber (answer.Lost v) = lost
 markNumber (answer.Refused n) = 0
 
 -- the sample volts; a refused tick has none
@@ -23,7 +54,7 @@ voltsOf (answer.Clean v) = v
 voltsOf (answer.Cleared v) = v
 voltsOf (answer.NotFinite v) = v
 voltsOf (answer.Lost v) = v
-voltsOf (answer.Refused n) = record { p10 = zer; p11 = zer; p12 = zer; p13 = zer; p14 = zer }
+voltsOf (answer.Refused n) = volts1 zer
 
 -- the scope's number of a refusal; 0 of an accepted tick
 unfoldable pub refusalOf : Answer → ℕ
@@ -40,17 +71,17 @@ accepted (answer.NotFinite v) = true
 accepted (answer.Lost v) = true
 accepted (answer.Refused n) = false
 
--- what a host is told, by a tick and in the marks of a block: 10 and the mark's number, or what refused it
+-- what a host is told of an answer: its mark, or what refused it
 unfoldable pub hostNumber : Answer → ℕ
-hostNumber a = cond (accepted a) (10 + markNumber a) (refusalOf a)
+hostNumber a = cond (accepted a) (told (markNumber a)) (refusalOf a)
 
--- and back: the answer of that number with these volts. A number that is no mark's refuses.
+-- and back: the answer that a host was told by n, with these volts. A number that is no mark's refuses.
 unfoldable pub answerOf : ℕ → Volts → Answer
 answerOf n v =
-    cond (eqb n 11) (answer.Cleared v)
-    (cond (eqb n 12) (answer.NotFinite v)
-    (cond (eqb n 13) (answer.Lost v)
-    (cond (eqb n 14) (answer.Clean v)
+    cond (eqb n (told cleared)) (answer.Cleared v)
+    (cond (eqb n (told notfinite)) (answer.NotFinite v)
+    (cond (eqb n (told lost)) (answer.Lost v)
+    (cond (eqb n (told clean)) (answer.Clean v)
     (answer.Refused n))))
 
 -- of a call without samples: 0 where it is done, or what refused it

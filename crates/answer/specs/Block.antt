@@ -6,7 +6,7 @@ use lib.Dec.{eqb, leb}
 use lib.Ieee.{Float}
 use lib.ListN.{length, getD, take}
 use Rattle.laws.specs.Lists.{tab}
-use Rattle.answer.specs.Answer.{hostNumber, voltsOf}
+use Rattle.answer.specs.Answer.{hostNumber, voltsOf, cleared, notfinite, lost, clean, told}
 use Rattle.answer.specs.Tally.{addsUp, oneIf}
 use Rattle.answer.specs.declared.Volts.{Volts}
 use Rattle.answer.specs.declared.Answer.{Answer}
@@ -14,7 +14,7 @@ use Rattle.answer.specs.declared.Tally.{Tally}
 use Rattle.answer.specs.declared.Tallied.{Tallied}
 use Rattle.answer.specs.declared.Tallied.the-variants as tallied
 
--- ---- the tally of many marks, by the numbers that a host is told: 11 cleared, 12 notfinite, 13 lost, 14 clean
+-- ---- the tally of many marks, by the numbers that a host is told
 -- how many of f 0, .., f (n - 1) are k
 unfoldable pub manyTo : ℕ → (ℕ → ℕ) → ℕ → ℕ
 manyTo k f zero = 0
@@ -22,18 +22,18 @@ manyTo k f (suc n) = manyTo k f n + oneIf (f n) k
 
 -- so many more answers of each mark
 unfoldable pub grownBy : Tally → ℕ → ℕ → ℕ → ℕ → Tally
-grownBy t clean cleared notfinite lost =
+grownBy t cleans cleareds notfinites losts =
     record {
-      begun = t .begun + (clean + cleared + notfinite + lost);
-      finished = t .finished + clean;
-      cleared = t .cleared + cleared;
-      notfinite = t .notfinite + notfinite;
-      lost = t .lost + lost;
+      begun = t .begun + (cleans + cleareds + notfinites + losts);
+      finished = t .finished + cleans;
+      cleared = t .cleared + cleareds;
+      notfinite = t .notfinite + notfinites;
+      lost = t .lost + losts;
     }
 
 -- each count grows by the number of its marks among f 0, .., f (n - 1)
 unfoldable pub countedTo : Tally → (ℕ → ℕ) → ℕ → Tally
-countedTo t f n = grownBy t (manyTo 14 f n) (manyTo 11 f n) (manyTo 12 f n) (manyTo 13 f n)
+countedTo t f n = grownBy t (manyTo (told clean) f n) (manyTo (told cleared) f n) (manyTo (told notfinite) f n) (manyTo (told lost) f n)
 
 -- n more answers can be taken: neither reason for 7 comes
 unfoldable pub roomFor : Tally → ℕ → Bool

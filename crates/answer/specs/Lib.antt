@@ -4,4 +4,3 @@ pub mod Tally
 pub mod Block
 pub mod Promises
 pub mod Settled
-pub mod Flat

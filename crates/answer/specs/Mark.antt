@@ -1,8 +1,8 @@
 -- The mark of an accepted tick: the scope, "Marks and tally".
 use mathlib.Core.Bool.{Bool, cond, _&&_}
-use Prim.Native.Nat.{ℕ, _+_}
+use Prim.Native.Nat.{ℕ}
 use Rattle.laws.specs.Float.{isFin}
-use Rattle.answer.specs.Answer.{answerOf}
+use Rattle.answer.specs.Answer.{answerOf, cleared, notfinite, lost, clean, told}
 use Rattle.answer.specs.declared.Volts.{Volts}
 use Rattle.answer.specs.declared.Answer.{Answer}
 
@@ -12,8 +12,12 @@ allFinite v = isFin (v .p10) && (isFin (v .p11) && (isFin (v .p12) && (isFin (v 
 
 -- the first rule that applies: 1 the string zeroed its line; 2 something isn't finite; 3 a phase was lost; 4 nothing else
 unfoldable pub ruleOf : Bool → Bool → Bool → ℕ
-ruleOf cleared finite phases = cond cleared 1 (cond finite (cond phases 4 3) 2)
+ruleOf zeroed finite phases = cond zeroed cleared (cond finite (cond phases clean lost) notfinite)
+
+-- a tick's answer by these rules
+unfoldable pub markedOf : Volts → Bool → Bool → Bool → Answer
+markedOf v zeroed finite phases = answerOf (told (ruleOf zeroed finite phases)) v
 
 -- `sums` says that what stands before an output's clamp is finite, `phases` that each phase plus its increment is
 unfoldable pub markOf : Volts → Bool → Bool → Bool → Answer
-markOf v cleared sums phases = answerOf (10 + ruleOf cleared (sums && allFinite v) phases) v
+markOf v zeroed sums phases = markedOf v zeroed (sums && allFinite v) phases

@@ -3,7 +3,7 @@ use mathlib.Core.Path.{_≡_}
 use mathlib.Core.Bool.{Bool, true, false, _&&_}
 use mathlib.Core.List.{List}
 use Prim.Native.Nat.{ℕ, _+_, _≤_, _<_}
-use Rattle.answer.specs.Answer.{markNumber, hostNumber, voltsOf, accepted}
+use Rattle.answer.specs.Answer.{markNumber, hostNumber, voltsOf, accepted, cleared, notfinite, lost, clean}
 use Rattle.answer.specs.Block.{roomFor, countedTo, answerAt, markAt}
 use Rattle.answer.specs.Mark.{allFinite, markOf, ruleOf}
 use Rattle.answer.specs.Tally.{Run, run, newRun, sumOf, many, acceptedIn, tallyAfter, talliedNumber, tallyOr, tallyOf}
@@ -12,21 +12,21 @@ use Rattle.answer.specs.declared.Answer.{Answer}
 use Rattle.answer.specs.declared.Tally.{Tally}
 
 -- a marked tick is an accepted one, keeps its volts, and has the number of the first rule that applies
-pub record Marked (v : Volts) (cleared sums phases : Bool) : Type 0 where
-  pub is-accepted : accepted (markOf v cleared sums phases) ≡ true
-  pub volts : voltsOf (markOf v cleared sums phases) ≡ v
-  pub number : markNumber (markOf v cleared sums phases) ≡ ruleOf cleared (sums && allFinite v) phases
+pub record Marked (v : Volts) (zeroed sums phases : Bool) : Type 0 where
+  pub is-accepted : accepted (markOf v zeroed sums phases) ≡ true
+  pub volts : voltsOf (markOf v zeroed sums phases) ≡ v
+  pub number : markNumber (markOf v zeroed sums phases) ≡ ruleOf zeroed (sums && allFinite v) phases
 
 abbrev pub Mark-says : Type 0
-Mark-says = (v : Volts) (cleared sums phases : Bool) → Marked v cleared sums phases
+Mark-says = (v : Volts) (zeroed sums phases : Bool) → Marked v zeroed sums phases
 
 -- each count is the number of answers with that mark that the tally took; begun is the number of accepted ticks that it took, and the sum
 -- of the counts
 pub record Counts (r : Run) : Type 0 where
-  pub cleared : r .tally .cleared ≡ many 1 (r .took)
-  pub notfinite : r .tally .notfinite ≡ many 2 (r .took)
-  pub lost : r .tally .lost ≡ many 3 (r .took)
-  pub finished : r .tally .finished ≡ many 4 (r .took)
+  pub cleared : r .tally .cleared ≡ many cleared (r .took)
+  pub notfinite : r .tally .notfinite ≡ many notfinite (r .took)
+  pub lost : r .tally .lost ≡ many lost (r .took)
+  pub finished : r .tally .finished ≡ many clean (r .took)
   pub begun : r .tally .begun ≡ acceptedIn (r .took)
   pub sum : r .tally .begun ≡ sumOf (r .tally)
   pub top : r .tally .begun ≤ 4294967295
@@ -37,10 +37,10 @@ Tally-counts = (xs : List Answer) → Counts (run newRun xs)
 
 -- and while the accepted ticks are at most 4,294,967,295 it takes each of them, so that none is missing from a count
 pub record CountsAll (xs : List Answer) : Type 0 where
-  pub cleared : tallyAfter xs .cleared ≡ many 1 xs
-  pub notfinite : tallyAfter xs .notfinite ≡ many 2 xs
-  pub lost : tallyAfter xs .lost ≡ many 3 xs
-  pub finished : tallyAfter xs .finished ≡ many 4 xs
+  pub cleared : tallyAfter xs .cleared ≡ many cleared xs
+  pub notfinite : tallyAfter xs .notfinite ≡ many notfinite xs
+  pub lost : tallyAfter xs .lost ≡ many lost xs
+  pub finished : tallyAfter xs .finished ≡ many clean xs
   pub begun : tallyAfter xs .begun ≡ acceptedIn xs
   pub sum : tallyAfter xs .begun ≡ sumOf (tallyAfter xs)
 

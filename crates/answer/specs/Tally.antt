@@ -3,7 +3,7 @@ use mathlib.Core.Bool.{Bool, cond}
 use mathlib.Core.List.{List, [], _∷_}
 use Prim.Native.Nat.{ℕ, _+_}
 use lib.Dec.{eqb}
-use Rattle.answer.specs.Answer.{markNumber, accepted}
+use Rattle.answer.specs.Answer.{markNumber, accepted, cleared, notfinite, lost, clean}
 use Rattle.answer.specs.declared.Answer.{Answer}
 use Rattle.answer.specs.declared.Tally.{Tally}
 use Rattle.answer.specs.declared.Tallied.{Tallied}
@@ -24,7 +24,14 @@ oneIf n k = cond (eqb n k) 1 0
 
 -- one answer with the mark n more
 unfoldable pub counted : Tally → ℕ → Tally
-counted t n = record { begun = t .begun + 1; finished = t .finished + oneIf n 4; cleared = t .cleared + oneIf n 1; notfinite = t .notfinite + oneIf n 2; lost = t .lost + oneIf n 3 }
+counted t n =
+    record {
+      begun = t .begun + 1;
+      finished = t .finished + oneIf n clean;
+      cleared = t .cleared + oneIf n cleared;
+      notfinite = t .notfinite + oneIf n notfinite;
+      lost = t .lost + oneIf n lost;
+    }
 
 -- the scope's number of each case: 0 taken, or what refused; and its tally, of a refusal the one that stays
 unfoldable pub talliedNumber : Tallied → ℕ

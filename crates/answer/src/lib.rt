@@ -1,12 +1,13 @@
 // Added by the scope: what a tick answers, how it is marked, and the tally of the answers. One text for all oscillators.
 ghost use mathlib.Core.Path.{_≡_};
-ghost use Prim.Native.Nat.{_<_, _≤_, _+_};
+ghost use Prim.Native.Nat.{_<_, _≤_, _+_, _*_};
 ghost use lib.ListN.{length};
-ghost use Rattle.answer.specs.Answer.{markNumber, hostNumber, voltsOf, accepted, answerOf};
-ghost use Rattle.answer.specs.Mark.{allFinite, markOf};
+ghost use lib.Dec.{eqb};
+ghost use lib.Seq.{sets};
+ghost use Rattle.answer.specs.Answer.{volts1, volts2, volts4, volts5, markNumber, hostNumber, voltsOf, accepted, answerOf};
+ghost use Rattle.answer.specs.Mark.{allFinite, markedOf, markOf};
 ghost use Rattle.answer.specs.Tally.{newTally, sumOf, addsUp, oneIf, counted, tallyOr, tallyOf};
-ghost use Rattle.answer.specs.Flat.{sizesOf, tickSizesOf, tallyFrom, countsOutcome, countsPut};
-ghost use Rattle.answer.specs.Block.{manyTo, cellsOf, roomFor, grownBy, marksTaken, blockRefusalOf};
+ghost use Rattle.answer.specs.Block.{manyTo, cellsOf, roomFor, grownBy, marksTaken, portsOf, blockRefusalOf};
 
 // Sample volts: a field for each output port number of the Rust. An output that an oscillator doesn't have, or that isn't
 // wanted, reads 0.0.
@@ -17,6 +18,55 @@ pub struct Volts {
     pub p13: f64,
     pub p14: f64,
 }
+
+// The volts of an oscillator with five outputs, and of one with fewer, from port 10 on.
+pub fn volts5(p10: f64, p11: f64, p12: f64, p13: f64, p14: f64) -> Volts
+    ensures { λ r. ⌜ r ≡ volts5 p10 p11 p12 p13 p14 ⌝ }
+{
+    Volts {
+        p10,
+        p11,
+        p12,
+        p13,
+        p14,
+    }
+}
+
+pub fn volts4(p10: f64, p11: f64, p12: f64, p13: f64) -> Volts
+    ensures { λ r. ⌜ r ≡ volts4 p10 p11 p12 p13 ⌝ }
+{
+    volts5(p10, p11, p12, p13, 0.0)
+}
+
+pub fn volts2(p10: f64, p11: f64) -> Volts
+    ensures { λ r. ⌜ r ≡ volts2 p10 p11 ⌝ }
+{
+    volts4(p10, p11, 0.0, 0.0)
+}
+
+pub fn volts1(p10: f64) -> Volts
+    ensures { λ r. ⌜ r ≡ volts1 p10 ⌝ }
+{
+    volts2(p10, 0.0)
+}
+
+// The marks, as the scope numbers its rules.
+pub const CLEARED: u32 = 1;
+
+pub const NOTFINITE: u32 = 2;
+
+pub const LOST: u32 = 3;
+
+pub const CLEAN: u32 = 4;
+
+// What a host is told of each, by a tick and in the marks of a block.
+const TOLD_CLEARED: u32 = 10 + CLEARED;
+
+const TOLD_NOTFINITE: u32 = 10 + NOTFINITE;
+
+const TOLD_LOST: u32 = 10 + LOST;
+
+const TOLD_CLEAN: u32 = 10 + CLEAN;
 
 // What a tick answers: its mark with its samples, or the number that refused it.
 pub enum Answer {
@@ -33,15 +83,15 @@ pub enum Outcome {
     Refused(u32),
 }
 
-// The scope's number of a mark: 1 cleared, 2 notfinite, 3 lost, 4 clean; 0 of a refused tick.
+// The number of an answer's mark; 0 of a refused tick.
 pub fn mark_number(a: Answer) -> u32
     ensures { λ r. ⌜ r ≡ markNumber a ⌝ }
 {
     match a {
-        Answer::Clean(_) => 4,
-        Answer::Cleared(_) => 1,
-        Answer::NotFinite(_) => 2,
-        Answer::Lost(_) => 3,
+        Answer::Clean(_) => CLEAN,
+        Answer::Cleared(_) => CLEARED,
+        Answer::NotFinite(_) => NOTFINITE,
+        Answer::Lost(_) => LOST,
         Answer::Refused(_) => 0,
     }
 }
@@ -52,16 +102,15 @@ pub fn is_accepted(a: Answer) -> bool
     mark_number(a) != 0
 }
 
-// What a host is told of an answer, by a tick and in the marks of a block: 11 cleared, 12 notfinite, 13 lost, 14 clean, or
-// the number that refused the tick.
+// What a host is told of an answer: its mark, or the number that refused the tick.
 pub fn host_number(a: Answer) -> u32
     ensures { λ r. ⌜ r ≡ hostNumber a ⌝ }
 {
     match a {
-        Answer::Clean(_) => 14,
-        Answer::Cleared(_) => 11,
-        Answer::NotFinite(_) => 12,
-        Answer::Lost(_) => 13,
+        Answer::Clean(_) => TOLD_CLEAN,
+        Answer::Cleared(_) => TOLD_CLEARED,
+        Answer::NotFinite(_) => TOLD_NOTFINITE,
+        Answer::Lost(_) => TOLD_LOST,
         Answer::Refused(n) => n,
     }
 }
@@ -75,13 +124,7 @@ pub fn samples(a: Answer) -> Volts
         Answer::Cleared(v) => v,
         Answer::NotFinite(v) => v,
         Answer::Lost(v) => v,
-        Answer::Refused(_) => Volts {
-            p10: 0.0,
-            p11: 0.0,
-            p12: 0.0,
-            p13: 0.0,
-            p14: 0.0,
-        },
+        Answer::Refused(_) => volts1(0.0),
     }
 }
 
@@ -89,13 +132,13 @@ pub fn samples(a: Answer) -> Volts
 pub fn answer_of(number: u32, v: Volts) -> Answer
     ensures { λ r. ⌜ r ≡ answerOf number v ⌝ }
 {
-    if number == 11 {
+    if number == TOLD_CLEARED {
         Answer::Cleared(v)
-    } else if number == 12 {
+    } else if number == TOLD_NOTFINITE {
         Answer::NotFinite(v)
-    } else if number == 13 {
+    } else if number == TOLD_LOST {
         Answer::Lost(v)
-    } else if number == 14 {
+    } else if number == TOLD_CLEAN {
         Answer::Clean(v)
     } else {
         Answer::Refused(number)
@@ -124,25 +167,32 @@ fn all_finite(v: Volts) -> bool
     }
 }
 
-// The mark of an accepted tick, the first that applies. `cleared`: the string zeroed its line. `sums`: what stands before
-// an output's clamp is finite. `phases`: each phase plus its increment is finite.
-pub fn mark(v: Volts, cleared: bool, sums: bool, phases: bool) -> Answer
-    ensures { λ r. ⌜ r ≡ markOf v cleared sums phases ⌝ }
+// A tick's answer, by the first rule that applies: each mark is made here. `zeroed`: the string zeroed its line. `finite`: the
+// volts are, and what stands before an output's clamp. `phases`: each phase plus its increment is finite.
+pub fn marked(v: Volts, zeroed: bool, finite: bool, phases: bool) -> Answer
+    ensures { λ r. ⌜ r ≡ markedOf v zeroed finite phases ⌝ }
 {
-    if cleared {
+    if zeroed {
         Answer::Cleared(v)
-    } else if sums {
-        if all_finite(v) {
-            if phases {
-                Answer::Clean(v)
-            } else {
-                Answer::Lost(v)
-            }
+    } else if finite {
+        if phases {
+            Answer::Clean(v)
         } else {
-            Answer::NotFinite(v)
+            Answer::Lost(v)
         }
     } else {
         Answer::NotFinite(v)
+    }
+}
+
+// The same where the volts are still to be tested. `sums`: what stands before an output's clamp is finite.
+pub fn mark(v: Volts, zeroed: bool, sums: bool, phases: bool) -> Answer
+    ensures { λ r. ⌜ r ≡ markOf v zeroed sums phases ⌝ }
+{
+    if sums {
+        marked(v, zeroed, all_finite(v), phases)
+    } else {
+        marked(v, zeroed, false, phases)
     }
 }
 
@@ -206,39 +256,6 @@ impl Tally {
         }
     }
 
-    // The tally that five counts stand for, in the order of the fields; 53 where there aren't five.
-    pub fn from_counts(counts: &[u32]) -> Tallied
-        ensures { λ r. ⌜ r ≡ tallyFrom (now (counts .entry)) ⌝ }
-    {
-        if counts.len() == 5 {
-            Tallied::Taken(Tally {
-                begun: counts[0],
-                finished: counts[1],
-                cleared: counts[2],
-                notfinite: counts[3],
-                lost: counts[4],
-            })
-        } else {
-            Tallied::Refused(53)
-        }
-    }
-
-    // Its five counts into a slice for five; another is refused by 53, and left.
-    pub fn put_counts(self, counts: &mut [u32]) -> Outcome
-        ensures { λ r. ⌜ (r ≡ countsOutcome (now (counts .entry))) × (now (counts .exit) ≡ countsPut self (now (counts .entry))) ⌝ }
-    {
-        if counts.len() == 5 {
-            counts[0] = self.begun;
-            counts[1] = self.finished;
-            counts[2] = self.cleared;
-            counts[3] = self.notfinite;
-            counts[4] = self.lost;
-            Outcome::Done
-        } else {
-            Outcome::Refused(53)
-        }
-    }
-
     // The sum in 64 bits, so that it can't wrap.
     fn adds_up(self) -> bool
         ensures { λ r. ⌜ r ≡ addsUp self ⌝ }
@@ -257,10 +274,10 @@ impl Tally {
     {
         Tally {
             begun: self.begun + 1,
-            finished: self.finished + one_if(n, 4),
-            cleared: self.cleared + one_if(n, 1),
-            notfinite: self.notfinite + one_if(n, 2),
-            lost: self.lost + one_if(n, 3),
+            finished: self.finished + one_if(n, CLEAN),
+            cleared: self.cleared + one_if(n, CLEARED),
+            notfinite: self.notfinite + one_if(n, NOTFINITE),
+            lost: self.lost + one_if(n, LOST),
         }
     }
 
@@ -314,10 +331,10 @@ impl Tally {
     {
         if self.has_room(marks.len()) {
             Tallied::Taken(self.grown(
-                count_of(marks, 14),
-                count_of(marks, 11),
-                count_of(marks, 12),
-                count_of(marks, 13),
+                count_of(marks, TOLD_CLEAN),
+                count_of(marks, TOLD_CLEARED),
+                count_of(marks, TOLD_NOTFINITE),
+                count_of(marks, TOLD_LOST),
             ))
         } else {
             Tallied::Refused(7)
@@ -325,12 +342,25 @@ impl Tally {
     }
 }
 
-// 0, or what refuses a block of n ticks: 52 where the samples' buffer doesn't fit the marks', then what refuses its first
-// tick, then 7 where the tally has no room for n answers.
-pub fn block_refusal(fits: bool, number: u32, tally: Tally, n: usize) -> u32
-    ensures { λ r. ⌜ r ≡ blockRefusalOf fits number tally n ⌝ }
+// Whether so many samples are those of n ticks with so many outputs each. A product could be too large.
+fn fits(ports: usize, samples: usize, n: usize) -> bool
+    ensures { λ r. ⌜ r ≡ eqb samples (ports * n) ⌝ }
 {
-    if fits {
+    if ports == 0 {
+        samples == 0
+    } else if samples % ports == 0 {
+        samples / ports == n
+    } else {
+        false
+    }
+}
+
+// 0, or what refuses a block of n ticks with so many outputs each: 52 where it isn't lent so many samples, then what refuses its first
+// tick, then 7 where the tally has no room for n answers.
+pub fn block_refusal(ports: usize, samples: usize, number: u32, tally: Tally, n: usize) -> u32
+    ensures { λ r. ⌜ r ≡ blockRefusalOf (eqb samples (ports * n)) number tally n ⌝ }
+{
+    if fits(ports, samples, n) {
         if number == 0 {
             if tally.has_room(n) { 0 } else { 7 }
         } else {
@@ -341,32 +371,29 @@ pub fn block_refusal(fits: bool, number: u32, tally: Tally, n: usize) -> u32
     }
 }
 
-// What a host lends for a state of nf floats and nw whole numbers: 0, or 50, 51 where floats, wholes have another length.
-pub fn sizes(nf: usize, nw: usize, floats: &[f64], wholes: &[u64]) -> u32
-    ensures { λ r. ⌜ r ≡ sizesOf nf nw (length (now (floats .entry))) (length (now (wholes .entry))) ⌝ }
+// A tick's outputs into its part of a block's samples, as many as the part has cells.
+pub fn put(v: Volts, part: &mut [f64])
+    ensures { λ _. ⌜ now (part .exit) ≡ sets (now (part .entry)) 0 (portsOf (length (now (part .entry))) v) ⌝ }
 {
-    if floats.len() == nf {
-        if wholes.len() == nw { 0 } else { 51 }
-    } else {
-        50
+    let n = part.len();
+    if n < 1 {
+        return;
     }
-}
-
-// And for a tick of ns samples: 52.
-pub fn tick_sizes(
-    nf: usize,
-    nw: usize,
-    ns: usize,
-    floats: &[f64],
-    wholes: &[u64],
-    samples: &[f64],
-) -> u32
-    ensures { λ r. ⌜ r ≡ tickSizesOf nf nw ns (length (now (floats .entry))) (length (now (wholes .entry))) (length (now (samples .entry))) ⌝ }
-{
-    let refused = sizes(nf, nw, floats, wholes);
-    if refused == 0 {
-        if samples.len() == ns { 0 } else { 52 }
-    } else {
-        refused
+    part[0] = v.p10;
+    if n < 2 {
+        return;
     }
+    part[1] = v.p11;
+    if n < 3 {
+        return;
+    }
+    part[2] = v.p12;
+    if n < 4 {
+        return;
+    }
+    part[3] = v.p13;
+    if n < 5 {
+        return;
+    }
+    part[4] = v.p14;
 }

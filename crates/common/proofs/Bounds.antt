@@ -11,7 +11,8 @@ use Rattle.laws.proofs.Tests.{of-true}
 use Rattle.laws.specs.Float.{zer, one, two, isFin}
 use Rattle.numeric.proofs.TrigLaws.{cos-inside, sin-inside}
 use Rattle.numeric.specs.Trig.{cosOf, sinOf}
-use Rattle.common.specs.Consts.{four, five, half, tau}
+use Rattle.common.specs.Consts.{four, five, half}
+use Rattle.numeric.specs.Basic.{tau}
 use Rattle.common.specs.Phase.{turns}
 use Rattle.common.specs.Ports.{outOf}
 use Rattle.common.specs.Tests.{phaseOk}

@@ -1,4 +1,4 @@
--- An edge for any previous sample is one for a new detector, whose previous sample is 0; and no edge comes twice.
+-- An edge for any previous sample is one for a new detector like it, whose previous sample is 0; and no edge comes twice.
 use mathlib.Core.Bool.{Bool, _&&_, true, false}
 use mathlib.Core.Path.{_≡_, refl}
 use lib.Dec.{T}
@@ -6,9 +6,9 @@ use lib.Ieee.{Float, lt, le, ofBits, eq}
 use lib.Ieee.Bits.{is-true}
 use Rattle.laws.specs.Float.{zer}
 use Rattle.laws.proofs.Order.{le-false}
-use Rattle.common.specs.Consts.{five, gateThreshold}
-use Rattle.common.specs.Edge.{risesAbove}
-use Rattle.common.specs.Promises.{Rises-new, Rises-once}
+use Rattle.common.specs.Edge.{thresholdOf, resetOf, risesAbove, risingAboveOf, risingOf, crossedAboveOf, crossedOf}
+use Rattle.common.specs.Promises.{Rises-new, Rises-once, Rising-like, Crossed-is, Rising-once, Rising-comes}
+use Rattle.common.specs.declared.EdgeDetector.{EdgeDetector}
 
 rises-left : (a b c : Bool) → (a && b) ≡ true → c ≡ true → (a && c) ≡ true
 rises-left true b c h e = e
@@ -18,10 +18,18 @@ pub rises-new : Rises-new
 unfolding risesAbove
 rises-new threshold prev v t h = rises-left (lt threshold v) (le prev threshold) (le zer threshold) h (is-true (le zer threshold) t)
 
--- the constant threshold is one
-pub gate-above : T (le zer gateThreshold)
-unfolding le lt eq ofBits
-gate-above = tt
+-- no detector's threshold is below 0
+above : (e : EdgeDetector) → T (le zer (thresholdOf e))
+unfolding thresholdOf le lt eq ofBits
+above e = tt
+
+pub rising-like : Rising-like
+unfolding risingOf risingAboveOf resetOf thresholdOf
+rising-like e v h = simp (h, rises-new (thresholdOf e) (e .prev) v (above e) h)
+
+pub crossed-is : Crossed-is
+unfolding risingOf risingAboveOf crossedOf crossedAboveOf
+crossed-is e v = refl
 
 pub rises-once : Rises-once
 unfolding risesAbove
@@ -31,7 +39,10 @@ rises-once threshold v = go (lt threshold v) refl
     go true e = le-false threshold v (rw e tt)
     go false e = refl
 
--- from a low gate to 5 V an edge comes
-pub rises-five : (v : Float) → le v gateThreshold ≡ true → risesAbove gateThreshold v five ≡ true
-unfolding risesAbove
-rises-five v h = rw h (unfold lt ofBits in refl)
+pub rising-once : Rising-once
+unfolding risingOf risingAboveOf thresholdOf
+rising-once e v = simp rises-once
+
+pub rising-comes : Rising-comes
+unfolding risingOf risingAboveOf risesAbove thresholdOf
+rising-comes e v h = rw h (unfold lt ofBits in refl)

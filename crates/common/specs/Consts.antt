@@ -13,7 +13,7 @@ gateThreshold = ofBits binary64 0x4004000000000000
 abbrev pub maxVoct : Float
 maxVoct = ofBits binary64 0x4040000000000000
 
--- 3, 4, 5, a half, and a whole turn in radians (TAU: 6.283185307179586)
+-- 3, 4, 5 and a half
 abbrev pub three : Float
 three = ofBits binary64 0x4008000000000000
 
@@ -25,9 +25,6 @@ five = ofBits binary64 0x4014000000000000
 
 abbrev pub half : Float
 half = ofBits binary64 0x3fe0000000000000
-
-abbrev pub tau : Float
-tau = ofBits binary64 0x401921fb54442d18
 
 -- refusal 1's ends: 1,000 and 192,000
 abbrev pub rateLow : Float

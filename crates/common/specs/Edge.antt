@@ -10,8 +10,17 @@ use Rattle.common.specs.declared.Crossed.{Crossed}
 use Rattle.common.specs.declared.Crossing.{Crossing}
 use Rattle.common.specs.declared.Crossing.the-variants.{Nowhere, At}
 
+-- EdgeDetector::new
 abbrev pub newEdge : EdgeDetector
 newEdge = record { prev = zer }
+
+-- the threshold that a detector goes by: the Rust's GATE_THRESHOLD_V
+unfoldable pub thresholdOf : EdgeDetector → Float
+thresholdOf e = gateThreshold
+
+-- reset: a new one like this
+unfoldable pub resetOf : EdgeDetector → EdgeDetector
+resetOf e = newEdge
 
 -- v > threshold and previous ≤ threshold: a NaN on either side is no edge
 unfoldable pub risesAbove : Float → Float → Float → Bool
@@ -21,7 +30,7 @@ unfoldable pub risingAboveOf : EdgeDetector → Float → Float → Risen
 risingAboveOf e v threshold = record { edge = record { prev = v }; rising = risesAbove threshold (e .prev) v }
 
 unfoldable pub risingOf : EdgeDetector → Float → Risen
-risingOf e v = risingAboveOf e v gateThreshold
+risingOf e v = risingAboveOf e v (thresholdOf e)
 
 -- ((threshold - prev) / denom).clamp(0.0, 1.0) with denom = v - prev, and 1.0 where denom isn't above 0
 unfoldable pub fracAbove : Float → Float → Float → Float
@@ -34,4 +43,4 @@ crossedAboveOf e v threshold =
     record { edge = record { prev = v }; at = cond (risesAbove threshold (e .prev) v) (At (fracAbove threshold (e .prev) v)) Nowhere }
 
 unfoldable pub crossedOf : EdgeDetector → Float → Crossed
-crossedOf e v = crossedAboveOf e v gateThreshold
+crossedOf e v = crossedAboveOf e v (thresholdOf e)

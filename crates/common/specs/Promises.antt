@@ -1,14 +1,17 @@
 -- What the crates above count on: the statements. The proofs of the same names in small letters stand in proofs/.
 use mathlib.Core.Path.{_≡_}
-use mathlib.Core.Bool.{Bool, true, false}
+use mathlib.Core.Bool.{true, false, cond}
 use mathlib.Core.Logic.{_⊎_}
 use lib.Dec.{T}
 use lib.Ieee.{Float, le}
 use Rattle.laws.specs.Float.{zer, F64}
 use Rattle.common.specs.Phase.{turns, wrapOf}
 use Rattle.common.specs.Memo.{filled1, filled3, recall1, recall3}
-use Rattle.common.specs.Edge.{risesAbove}
+use Rattle.common.specs.Consts.{five}
+use Rattle.common.specs.Edge.{thresholdOf, resetOf, risesAbove, fracAbove, risingOf, crossedOf}
 use Rattle.common.specs.Tests.{phaseOk}
+use Rattle.common.specs.declared.EdgeDetector.{EdgeDetector}
+use Rattle.common.specs.declared.Crossing.the-variants.{Nowhere, At}
 use Rattle.common.specs.declared.Hertz.{Hertz}
 use Rattle.common.specs.declared.Memo1.{Memo1}
 use Rattle.common.specs.declared.Memo3.{Memo3}
@@ -35,9 +38,25 @@ Recall3-is = (f : Float → Float → Float → Hertz) (m : Memo3) → Coherent3
 abbrev pub Rises-new : Type 0
 Rises-new = (threshold prev v : Float) → T (le zer threshold) → risesAbove threshold prev v ≡ true → risesAbove threshold zer v ≡ true
 
+-- and a detector that takes one is then as a new one like it is
+abbrev pub Rising-like : Type 0
+Rising-like = (e : EdgeDetector) (v : Float) → risingOf e v .rising ≡ true → risingOf (resetOf e) v ≡ risingOf e v
+
+-- a crossing is an edge, at its fraction
+abbrev pub Crossed-is : Type 0
+Crossed-is = (e : EdgeDetector) (v : Float)
+    → crossedOf e v ≡ record { edge = risingOf e v .edge; at = cond (risingOf e v .rising) (At (fracAbove (thresholdOf e) (e .prev) v)) Nowhere }
+
+-- after a sample that isn't above the threshold, 5 V are an edge
+abbrev pub Rising-comes : Type 0
+Rising-comes = (e : EdgeDetector) (v : Float) → le v (thresholdOf e) ≡ true → risingOf (risingOf e v .edge) five .rising ≡ true
+
 -- a sample that stands still gives no second edge
 abbrev pub Rises-once : Type 0
 Rises-once = (threshold v : Float) → risesAbove threshold v v ≡ false
+
+abbrev pub Rising-once : Type 0
+Rising-once = (e : EdgeDetector) (v : Float) → risingOf (risingOf e v .edge) v ≡ record { edge = risingOf e v .edge; rising = false }
 
 -- and keys that stand still are a hit, whatever the memo held
 abbrev pub Recall1-again : Type 0

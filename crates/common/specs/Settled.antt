@@ -8,7 +8,7 @@ use Rattle.laws.specs.Machine.{Settles}
 use Rattle.common.specs.Pitch.{voctToHz}
 use Rattle.common.specs.Phase.{turns, wrapOf, polyblepOf, polyblampOf, incrementOf, restartOf}
 use Rattle.common.specs.Memo.{newMemo1, hits1, filled1, recall1, voctToHzAt, newMemo3, hits3, filled3}
-use Rattle.common.specs.Edge.{newEdge, risingAboveOf, risingOf, crossedAboveOf, crossedOf}
+use Rattle.common.specs.Edge.{newEdge, risingAboveOf, risingOf, crossedAboveOf, crossedOf, resetOf}
 use Rattle.common.specs.Ports.{outOf}
 use Rattle.common.specs.Tests.{rateOk, phaseOk, drawsRefusalOf}
 use Rattle.common.specs.declared.Hertz.{Hertz}
@@ -39,7 +39,7 @@ pub record Settled : Type 0 where
   pub edge-rising-above : (e : EdgeDetector) (v t : Float) → Settles (λ (r : Risen). r ≡ risingAboveOf e v t)
   pub edge-rising-frac : (e : EdgeDetector) (v : Float) → Settles (λ (r : Crossed). r ≡ crossedOf e v)
   pub edge-rising-frac-above : (e : EdgeDetector) (v t : Float) → Settles (λ (r : Crossed). r ≡ crossedAboveOf e v t)
-  pub edge-reset : (e : EdgeDetector) → Settles (λ (r : EdgeDetector). r ≡ newEdge)
+  pub edge-reset : (e : EdgeDetector) → Settles (λ (r : EdgeDetector). r ≡ resetOf e)
   pub out : (want : Bool) (x : Float) → Settles (λ (r : Float). r ≡ outOf want x)
   pub rate-ok : (r : Hertz) → Settles (λ (b : Bool). b ≡ rateOk r)
   pub phase-ok : (p : Turns) → Settles (λ (b : Bool). b ≡ phaseOk p)

@@ -6,7 +6,7 @@ ghost use lib.ListN.{length};
 ghost use Rattle.common.specs.Pitch.{voctToHz};
 ghost use Rattle.common.specs.Phase.{turns, wrapOf, polyblepOf, polyblampOf, incrementOf, restartOf};
 ghost use Rattle.common.specs.Memo.{newMemo1, hits1, filled1, newMemo3, hits3, filled3, recall1, voctToHzAt};
-ghost use Rattle.common.specs.Edge.{newEdge, risingAboveOf, risingOf, crossedAboveOf, crossedOf};
+ghost use Rattle.common.specs.Edge.{newEdge, thresholdOf, risingAboveOf, risingOf, crossedAboveOf, crossedOf, resetOf};
 ghost use Rattle.common.specs.Ports.{outOf};
 ghost use Rattle.common.specs.Tests.{rateOk, phaseOk, drawsOk, drawsRefusalOf};
 
@@ -23,7 +23,7 @@ pub struct Turns(pub f64);
 const C4_HZ: f64 = 261.6255653005986;
 
 // Where a gate counts as high.
-pub const GATE_THRESHOLD_V: f64 = 2.5;
+const GATE_THRESHOLD_V: f64 = 2.5;
 
 // The widest pitch that voct_to_hz takes.
 const MAX_ABS_VOCT: f64 = 32.0;
@@ -274,10 +274,17 @@ impl EdgeDetector {
         EdgeDetector { prev: 0.0 }
     }
 
+    // The threshold that it goes by.
+    fn threshold(self) -> f64
+        ensures { λ r. ⌜ r ≡ thresholdOf self ⌝ }
+    {
+        GATE_THRESHOLD_V
+    }
+
     pub fn rising(self, v: f64) -> Risen
         ensures { λ r. ⌜ r ≡ risingOf self v ⌝ }
     {
-        self.rising_above(v, GATE_THRESHOLD_V)
+        self.rising_above(v, self.threshold())
     }
 
     pub fn rising_above(self, v: f64, threshold: f64) -> Risen
@@ -293,7 +300,7 @@ impl EdgeDetector {
     pub fn rising_frac(self, v: f64) -> Crossed
         ensures { λ r. ⌜ r ≡ crossedOf self v ⌝ }
     {
-        self.rising_frac_above(v, GATE_THRESHOLD_V)
+        self.rising_frac_above(v, self.threshold())
     }
 
     // Where the straight line from the previous sample to v meets the threshold. The clamp lets a NaN pass.
@@ -331,10 +338,11 @@ impl EdgeDetector {
         }
     }
 
+    // A new one like this.
     pub fn reset(self) -> Self
-        ensures { λ r. ⌜ r ≡ newEdge ⌝ }
+        ensures { λ r. ⌜ r ≡ resetOf self ⌝ }
     {
-        EdgeDetector { prev: 0.0 }
+        EdgeDetector::new()
     }
 }
 

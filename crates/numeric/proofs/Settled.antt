@@ -10,6 +10,7 @@ settled =
       clamp = λ x y z. laws.settled _;
       min = λ x y. laws.settled _;
       max = λ x y. laws.settled _;
+      least = λ a b. laws.settled _;
       to-u64 = λ x. laws.settled _;
       to-usize = λ x. laws.settled _;
       of-u64 = λ x. laws.settled _;

@@ -3,7 +3,14 @@
 use mathlib.Core.Bool.{false, cond}
 use Prim.Native.Nat.{ℕ}
 use lib.IntN.{pos}
-use lib.Ieee.{Float, nan, inf, fin, binary64, lt, isNan, ofInt, toUnsigned}
+use lib.Ieee.{Float, nan, inf, fin, binary64, lt, isNan, ofBits, ofInt, toUnsigned}
+
+-- core::f64::consts: PI is 3.141592653589793, and TAU, a whole turn in radians, 6.283185307179586
+abbrev pub pi : Float
+pi = ofBits binary64 0x400921fb54442d18
+
+abbrev pub tau : Float
+tau = ofBits binary64 0x401921fb54442d18
 
 -- the sign cleared
 unfoldable pub fabsOf : Float → Float

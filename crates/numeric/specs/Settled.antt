@@ -1,7 +1,7 @@
 -- For each public function: any two answers that its contract allows are equal. The contract is the equation under Settles.
 use mathlib.Core.Path.{_≡_}
 use mathlib.Core.Bool.{Bool}
-use Prim.Native.Nat.{ℕ}
+use Prim.Native.Nat.{ℕ, min}
 use lib.Ieee.{Float, binary64, toBits, ofBits}
 use Rattle.laws.specs.Float.{isFin}
 use Rattle.laws.specs.Machine.{Settles}
@@ -15,6 +15,8 @@ pub record Settled : Type 0 where
   pub is-finite : (x : Float) → Settles (λ (r : Bool). r ≡ isFin x)
   pub fabs : (x : Float) → Settles (λ (r : Float). r ≡ fabsOf x)
   pub clamp : (x lo hi : Float) → Settles (λ (r : Float). r ≡ clampOf x lo hi)
+  -- before the field `min`, so that this is the smaller number
+  pub least : (a b : ℕ) → Settles (λ (r : ℕ). r ≡ min a b)
   pub min : (a b : Float) → Settles (λ (r : Float). r ≡ minOf a b)
   pub max : (a b : Float) → Settles (λ (r : Float). r ≡ maxOf a b)
   pub to-u64 : (x : Float) → Settles (λ (r : ℕ). r ≡ wholeOf x)

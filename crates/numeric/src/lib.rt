@@ -2,7 +2,7 @@
 // Every public function is total; its contract is one equation with a definition of specs/.
 ghost use mathlib.Core.Path.{_≡_};
 ghost use mathlib.Core.Bool.{cond, not};
-ghost use Prim.Native.Nat.{_≤_};
+ghost use Prim.Native.Nat.{_≤_, min};
 ghost use lib.Dec.{T};
 ghost use lib.Ieee as Ieee;
 ghost use lib.Ieee.{binary64};
@@ -12,6 +12,11 @@ ghost use Rattle.numeric.specs.Floor.{floorOf};
 ghost use Rattle.numeric.specs.Draw.{drawOf, bipolarOf};
 ghost use Rattle.numeric.specs.Power.{sixOf, expPart, scaleOf, midOf, exp2Of, pow3000Of};
 ghost use Rattle.numeric.specs.Trig.{pairsOf, kernelSin, kernelCos, isNear, restOf, quadrant, turnedOf, farOf, sinOf, cosOf};
+
+// core::f64::consts: half a turn and a whole one in radians.
+pub const PI: f64 = 3.141592653589793;
+
+pub const TAU: f64 = 6.283185307179586;
 
 // ---- small functions
 
@@ -66,6 +71,13 @@ pub fn max(a: f64, b: f64) -> f64
     } else {
         b
     }
+}
+
+// The smaller of two whole numbers.
+pub fn least(a: usize, b: usize) -> usize
+    ensures { λ r. ⌜ r ≡ min a b ⌝ }
+{
+    if a < b { a } else { b }
 }
 
 // Rust's `as u64`: toward zero, a NaN to 0, saturating.

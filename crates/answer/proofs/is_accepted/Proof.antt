@@ -1,5 +1,5 @@
 use borrow.Author.Needs.{needs}
-use Rattle.answer.proofs.Flat.{mark-accepted}
+use Rattle.answer.proofs.Laws.{mark-accepted}
 use Rattle.answer.proofs.is_accepted.Statement.{statement}
 use Rattle.answer.proofs.is_accepted.Tie as tie
 

@@ -18,6 +18,9 @@ enum-known-a-4 c = search needs
 enum-told : tie.Need-enum-told
 enum-told c = search needs
 
+volts1-requires : tie.Need-volts1-requires
+volts1-requires c κs = search needs
+
 returns : tie.Need-returns
 unfolding voltsOf
 returns c = simp (c .before .a .given .1)
@@ -36,7 +39,7 @@ returns-4 c = simp (c .before .a4 .given .1)
 
 returns-5 : tie.Need-returns-5
 unfolding voltsOf
-returns-5 c = simp (c .enum-told .given .1)
+returns-5 c = simp (c .volts1 .ensures, c .before .enum-told .given .1)
 
 pub samples-spec : {M : Type 1} → statement M
 samples-spec =
@@ -47,6 +50,7 @@ samples-spec =
     enum-known-a-3
     enum-known-a-4
     enum-told
+    volts1-requires
     returns
     returns-2
     returns-3

@@ -1,8 +1,8 @@
 use borrow.Author.Tests.{eq-eqb, ne-eqb}
-use Rattle.answer.specs.Flat.{tallyFrom}
+use Rattle.boundary.specs.Flat.{tallyFrom}
 use borrow.Author.Needs.{needs}
-use Rattle.answer.proofs.Tally.from_counts.Statement.{statement}
-use Rattle.answer.proofs.Tally.from_counts.Tie as tie
+use Rattle.boundary.proofs.tally_of.Statement.{statement}
+use Rattle.boundary.proofs.tally_of.Tie as tie
 
 shared-slice-read-t6 : tie.Need-shared-slice-read-t6
 shared-slice-read-t6 c = search needs
@@ -27,8 +27,8 @@ returns-2 : tie.Need-returns-2
 unfolding tallyFrom
 returns-2 c = simp (ne-eqb _ _ (c .if1 .left))
 
-pub from-counts-spec : {M : Type 1} → statement M
-from-counts-spec =
+pub tally-of-spec : {M : Type 1} → statement M
+tally-of-spec =
     tie.close
     (tie.spec
     shared-slice-read-t6

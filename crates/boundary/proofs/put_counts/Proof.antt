@@ -2,10 +2,10 @@ use native.Mathlib.Omega.{arith}
 use lib.ListN.{length-set}
 use borrow.Author.Tests.{eq-eqb, ne-eqb}
 use Rattle.laws.proofs.Slices.{stored}
-use Rattle.answer.specs.Flat.{countsOf, countsPut, countsOutcome}
+use Rattle.boundary.specs.Flat.{countsOf, countsPut, countsOutcome}
 use borrow.Author.Needs.{needs}
-use Rattle.answer.proofs.Tally.put_counts.Statement.{statement}
-use Rattle.answer.proofs.Tally.put_counts.Tie as tie
+use Rattle.boundary.proofs.put_counts.Statement.{statement}
+use Rattle.boundary.proofs.put_counts.Tie as tie
 
 slice-write-counts : tie.Need-slice-write-counts
 slice-write-counts c = search needs
@@ -28,7 +28,7 @@ same-length c = search needs
 returns : tie.Need-returns
 unfolding countsOutcome countsPut countsOf
 returns c =
-    let all = stored (c .before .args .counts .now) (countsOf (c .before .args .self)) (c .if1 .taken) in
+    let all = stored (c .before .args .counts .now) (countsOf (c .before .args .tally)) (c .if1 .taken) in
     (simp (eq-eqb _ _ (c .if1 .taken)), simp (eq-eqb _ _ (c .if1 .taken)) all)
 
 returns-2 : tie.Need-returns-2

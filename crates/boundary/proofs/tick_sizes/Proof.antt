@@ -1,8 +1,8 @@
 use borrow.Author.Needs.{needs}
 use borrow.Author.Tests.{ne-eqb, eq-eqb}
-use Rattle.answer.specs.Flat.{tickSizesOf}
-use Rattle.answer.proofs.tick_sizes.Statement.{statement}
-use Rattle.answer.proofs.tick_sizes.Tie as tie
+use Rattle.boundary.specs.Flat.{tickSizesOf}
+use Rattle.boundary.proofs.tick_sizes.Statement.{statement}
+use Rattle.boundary.proofs.tick_sizes.Tie as tie
 
 sizes-requires : tie.Need-sizes-requires
 sizes-requires c κs = search needs

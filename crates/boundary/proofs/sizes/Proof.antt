@@ -1,7 +1,7 @@
 use borrow.Author.Tests.{ne-eqb, eq-eqb}
-use Rattle.answer.specs.Flat.{sizesOf}
-use Rattle.answer.proofs.sizes.Statement.{statement}
-use Rattle.answer.proofs.sizes.Tie as tie
+use Rattle.boundary.specs.Flat.{sizesOf}
+use Rattle.boundary.proofs.sizes.Statement.{statement}
+use Rattle.boundary.proofs.sizes.Tie as tie
 
 returns : tie.Need-returns
 unfolding sizesOf

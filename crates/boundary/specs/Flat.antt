@@ -54,28 +54,32 @@ abbrev pub heard : ℕ → List Float → List ℕ → List Float → Heard
 heard n f w o = record { code = n; floats = f; wholes = w; samples = o }
 
 -- the number of its answer; the state and the samples only of an accepted tick
-unfoldable pub heardOf : {S : Type 0} → (S → List Float) → (S → List ℕ) → (Volts → List Float) → Answer → S → List Float → List ℕ → List Float → Heard
+unfoldable pub heardOf : {S : Type 0} → (S → List Float) → (S → List ℕ) → (Volts → List Float) → Answer → S → List Float → List ℕ → List Float
+    → Heard
 heardOf floatsOf wholesOf samplesOf a s f w o =
     cond (accepted a) (heard (hostNumber a) (floatsOf s) (wholesOf s) (samplesOf (voltsOf a))) (heard (hostNumber a) f w o)
 
 unfoldable pub heardSized : ℕ → ℕ → ℕ → Heard → List Float → List ℕ → List Float → Heard
 heardSized nf nw ns h f w o = let n = tickSizesOf nf nw ns (length f) (length w) (length o) in cond (eqb n 0) h (heard n f w o)
 
--- ---- a tally as five counts: begun, finished, cleared, notfinite, lost. Any other number of counts is refused by 53.
+-- ---- a tally as counts: begun, finished, cleared, notfinite, lost. Any other number of counts is refused by 53.
+abbrev pub nCounts : ℕ
+nCounts = 5
+
 unfoldable pub tallyFrom : List ℕ → Tallied
 tallyFrom l =
     let t : Tally = record { begun = getD l 0 0; finished = getD l 1 0; cleared = getD l 2 0; notfinite = getD l 3 0; lost = getD l 4 0 } in
-    cond (eqb (length l) 5) (tallied.Taken t) (tallied.Refused 53)
+    cond (eqb (length l) nCounts) (tallied.Taken t) (tallied.Refused 53)
 
 unfoldable pub countsOf : Tally → List ℕ
 countsOf t = t .begun ∷ t .finished ∷ t .cleared ∷ t .notfinite ∷ t .lost ∷ []
 
 -- what putting them says of itself, and what it leaves
 unfoldable pub countsOutcome : List ℕ → Outcome
-countsOutcome l = cond (eqb (length l) 5) outcome.Done (outcome.Refused 53)
+countsOutcome l = cond (eqb (length l) nCounts) outcome.Done (outcome.Refused 53)
 
 unfoldable pub countsPut : Tally → List ℕ → List ℕ
-countsPut t l = cond (eqb (length l) 5) (countsOf t) l
+countsPut t l = cond (eqb (length l) nCounts) (countsOf t) l
 
 -- ---- a block
 pub record Played : Type 0 where
@@ -92,7 +96,9 @@ played n f w k o m = record { code = n; floats = f; wholes = w; counts = k; samp
 -- 0, the state and the counts after it, or what refused it
 unfoldable pub playedOf : {S : Type 0} → (S → List Float) → (S → List ℕ) → Block S → List Float → List ℕ → List ℕ → Played
 playedOf floatsOf wholesOf b f w k =
-    cond (eqb (b .refused) 0) (played 0 (floatsOf (b .state)) (wholesOf (b .state)) (countsOf (b .tally)) (b .samples) (b .marks)) (played (b .refused) f w k (b .samples) (b .marks))
+    cond (eqb (b .refused) 0)
+    (played 0 (floatsOf (b .state)) (wholesOf (b .state)) (countsOf (b .tally)) (b .samples) (b .marks))
+    (played (b .refused) f w k (b .samples) (b .marks))
 
 -- p of the tally that the counts are, unless their number refuses
 unfoldable pub playedFrom : Tallied → (Tally → Played) → List Float → List ℕ → List ℕ → List Float → List ℕ → Played

@@ -1,0 +1,4 @@
+pub mod Flat
+pub mod Edge
+pub mod Promises
+pub mod Settled

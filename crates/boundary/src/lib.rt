@@ -1,0 +1,101 @@
+// What every exported oscillator shares: the lengths of what a host lends, the tally as a slice of counts, and the edge record as
+// floats of a flat state. Lengths that don't fit are refused by 50 floats, 51 wholes, 52 samples, 53 counts.
+use answer::Outcome;
+use answer::Tallied;
+use answer::Tally;
+use common::EdgeDetector;
+ghost use mathlib.Core.Path.{_≡_};
+ghost use lib.ListN.{length};
+ghost use lib.Seq.{sets};
+ghost use Rattle.boundary.specs.Flat.{sizesOf, tickSizesOf, tallyFrom, countsOutcome, countsPut};
+ghost use Rattle.boundary.specs.Edge.{edgeAt, edgeFloats};
+
+// What a host lends for a state of nf floats and nw whole numbers: 0, or 50, 51 where floats, wholes have another length.
+pub fn sizes(nf: usize, nw: usize, floats: &[f64], wholes: &[u64]) -> u32
+    ensures { λ r. ⌜ r ≡ sizesOf nf nw (length (now (floats .entry))) (length (now (wholes .entry))) ⌝ }
+{
+    if floats.len() == nf {
+        if wholes.len() == nw { 0 } else { 51 }
+    } else {
+        50
+    }
+}
+
+// And for a tick of ns samples: 52.
+pub fn tick_sizes(
+    nf: usize,
+    nw: usize,
+    ns: usize,
+    floats: &[f64],
+    wholes: &[u64],
+    samples: &[f64],
+) -> u32
+    ensures { λ r. ⌜ r
+        ≡ tickSizesOf nf nw ns (length (now (floats .entry))) (length (now (wholes .entry))) (length (now (samples .entry))) ⌝ }
+{
+    let refused = sizes(nf, nw, floats, wholes);
+    if refused == 0 {
+        if samples.len() == ns { 0 } else { 52 }
+    } else {
+        refused
+    }
+}
+
+// How many counts a tally has.
+const COUNTS: usize = 5;
+
+// The tally that so many counts stand for, in the order of its fields; 53 of another number.
+pub fn tally_of(counts: &[u32]) -> Tallied
+    ensures { λ r. ⌜ r ≡ tallyFrom (now (counts .entry)) ⌝ }
+{
+    if counts.len() == COUNTS {
+        Tallied::Taken(Tally {
+            begun: counts[0],
+            finished: counts[1],
+            cleared: counts[2],
+            notfinite: counts[3],
+            lost: counts[4],
+        })
+    } else {
+        Tallied::Refused(53)
+    }
+}
+
+// Its counts into a slice for them; another is refused by 53, and left.
+pub fn put_counts(tally: Tally, counts: &mut [u32]) -> Outcome
+    ensures { λ r. ⌜ (r ≡ countsOutcome (now (counts .entry))) × (now (counts .exit) ≡ countsPut tally (now (counts .entry))) ⌝ }
+{
+    if counts.len() == COUNTS {
+        counts[0] = tally.begun;
+        counts[1] = tally.finished;
+        counts[2] = tally.cleared;
+        counts[3] = tally.notfinite;
+        counts[4] = tally.lost;
+        Outcome::Done
+    } else {
+        Outcome::Refused(53)
+    }
+}
+
+// How many floats of a state an edge record is.
+pub const EDGE_FLOATS: usize = 1;
+
+// The edge record that a state has from float `at` on; a float that isn't there is a NaN.
+pub fn edge_at(floats: &[f64], at: usize) -> EdgeDetector
+    ensures { λ r. ⌜ r ≡ edgeAt (now (floats .entry)) at ⌝ }
+{
+    if at < floats.len() {
+        EdgeDetector { prev: floats[at] }
+    } else {
+        EdgeDetector { prev: 0.0 / 0.0 }
+    }
+}
+
+// And back. What has no place in the floats is left out.
+pub fn put_edge(e: EdgeDetector, floats: &mut [f64], at: usize)
+    ensures { λ _. ⌜ now (floats .exit) ≡ sets (now (floats .entry)) at (edgeFloats e) ⌝ }
+{
+    if at < floats.len() {
+        floats[at] = e.prev;
+    }
+}
