@@ -1,4 +1,4 @@
--- Every contract is one equation.
+-- Every contract is one equation, or two of which each settles its part.
 use Rattle.laws.proofs.Settled as laws
 use Rattle.answer.specs.Settled.{Settled}
 
@@ -22,5 +22,5 @@ settled =
       tally-take-marks = λ t marks. laws.settled _;
       tallied-or = λ a kept. laws.settled _;
       block-refusal = λ ports samples number t n. laws.settled _;
-      put = λ v part. laws.settled _;
+      put = λ a ports i samples marks. laws.both _ _;
     }

@@ -1,10 +1,11 @@
 -- A block: n ticks of one set of controls, one after another, and their tally. One text for every oscillator.
 use mathlib.Core.Bool.{Bool, cond, _&&_}
 use mathlib.Core.List.{List, [], _∷_, _++_}
-use Prim.Native.Nat.{ℕ, zero, suc, _+_, _*_}
-use lib.Dec.{eqb, leb}
+use Prim.Native.Nat.{ℕ, zero, suc, _+_, _*_, _/_}
+use lib.Dec.{eqb, leb, ltb}
 use lib.Ieee.{Float}
 use lib.ListN.{length, getD, take}
+use lib.Seq.{sets}
 use Rattle.laws.specs.Lists.{tab}
 use Rattle.answer.specs.Answer.{hostNumber, voltsOf, cleared, notfinite, lost, clean, told}
 use Rattle.answer.specs.Tally.{addsUp, oneIf}
@@ -54,6 +55,10 @@ afterTicks next (suc n) s = next (afterTicks next n s)
 -- the outputs of an oscillator that has so many, in port order
 unfoldable pub portsOf : ℕ → Volts → List Float
 portsOf ports v = take ports (v .p10 ∷ v .p11 ∷ v .p12 ∷ v .p13 ∷ v .p14 ∷ [])
+
+-- tick i's outputs at their place among samples of so many ports a tick; samples that have no such place are left
+unfoldable pub framed : ℕ → ℕ → Volts → List Float → List Float
+framed ports i v l = cond (ltb i (length l / ports)) (sets l (ports * i) (portsOf ports v)) l
 
 -- f 0, f 1, .., f (n - 1) joined
 unfoldable pub joined : {A : Type 0} → (ℕ → List A) → ℕ → List A

@@ -5,11 +5,10 @@ use mathlib.Core.List.{List}
 use Prim.Native.Nat.{ℕ, _*_}
 use lib.Dec.{eqb}
 use lib.Ieee.{Float}
-use lib.ListN.{length}
-use lib.Seq.{sets}
+use lib.ListN.{set}
 use Rattle.laws.specs.Machine.{Settles}
 use Rattle.answer.specs.Answer.{volts1, volts2, volts4, volts5, markNumber, hostNumber, voltsOf, accepted, answerOf}
-use Rattle.answer.specs.Block.{roomFor, marksTaken, portsOf, blockRefusalOf}
+use Rattle.answer.specs.Block.{roomFor, marksTaken, framed, blockRefusalOf}
 use Rattle.answer.specs.Mark.{markedOf, markOf}
 use Rattle.answer.specs.Tally.{newTally, tallyOf, tallyOr}
 use Rattle.answer.specs.declared.Volts.{Volts}
@@ -35,5 +34,6 @@ pub record Settled : Type 0 where
   pub tally-take-marks : (t : Tally) (marks : List ℕ) → Settles (λ (r : Tallied). r ≡ marksTaken t marks)
   pub tallied-or : (a : Tallied) (kept : Tally) → Settles (λ (r : Tally). r ≡ tallyOr kept a)
   pub block-refusal : (ports samples number : ℕ) (t : Tally) (n : ℕ) → Settles (λ (r : ℕ). r ≡ blockRefusalOf (eqb samples (ports * n)) number t n)
-  -- the part that it leaves
-  pub put : (v : Volts) (part : List Float) → Settles (λ (l : List Float). l ≡ sets part 0 (portsOf (length part) v))
+  -- the samples and the marks that it leaves
+  pub put : (a : Answer) (ports i : ℕ) (samples : List Float) (marks : List ℕ)
+      → Settles (λ (r : List Float × List ℕ). (r .0 ≡ framed ports i (voltsOf a) samples) × (r .1 ≡ set marks i (hostNumber a)))

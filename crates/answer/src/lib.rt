@@ -1,13 +1,13 @@
 // Added by the scope: what a tick answers, how it is marked, and the tally of the answers. One text for all oscillators.
 ghost use mathlib.Core.Path.{_≡_};
 ghost use Prim.Native.Nat.{_<_, _≤_, _+_, _*_};
-ghost use lib.ListN.{length};
+ghost use lib.ListN.{length, set};
 ghost use lib.Dec.{eqb};
 ghost use lib.Seq.{sets};
 ghost use Rattle.answer.specs.Answer.{volts1, volts2, volts4, volts5, markNumber, hostNumber, voltsOf, accepted, answerOf};
 ghost use Rattle.answer.specs.Mark.{allFinite, markedOf, markOf};
 ghost use Rattle.answer.specs.Tally.{newTally, sumOf, addsUp, oneIf, counted, tallyOr, tallyOf};
-ghost use Rattle.answer.specs.Block.{manyTo, cellsOf, roomFor, grownBy, marksTaken, portsOf, blockRefusalOf};
+ghost use Rattle.answer.specs.Block.{manyTo, cellsOf, roomFor, grownBy, marksTaken, portsOf, framed, blockRefusalOf};
 
 // Sample volts: a field for each output port number of the Rust. An output that an oscillator doesn't have, or that isn't
 // wanted, reads 0.0.
@@ -372,7 +372,7 @@ pub fn block_refusal(ports: usize, samples: usize, number: u32, tally: Tally, n:
 }
 
 // A tick's outputs into its part of a block's samples, as many as the part has cells.
-pub fn put(v: Volts, part: &mut [f64])
+fn put_volts(v: Volts, part: &mut [f64])
     ensures { λ _. ⌜ now (part .exit) ≡ sets (now (part .entry)) 0 (portsOf (length (now (part .entry))) v) ⌝ }
 {
     let n = part.len();
@@ -396,4 +396,35 @@ pub fn put(v: Volts, part: &mut [f64])
         return;
     }
     part[4] = v.p14;
+}
+
+// The outputs of tick i among the samples of ticks with so many outputs each. Samples that have no such place are left.
+fn put_frame(v: Volts, ports: usize, i: usize, samples: &mut [f64])
+    ensures { λ _. ⌜ now (samples .exit) ≡ framed ports i v (now (samples .entry)) ⌝ }
+{
+    if ports == 0 {
+        return;
+    }
+    if i < samples.len() / ports {
+        let at = ports * i;
+        let end = at + ports;
+        put_volts(v, &mut samples[at..end]);
+    }
+}
+
+fn put_mark(number: u32, i: usize, marks: &mut [u32])
+    ensures { λ _. ⌜ now (marks .exit) ≡ set (now (marks .entry)) i number ⌝ }
+{
+    if i < marks.len() {
+        marks[i] = number;
+    }
+}
+
+// What tick i of a block answers, of an oscillator with so many outputs: its samples, and the number that a host is told of it.
+pub fn put(a: Answer, ports: usize, i: usize, samples: &mut [f64], marks: &mut [u32])
+    ensures { λ _. ⌜ now (samples .exit) ≡ framed ports i (voltsOf a) (now (samples .entry)) ⌝ }
+    ensures { λ _. ⌜ now (marks .exit) ≡ set (now (marks .entry)) i (hostNumber a) ⌝ }
+{
+    put_frame(crate::samples(a), ports, i, samples);
+    put_mark(host_number(a), i, marks);
 }

@@ -1,11 +1,11 @@
 -- Every cell of a list stored, one after another; and a bool stored as a whole number.
 use mathlib.Core.Bool.{Bool, true, false, cond}
 use mathlib.Core.List.{List, [], _∷_, _++_, append-nil}
-use mathlib.Core.Path.{_≡_, refl, ap, _∙_}
-use Prim.Native.Nat.{ℕ, suc, _+_}
-use native.Mathlib.Nat.{add-zero}
+use mathlib.Core.Path.{_≡_, refl, sym, ap, _∙_}
+use Prim.Native.Nat.{ℕ, zero, suc, _+_, _≤_, _<_}
+use native.Mathlib.Nat.{add-zero, zero-add, add-suc, suc-add, le-of-suc-le-suc, not-suc-le-zero}
 use native.Mathlib.Omega.{arith}
-use lib.ListN.{length, drop-of-length-le, set}
+use lib.ListN.{length, length-set, drop-of-length-le, set}
 use lib.Seq.{sets, sets-eq}
 use mir.Val.{boolByte}
 
@@ -24,6 +24,24 @@ sets-append l at (x ∷ a) b =
   where
     step : (n m : ℕ) → n + suc m ≡ suc n + m
     step n m = omega arith
+
+-- stores inside a part in the middle of a list
+set-within : {A : Type 0} (a q r : List A) (k : ℕ) (x : A) → k < length q → set (a ++ (q ++ r)) (length a + k) x ≡ a ++ (set q k x ++ r)
+set-within [] (y ∷ q) r zero x h = refl
+set-within {A} [] (y ∷ q) r (suc k) x h =
+    ap (λ (n : ℕ). set (y ∷ (q ++ r)) n x) (zero-add (suc k))
+    ∙ ap (λ (l : List A). y ∷ l) (ap (λ (n : ℕ). set (q ++ r) n x) (sym (zero-add k)) ∙ set-within [] q r k x (le-of-suc-le-suc h))
+set-within [] [] r k x h = absurd (not-suc-le-zero h)
+set-within {A} (y ∷ a) q r k x h =
+    ap (λ (n : ℕ). set (y ∷ (a ++ (q ++ r))) n x) (suc-add (length a) k) ∙ ap (λ (l : List A). y ∷ l) (set-within a q r k x h)
+
+pub sets-within : {A : Type 0} (a q r vs : List A) (k : ℕ) → k + length vs ≤ length q → sets (a ++ (q ++ r)) (length a + k) vs ≡ a ++ (sets q k vs ++ r)
+sets-within a q r [] k h = refl
+sets-within {A} a q r (x ∷ vs) k h =
+    let size = length-set q k x in
+    ap (λ (l : List A). sets l (suc (length a + k)) vs) (set-within a q r k x (omega arith))
+    ∙ ap (λ (n : ℕ). sets (a ++ (set q k x ++ r)) n vs) (sym (add-suc (length a) k))
+    ∙ sets-within a (set q k x) r vs (suc k) (omega arith)
 
 pub byte : (b : Bool) → boolByte b ≡ cond b 1 0
 byte true = refl

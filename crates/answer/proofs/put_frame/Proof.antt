@@ -1,0 +1,69 @@
+use mathlib.Core.Path.{sym}
+use Prim.Native.Nat.{_/_}
+use native.Mathlib.Omega.{arith}
+use lib.ListN.{length}
+use borrow.Author.Needs.{needs}
+use borrow.Author.Tests.{le-ltb}
+use Rattle.answer.specs.Block.{framed}
+use Rattle.answer.proofs.Blocks.{frame-place, frame-put, frame-none}
+use Rattle.answer.proofs.put_frame.Statement.{statement}
+use Rattle.answer.proofs.put_frame.Tie as tie
+
+returns : tie.Need-returns
+returns c = let entered = c .before .before .args in sym (frame-none (entered .ports) (entered .i) (entered .v) (entered .samples .now) (c .if1 .taken))
+
+div-if2 : tie.Need-div-if2
+div-if2 c = search needs
+
+mul-at : tie.Need-mul-at
+mul-at c = let entered = c .before .before .before .args in let h = frame-place (entered .ports) (entered .i) (length (entered .samples .now)) (c .if2 .taken) in omega arith
+
+add-end : tie.Need-add-end
+add-end c = let entered = c .before .before .before .args in let h = frame-place (entered .ports) (entered .i) (length (entered .samples .now)) (c .if2 .taken) in omega arith
+
+mul-put-volts : tie.Need-mul-put-volts
+mul-put-volts c = let entered = c .before .before .before .args in let h = frame-place (entered .ports) (entered .i) (length (entered .samples .now)) (c .if2 .taken) in omega arith
+
+sub-put-volts : tie.Need-sub-put-volts
+sub-put-volts c = search needs
+
+part-put-volts-start : tie.Need-part-put-volts-start
+part-put-volts-start c = search needs
+
+part-put-volts-end : tie.Need-part-put-volts-end
+part-put-volts-end c = let entered = c .before .before .before .args in frame-place (entered .ports) (entered .i) (length (entered .samples .now)) (c .if2 .taken)
+
+put-volts-requires : tie.Need-put-volts-requires
+put-volts-requires c κs = search needs
+
+same-length : tie.Need-same-length
+same-length c = search needs
+
+returns-2 : tie.Need-returns-2
+returns-2 c =
+    let tested = c .before .before .before .before in
+    let entered = tested .before .before .before .args in
+    frame-put (entered .ports) (entered .i) (entered .v) (entered .samples .now) _ (tested .if2 .taken) (c .before .before .put-volts .ensures)
+
+returns-3 : tie.Need-returns-3
+unfolding framed
+returns-3 c =
+    let entered = c .before .before .before .args in
+    simp (le-ltb (entered .i) (length (entered .samples .now) / entered .ports) (omega arith))
+
+pub put-frame-spec : {M : Type 1} → statement M
+put-frame-spec =
+    tie.close
+    (tie.spec
+    returns
+    div-if2
+    mul-at
+    add-end
+    mul-put-volts
+    sub-put-volts
+    part-put-volts-start
+    part-put-volts-end
+    put-volts-requires
+    same-length
+    returns-2
+    returns-3)
