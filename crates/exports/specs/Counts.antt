@@ -2,10 +2,9 @@
 use mathlib.Core.List.{List}
 use Prim.Native.Nat.{ℕ}
 use Rattle.laws.specs.Float.{zer}
-use Rattle.answer.specs.Answer.{answerOf}
-use Rattle.answer.specs.Flat.{tallyFrom, countsOf}
+use Rattle.answer.specs.Answer.{answerOf, volts1}
 use Rattle.answer.specs.Tally.{tallyOf}
-use Rattle.answer.specs.declared.Volts.{Volts}
+use Rattle.boundary.specs.Flat.{tallyFrom, countsOf}
 use Rattle.answer.specs.declared.Tallied.{Tallied}
 use Rattle.answer.specs.declared.Tallied.the-variants as tallied
 
@@ -17,18 +16,14 @@ pub record Kept : Type 0 where
 abbrev pub kept : ℕ → List ℕ → Kept
 kept n l = record { code = n; counts = l }
 
--- an answer's volts count nowhere
-abbrev pub silence : Volts
-silence = record { p10 = zer; p11 = zer; p12 = zer; p13 = zer; p14 = zer }
-
 -- a refusal leaves the counts
 unfoldable pub keptBy : List ℕ → Tallied → Kept
 keptBy l (tallied.Taken t) = kept 0 (countsOf t)
 keptBy l (tallied.Refused n) = kept n l
 
--- the tally that the counts are is given the answer that a host was told by this number
+-- the tally that the counts are is given the answer that a host was told by this number; its volts count nowhere
 unfoldable pub givenTo : ℕ → List ℕ → Tallied → Kept
-givenTo code l (tallied.Taken t) = keptBy l (tallyOf t (answerOf code silence))
+givenTo code l (tallied.Taken t) = keptBy l (tallyOf t (answerOf code (volts1 zer)))
 givenTo code l (tallied.Refused n) = kept n l
 
 unfoldable pub tallyAt : ℕ → List ℕ → Kept

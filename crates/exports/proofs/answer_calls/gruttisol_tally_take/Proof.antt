@@ -5,14 +5,14 @@ use Rattle.exports.proofs.Counts.{not-counts, refused, taken}
 use Rattle.exports.proofs.answer_calls.gruttisol_tally_take.Statement.{statement}
 use Rattle.exports.proofs.answer_calls.gruttisol_tally_take.Tie as tie
 
-from-counts-requires : tie.Need-from-counts-requires
-from-counts-requires c κs = search needs
+tally-of-requires : tie.Need-tally-of-requires
+tally-of-requires c κs = search needs
 
 enum-known-given : tie.Need-enum-known-given
 enum-known-given c = search needs
 
-silent-requires : tie.Need-silent-requires
-silent-requires c κs = search needs
+volts1-requires : tie.Need-volts1-requires
+volts1-requires c κs = search needs
 
 answer-of-requires : tie.Need-answer-of-requires
 answer-of-requires c κs = search needs
@@ -43,7 +43,7 @@ returns c =
     let made = asked .before in
     let given-in = made .before .before .before in
     let read = given-in .before .before in
-    taken _ _ _ (read .from-counts .ensures) _ (given-in .given .given .1) _ (made .answer-of .ensures ∙ ap (answerOf _) (made .before .silent .ensures)) _
+    taken _ _ _ (read .tally-of .ensures) _ (given-in .given .given .1) _ (made .answer-of .ensures ∙ ap (answerOf _) (made .before .volts1 .ensures)) _
     (asked .take .ensures) _ _ (taken-in .taken .given .1) (put .put-counts .ensures .1)
 
 same-length-2 : tie.Need-same-length-2
@@ -56,22 +56,22 @@ returns-2 c =
     let made = asked .before in
     let given-in = made .before .before .before in
     let read = given-in .before .before in
-    refused _ _ _ (read .from-counts .ensures) _ (given-in .given .given .1) _ (made .answer-of .ensures ∙ ap (answerOf _) (made .before .silent .ensures)) _
+    refused _ _ _ (read .tally-of .ensures) _ (given-in .given .given .1) _ (made .answer-of .ensures ∙ ap (answerOf _) (made .before .volts1 .ensures)) _
     (asked .take .ensures) _ (refused-in .taken2 .given .1)
 
 same-length-3 : tie.Need-same-length-3
 same-length-3 c = search needs
 
 returns-3 : tie.Need-returns-3
-returns-3 c = not-counts _ _ _ (c .before .before .before .from-counts .ensures) _ (c .before .given2 .given .1)
+returns-3 c = not-counts _ _ _ (c .before .before .before .tally-of .ensures) _ (c .before .given2 .given .1)
 
 pub gruttisol-tally-take-spec : {M : Type 1} → statement M
 gruttisol-tally-take-spec =
     tie.close
     (tie.spec
-    from-counts-requires
+    tally-of-requires
     enum-known-given
-    silent-requires
+    volts1-requires
     answer-of-requires
     take-requires
     enum-known-taken
