@@ -96,7 +96,8 @@ div-number (fin false m e) nan p h = absurd h
 div-number (fin false m e) (inf t) p h = tt
 div-number (fin false m e) (fin t n d) p h = go (eqb n 0) (eqb m 0) (pos-eqb m p)
   where
-    go : (a b : Bool) → b ≡ false → T (not (isNan (cond a (cond b nan (inf (unlike false t))) (round binary64 (unlike false t) (m * up e * down d) (n * up d * down e)))))
+    go : (a b : Bool) → b ≡ false
+        → T (not (isNan (cond a (cond b nan (inf (unlike false t))) (round binary64 (unlike false t) (m * up e * down d) (n * up d * down e)))))
     go true true k = absurd (true≢false k)
     go true false k = tt
     go false b k = round-number (unlike false t) (m * up e * down d) (n * up d * down e)

@@ -82,7 +82,8 @@ div-plus (fin false m e) nan p q = tt
 div-plus (fin false m e) (inf true) p q = absurd q
 div-plus (fin false m e) (inf false) p q = tt
 div-plus (fin false m e) (fin true n d) p q = absurd q
-div-plus (fin false m e) (fin false n d) p q = go (eqb n 0) (eqb m 0) (round binary64 false (m * up e * down d) (n * up d * down e)) (round-plus (m * up e * down d) (n * up d * down e))
+div-plus (fin false m e) (fin false n d) p q =
+    go (eqb n 0) (eqb m 0) (round binary64 false (m * up e * down d) (n * up d * down e)) (round-plus (m * up e * down d) (n * up d * down e))
   where
     go : (a b : Bool) (r : Float) → Plus r → Plus (cond a (cond b nan (inf false)) r)
     go true true r h = tt
@@ -190,7 +191,8 @@ times-above k y p h =
     nought false = unfold le lt eq ofBits in tt
 
 -- nor have 1 less and 1 plus what lies from -1 to 1
-around : (r : Float) → Plus r → T (le r one) → Plus (sub binary64 one r) × Plus (add binary64 one r) × Plus (sub binary64 one (neg r)) × Plus (add binary64 one (neg r))
+around : (r : Float) → Plus r → T (le r one)
+    → Plus (sub binary64 one r) × Plus (add binary64 one r) × Plus (sub binary64 one (neg r)) × Plus (add binary64 one (neg r))
 around r p q =
     let a : Plus (add binary64 one r) = add-plus one r (unfold ofBits in tt) p in
     (one-less r q, a, unfold sub in subst (λ (z : Float). Plus (add binary64 one z)) (sym (neg-neg r)) a, unfold sub in one-less r q)
