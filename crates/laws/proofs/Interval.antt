@@ -332,20 +332,17 @@ within-sub s x y a c b d C D v w h k =
     ones m n u h = omega arith
 
 -- ---- by the order: from -2 ^ i to 2 ^ i
+without-ones : (a d u : ℕ) → a * 1 ≤ 1 * u * d → a ≤ u * d
+without-ones a d u h = omega arith
+
 pub within-between : (i : ℕ) (x : Float) → T (le (fin true 1 (pos i)) x) → T (le x (fin false 1 (pos i))) → Within i x
 within-between i nan h k = absurd (unfold le lt eq in k)
 within-between i (inf true) h k = absurd (unfold le lt eq in h)
 within-between i (inf false) h k = absurd (unfold le lt eq in k)
 within-between i (fin false m e) h k =
-    (false, (m * up e, down e, down-pos e, plain (m * up e) (down e) (2 ^ i) (le-below false false m 1 e (pos i) k), (refl, refl)))
-  where
-    plain : (a d u : ℕ) → a * 1 ≤ 1 * u * d → a ≤ u * d
-    plain a d u h = omega arith
+    (false, (m * up e, down e, down-pos e, without-ones (m * up e) (down e) (2 ^ i) (le-below false false m 1 e (pos i) k), (refl, refl)))
 within-between i (fin true m e) h k =
-    (true, (m * up e, down e, down-pos e, plain (m * up e) (down e) (2 ^ i) (le-below true true 1 m (pos i) e h), (refl, refl)))
-  where
-    plain : (a d u : ℕ) → a * 1 ≤ 1 * u * d → a ≤ u * d
-    plain a d u h = omega arith
+    (true, (m * up e, down e, down-pos e, without-ones (m * up e) (down e) (2 ^ i) (le-below true true 1 m (pos i) e h), (refl, refl)))
 
 pub within-le : (i : ℕ) (x : Float) → Within i x → T (le x (fin false 1 (pos i))) × T (le (fin true 1 (pos i)) x)
 within-le i x (s, (a, c, C, h, v)) = go s v

@@ -78,6 +78,9 @@ unlike-sym true false = refl
 unlike-sym false true = refl
 unlike-sym false false = refl
 
+trade : (a e n d : ℕ) → a * e * (n * d) ≡ a * d * (n * e)
+trade a e n d = simp (mul-assoc, mul-comm, mul-left-comm)
+
 pub div-round : (x y : Float) (s : Bool) (a c b d : ℕ) → 0 < c → 0 < d → 0 < b → HasValue x s a c → HasValue y false b d
     → div binary64 x y ≡ round binary64 s (a * d) (c * b)
 unfolding div
@@ -91,7 +94,7 @@ div-round (fin u m e) (fin false n g) s a c b d C D B p q =
     (eqb-no n 0 some)
     ∙ ap (λ (z : Bool). round binary64 z (m * up e * down g) (n * up g * down e)) (unlike-plus u ∙ p .0)
     ∙ round-same binary64 s (m * up e * down g) (n * up g * down e) (a * d) (c * b) (mul-pos (mul-pos N (up-pos g)) (down-pos e)) (mul-pos C B)
-    (swap (m * up e) (down g) c b ∙ ap (λ (z : ℕ). z * (b * down g)) (p .1) ∙ ap (λ (z : ℕ). a * down e * z) (sym (q .1)) ∙ swap' a (down e) (n * up g) d)
+    (swap (m * up e) (down g) c b ∙ ap (λ (z : ℕ). z * (b * down g)) (p .1) ∙ ap (λ (z : ℕ). a * down e * z) (sym (q .1)) ∙ trade a (down e) (n * up g) d)
   where
     N : 0 < n
     N = first-pos n (up g) (first-pos (n * up g) d (subst (λ (z : ℕ). 0 < z) (sym (q .1)) (mul-pos B (down-pos g))))
@@ -101,9 +104,6 @@ div-round (fin u m e) (fin false n g) s a c b d C D B p q =
 
     swap : (n g c b : ℕ) → n * g * (c * b) ≡ n * c * (b * g)
     swap n g c b = simp (mul-assoc, mul-comm, mul-left-comm)
-
-    swap' : (a e n d : ℕ) → a * e * (n * d) ≡ a * d * (n * e)
-    swap' a e n d = simp (mul-assoc, mul-comm, mul-left-comm)
 
 pub float-mul-comm : (x y : Float) → mul binary64 x y ≡ mul binary64 y x
 unfolding mul
@@ -160,17 +160,11 @@ add-round (fin u m e) (fin v n g) s t a c b d C D p q =
     ap (λ (z : Bool). sum binary64 z (m * up e * down g) v (n * up g * down e) (down e * down g)) (p .0)
     ∙ ap (λ (z : Bool). sum binary64 s (m * up e * down g) z (n * up g * down e) (down e * down g)) (q .0)
     ∙ sum-same s t (m * up e * down g) (n * up g * down e) (down e * down g) (a * d) (b * c) (c * d) (mul-pos (down-pos e) (down-pos g)) (mul-pos C D)
-    (mul-mul-mul-comm (m * up e) (down g) c d ∙ ap (λ (z : ℕ). z * (down g * d)) (p .1) ∙ swap a (down e) (down g) d)
-    (turn (n * up g) (down e) c d ∙ ap (λ (z : ℕ). z * (down e * c)) (q .1) ∙ swap' b (down g) (down e) c)
+    (mul-mul-mul-comm (m * up e) (down g) c d ∙ ap (λ (z : ℕ). z * (down g * d)) (p .1) ∙ turn a (down e) (down g) d)
+    (turn (n * up g) (down e) c d ∙ ap (λ (z : ℕ). z * (down e * c)) (q .1) ∙ trade b (down g) (down e) c)
   where
-    swap : (a e g d : ℕ) → a * e * (g * d) ≡ a * d * (e * g)
-    swap a e g d = simp (mul-assoc, mul-comm, mul-left-comm)
-
     turn : (n e c d : ℕ) → n * e * (c * d) ≡ n * d * (e * c)
     turn n e c d = simp (mul-assoc, mul-comm, mul-left-comm)
-
-    swap' : (b g e c : ℕ) → b * g * (e * c) ≡ b * c * (e * g)
-    swap' b g e c = simp (mul-assoc, mul-comm, mul-left-comm)
 
 pub neg-value : (x : Float) (s : Bool) (a c : ℕ) → HasValue x s a c → HasValue (neg x) (not s) a c
 unfolding neg
