@@ -20,7 +20,7 @@ use Rattle.laws.proofs.Values.{add-round, lt-by-minus, neg-value, ofInt-val, ro
 use Rattle.laws.specs.Float.{F64, one, zer}
 use Rattle.numeric.proofs.FloorLaws.{big-whole}
 use Rattle.numeric.proofs.RangeLaws.{suc-less}
-use Rattle.numeric.proofs.SmallFloor.{floor-frac, floor-kept, floor-whole-kept, none-below}
+use Rattle.numeric.proofs.SmallFloor.{floor-frac, floor-kept, floor-whole-kept, none-below, some-above}
 use Rattle.numeric.specs.Floor.{floorOf}
 
 -- ---- what `pick` makes of x and a whole number r next to it
@@ -51,13 +51,10 @@ pos-pick m e R top hi lo =
     )
     (go R top hi lo (ltb (m * up e) (R * down e)) (eqb (R * down e) (m * up e)) refl refl)
   where
-    no : (n d : ℕ) → n < 0 * d → ⊥
-    no n d h = omega arith
-
     go : (R : ℕ) → R ≤ 9007199254740992 → R * down e * 2 ≤ m * up e * 2 + down e → m * up e * 2 ≤ R * down e * 2 + down e → (a b : Bool)
         → ltb (m * up e) (R * down e) ≡ a → eqb (R * down e) (m * up e) ≡ b
         → cond a (sub binary64 (ofInt binary64 (pos R)) one) (cond b (fin false m e) (ofInt binary64 (pos R))) ≡ floorOf (fin false m e)
-    go zero top hi lo true b p q = absurd (no (m * up e) (down e) (ltb-true (m * up e) (0 * down e) p))
+    go zero top hi lo true b p q = absurd (none-below (m * up e) (down e) (ltb-true (m * up e) (0 * down e) p))
     go (suc S) top hi lo true b p q =
         suc-less S top
         ∙ sym (floor-frac false m e S (above-last (m * up e) (down e) (suc S) (down-pos e) hi lo S refl)
@@ -101,6 +98,9 @@ neg-pick m e S top hi lo =
         (subst (λ (z : ℕ). m * up e < z) (sym (next S (down e)))
         (lt-of-le-ne (ltb-false (suc S * down e) (m * up e) p) (λ (z : m * up e ≡ suc S * down e). eqb-false (suc S * down e) (m * up e) q (sym z)))))
 
+nil : (n d : ℕ) → n * 1 + 0 * d ≤ 0 → n ≡ 0
+nil n d h = omega arith
+
 zer-pick : (m : ℕ) (e : ℤ) → m * up e * 2 ≤ down e → pick (fin true m e) (fin false 0 (pos 0)) ≡ floorOf (fin true m e)
 unfolding lt eq
 zer-pick m e h = go (ltb 0 (m * up e * 1 + 0 * down e)) (level false (0 * down e) true (m * up e * 1)) refl (both (m * up e) (down e))
@@ -112,19 +112,13 @@ zer-pick m e h = go (ltb 0 (m * up e * 1 + 0 * down e)) (level false (0 * down e
     both n d z = is-true (eqb (0 * d) (n * 1) && eqb (0 * d) 0)
         (and-i (eqb (0 * d) (n * 1)) (eqb (0 * d) 0) (eq→eqb (zero-mul d ∙ sym (mul-one n ∙ z))) (eq→eqb (zero-mul d)))
 
-    above : (n d : ℕ) → 0 < n * 1 + 0 * d → 0 * d < n
-    above n d h = omega arith
-
     top : (n d : ℕ) → n * 2 ≤ d → 0 < d → n < (0 + 1) * d
     top n d h p = omega arith
-
-    nil : (n d : ℕ) → n * 1 + 0 * d ≤ 0 → n ≡ 0
-    nil n d h = omega arith
 
     go : (a b : Bool) → ltb 0 (m * up e * 1 + 0 * down e) ≡ a → (m * up e ≡ 0 → b ≡ true)
         → cond a (sub binary64 (fin false 0 (pos 0)) one) (cond b (fin true m e) (fin false 0 (pos 0))) ≡ floorOf (fin true m e)
     go true b p q =
-        less ∙ sym (floor-frac true m e 0 (above (m * up e) (down e) (ltb-true 0 (m * up e * 1 + 0 * down e) p)) (top (m * up e) (down e) h (down-pos e)))
+        less ∙ sym (floor-frac true m e 0 (some-above (m * up e) (down e) (ltb-true 0 (m * up e * 1 + 0 * down e) p)) (top (m * up e) (down e) h (down-pos e)))
     go false b p q =
         let z = nil (m * up e) (down e) (ltb-false 0 (m * up e * 1 + 0 * down e) p) in
         ap (λ (b : Bool). cond b (fin true m e) (fin false 0 (pos 0))) (q z) ∙ sym (floor-kept true m e 0 (z ∙ sym (zero-mul (down e))))
@@ -256,9 +250,6 @@ floor-up (inf false) h k = absurd (false≢true (unfold lt ofBits in k))
 floor-up (fin false m e) h k =
     up-sum m e (one-less (m * up e) (4503599627370496 * down e) (ltb-true (m * up e * 1) (4503599627370496 * down e) (unfold lt ofBits in k)))
 floor-up (fin true m e) h k = minus-zero m e (nil (m * up e) (down e) (ltb-false 0 (m * up e * 1 + 0 * down e) (unfold lt ofBits in h)))
-  where
-    nil : (n d : ℕ) → n * 1 + 0 * d ≤ 0 → n ≡ 0
-    nil n d h = omega arith
 
 pub floor-down : (x : Float) → lt x zer ≡ true → lt (neg big) x ≡ true → pick x (downOf x) ≡ floorOf x
 floor-down nan h k = absurd (false≢true (unfold lt ofBits in h))

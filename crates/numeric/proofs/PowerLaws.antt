@@ -267,6 +267,9 @@ c1023 = ofBits binary64 0x408ff80000000000
 abbrev c1022 : Float
 c1022 = ofBits binary64 0x408ff00000000000
 
+wide : (n : ℕ) → n ≤ 1022 → n ≤ 1023
+wide n h = omega arith
+
 below-top : (n : ℕ) → n ≤ 1022 → lt (ofInt binary64 (pos n)) c1023 ≡ true
 unfolding ofBits
 below-top n h = lt-by-values (ofInt binary64 (pos n)) (fin false 1023 (pos 0)) n 1 1023 1 (zero-lt-suc 0) (zero-lt-suc 0) (val-up n (wide n h)) (refl, refl)
@@ -274,9 +277,6 @@ below-top n h = lt-by-values (ofInt binary64 (pos n)) (fin false 1023 (pos 0)) n
   where
     ok : (n : ℕ) → n ≤ 1022 → suc (n * 1) ≤ 1023
     ok n h = omega arith
-
-    wide : (n : ℕ) → n ≤ 1022 → n ≤ 1023
-    wide n h = omega arith
 
 above-low : (n : ℕ) → n ≤ 1023 → le (neg c1022) (ofInt binary64 (pos n)) ≡ true
 unfolding ofBits neg le
@@ -286,9 +286,6 @@ above-low n h =
 exp2-most : (n : ℕ) → n ≤ 1022 → exp2Of (ofInt binary64 (pos n)) ≡ fin false 1 (pos n)
 unfolding exp2Of
 exp2-most n h = simp (below-top n h, above-low n (wide n h), mid-up n (wide n h))
-  where
-    wide : (n : ℕ) → n ≤ 1022 → n ≤ 1023
-    wide n h = omega arith
 
 less-one : sub binary64 (ofInt binary64 (pos 1023)) one ≡ ofInt binary64 (pos 1022)
 unfolding sub ofInt ofBits

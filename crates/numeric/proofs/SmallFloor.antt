@@ -50,6 +50,12 @@ int-one = refl
 pub none-below : (n d : ℕ) → n < 0 * d → ⊥
 none-below n d h = omega arith
 
+pub some-above : (n d : ℕ) → 0 < n * 1 + 0 * d → 0 * d < n
+some-above n d h = omega arith
+
+under-one : (n d : ℕ) → n * 1 < 1 * d → n < (0 + 1) * d
+under-one n d h = omega arith
+
 -- ---- above 0 and below 1
 pub floor-zero : (x : Float) → lt zer x ≡ true → lt x one ≡ true → floorOf x ≡ zer
 unfolding lt ofBits
@@ -59,14 +65,11 @@ floor-zero (inf false) h k = absurd (false≢true k)
 floor-zero (fin true m e) h k = absurd (false≢true h)
 floor-zero (fin false m e) h k =
     floor-frac false m e 0 (low (m * up e) (down e) (ltb-true (0 * down e) (m * up e * 1) h))
-    (top (m * up e) (down e) (ltb-true (m * up e * 1) (1 * down e) k))
+    (under-one (m * up e) (down e) (ltb-true (m * up e * 1) (1 * down e) k))
     ∙ unfold ofInt in refl
   where
     low : (n d : ℕ) → 0 * d < n * 1 → 0 * d < n
     low n d h = omega arith
-
-    top : (n d : ℕ) → n * 1 < 1 * d → n < (0 + 1) * d
-    top n d h = omega arith
 
 -- ---- from 1 to below 2
 pub floor-one : (x : Float) → F64 x → lt x one ≡ false → lt x two ≡ true → lt zer x ≡ true → floorOf x ≡ one
@@ -102,15 +105,9 @@ floor-minus (inf true) h k = absurd (false≢true k)
 floor-minus (inf false) h k = absurd (false≢true h)
 floor-minus (fin false m e) h k = absurd (none-below (m * up e * 1) (down e) (ltb-true (m * up e * 1) (0 * down e) h))
 floor-minus (fin true m e) h k =
-    floor-frac true m e 0 (low (m * up e) (down e) (ltb-true 0 (m * up e * 1 + 0 * down e) h))
-    (top (m * up e) (down e) (ltb-true (m * up e * 1) (1 * down e) k))
+    floor-frac true m e 0 (some-above (m * up e) (down e) (ltb-true 0 (m * up e * 1 + 0 * down e) h))
+    (under-one (m * up e) (down e) (ltb-true (m * up e * 1) (1 * down e) k))
     ∙ ap neg (unfold ofBits in int-one)
-  where
-    low : (n d : ℕ) → 0 < n * 1 + 0 * d → 0 * d < n
-    low n d h = omega arith
-
-    top : (n d : ℕ) → n * 1 < 1 * d → n < (0 + 1) * d
-    top n d h = omega arith
 
 -- ---- what is left: x itself where the floor is 0
 pub pos-sub-zer : (x : Float) → F64 x → lt zer x ≡ true → lt x one ≡ true → sub binary64 x zer ≡ x
