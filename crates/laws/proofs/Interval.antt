@@ -3,7 +3,8 @@
 use mathlib.Core.Bool.{Bool, Bool·beq, _&&_, cond, false, not, true, true≢false}
 use mathlib.Core.Path.{_∙_, _≡_, ap, refl, subst, sym}
 use Prim.Native.Nat.{_*_, _+_, _-_, _<_, _^_, _≤_, suc, ℕ}
-use native.Mathlib.Nat.{add-le-add, le-of-eq, le-trans, mul-assoc, mul-comm, mul-le-mul, mul-le-mul-left, mul-le-mul-right, mul-mul-mul-comm, mul-one, mul-pos, mul-right-comm, not-le-of-lt, one-mul, pow-suc, zero-lt-suc}
+use native.Mathlib.Nat.{add-le-add, le-of-eq, le-trans, mul-assoc, mul-comm, mul-le-mul, mul-le-mul-left, mul-le-mul-right}
+use native.Mathlib.Nat.{mul-mul-mul-comm, mul-one, mul-pos, mul-right-comm, not-le-of-lt, one-mul, pow-suc, zero-lt-suc}
 use native.Mathlib.Omega.{arith}
 use lib.Dec.{T, leb, leb→le, lit<, lit≤, ltb, ltb→lt, nleb→lt}
 use lib.Ieee.{Float, add, binary64, down, eq, fin, fits, inf, le, lt, mul, nan, neg, ofBits, round, sub, sum, unlike, up}
@@ -31,7 +32,8 @@ under (inf false) nan b d p D v h = absurd v
 under (inf false) (inf t) b d p D v h = absurd v
 under (inf false) (fin t n g) b d p D v h = absurd h
 under (fin true m e) y b d p D v h = absurd (true≢false p)
-under (fin false m e) y b d p D v h = (m * up e, down e, down-pos e, values-le (fin false m e) y (m * up e) (down e) b d (down-pos e) D (refl, refl) v h, (refl, refl))
+under (fin false m e) y b d p D v h =
+    (m * up e, down e, down-pos e, values-le (fin false m e) y (m * up e) (down e) b d (down-pos e) D (refl, refl) v h, (refl, refl))
 
 -- ---- x has the sign s, and |x| is at most p / d
 abbrev pub Under : ℕ → ℕ → Bool → Float → Type 0
@@ -107,7 +109,9 @@ part-round i a c I C h =
 pub part-mul : (i : ℕ) (x y : Float) → i ≤ 1074 → Part i x → Part 0 y → Part i (mul binary64 x y)
 part-mul i x y I p q =
     subst (Part i) (sym (mul-round x y false false (p .0) (p .1) (q .0) (q .1) (p .2) (q .2) (p .4) (q .4)))
-    (part-round i (p .0 * q .0) (p .1 * q .1) I (mul-pos (p .2) (q .2)) (le-trans (le-of-eq (mul-right-comm (p .0) (q .0) (2 ^ i))) (le-trans (mul-le-mul-right (q .0) (p .3)) (mul-le-mul-left (p .1) (le-trans (le-of-eq (sym (mul-one (q .0)))) (q .3))))))
+    (part-round i (p .0 * q .0) (p .1 * q .1) I (mul-pos (p .2) (q .2))
+    (le-trans (le-of-eq (mul-right-comm (p .0) (q .0) (2 ^ i)))
+    (le-trans (mul-le-mul-right (q .0) (p .3)) (mul-le-mul-left (p .1) (le-trans (le-of-eq (sym (mul-one (q .0)))) (q .3))))))
 
 pub part-mul' : (i : ℕ) (x y : Float) → i ≤ 1074 → Part 0 x → Part i y → Part i (mul binary64 x y)
 part-mul' i x y I p q = subst (Part i) (float-mul-comm y x) (part-mul i y x I q p)
@@ -118,7 +122,8 @@ unfolding sum
 part-add i x y I p q =
     subst (Part i) (sym (add-round x y false false (p .0) (p .1) (q .0) (q .1) (p .2) (q .2) (p .4) (q .4)))
     (part-round i (p .0 * q .1 + q .0 * p .1) (p .1 * q .1) I (mul-pos (p .2) (q .2))
-    (both (p .0 * q .1 * 2 ^ i) (q .0 * p .1 * 2 ^ i) (p .1 * q .1) (side (p .0) (p .1) (q .1) (p .3)) (le-trans (side (q .0) (q .1) (p .1) (q .3)) (le-of-eq (mul-comm (q .1) (p .1)))) (spread (p .0 * q .1) (q .0 * p .1) (2 ^ i))))
+    (both (p .0 * q .1 * 2 ^ i) (q .0 * p .1 * 2 ^ i) (p .1 * q .1) (side (p .0) (p .1) (q .1) (p .3))
+    (le-trans (side (q .0) (q .1) (p .1) (q .3)) (le-of-eq (mul-comm (q .1) (p .1)))) (spread (p .0 * q .1) (q .0 * p .1) (2 ^ i))))
   where
     side : (a c d : ℕ) → a * 2 ^ suc i ≤ c → a * d * 2 ^ i * 2 ≤ c * d
     side a c d h = le-trans (le-of-eq (turn a d (2 ^ i) ∙ ap (λ (z : ℕ). a * z * d) (sym (pow-suc 2 i)))) (mul-le-mul-right d h)
@@ -135,9 +140,11 @@ part-add i x y I p q =
 -- what is at least 2 ^ -j less what is at most that
 pub part-sub : (j i : ℕ) (x y : Float) → i ≤ 1074 → Between j i x → Part j y → Part i (sub binary64 x y)
 part-sub j i x y I p q =
-    subst (Part i) (sym (sub-round x y false false (p .0) (p .1) (q .0) (q .1) (p .2) (q .2) (p .5) (q .4) ∙ sum-pos-neg (p .0 * q .1) (q .0 * p .1) (p .1 * q .1) above))
+    subst (Part i)
+    (sym (sub-round x y false false (p .0) (p .1) (q .0) (q .1) (p .2) (q .2) (p .5) (q .4) ∙ sum-pos-neg (p .0 * q .1) (q .0 * p .1) (p .1 * q .1) above))
     (part-round i (p .0 * q .1 - q .0 * p .1) (p .1 * q .1) I (mul-pos (p .2) (q .2))
-    (le-trans (mul-le-mul-right (2 ^ i) (less (p .0 * q .1) (q .0 * p .1))) (le-trans (le-of-eq (mul-right-comm (p .0) (q .1) (2 ^ i))) (mul-le-mul-right (q .1) (p .4)))))
+    (le-trans (mul-le-mul-right (2 ^ i) (less (p .0 * q .1) (q .0 * p .1)))
+    (le-trans (le-of-eq (mul-right-comm (p .0) (q .1) (2 ^ i))) (mul-le-mul-right (q .1) (p .4)))))
   where
     above : q .0 * p .1 ≤ p .0 * q .1
     above = le-trans (mul-le-mul-left (q .0) (p .3)) (le-trans (le-of-eq (turn (q .0) (p .0) (2 ^ j))) (mul-le-mul-left (p .0) (q .3)))
@@ -155,7 +162,9 @@ Sized s i x = (a : ℕ) × (c : ℕ) × (0 < c) × (a ≤ 2 ^ i * c) × HasValue
 -- 2 ^ i is an f64
 power-exact : (i : ℕ) → i ≤ 1023 → Exact (2 ^ i) 1
 power-exact i I =
-    round-exact binary64 false (2 ^ i) 1 1 (i + 1074) (zero-lt-suc 0) (lit< tt) (subst (λ (z : ℕ). z < 2 ^ 2098) (sym (one-mul (2 ^ (i + 1074)))) (pow-lt {j = 2098} (room i I))) (sym (pow-add 2 i 1074) ∙ sym (one-mul (2 ^ (i + 1074))) ∙ sym (mul-one (1 * 2 ^ (i + 1074))))
+    round-exact binary64 false (2 ^ i) 1 1 (i + 1074) (zero-lt-suc 0) (lit< tt)
+    (subst (λ (z : ℕ). z < 2 ^ 2098) (sym (one-mul (2 ^ (i + 1074)))) (pow-lt {j = 2098} (room i I)))
+    (sym (pow-add 2 i 1074) ∙ sym (one-mul (2 ^ (i + 1074))) ∙ sym (mul-one (1 * 2 ^ (i + 1074))))
   where
     room : (i : ℕ) → i ≤ 1023 → i + 1074 < 2098
     room i h = omega arith
@@ -164,7 +173,8 @@ sized-of : (s : Bool) (i : ℕ) (x : Float) → Under (2 ^ i) 1 s x → Sized s 
 sized-of s i x r = (r .0, r .1, r .2, le-trans (le-of-eq (sym (mul-one (r .0)))) (r .3), r .4)
 
 pub round-sized : (s : Bool) (i a c : ℕ) → i ≤ 1023 → 0 < c → a ≤ 2 ^ i * c → Sized s i (round binary64 s a c)
-round-sized s i a c I C h = sized-of s i (round binary64 s a c) (round-under s a c (2 ^ i) 1 C (zero-lt-suc 0) (le-trans (le-of-eq (mul-one a)) h) (power-exact i I))
+round-sized s i a c I C h =
+    sized-of s i (round binary64 s a c) (round-under s a c (2 ^ i) 1 C (zero-lt-suc 0) (le-trans (le-of-eq (mul-one a)) h) (power-exact i I))
 
 pub part-sized : (x : Float) → Part 0 x → Sized false 0 x
 part-sized x p = (p .0, p .1, p .2, le-trans (le-of-eq (sym (mul-one (p .0)))) (le-trans (p .3) (le-of-eq (sym (one-mul (p .1))))), p .4)
@@ -172,14 +182,16 @@ part-sized x p = (p .0, p .1, p .2, le-trans (le-of-eq (sym (mul-one (p .0)))) (
 -- a product with what lies from 0 to 1 keeps both
 pub sized-mul : (s : Bool) (i : ℕ) (x y : Float) → i ≤ 1023 → Sized s i x → Part 0 y → Sized s i (mul binary64 x y)
 sized-mul s i x y I p q =
-    subst (Sized s i) (sym (mul-round x y s false (p .0) (p .1) (q .0) (q .1) (p .2) (q .2) (p .4) (q .4) ∙ ap (λ (t : Bool). round binary64 t (p .0 * q .0) (p .1 * q .1)) (unlike-plus s)))
+    subst (Sized s i) (sym (mul-round x y s false (p .0) (p .1) (q .0) (q .1) (p .2) (q .2) (p .4) (q .4)
+    ∙ ap (λ (t : Bool). round binary64 t (p .0 * q .0) (p .1 * q .1)) (unlike-plus s)))
     (round-sized s i (p .0 * q .0) (p .1 * q .1) I (mul-pos (p .2) (q .2))
     (le-trans (mul-le-mul (p .3) (le-trans (le-of-eq (sym (mul-one (q .0)))) (q .3))) (le-of-eq (mul-assoc (2 ^ i) (p .1) (q .1)))))
 
 -- the square of what lies from -1 to 1
 pub part-square : (s : Bool) (x : Float) → Sized s 0 x → Part 0 (mul binary64 x x)
 part-square s x p =
-    subst (Part 0) (sym (mul-round x x s s (p .0) (p .1) (p .0) (p .1) (p .2) (p .2) (p .4) (p .4) ∙ ap (λ (t : Bool). round binary64 t (p .0 * p .0) (p .1 * p .1)) (like s)))
+    subst (Part 0) (sym (mul-round x x s s (p .0) (p .1) (p .0) (p .1) (p .2) (p .2) (p .4) (p .4)
+    ∙ ap (λ (t : Bool). round binary64 t (p .0 * p .0) (p .1 * p .1)) (like s)))
     (part-round 0 (p .0 * p .0) (p .1 * p .1) (lit≤ tt) (mul-pos (p .2) (p .2)) (le-trans (le-of-eq (mul-one (p .0 * p .0))) (mul-le-mul h h)))
   where
     h : p .0 ≤ p .1
@@ -242,7 +254,8 @@ unit-sub s x y p q = subst InUnit (sym (sub-round x y s s (p .0) (p .1) (q .0) (
     right : B - A ≤ C
     right = less B A C (le-trans (mul-le-mul-right (p .1) (le-trans (q .3) (le-of-eq (one-mul (q .1))))) (le-of-eq (mul-comm (q .1) (p .1))))
 
-    go : (s t : Bool) → InUnit (cond (Bool·beq s (not s)) (round binary64 s (A + B) C) (cond t (round binary64 (not s) (B - A) C) (round binary64 (s && ltb B A) (A - B) C)))
+    go : (s t : Bool)
+        → InUnit (cond (Bool·beq s (not s)) (round binary64 s (A + B) C) (cond t (round binary64 (not s) (B - A) C) (round binary64 (s && ltb B A) (A - B) C)))
     go true true = round-unit false (B - A) C pos-c right
     go true false = round-unit (ltb B A) (A - B) C pos-c left
     go false true = round-unit true (B - A) C pos-c right
@@ -297,7 +310,8 @@ within-add i x y I h k =
     let q = k .1 in
     subst (Within (suc i)) (sym (add-round x y (h .0) (k .0) (p .0) (p .1) (q .0) (q .1) (p .2) (q .2) (p .4) (q .4)))
     (within-sum (suc i) (h .0) (k .0) (p .0 * q .1) (q .0 * p .1) (p .1 * q .1) I (mul-pos (p .2) (q .2))
-    (le-trans (add-le-add (le-trans (mul-le-mul-right (q .1) (p .3)) (le-of-eq (mul-assoc (2 ^ i) (p .1) (q .1)))) (le-trans (mul-le-mul-right (p .1) (q .3)) (le-of-eq (mul-assoc (2 ^ i) (q .1) (p .1) ∙ ap (λ (z : ℕ). 2 ^ i * z) (mul-comm (q .1) (p .1))))))
+    (le-trans (add-le-add (le-trans (mul-le-mul-right (q .1) (p .3)) (le-of-eq (mul-assoc (2 ^ i) (p .1) (q .1))))
+    (le-trans (mul-le-mul-right (p .1) (q .3)) (le-of-eq (mul-assoc (2 ^ i) (q .1) (p .1) ∙ ap (λ (z : ℕ). 2 ^ i * z) (mul-comm (q .1) (p .1))))))
     (le-of-eq (twice (2 ^ i) (p .1 * q .1) ∙ ap (λ (z : ℕ). z * (p .1 * q .1)) (sym (pow-suc 2 i))))))
   where
     twice : (u n : ℕ) → u * n + u * n ≡ u * 2 * n
@@ -308,7 +322,8 @@ unfolding sub
 within-minus i x y I h k = within-add i x (neg y) I h (within-neg i y k)
 
 -- two values of one sign that differ by 1 at most
-pub within-sub : (s : Bool) (x y : Float) (a c b d : ℕ) → 0 < c → 0 < d → HasValue x s a c → HasValue y s b d → a * d ≤ b * c + c * d → b * c ≤ a * d + c * d → Within 0 (sub binary64 x y)
+pub within-sub : (s : Bool) (x y : Float) (a c b d : ℕ) → 0 < c → 0 < d → HasValue x s a c → HasValue y s b d → a * d ≤ b * c + c * d → b * c ≤ a * d + c * d
+    → Within 0 (sub binary64 x y)
 within-sub s x y a c b d C D v w h k =
     let r = sub-under s x y a c b d 1 1 C D (lit< tt) v w (ones (a * d) (b * c) (c * d) h) (ones (b * c) (a * d) (c * d) k) (power-exact 0 (lit≤ tt)) in
     (r .0, sized-of (r .0) 0 (sub binary64 x y) (r .1))
@@ -317,18 +332,17 @@ within-sub s x y a c b d C D v w h k =
     ones m n u h = omega arith
 
 -- ---- by the order: from -2 ^ i to 2 ^ i
+without-ones : (a d u : ℕ) → a * 1 ≤ 1 * u * d → a ≤ u * d
+without-ones a d u h = omega arith
+
 pub within-between : (i : ℕ) (x : Float) → T (le (fin true 1 (pos i)) x) → T (le x (fin false 1 (pos i))) → Within i x
 within-between i nan h k = absurd (unfold le lt eq in k)
 within-between i (inf true) h k = absurd (unfold le lt eq in h)
 within-between i (inf false) h k = absurd (unfold le lt eq in k)
-within-between i (fin false m e) h k = (false, (m * up e, down e, down-pos e, plain (m * up e) (down e) (2 ^ i) (le-below false false m 1 e (pos i) k), (refl, refl)))
-  where
-    plain : (a d u : ℕ) → a * 1 ≤ 1 * u * d → a ≤ u * d
-    plain a d u h = omega arith
-within-between i (fin true m e) h k = (true, (m * up e, down e, down-pos e, plain (m * up e) (down e) (2 ^ i) (le-below true true 1 m (pos i) e h), (refl, refl)))
-  where
-    plain : (a d u : ℕ) → a * 1 ≤ 1 * u * d → a ≤ u * d
-    plain a d u h = omega arith
+within-between i (fin false m e) h k =
+    (false, (m * up e, down e, down-pos e, without-ones (m * up e) (down e) (2 ^ i) (le-below false false m 1 e (pos i) k), (refl, refl)))
+within-between i (fin true m e) h k =
+    (true, (m * up e, down e, down-pos e, without-ones (m * up e) (down e) (2 ^ i) (le-below true true 1 m (pos i) e h), (refl, refl)))
 
 pub within-le : (i : ℕ) (x : Float) → Within i x → T (le x (fin false 1 (pos i))) × T (le (fin true 1 (pos i)) x)
 within-le i x (s, (a, c, C, h, v)) = go s v
@@ -346,10 +360,15 @@ within-le i x (s, (a, c, C, h, v)) = go s v
     most = le-trans (le-of-eq (mul-one a)) h
 
     go : (s : Bool) → HasValue x s a c → T (le x top) × T (le (fin true 1 (pos i)) x)
-    go false v = (le-of-values x top a c (2 ^ i) 1 C (lit< tt) v size most, le-of-lt-true (fin true 1 (pos i)) x (of-true (lt (fin true 1 (pos i)) x) (neg-lt-nonneg 1 (pos i) x a c (lit< tt) v)))
+    go false v = (
+      le-of-values x top a c (2 ^ i) 1 C (lit< tt) v size most,
+      le-of-lt-true (fin true 1 (pos i)) x (of-true (lt (fin true 1 (pos i)) x) (neg-lt-nonneg 1 (pos i) x a c (lit< tt) v)),
+    )
     go true v = (
       le-of-lt-true x top (of-true (lt x top) (neg-lt-pos x a c 1 (pos i) (lit< tt) v)),
-      unfold neg in subst (λ (z : Float). T (le (fin true 1 (pos i)) z)) (neg-neg x) (le-neg (neg x) top (le-of-values (neg x) top a c (2 ^ i) 1 C (lit< tt) (neg-value x true a c v) size most)),
+      unfold neg in
+          subst (λ (z : Float). T (le (fin true 1 (pos i)) z)) (neg-neg x)
+          (le-neg (neg x) top (le-of-values (neg x) top a c (2 ^ i) 1 C (lit< tt) (neg-value x true a c v) size most)),
     )
 
 -- a number from -1 to 1
@@ -387,7 +406,8 @@ below-one (inf false) t h = absurd (unfold lt in h)
 below-one (fin true m e) t h = below-le true false m 9007199254740991 e (negsuc 52) tt
 below-one (fin false m e) t h =
     below-le false false m 9007199254740991 e (negsuc 52)
-    (le-trans (before (m * up e) (down e) (strict (m * up e) (down e) (ltb→lt (m * up e * 1) (1 * down e) (unfold lt in h))) (few false m e t)) (le-of-eq (ap (λ (z : ℕ). z * down e) (sym (mul-one 9007199254740991)))))
+    (le-trans (before (m * up e) (down e) (strict (m * up e) (down e) (ltb→lt (m * up e * 1) (1 * down e) (unfold lt in h))) (few false m e t))
+    (le-of-eq (ap (λ (z : ℕ). z * down e) (sym (mul-one 9007199254740991)))))
   where
     strict : (n d : ℕ) → n * 1 < 1 * d → n < d
     strict n d h = omega arith

@@ -16,7 +16,8 @@ use Rattle.laws.proofs.Values.{div-round, mul-round, round-neg, round-z
 
 -- ---- rounding
 nonneg : (a c : ℕ) → 0 < c → T (le (fin false 0 (pos 0)) (round binary64 false a c))
-nonneg a c C = subst (λ (z : Float). T (le z (round binary64 false a c))) (round-zero false 1 (lit< tt)) (round-mono binary64 0 1 a c (lit< tt) C (le-trans (le-of-eq (zero-mul c)) zero-le))
+nonneg a c C = subst (λ (z : Float). T (le z (round binary64 false a c))) (round-zero false 1 (lit< tt))
+    (round-mono binary64 0 1 a c (lit< tt) C (le-trans (le-of-eq (zero-mul c)) zero-le))
 
 pub round-le : (s t : Bool) (a c b d : ℕ) → 0 < c → 0 < d → Below s (a * d) t (b * c) → T (le (round binary64 s a c) (round binary64 t b d))
 round-le false false a c b d C D h = round-mono binary64 a c b d C D h
@@ -25,15 +26,18 @@ round-le false true a c b d C D h =
 round-le true false a c b d C D h =
     simp (round-neg a c)
     (float-le-trans (neg (round binary64 false a c)) (fin false 0 (pos 0)) (round binary64 false b d)
-    (float-le-trans (neg (round binary64 false a c)) (neg (fin false 0 (pos 0))) (fin false 0 (pos 0)) (le-neg (fin false 0 (pos 0)) (round binary64 false a c) (nonneg a c C)) (unfold le lt eq neg in tt))
+    (float-le-trans (neg (round binary64 false a c)) (neg (fin false 0 (pos 0))) (fin false 0 (pos 0))
+    (le-neg (fin false 0 (pos 0)) (round binary64 false a c) (nonneg a c C)) (unfold le lt eq neg in tt))
     (nonneg b d D))
-round-le true true a c b d C D h = simp (round-neg a c, round-neg b d) (le-neg (round binary64 false b d) (round binary64 false a c) (round-mono binary64 b d a c D C h))
+round-le true true a c b d C D h =
+    simp (round-neg a c, round-neg b d) (le-neg (round binary64 false b d) (round binary64 false a c) (round-mono binary64 b d a c D C h))
 
 -- a fraction from 0 to 1 lies from 0 to 1
 pub unit-law : (a c : ℕ) → 0 < c → a ≤ c → T (le (fin false 0 (pos 0)) (round binary64 false a c)) × T (le (round binary64 false a c) (fin false 1 (pos 0)))
 unit-law a c C h = (
   nonneg a c C,
-  subst (λ (z : Float). T (le (round binary64 false a c) z)) at-one (round-le false false a c 1 1 C (lit< tt) (le-trans (le-of-eq (mul-one a)) (le-trans h (le-of-eq (sym (one-mul c)))))),
+  subst (λ (z : Float). T (le (round binary64 false a c) z)) at-one
+      (round-le false false a c 1 1 C (lit< tt) (le-trans (le-of-eq (mul-one a)) (le-trans h (le-of-eq (sym (one-mul c)))))),
 )
   where
     at-one : round binary64 false 1 1 ≡ fin false 1 (pos 0)
@@ -70,7 +74,8 @@ below-scale s t a c b d p q h = go s t h
     go true true h = up-to b c a d h
 
 -- g multiplies by p / q
-module _ (g : Float → Float) (p q : ℕ) (Q : 0 < q) (at-inf : (s : Bool) → g (inf s) ≡ inf s) (at-fin : (s : Bool) (m : ℕ) (e : ℤ) → g (fin s m e) ≡ round binary64 s (m * up e * p) (down e * q)) where
+module _ (g : Float → Float) (p q : ℕ) (Q : 0 < q) (at-inf : (s : Bool) → g (inf s) ≡ inf s)
+    (at-fin : (s : Bool) (m : ℕ) (e : ℤ) → g (fin s m e) ≡ round binary64 s (m * up e * p) (down e * q)) where
   number-of : (x : Float) → T (not (isNan x)) → T (not (isNan (g x)))
   number-of nan h = absurd (unfold isNan in h)
   number-of (inf s) h = simp (at-inf s) (unfold isNan in tt)
@@ -123,7 +128,8 @@ div-le k p =
 
 -- ---- a larger divisor
 over-positive : (x y : Float) → T (positive x) → T (positive y) → div binary64 x y ≡ round binary64 false (num x * den y) (den x * num y)
-over-positive x y p q = div-round x y false (num x) (den x) (num y) (den y) (den-pos x) (den-pos y) (value-pos y (num y) (den y) q (den-pos y) (own-value y q)) (own-value x p) (own-value y q)
+over-positive x y p q = div-round x y false (num x) (den x) (num y) (den y) (den-pos x) (den-pos y) (value-pos y (num y) (den y) q (den-pos y) (own-value y q))
+    (own-value x p) (own-value y q)
 
 over-inf : (x : Float) → T (positive x) → div binary64 x (inf false) ≡ fin false 0 (pos 0)
 unfolding div

@@ -2,7 +2,9 @@
 use mathlib.Core.Bool.{false, not}
 use mathlib.Core.Path.{_∙_, _≡_, ap, subst, sym}
 use Prim.Native.Nat.{Ordering, Ordering·eq, Ordering·gt, Ordering·lt, _%_, _*_, _+_, _-_, _/_, _<_, _^_, _≤_, compare, suc, zero, ℕ}
-use native.Mathlib.Nat.{div-add-mod', div-lt-iff-lt-mul, le-antisymm, le-div-iff-mul-le, le-of-eq, le-of-lt, le-of-suc-le-suc, le-trans, lt-of-le-of-lt, lt-of-lt-of-le, lt-of-not-le, mod-lt, mul-le-mul-right, mul-lt-mul-of-pos-right, mul-one, mul-pos, mul-right-comm, not-le-of-lt, suc-mul}
+use native.Mathlib.Nat.{div-add-mod', div-lt-iff-lt-mul, le-antisymm, le-div-iff-mul-le, le-of-eq, le-of-lt}
+use native.Mathlib.Nat.{le-of-suc-le-suc, le-trans, lt-of-le-of-lt, lt-of-lt-of-le, lt-of-not-le, mod-lt}
+use native.Mathlib.Nat.{mul-le-mul-right, mul-lt-mul-of-pos-right, mul-one, mul-pos, mul-right-comm, not-le-of-lt, suc-mul}
 use native.Mathlib.Omega.{arith}
 use lib.Arith.{lt-of-le-ne}
 use lib.Dec.{T, eqb, eqb-refl, eqb→eq, isEq, isLe, leb→le, lit<, nleb→lt}
@@ -69,13 +71,15 @@ closest-near a b B =
 
 -- ---- the whole number N nearest to a / c lies where a / c does
 pub near-most : (N K a c : ℕ) → 0 < c → a ≤ K * c → N * c * 2 ≤ a * 2 + c → N ≤ K
-near-most N K a c C h k = le-of-suc-le-suc (lt-of-not-le (λ (g : suc K ≤ N). bad (N * c) (K * c) (le-trans (le-of-eq (sym (suc-mul K c))) (mul-le-mul-right c g)) h k))
+near-most N K a c C h k =
+    le-of-suc-le-suc (lt-of-not-le (λ (g : suc K ≤ N). bad (N * c) (K * c) (le-trans (le-of-eq (sym (suc-mul K c))) (mul-le-mul-right c g)) h k))
   where
     bad : (x y : ℕ) → y + c ≤ x → a ≤ y → x * 2 ≤ a * 2 + c → ⊥
     bad x y g h k = omega arith
 
 pub near-least : (N K a c : ℕ) → 0 < c → K * c ≤ a → a * 2 ≤ N * c * 2 + c → K ≤ N
-near-least N K a c C h k = le-of-suc-le-suc (lt-of-not-le (λ (g : suc N ≤ K). bad (N * c) (K * c) (le-trans (le-of-eq (sym (suc-mul N c))) (mul-le-mul-right c g)) h k))
+near-least N K a c C h k =
+    le-of-suc-le-suc (lt-of-not-le (λ (g : suc N ≤ K). bad (N * c) (K * c) (le-trans (le-of-eq (sym (suc-mul N c))) (mul-le-mul-right c g)) h k))
   where
     bad : (x y : ℕ) → x + c ≤ y → y ≤ a → a * 2 ≤ x * 2 + c → ⊥
     bad x y g h k = omega arith
@@ -91,7 +95,8 @@ scale-lt : (p u c a : ℕ) → 0 < u → a < p * c → a * u < p * u * c
 scale-lt p u c a U h = lt-of-lt-of-le (mul-lt-mul-of-pos-right h U) (le-of-eq (mul-right-comm p c u))
 
 size-mid : (a c : ℕ) → 0 < c → 4503599627370496 * c ≤ a → a < 9007199254740992 * c → size (a * 2 ^ 1074 / c) ≡ 1127
-size-mid a c C h k = size-at (a * 2 ^ 1074 / c) 1126 (le-div-iff-mul-le C .1 (scale-le 4503599627370496 (2 ^ 1074) c a h)) (div-lt-iff-lt-mul C .1 (scale-lt 9007199254740992 (2 ^ 1074) c a (pow-pos 1074) k))
+size-mid a c C h k = size-at (a * 2 ^ 1074 / c) 1126 (le-div-iff-mul-le C .1 (scale-le 4503599627370496 (2 ^ 1074) c a h))
+    (div-lt-iff-lt-mul C .1 (scale-lt 9007199254740992 (2 ^ 1074) c a (pow-pos 1074) k))
 
 grid-mid : (a c : ℕ) → 0 < c → 4503599627370496 * c ≤ a → a < 9007199254740992 * c → grid binary64 a c ≡ closest a c * 2 ^ 1074
 grid-mid a c C h k =
@@ -109,7 +114,8 @@ whole-round a c C h k =
     let e = grid-mid a c C h k in (
       closest a c,
       rescale (round binary64 false a c) false (closest a c * 2 ^ 1074) (2 ^ 1074) (closest a c) 1 (pow-pos 1074) (sym (mul-one (closest a c * 2 ^ 1074)))
-          (subst (λ (z : ℕ). HasValue (round binary64 false a c) false z (2 ^ 1074)) e (round-val binary64 a c (subst (λ (z : ℕ). z < 2 ^ 2098) (sym e) (lt-of-le-of-lt (mul-le-mul-right (2 ^ 1074) q) (lit< tt))))),
+          (subst (λ (z : ℕ). HasValue (round binary64 false a c) false z (2 ^ 1074)) e
+          (round-val binary64 a c (subst (λ (z : ℕ). z < 2 ^ 2098) (sym e) (lt-of-le-of-lt (mul-le-mul-right (2 ^ 1074) q) (lit< tt))))),
       n,
       q,
     )

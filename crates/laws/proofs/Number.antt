@@ -96,7 +96,8 @@ div-number (fin false m e) nan p h = absurd h
 div-number (fin false m e) (inf t) p h = tt
 div-number (fin false m e) (fin t n d) p h = go (eqb n 0) (eqb m 0) (pos-eqb m p)
   where
-    go : (a b : Bool) → b ≡ false → T (not (isNan (cond a (cond b nan (inf (unlike false t))) (round binary64 (unlike false t) (m * up e * down d) (n * up d * down e)))))
+    go : (a b : Bool) → b ≡ false
+        → T (not (isNan (cond a (cond b nan (inf (unlike false t))) (round binary64 (unlike false t) (m * up e * down d) (n * up d * down e)))))
     go true true k = absurd (true≢false k)
     go true false k = tt
     go false b k = round-number (unlike false t) (m * up e * down d) (n * up d * down e)
@@ -169,6 +170,10 @@ add-wild-l (inf s) (inf t) h = add-wild-r (inf s) (inf t) refl
 add-wild-l (inf s) (fin t n d) h = refl
 add-wild-l (fin s m e) y h = absurd (true≢false h)
 
+nan-or-inf-wild : (b s : Bool) → isFin (cond b nan (inf s)) ≡ false
+nan-or-inf-wild true s = refl
+nan-or-inf-wild false s = refl
+
 pub mul-wild-r : (x y : Float) → isFin y ≡ false → isFin (mul binary64 x y) ≡ false
 unfolding mul
 mul-wild-r nan y h = refl
@@ -176,11 +181,7 @@ mul-wild-r (inf s) nan h = refl
 mul-wild-r (inf s) (inf t) h = refl
 mul-wild-r (inf s) (fin t n d) h = absurd (true≢false h)
 mul-wild-r (fin s m e) nan h = refl
-mul-wild-r (fin s m e) (inf t) h = go (eqb m 0)
-  where
-    go : (b : Bool) → isFin (cond b nan (inf (unlike s t))) ≡ false
-    go true = refl
-    go false = refl
+mul-wild-r (fin s m e) (inf t) h = nan-or-inf-wild (eqb m 0) (unlike s t)
 mul-wild-r (fin s m e) (fin t n d) h = absurd (true≢false h)
 
 pub mul-wild-l : (x y : Float) → isFin x ≡ false → isFin (mul binary64 x y) ≡ false
@@ -188,11 +189,7 @@ unfolding mul
 mul-wild-l nan y h = refl
 mul-wild-l (inf s) nan h = refl
 mul-wild-l (inf s) (inf t) h = refl
-mul-wild-l (inf s) (fin t n d) h = go (eqb n 0)
-  where
-    go : (b : Bool) → isFin (cond b nan (inf (unlike s t))) ≡ false
-    go true = refl
-    go false = refl
+mul-wild-l (inf s) (fin t n d) h = nan-or-inf-wild (eqb n 0) (unlike s t)
 mul-wild-l (fin s m e) y h = absurd (true≢false h)
 
 pub div-zero-wild : (x : Float) (s : Bool) → isFin (div binary64 x (fin s 0 (pos 0))) ≡ false

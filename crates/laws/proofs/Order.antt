@@ -60,7 +60,8 @@ unfolding lt
 neg-lt-nonneg m e nan b d M q = absurd q
 neg-lt-nonneg m e (inf t) b d M q = absurd q
 neg-lt-nonneg m e (fin true n g) b d M q = absurd (true≢false (q .0))
-neg-lt-nonneg m e (fin false n g) b d M q = lt-ltb 0 (m * up e * down g + n * up g * down e) (some (m * up e * down g) (n * up g * down e) (mul-pos (mul-pos M (up-pos e)) (down-pos g)))
+neg-lt-nonneg m e (fin false n g) b d M q =
+    lt-ltb 0 (m * up e * down g + n * up g * down e) (some (m * up e * down g) (n * up g * down e) (mul-pos (mul-pos M (up-pos e)) (down-pos g)))
   where
     some : (a b : ℕ) → 0 < a → 0 < a + b
     some a b h = omega arith
@@ -70,7 +71,8 @@ unfolding lt
 neg-lt-pos nan a c n g N q = absurd q
 neg-lt-pos (inf t) a c n g N q = absurd q
 neg-lt-pos (fin false m e) a c n g N q = absurd (false≢true (q .0))
-neg-lt-pos (fin true m e) a c n g N q = lt-ltb 0 (m * up e * down g + n * up g * down e) (some (m * up e * down g) (n * up g * down e) (mul-pos (mul-pos N (up-pos g)) (down-pos e)))
+neg-lt-pos (fin true m e) a c n g N q =
+    lt-ltb 0 (m * up e * down g + n * up g * down e) (some (m * up e * down g) (n * up g * down e) (mul-pos (mul-pos N (up-pos g)) (down-pos e)))
   where
     some : (a b : ℕ) → 0 < b → 0 < a + b
     some a b h = omega arith
@@ -80,7 +82,8 @@ unfolding lt
 neg-lt-zero nan a c A C q = absurd q
 neg-lt-zero (inf t) a c A C q = absurd q
 neg-lt-zero (fin false m e) a c A C q = absurd (false≢true (q .0))
-neg-lt-zero (fin true m e) a c A C q = lt-ltb 0 (m * up e * 1 + 0 * down e) (more (m * up e) (down e) (first (m * up e) c (subst (λ (z : ℕ). 0 < z) (sym (q .1)) (mul-pos A (down-pos e)))))
+neg-lt-zero (fin true m e) a c A C q =
+    lt-ltb 0 (m * up e * 1 + 0 * down e) (more (m * up e) (down e) (first (m * up e) c (subst (λ (z : ℕ). 0 < z) (sym (q .1)) (mul-pos A (down-pos e)))))
   where
     more : (a d : ℕ) → 0 < a → 0 < a * 1 + 0 * d
     more a d h = omega arith
@@ -327,7 +330,8 @@ le-neg (inf false) (fin t n d) h = absurd h
 le-neg (fin s m e) nan h = absurd h
 le-neg (fin s m e) (inf true) h = absurd h
 le-neg (fin s m e) (inf false) h = tt
-le-neg (fin s m e) (fin t n d) h = of-below (not t) (n * up d * down e) (not s) (m * up e * down d) (turned s t (m * up e * down d) (n * up d * down e) (below-of s (m * up e * down d) t (n * up d * down e) h))
+le-neg (fin s m e) (fin t n d) h = of-below (not t) (n * up d * down e) (not s) (m * up e * down d)
+    (turned s t (m * up e * down d) (n * up d * down e) (below-of s (m * up e * down d) t (n * up d * down e) h))
   where
     turned : (s t : Bool) (A B : ℕ) → Below s A t B → Below (not t) B (not s) A
     turned false false A B h = h
@@ -369,7 +373,8 @@ unfolding eq isNan
 number-test nan = refl
 number-test (inf true) = refl
 number-test (inf false) = refl
-number-test (fin s m e) = is-true (level s (m * up e * down e) s (m * up e * down e)) (and-i (eqb (m * up e * down e) (m * up e * down e)) (Bool·beq s s || eqb (m * up e * down e) 0) (eqb-refl (m * up e * down e)) (same s))
+number-test (fin s m e) = is-true (level s (m * up e * down e) s (m * up e * down e))
+    (and-i (eqb (m * up e * down e) (m * up e * down e)) (Bool·beq s s || eqb (m * up e * down e) 0) (eqb-refl (m * up e * down e)) (same s))
   where
     same : (s : Bool) → T (Bool·beq s s || eqb (m * up e * down e) 0)
     same true = tt

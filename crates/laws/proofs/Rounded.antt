@@ -36,7 +36,8 @@ pub record Rounded (r : Float) (lo hi i : ℕ) : Type 0 where
   pub least : lo * bottom ≤ top * 2 ^ i
   pub most : top * 2 ^ i ≤ hi * bottom
 
-pub rounded : (a c lo hi i : ℕ) → 0 < c → lo < 2 ^ 53 → hi < 2 ^ 53 → i ≤ 1074 → lo * c ≤ a * 2 ^ i → a * 2 ^ i ≤ hi * c → Rounded (round binary64 false a c) lo hi i
+pub rounded : (a c lo hi i : ℕ) → 0 < c → lo < 2 ^ 53 → hi < 2 ^ 53 → i ≤ 1074 → lo * c ≤ a * 2 ^ i → a * 2 ^ i ≤ hi * c
+    → Rounded (round binary64 false a c) lo hi i
 rounded a c lo hi i C L H I h k =
     let x = round binary64 false lo (2 ^ i) in
     let y = round binary64 false hi (2 ^ i) in

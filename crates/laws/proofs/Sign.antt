@@ -1,5 +1,5 @@
 -- Values that have no minus sign: sums, products and quotients of such have none, and a number less one of them isn't above itself.
-use mathlib.Core.Bool.{Bool, true, false, not, cond, _&&_, true≢false, false≢true}
+use mathlib.Core.Bool.{Bool, true, false, not, cond, _&&_, false≢true}
 use mathlib.Core.Path.{_≡_, refl, sym, ap, subst, _∙_}
 use Prim.Native.Nat.{ℕ, _+_, _-_, _*_, _<_, _≤_, zero-le}
 use native.Mathlib.Nat.{mul-pos, mul-le-mul-right, sub-le, le-add-right, le-trans, le-of-eq, zero-mul}
@@ -82,7 +82,8 @@ div-plus (fin false m e) nan p q = tt
 div-plus (fin false m e) (inf true) p q = absurd q
 div-plus (fin false m e) (inf false) p q = tt
 div-plus (fin false m e) (fin true n d) p q = absurd q
-div-plus (fin false m e) (fin false n d) p q = go (eqb n 0) (eqb m 0) (round binary64 false (m * up e * down d) (n * up d * down e)) (round-plus (m * up e * down d) (n * up d * down e))
+div-plus (fin false m e) (fin false n d) p q =
+    go (eqb n 0) (eqb m 0) (round binary64 false (m * up e * down d) (n * up d * down e)) (round-plus (m * up e * down d) (n * up d * down e))
   where
     go : (a b : Bool) (r : Float) → Plus r → Plus (cond a (cond b nan (inf false)) r)
     go true true r h = tt
@@ -104,6 +105,9 @@ positive-plus (inf s) p = absurd p
 positive-plus (fin true m e) p = absurd p
 positive-plus (fin false m e) p = tt
 
+apart-plus : (A B C : ℕ) → B ≤ A → Plus (cond (ltb A B) (round binary64 true (B - A) C) (round binary64 (false && ltb B A) (A - B) C))
+apart-plus A B C h = simp (le-ltb A B h) (round-plus (A - B) C)
+
 -- a number with none less one that isn't above it has none
 pub less-plus : (x y : Float) → Plus x → T (le y x) → Plus (sub binary64 x y)
 unfolding sub add neg sum
@@ -118,17 +122,8 @@ less-plus (fin false m e) nan p h = tt
 less-plus (fin false m e) (inf true) p h = tt
 less-plus (fin false m e) (inf false) p h = absurd (unfold le lt eq in h)
 less-plus (fin false m e) (fin true n d) p h = round-plus (m * up e * down d + n * up d * down e) (down e * down d)
-less-plus (fin false m e) (fin false n d) p h = go (ltb A B) (le-ltb A B (le-below false false n m d e h))
-  where
-    A : ℕ
-    A = m * up e * down d
-
-    B : ℕ
-    B = n * up d * down e
-
-    go : (t : Bool) → t ≡ false → Plus (cond t (round binary64 true (B - A) (down e * down d)) (round binary64 (false && ltb B A) (A - B) (down e * down d)))
-    go true q = absurd (true≢false q)
-    go false q = round-plus (A - B) (down e * down d)
+less-plus (fin false m e) (fin false n d) p h =
+    apart-plus (m * up e * down d) (n * up d * down e) (down e * down d) (le-below false false n m d e h)
 
 -- so has 1 less a number of at most 1
 pub one-less : (y : Float) → T (le y one) → Plus (sub binary64 one y)
@@ -148,20 +143,11 @@ more-plus (fin false m e) nan p h = tt
 more-plus (fin false m e) (inf true) p h = absurd (unfold le lt eq in h)
 more-plus (fin false m e) (inf false) p h = tt
 more-plus (fin false m e) (fin false n d) p h = round-plus (m * up e * down d + n * up d * down e) (down e * down d)
-more-plus (fin false m e) (fin true n d) p h = go (ltb A B) (le-ltb A B (le-trans (le-of-eq nil) zero-le))
+more-plus (fin false m e) (fin true n d) p h =
+    apart-plus (m * up e * down d) (n * up d * down e) (down e * down d) (le-trans (le-of-eq nil) zero-le)
   where
-    A : ℕ
-    A = m * up e * down d
-
-    B : ℕ
-    B = n * up d * down e
-
-    nil : B ≡ 0
+    nil : n * up d * down e ≡ 0
     nil = ap (λ (z : ℕ). z * down e) (zero-of (n * up d) 1 (lit< tt) (le-of-eq (le-below false true 0 n (pos 0) d h .1))) ∙ zero-mul (down e)
-
-    go : (t : Bool) → t ≡ false → Plus (cond t (round binary64 true (B - A) (down e * down d)) (round binary64 (false && ltb B A) (A - B) (down e * down d)))
-    go true q = absurd (true≢false q)
-    go false q = round-plus (A - B) (down e * down d)
 
 -- a number with none isn't below 0
 pub plus-above : (x : Float) → Plus x → T (not (isNan x)) → T (le zer x)
@@ -190,7 +176,8 @@ times-above k y p h =
     nought false = unfold le lt eq ofBits in tt
 
 -- nor have 1 less and 1 plus what lies from -1 to 1
-around : (r : Float) → Plus r → T (le r one) → Plus (sub binary64 one r) × Plus (add binary64 one r) × Plus (sub binary64 one (neg r)) × Plus (add binary64 one (neg r))
+around : (r : Float) → Plus r → T (le r one)
+    → Plus (sub binary64 one r) × Plus (add binary64 one r) × Plus (sub binary64 one (neg r)) × Plus (add binary64 one (neg r))
 around r p q =
     let a : Plus (add binary64 one r) = add-plus one r (unfold ofBits in tt) p in
     (one-less r q, a, unfold sub in subst (λ (z : Float). Plus (add binary64 one z)) (sym (neg-neg r)) a, unfold sub in one-less r q)

@@ -2,7 +2,8 @@
 use mathlib.Core.Bool.{Bool, _&&_, false, true}
 use mathlib.Core.Path.{_∙_, _≡_, ap, refl, subst, sym}
 use Prim.Native.Nat.{_%_, _*_, _+_, _-_, _<_, _^_, _≤_, suc, zero, ℕ}
-use native.Mathlib.Nat.{eq-of-mul-eq-mul-right, le-antisymm, le-of-eq, le-of-suc-le-suc, lt-irrefl, lt-of-lt-of-le, lt-of-not-le, mul-assoc, mul-left-comm, mul-lt-mul-of-pos-right, mul-one, mul-pos, not-le-of-lt, one-mul, pow-suc, pow-succ', zero-lt-suc, zero-mul}
+use native.Mathlib.Nat.{eq-of-mul-eq-mul-right, le-antisymm, le-of-eq, le-of-suc-le-suc, lt-irrefl, lt-of-lt-of-le, lt-of-not-le, mul-assoc}
+use native.Mathlib.Nat.{mul-left-comm, mul-lt-mul-of-pos-right, mul-one, mul-pos, not-le-of-lt, one-mul, pow-suc, pow-succ', zero-lt-suc, zero-mul}
 use native.Mathlib.Omega.{arith}
 use lib.Dec.{eqb, eqb→eq, leb, leb→le, lit<, lit≤, ltb, ltb→lt}
 use lib.Ieee.{Float, binary64, down, fin, fits, inf, mul, nan, neg, ofBits, round, unlike, up}
@@ -56,12 +57,16 @@ odd-same m n (negsuc a) (negsuc b) o p h =
     neg-of zero = negsuc 0
     neg-of (suc k) = negsuc k
 odd-same m n (pos a) (negsuc b) o p h =
-    absurd (even-odd n (m * 2 ^ a * 2 ^ b) p (sym (mul-one n) ∙ sym (mul-one (n * 1)) ∙ sym h ∙ ap (λ (z : ℕ). m * 2 ^ a * z) (pow-succ' 2 b) ∙ mul-left-comm (m * 2 ^ a) 2 (2 ^ b)))
+    absurd (even-odd n (m * 2 ^ a * 2 ^ b) p
+    (sym (mul-one n) ∙ sym (mul-one (n * 1)) ∙ sym h ∙ ap (λ (z : ℕ). m * 2 ^ a * z) (pow-succ' 2 b) ∙ mul-left-comm (m * 2 ^ a) 2 (2 ^ b)))
 odd-same m n (negsuc a) (pos b) o p h =
-    absurd (even-odd m (n * 2 ^ b * 2 ^ a) o (sym (mul-one m) ∙ sym (mul-one (m * 1)) ∙ h ∙ ap (λ (z : ℕ). n * 2 ^ b * z) (pow-succ' 2 a) ∙ mul-left-comm (n * 2 ^ b) 2 (2 ^ a)))
+    absurd (even-odd m (n * 2 ^ b * 2 ^ a) o
+    (sym (mul-one m) ∙ sym (mul-one (m * 1)) ∙ h ∙ ap (λ (z : ℕ). n * 2 ^ b * z) (pow-succ' 2 a) ∙ mul-left-comm (n * 2 ^ b) 2 (2 ^ a)))
 
 not-both : (m : ℕ) (e d : ℤ) → suc m * up e * down d ≡ zero * up d * down e → ⊥
-not-both m e d h = lt-irrefl 0 (subst (λ (z : ℕ). 0 < z) (h ∙ ap (λ (z : ℕ). z * down e) (zero-mul (up d)) ∙ zero-mul (down e)) (mul-pos (mul-pos (zero-lt-suc m) (up-pos e)) (down-pos d)))
+not-both m e d h = lt-irrefl 0
+    (subst (λ (z : ℕ). 0 < z) (h ∙ ap (λ (z : ℕ). z * down e) (zero-mul (up d)) ∙ zero-mul (down e))
+    (mul-pos (mul-pos (zero-lt-suc m) (up-pos e)) (down-pos d)))
 
 same-size : (s : Bool) (m : ℕ) (e : ℤ) (n : ℕ) (d : ℤ) → F64 (fin s m e) → F64 (fin s n d) → m * up e * down d ≡ n * up d * down e → (m ≡ n) × (e ≡ d)
 same-size s zero e zero d p q h = (refl, zero-exp s e p ∙ sym (zero-exp s d q))
@@ -87,11 +92,14 @@ exp-le k h = le-of-suc-le-suc (lt-of-not-le (λ (l : 1074 < suc k). not-le-of-lt
 
 top-of : (m : ℕ) (e : ℤ) → F64 (fin false (suc m) e) → suc m * up e < 2 ^ 1024 * down e
 unfolding fits
-top-of m e t = ltb→lt (suc m * up e) (2 ^ 1024 * down e) (and-r (eqb (suc m % 2) 1 && ltb (suc m) (2 ^ 53) && leb (down e) (2 ^ 1074)) (ltb (suc m * up e) (2 ^ 1024 * down e)) t)
+top-of m e t = ltb→lt (suc m * up e) (2 ^ 1024 * down e)
+    (and-r (eqb (suc m % 2) 1 && ltb (suc m) (2 ^ 53) && leb (down e) (2 ^ 1074)) (ltb (suc m * up e) (2 ^ 1024 * down e)) t)
 
 pub low-of : (m : ℕ) (e : ℤ) → F64 (fin false (suc m) e) → down e ≤ 2 ^ 1074
 unfolding fits
-low-of m e t = leb→le (down e) (2 ^ 1074) (and-r (eqb (suc m % 2) 1 && ltb (suc m) (2 ^ 53)) (leb (down e) (2 ^ 1074)) (and-l (eqb (suc m % 2) 1 && ltb (suc m) (2 ^ 53) && leb (down e) (2 ^ 1074)) (ltb (suc m * up e) (2 ^ 1024 * down e)) t))
+low-of m e t = leb→le (down e) (2 ^ 1074)
+    (and-r (eqb (suc m % 2) 1 && ltb (suc m) (2 ^ 53)) (leb (down e) (2 ^ 1074))
+    (and-l (eqb (suc m % 2) 1 && ltb (suc m) (2 ^ 53) && leb (down e) (2 ^ 1074)) (ltb (suc m * up e) (2 ^ 1024 * down e)) t))
 
 own-exact : (m : ℕ) (e : ℤ) → F64 (fin false m e) → HasValue (round binary64 false (m * up e) (down e)) false (m * up e) (down e)
 own-exact zero e t =
@@ -99,7 +107,8 @@ own-exact zero e t =
     (ap (λ (z : ℕ). z * 2 ^ 1074) (zero-mul (up e)) ∙ sym (zero-mul (down e)))
 own-exact (suc m) (pos k) t =
     round-exact binary64 false (suc m * 2 ^ k) 1 (suc m) (k + 1074) (zero-lt-suc 0) (fits-small false (suc m) (pos k) t)
-    (subst (λ (z : ℕ). z < 2 ^ 2098) (shift (suc m)) (lt-of-lt-of-le (mul-lt-mul-of-pos-right (subst (λ (z : ℕ). suc m * 2 ^ k < z) (mul-one (2 ^ 1024)) (top-of m (pos k) t)) (pow-pos 1074)) (lit≤ tt)))
+    (subst (λ (z : ℕ). z < 2 ^ 2098) (shift (suc m))
+    (lt-of-lt-of-le (mul-lt-mul-of-pos-right (subst (λ (z : ℕ). suc m * 2 ^ k < z) (mul-one (2 ^ 1024)) (top-of m (pos k) t)) (pow-pos 1074)) (lit≤ tt)))
     (shift (suc m) ∙ sym (mul-one (suc m * 2 ^ (k + 1074))))
   where
     shift : (m : ℕ) → m * 2 ^ k * 2 ^ 1074 ≡ m * 2 ^ (k + 1074)
@@ -107,7 +116,9 @@ own-exact (suc m) (pos k) t =
 own-exact (suc m) (negsuc k) t =
     round-exact binary64 false (suc m * 1) (2 ^ suc k) (suc m) (1074 - suc k) (pow-pos (suc k)) (fits-small false (suc m) (negsuc k) t)
     (lt-of-lt-of-le (shl-lt 53 (1074 - suc k) (fits-small false (suc m) (negsuc k) t)) (pow-mono {j = 2098} (room k)))
-    (ap (λ (z : ℕ). z * 2 ^ 1074) (mul-one (suc m)) ∙ ap (λ (z : ℕ). suc m * z) (ap (λ (z : ℕ). 2 ^ z) (back k (exp-le k (low-of m (negsuc k) t))) ∙ pow-add 2 (1074 - suc k) (suc k)) ∙ sym (mul-assoc (suc m) (2 ^ (1074 - suc k)) (2 ^ suc k)))
+    (ap (λ (z : ℕ). z * 2 ^ 1074) (mul-one (suc m))
+    ∙ ap (λ (z : ℕ). suc m * z) (ap (λ (z : ℕ). 2 ^ z) (back k (exp-le k (low-of m (negsuc k) t))) ∙ pow-add 2 (1074 - suc k) (suc k))
+    ∙ sym (mul-assoc (suc m) (2 ^ (1074 - suc k)) (2 ^ suc k)))
   where
     room : (k : ℕ) → 53 + (1074 - suc k) ≤ 2098
     room k = omega arith
@@ -124,7 +135,8 @@ round-own s (fin u m e) a c C t v =
     ∙ go u t
   where
     plus : F64 (fin false m e) → round binary64 false (m * up e) (down e) ≡ fin false m e
-    plus t = value-unique (round binary64 false (m * up e) (down e)) (fin false m e) false (m * up e) (down e) (down-pos e) (round-fits binary64 false (m * up e) (down e)) t (own-exact m e t) (refl, refl)
+    plus t = value-unique (round binary64 false (m * up e) (down e)) (fin false m e) false (m * up e) (down e) (down-pos e)
+        (round-fits binary64 false (m * up e) (down e)) t (own-exact m e t) (refl, refl)
 
     go : (u : Bool) → F64 (fin u m e) → round binary64 u (m * up e) (down e) ≡ fin u m e
     go false t = plus t
@@ -139,7 +151,9 @@ one-times (inf s) t = unfold mul in ap inf (unlike-false s)
     unlike-false : (s : Bool) → unlike false s ≡ s
     unlike-false true = refl
     unlike-false false = refl
-one-times (fin s m e) t = float-mul-comm (fin false 1 (pos 0)) (fin s m e) ∙ mul-round (fin s m e) (fin false 1 (pos 0)) s false (m * up e) (down e) 1 1 (down-pos e) (zero-lt-suc 0) (refl, refl) (refl, refl) ∙ same s (m * up e) (down e) ∙ round-own s (fin s m e) (m * up e) (down e) (down-pos e) t (refl, refl)
+one-times (fin s m e) t = float-mul-comm (fin false 1 (pos 0)) (fin s m e)
+    ∙ mul-round (fin s m e) (fin false 1 (pos 0)) s false (m * up e) (down e) 1 1 (down-pos e) (zero-lt-suc 0) (refl, refl) (refl, refl)
+    ∙ same s (m * up e) (down e) ∙ round-own s (fin s m e) (m * up e) (down e) (down-pos e) t (refl, refl)
   where
     same : (s : Bool) (n d : ℕ) → round binary64 (unlike s false) (n * 1) (d * 1) ≡ round binary64 s n d
     same s n d = simp (unlike-plus s, mul-one)

@@ -2,7 +2,9 @@
 use mathlib.Core.Bool.{Bool, Bool·beq, _&&_, cond, false, not, true, true≢false}
 use mathlib.Core.Path.{_∙_, _≡_, ap, refl, subst, sym}
 use Prim.Native.Nat.{_%_, _*_, _+_, _-_, _/_, _<_, _^_, _≤_, suc, zero, ℕ}
-use native.Mathlib.Nat.{add-mul, eq-of-mul-eq-mul-right, le-of-eq, le-of-lt, le-of-mul-le-mul-right, le-refl, le-trans, lt-irrefl, lt-of-lt-of-le, mul-assoc, mul-comm, mul-le-mul-right, mul-left-comm, mul-mod-left, mul-mul-mul-comm, mul-pos, mul-right-comm, mul-sub, not-le-of-lt, zero-lt-suc, zero-mul}
+use native.Mathlib.Nat.{add-mul, eq-of-mul-eq-mul-right, le-of-eq, le-of-lt, le-of-mul-le-mul-right, le-refl, le-trans}
+use native.Mathlib.Nat.{lt-irrefl, lt-of-lt-of-le, mul-assoc, mul-comm, mul-le-mul-right, mul-left-comm, mul-mod-left}
+use native.Mathlib.Nat.{mul-mul-mul-comm, mul-pos, mul-right-comm, mul-sub, not-le-of-lt, zero-lt-suc, zero-mul}
 use native.Mathlib.Omega.{arith}
 use lib.Dec.{T, eqb, leb, lit<, ltb, ltb→lt, lt→ltb, nltb→le}
 use lib.Ieee.{Float, add, binary64, div, down, fin, fits, inf, le, lt, mul, nan, nanBits, neg, odd, ofBits, ofInt, round, sub, sum, units, unlike, up}
@@ -56,7 +58,8 @@ pub unlike-plus : (s : Bool) → unlike s false ≡ s
 unlike-plus true = refl
 unlike-plus false = refl
 
-pub mul-round : (x y : Float) (s t : Bool) (a c b d : ℕ) → 0 < c → 0 < d → HasValue x s a c → HasValue y t b d → mul binary64 x y ≡ round binary64 (unlike s t) (a * b) (c * d)
+pub mul-round : (x y : Float) (s t : Bool) (a c b d : ℕ) → 0 < c → 0 < d → HasValue x s a c → HasValue y t b d
+    → mul binary64 x y ≡ round binary64 (unlike s t) (a * b) (c * d)
 unfolding mul
 mul-round nan y s t a c b d C D p q = absurd p
 mul-round (inf u) y s t a c b d C D p q = absurd p
@@ -66,7 +69,8 @@ mul-round (fin u m e) (fin v n g) s t a c b d C D p q =
     ap (λ (z : Bool). round binary64 (unlike z v) (m * up e * (n * up g)) (down e * down g)) (p .0)
     ∙ ap (λ (z : Bool). round binary64 (unlike s z) (m * up e * (n * up g)) (down e * down g)) (q .0)
     ∙ round-same binary64 (unlike s t) (m * up e * (n * up g)) (down e * down g) (a * b) (c * d) (mul-pos (down-pos e) (down-pos g)) (mul-pos C D)
-    (mul-mul-mul-comm (m * up e) (n * up g) c d ∙ ap (λ (z : ℕ). z * (n * up g * d)) (p .1) ∙ ap (λ (z : ℕ). a * down e * z) (q .1) ∙ mul-mul-mul-comm a (down e) b (down g))
+    (mul-mul-mul-comm (m * up e) (n * up g) c d ∙ ap (λ (z : ℕ). z * (n * up g * d)) (p .1) ∙ ap (λ (z : ℕ). a * down e * z) (q .1)
+    ∙ mul-mul-mul-comm a (down e) b (down g))
 
 unlike-sym : (s t : Bool) → unlike s t ≡ unlike t s
 unlike-sym true true = refl
@@ -74,7 +78,11 @@ unlike-sym true false = refl
 unlike-sym false true = refl
 unlike-sym false false = refl
 
-pub div-round : (x y : Float) (s : Bool) (a c b d : ℕ) → 0 < c → 0 < d → 0 < b → HasValue x s a c → HasValue y false b d → div binary64 x y ≡ round binary64 s (a * d) (c * b)
+trade : (a e n d : ℕ) → a * e * (n * d) ≡ a * d * (n * e)
+trade a e n d = simp (mul-assoc, mul-comm, mul-left-comm)
+
+pub div-round : (x y : Float) (s : Bool) (a c b d : ℕ) → 0 < c → 0 < d → 0 < b → HasValue x s a c → HasValue y false b d
+    → div binary64 x y ≡ round binary64 s (a * d) (c * b)
 unfolding div
 div-round nan y s a c b d C D B p q = absurd p
 div-round (inf u) y s a c b d C D B p q = absurd p
@@ -82,10 +90,11 @@ div-round (fin u m e) nan s a c b d C D B p q = absurd q
 div-round (fin u m e) (inf v) s a c b d C D B p q = absurd q
 div-round (fin u m e) (fin true n g) s a c b d C D B p q = absurd (true≢false (q .0))
 div-round (fin u m e) (fin false n g) s a c b d C D B p q =
-    ap (λ (z : Bool). cond z (cond (eqb m 0) nan (inf (unlike u false))) (round binary64 (unlike u false) (m * up e * down g) (n * up g * down e))) (eqb-no n 0 some)
+    ap (λ (z : Bool). cond z (cond (eqb m 0) nan (inf (unlike u false))) (round binary64 (unlike u false) (m * up e * down g) (n * up g * down e)))
+    (eqb-no n 0 some)
     ∙ ap (λ (z : Bool). round binary64 z (m * up e * down g) (n * up g * down e)) (unlike-plus u ∙ p .0)
     ∙ round-same binary64 s (m * up e * down g) (n * up g * down e) (a * d) (c * b) (mul-pos (mul-pos N (up-pos g)) (down-pos e)) (mul-pos C B)
-    (swap (m * up e) (down g) c b ∙ ap (λ (z : ℕ). z * (b * down g)) (p .1) ∙ ap (λ (z : ℕ). a * down e * z) (sym (q .1)) ∙ swap' a (down e) (n * up g) d)
+    (swap (m * up e) (down g) c b ∙ ap (λ (z : ℕ). z * (b * down g)) (p .1) ∙ ap (λ (z : ℕ). a * down e * z) (sym (q .1)) ∙ trade a (down e) (n * up g) d)
   where
     N : 0 < n
     N = first-pos n (up g) (first-pos (n * up g) d (subst (λ (z : ℕ). 0 < z) (sym (q .1)) (mul-pos B (down-pos g))))
@@ -95,9 +104,6 @@ div-round (fin u m e) (fin false n g) s a c b d C D B p q =
 
     swap : (n g c b : ℕ) → n * g * (c * b) ≡ n * c * (b * g)
     swap n g c b = simp (mul-assoc, mul-comm, mul-left-comm)
-
-    swap' : (a e n d : ℕ) → a * e * (n * d) ≡ a * d * (n * e)
-    swap' a e n d = simp (mul-assoc, mul-comm, mul-left-comm)
 
 pub float-mul-comm : (x y : Float) → mul binary64 x y ≡ mul binary64 y x
 unfolding mul
@@ -132,13 +138,19 @@ unfolding sum
 sum-same s t A B C A' B' C' H H' p q =
     let l1 : ltb A B ≡ ltb A' B' = ltb-iff A B A' B' (scale-le B A C B' A' C' H q p) (scale-le B' A' C' B A C H' (sym q) (sym p)) in
     let l2 : ltb B A ≡ ltb B' A' = ltb-iff B A B' A' (scale-le A B C A' B' C' H p q) (scale-le A' B' C' A B C H' (sym p) (sym q)) in
-    ap (λ (z : Float). cond (Bool·beq s t) z (cond (ltb A B) (round binary64 t (B - A) C) (round binary64 (s && ltb B A) (A - B) C))) (round-same binary64 s (A + B) C (A' + B') C' H H' (cross-add A B C A' B' C' p q))
-    ∙ ap (λ (z : Float). cond (Bool·beq s t) (round binary64 s (A' + B') C') (cond (ltb A B) z (round binary64 (s && ltb B A) (A - B) C))) (round-same binary64 t (B - A) C (B' - A') C' H H' (cross-sub B A C B' A' C' q p))
-    ∙ ap (λ (z : Bool). cond (Bool·beq s t) (round binary64 s (A' + B') C') (cond z (round binary64 t (B' - A') C') (round binary64 (s && ltb B A) (A - B) C))) l1
-    ∙ ap (λ (z : Bool). cond (Bool·beq s t) (round binary64 s (A' + B') C') (cond (ltb A' B') (round binary64 t (B' - A') C') (round binary64 (s && z) (A - B) C))) l2
-    ∙ ap (λ (z : Float). cond (Bool·beq s t) (round binary64 s (A' + B') C') (cond (ltb A' B') (round binary64 t (B' - A') C') z)) (round-same binary64 (s && ltb B' A') (A - B) C (A' - B') C' H H' (cross-sub A B C A' B' C' p q))
+    ap (λ (z : Float). cond (Bool·beq s t) z (cond (ltb A B) (round binary64 t (B - A) C) (round binary64 (s && ltb B A) (A - B) C)))
+    (round-same binary64 s (A + B) C (A' + B') C' H H' (cross-add A B C A' B' C' p q))
+    ∙ ap (λ (z : Float). cond (Bool·beq s t) (round binary64 s (A' + B') C') (cond (ltb A B) z (round binary64 (s && ltb B A) (A - B) C)))
+    (round-same binary64 t (B - A) C (B' - A') C' H H' (cross-sub B A C B' A' C' q p))
+    ∙ ap (λ (z : Bool). cond (Bool·beq s t) (round binary64 s (A' + B') C')
+    (cond z (round binary64 t (B' - A') C') (round binary64 (s && ltb B A) (A - B) C))) l1
+    ∙ ap (λ (z : Bool). cond (Bool·beq s t) (round binary64 s (A' + B') C')
+    (cond (ltb A' B') (round binary64 t (B' - A') C') (round binary64 (s && z) (A - B) C))) l2
+    ∙ ap (λ (z : Float). cond (Bool·beq s t) (round binary64 s (A' + B') C') (cond (ltb A' B') (round binary64 t (B' - A') C') z))
+    (round-same binary64 (s && ltb B' A') (A - B) C (A' - B') C' H H' (cross-sub A B C A' B' C' p q))
 
-pub add-round : (x y : Float) (s t : Bool) (a c b d : ℕ) → 0 < c → 0 < d → HasValue x s a c → HasValue y t b d → add binary64 x y ≡ sum binary64 s (a * d) t (b * c) (c * d)
+pub add-round : (x y : Float) (s t : Bool) (a c b d : ℕ) → 0 < c → 0 < d → HasValue x s a c → HasValue y t b d
+    → add binary64 x y ≡ sum binary64 s (a * d) t (b * c) (c * d)
 unfolding add
 add-round nan y s t a c b d C D p q = absurd p
 add-round (inf u) y s t a c b d C D p q = absurd p
@@ -148,17 +160,11 @@ add-round (fin u m e) (fin v n g) s t a c b d C D p q =
     ap (λ (z : Bool). sum binary64 z (m * up e * down g) v (n * up g * down e) (down e * down g)) (p .0)
     ∙ ap (λ (z : Bool). sum binary64 s (m * up e * down g) z (n * up g * down e) (down e * down g)) (q .0)
     ∙ sum-same s t (m * up e * down g) (n * up g * down e) (down e * down g) (a * d) (b * c) (c * d) (mul-pos (down-pos e) (down-pos g)) (mul-pos C D)
-    (mul-mul-mul-comm (m * up e) (down g) c d ∙ ap (λ (z : ℕ). z * (down g * d)) (p .1) ∙ swap a (down e) (down g) d)
-    (turn (n * up g) (down e) c d ∙ ap (λ (z : ℕ). z * (down e * c)) (q .1) ∙ swap' b (down g) (down e) c)
+    (mul-mul-mul-comm (m * up e) (down g) c d ∙ ap (λ (z : ℕ). z * (down g * d)) (p .1) ∙ turn a (down e) (down g) d)
+    (turn (n * up g) (down e) c d ∙ ap (λ (z : ℕ). z * (down e * c)) (q .1) ∙ trade b (down g) (down e) c)
   where
-    swap : (a e g d : ℕ) → a * e * (g * d) ≡ a * d * (e * g)
-    swap a e g d = simp (mul-assoc, mul-comm, mul-left-comm)
-
     turn : (n e c d : ℕ) → n * e * (c * d) ≡ n * d * (e * c)
     turn n e c d = simp (mul-assoc, mul-comm, mul-left-comm)
-
-    swap' : (b g e c : ℕ) → b * g * (e * c) ≡ b * c * (e * g)
-    swap' b g e c = simp (mul-assoc, mul-comm, mul-left-comm)
 
 pub neg-value : (x : Float) (s : Bool) (a c : ℕ) → HasValue x s a c → HasValue (neg x) (not s) a c
 unfolding neg
@@ -179,7 +185,8 @@ pub le-by-minus : (x y : Float) (a c b d : ℕ) → 0 < c → 0 < d → HasValue
 le-by-minus x y a c b d C D p q h =
     simp (neg-neg) at (le-neg (neg y) (neg x) (le-of-values (neg y) (neg x) b d a c D C (neg-value y true b d q) (neg-value x true a c p) h))
 
-pub sub-round : (x y : Float) (s t : Bool) (a c b d : ℕ) → 0 < c → 0 < d → HasValue x s a c → HasValue y t b d → sub binary64 x y ≡ sum binary64 s (a * d) (not t) (b * c) (c * d)
+pub sub-round : (x y : Float) (s t : Bool) (a c b d : ℕ) → 0 < c → 0 < d → HasValue x s a c → HasValue y t b d
+    → sub binary64 x y ≡ sum binary64 s (a * d) (not t) (b * c) (c * d)
 unfolding sub
 sub-round x y s t a c b d C D p q = add-round x (neg y) s (not t) a c b d C D p (neg-value y t b d q)
 
@@ -199,7 +206,8 @@ sum-neg-pos a b c h = go (ltb a b) (ltb b a) (nltb→le a b) (ltb→lt b a)
     same : (a b : ℕ) → a ≤ b → b ≤ a → a - b ≡ b - a
     same a b h k = omega arith
 
-    go : (t u : Bool) → (T (not t) → b ≤ a) → (T u → b < a) → cond t (round binary64 false (b - a) c) (round binary64 u (a - b) c) ≡ round binary64 false (b - a) c
+    go : (t u : Bool) → (T (not t) → b ≤ a) → (T u → b < a)
+        → cond t (round binary64 false (b - a) c) (round binary64 u (a - b) c) ≡ round binary64 false (b - a) c
     go true u k l = refl
     go false true k l = absurd (not-le-of-lt (l tt) h)
     go false false k l = ap (λ (z : ℕ). round binary64 false z c) (same a b h (k tt))
@@ -258,19 +266,24 @@ pub sub-self-zero : (x : Float) → T (isFin x) → sub binary64 x x ≡ zer
 unfolding ofBits
 sub-self-zero nan f = absurd f
 sub-self-zero (inf s) f = absurd f
-sub-self-zero (fin s m e) f = unfold sub in go s ∙ ap (λ (z : ℕ). round binary64 false z (down e * down e)) (nil (m * up e * down e)) ∙ round-zero false (down e * down e) (mul-pos (down-pos e) (down-pos e))
+sub-self-zero (fin s m e) f = unfold sub in
+    go s ∙ ap (λ (z : ℕ). round binary64 false z (down e * down e)) (nil (m * up e * down e))
+    ∙ round-zero false (down e * down e) (mul-pos (down-pos e) (down-pos e))
   where
     nil : (a : ℕ) → a - a ≡ 0
     nil a = omega arith
 
-    go : (s : Bool) → sum binary64 s (m * up e * down e) (not s) (m * up e * down e) (down e * down e) ≡ round binary64 false (m * up e * down e - m * up e * down e) (down e * down e)
+    go : (s : Bool)
+        → sum binary64 s (m * up e * down e) (not s) (m * up e * down e) (down e * down e)
+        ≡ round binary64 false (m * up e * down e - m * up e * down e) (down e * down e)
     go true = sum-neg-pos (m * up e * down e) (m * up e * down e) (down e * down e) (le-refl (m * up e * down e))
     go false = sum-pos-neg (m * up e * down e) (m * up e * down e) (down e * down e) (le-refl (m * up e * down e))
 
 -- ---- the bits of a multiple of 2 ^ 52 are no NaN's
 pub no-nan-bits : (n : ℕ) → T (not (nanBits binary64 (n * 4503599627370496)))
 unfolding nanBits
-no-nan-bits n = subst (λ (z : ℕ). T (not (eqb (n * 4503599627370496 % 9223372036854775808 / 4503599627370496) 2047 && not (eqb z 0)))) (sym (mul-mod-left n 4503599627370496)) (none (eqb (n * 4503599627370496 % 9223372036854775808 / 4503599627370496) 2047))
+no-nan-bits n = subst (λ (z : ℕ). T (not (eqb (n * 4503599627370496 % 9223372036854775808 / 4503599627370496) 2047 && not (eqb z 0))))
+    (sym (mul-mod-left n 4503599627370496)) (none (eqb (n * 4503599627370496 % 9223372036854775808 / 4503599627370496) 2047))
   where
     none : (b : Bool) → T (not (b && false))
     none true = tt

@@ -23,8 +23,11 @@ times-nought (inf s) d h k = absurd h
 times-nought (fin s m e) nan h k = absurd k
 times-nought (fin s m e) (inf t) h k = absurd k
 times-nought (fin s m e) (fin t n g) h k =
-    let z = eqb→eq (n * up g * 1) (0 * down g) (and-l (eqb (n * up g * 1) (0 * down g)) (Bool·beq t false || eqb (n * up g * 1) 0) k) in
-    (unlike s t, ap (λ (z : ℕ). round binary64 (unlike s t) z (down e * down g)) (nothing (m * up e) (n * up g) (down g) z) ∙ round-zero (unlike s t) (down e * down g) (mul-pos (down-pos e) (down-pos g)))
+    let z = eqb→eq (n * up g * 1) (0 * down g) (and-l (eqb (n * up g * 1) (0 * down g)) (Bool·beq t false || eqb (n * up g * 1) 0) k) in (
+      unlike s t,
+      ap (λ (z : ℕ). round binary64 (unlike s t) z (down e * down g)) (nothing (m * up e) (n * up g) (down g) z)
+          ∙ round-zero (unlike s t) (down e * down g) (mul-pos (down-pos e) (down-pos g)),
+    )
   where
     nil : (b d : ℕ) → b * 1 ≡ 0 * d → b ≡ 0
     nil b d h = omega arith
@@ -74,8 +77,13 @@ plus-nought (fin s m e) t f h =
 -- ---- with numbers whose size is known
 pub zero-times : (k : ℕ) (z x : Float) (t : Bool) → HasValue z t 0 1 → Within k x → (r : Bool) × HasValue (mul binary64 z x) r 0 1
 zero-times k z x t h X =
-    let p = X .1 in
-    (unlike t (X .0), subst (λ (v : Float). HasValue v (unlike t (X .0)) 0 1) (sym (mul-round z x t (X .0) 0 1 (p .0) (p .1) (lit< tt) (p .2) h (p .4) ∙ ap (λ (n : ℕ). round binary64 (unlike t (X .0)) n (1 * p .1)) (zero-mul (p .0)) ∙ round-zero (unlike t (X .0)) (1 * p .1) (mul-pos (lit< tt) (p .2)))) (refl, refl))
+    let p = X .1 in (
+      unlike t (X .0),
+      subst (λ (v : Float). HasValue v (unlike t (X .0)) 0 1)
+          (sym (mul-round z x t (X .0) 0 1 (p .0) (p .1) (lit< tt) (p .2) h (p .4)
+          ∙ ap (λ (n : ℕ). round binary64 (unlike t (X .0)) n (1 * p .1)) (zero-mul (p .0))
+          ∙ round-zero (unlike t (X .0)) (1 * p .1) (mul-pos (lit< tt) (p .2)))) (refl, refl),
+    )
 
 pub zero-plus : (k : ℕ) (z x : Float) (t : Bool) → k ≤ 1023 → HasValue z t 0 1 → Within k x → Within k (add binary64 z x)
 zero-plus k z x t K h X =

@@ -41,13 +41,15 @@ unfolding ofBits fabsOf
 fabs-turned nan t h = unfold sub neg add in refl
 fabs-turned (inf true) t h = unfold sub neg add in refl
 fabs-turned (inf false) t h = absurd (true≢false (unfold lt in h))
-fabs-turned (fin false m e) t h = ap (λ (y : Float). sub binary64 (fin false 0 (pos 0)) y) (sym zero-is) ∙ unfold ofBits in sub-self-zero (fin false 0 (pos 0)) tt ∙ zero-is
+fabs-turned (fin false m e) t h =
+    ap (λ (y : Float). sub binary64 (fin false 0 (pos 0)) y) (sym zero-is) ∙ unfold ofBits in sub-self-zero (fin false 0 (pos 0)) tt ∙ zero-is
   where
     nil : (n d : ℕ) → n * 1 ≤ 0 * d → n * 1 ≡ 0 * d
     nil n d h = omega arith
 
     zero-is : fin false 0 (pos 0) ≡ fin false m e
-    zero-is = whole-unique binary64 (fin false 0 (pos 0)) (fin false m e) false 0 (unfold fits in tt) t (refl, refl) (refl, nil (m * up e) (down e) (ltb-false (0 * down e) (m * up e * 1) (unfold lt in h)))
+    zero-is = whole-unique binary64 (fin false 0 (pos 0)) (fin false m e) false 0 (unfold fits in tt) t (refl, refl)
+        (refl, nil (m * up e) (down e) (ltb-false (0 * down e) (m * up e * 1) (unfold lt in h)))
 fabs-turned (fin true m e) t h =
     sub-round (fin false 0 (pos 0)) (fin true m e) false true 0 1 (m * up e) (down e) (zero-lt-suc 0) (down-pos e) (refl, refl) (refl, refl)
     ∙ plain (m * up e) (down e)
@@ -109,7 +111,8 @@ pub quiet-bits : (b : ℕ) → b % 9223372036854775808 ≤ 9218868437227405312 �
 quiet-bits b h = subst (λ (z : Bool). T (not z)) (sym (nanBits-above binary64 b ∙ le-ltb 9218868437227405312 (b % 9223372036854775808) h)) tt
 
 pub nan-bits : (b : ℕ) → 9218868437227405312 < b % 9223372036854775808 → nan ≡ ofBits binary64 b
-nan-bits b h = sym (is-nan (ofBits binary64 b) (sym (nanBits-is binary64 b) ∙ nanBits-above binary64 b ∙ lt-ltb 9218868437227405312 (b % 9223372036854775808) h))
+nan-bits b h =
+    sym (is-nan (ofBits binary64 b) (sym (nanBits-is binary64 b) ∙ nanBits-above binary64 b ∙ lt-ltb 9218868437227405312 (b % 9223372036854775808) h))
 
 -- ---- to_u64
 -- at -1 and below, and a NaN
@@ -134,7 +137,9 @@ high-is (fin true m e) l h = absurd (bad (down e) (m * up e) (down-pos e) (ltb-f
   where
     bad : (d n : ℕ) → 0 < d → n * 1 + 18446744073709551616 * d ≤ 0 → ⊥
     bad d n D h = omega arith
-high-is (fin false m e) l h = top (m * up e / down e) (le-div-iff-mul-le (down-pos e) .1 (subst (λ (z : ℕ). 18446744073709551616 * down e ≤ z) (mul-one (m * up e)) (ltb-false (m * up e * 1) (18446744073709551616 * down e) h)))
+high-is (fin false m e) l h = top (m * up e / down e)
+    (le-div-iff-mul-le (down-pos e) .1
+    (subst (λ (z : ℕ). 18446744073709551616 * down e ≤ z) (mul-one (m * up e)) (ltb-false (m * up e * 1) (18446744073709551616 * down e) h)))
   where
     top : (q : ℕ) → 18446744073709551616 ≤ q → 18446744073709551615 ≡ min q 18446744073709551615
     top q h = omega arith

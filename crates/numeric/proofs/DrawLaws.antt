@@ -21,7 +21,8 @@ pub draw-exact : Draw-exact
 unfolding drawOf ofBits
 draw-exact k h =
     subst (λ (z : Float). HasValue z false k (2 ^ 53))
-    (sym (mul-round (ofInt binary64 (pos k)) (fin false 1 (negsuc 52)) false false k 1 1 9007199254740992 (zero-lt-suc 0) (lit< tt) (ofInt-val k (le-of-lt h)) (refl, refl)
+    (sym (mul-round (ofInt binary64 (pos k)) (fin false 1 (negsuc 52)) false false k 1 1 9007199254740992 (zero-lt-suc 0) (lit< tt) (ofInt-val k (le-of-lt h))
+    (refl, refl)
     ∙ ap (λ (z : ℕ). round binary64 false z 9007199254740992) (mul-one k)))
     (exact-at false k 53 h (lit≤ tt))
 
@@ -53,12 +54,14 @@ twice-once k h =
 
 less-one : (k : ℕ) → k < 2 ^ 53 → bipolarOf k ≡ sum binary64 false (k * 1) true (1 * 4503599627370496) 4503599627370496
 unfolding bipolarOf drawOf ofBits
-less-one k h = sub-round (mul binary64 (mul binary64 (ofInt binary64 (pos k)) (fin false 1 (negsuc 52))) (fin false 1 (pos 1))) (fin false 1 (pos 0)) false false k 4503599627370496 1 1 (lit< tt) (zero-lt-suc 0) (twice-exact k h) (refl, refl)
+less-one k h = sub-round (mul binary64 (mul binary64 (ofInt binary64 (pos k)) (fin false 1 (negsuc 52))) (fin false 1 (pos 1)))
+    (fin false 1 (pos 0)) false false k 4503599627370496 1 1 (lit< tt) (zero-lt-suc 0) (twice-exact k h) (refl, refl)
 
 bipolar-high : (k : ℕ) → 2 ^ 52 ≤ k → k < 2 ^ 53 → HasValue (bipolarOf k) false (k - 2 ^ 52) (2 ^ 52)
 bipolar-high k l h =
     subst (λ (z : Float). HasValue z false (k - 2 ^ 52) (2 ^ 52))
-    (sym (less-one k h ∙ sum-pos-neg (k * 1) 4503599627370496 4503599627370496 (subst (λ (z : ℕ). 4503599627370496 ≤ z) (sym (mul-one k)) l) ∙ ap (λ (z : ℕ). round binary64 false (z - 4503599627370496) 4503599627370496) (mul-one k)))
+    (sym (less-one k h ∙ sum-pos-neg (k * 1) 4503599627370496 4503599627370496 (subst (λ (z : ℕ). 4503599627370496 ≤ z) (sym (mul-one k)) l)
+    ∙ ap (λ (z : ℕ). round binary64 false (z - 4503599627370496) 4503599627370496) (mul-one k)))
     (exact-at false (k - 2 ^ 52) 52 (small k h) (lit≤ tt))
   where
     small : (k : ℕ) → k < 9007199254740992 → k - 4503599627370496 < 9007199254740992
@@ -67,7 +70,8 @@ bipolar-high k l h =
 bipolar-low : (k : ℕ) → k < 2 ^ 52 → HasValue (bipolarOf k) true (2 ^ 52 - k) (2 ^ 52)
 bipolar-low k l =
     subst (λ (z : Float). HasValue z true (2 ^ 52 - k) (2 ^ 52))
-    (sym (less-one k (wide k l) ∙ sum-neg (k * 1) 4503599627370496 4503599627370496 (subst (λ (z : ℕ). z < 4503599627370496) (sym (mul-one k)) l) ∙ ap (λ (z : ℕ). round binary64 true (4503599627370496 - z) 4503599627370496) (mul-one k)))
+    (sym (less-one k (wide k l) ∙ sum-neg (k * 1) 4503599627370496 4503599627370496 (subst (λ (z : ℕ). z < 4503599627370496) (sym (mul-one k)) l)
+    ∙ ap (λ (z : ℕ). round binary64 true (4503599627370496 - z) 4503599627370496) (mul-one k)))
     (exact-at true (2 ^ 52 - k) 52 (small k) (lit≤ tt))
   where
     small : (k : ℕ) → 4503599627370496 - k < 9007199254740992
@@ -92,9 +96,12 @@ bipolar-exact k h = go (ltb (2 * k) 9007199254740992) (ltb→lt (2 * k) 90071992
     more : (k : ℕ) → (2 * k - 9007199254740992) * 4503599627370496 ≡ (k - 4503599627370496) * 9007199254740992
     more k = omega arith
 
-    go : (b : Bool) → (T b → 2 * k < 9007199254740992) → (T (not b) → 9007199254740992 ≤ 2 * k) → HasValue (bipolarOf k) b (cond b (9007199254740992 - 2 * k) (2 * k - 9007199254740992)) 9007199254740992
-    go true f g = rescale (bipolarOf k) true (4503599627370496 - k) 4503599627370496 (9007199254740992 - 2 * k) 9007199254740992 (lit< tt) (less k) (bipolar-low k (low k (f tt)))
-    go false f g = rescale (bipolarOf k) false (k - 4503599627370496) 4503599627370496 (2 * k - 9007199254740992) 9007199254740992 (lit< tt) (more k) (bipolar-high k (high k (g tt)) h)
+    go : (b : Bool) → (T b → 2 * k < 9007199254740992) → (T (not b) → 9007199254740992 ≤ 2 * k)
+        → HasValue (bipolarOf k) b (cond b (9007199254740992 - 2 * k) (2 * k - 9007199254740992)) 9007199254740992
+    go true f g = rescale (bipolarOf k) true (4503599627370496 - k) 4503599627370496 (9007199254740992 - 2 * k) 9007199254740992 (lit< tt) (less k)
+        (bipolar-low k (low k (f tt)))
+    go false f g = rescale (bipolarOf k) false (k - 4503599627370496) 4503599627370496 (2 * k - 9007199254740992) 9007199254740992 (lit< tt) (more k)
+        (bipolar-high k (high k (g tt)) h)
 
 -- so no draw is larger than 1
 pub bipolar-within : (k : ℕ) → k < 2 ^ 53 → Within 0 (bipolarOf k)

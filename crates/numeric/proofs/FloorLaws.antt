@@ -27,7 +27,9 @@ too-big m p a b c = omega arith
 -- a value that fits and is 2 ^ 52 or more has no fraction
 pub big-whole : (s : Bool) (m : ℕ) (e : ℤ) → F64 (fin s m e) → 4503599627370496 * down e ≤ m * up e * 1 → m * up e % down e ≡ 0
 big-whole s m (pos k) t h = mod-one (m * 2 ^ k)
-big-whole s m (negsuc k) t h = absurd (too-big m (2 ^ k) (fits-small s m (negsuc k) t) (pow-pos k) (le-trans (le-of-eq (ap (λ (z : ℕ). 4503599627370496 * z) (two-suc k))) (le-trans h (le-of-eq (mul-one (m * 1))))))
+big-whole s m (negsuc k) t h = absurd
+    (too-big m (2 ^ k) (fits-small s m (negsuc k) t) (pow-pos k)
+    (le-trans (le-of-eq (ap (λ (z : ℕ). 4503599627370496 * z) (two-suc k))) (le-trans h (le-of-eq (mul-one (m * 1))))))
   where
     two-suc : (k : ℕ) → 2 * 2 ^ k ≡ 2 ^ suc k
     two-suc k = omega arith
@@ -71,7 +73,8 @@ floor-whole s m e t = go s (eqb r 0) refl (part-small s m e t)
     positive zero t = absurd (t refl)
     positive (suc n) t = zero-lt-suc n
 
-    go : (s b : Bool) → eqb r 0 ≡ b → (T (not b) → q < 2 ^ 53) → WholeBelow s m e (cond b (fin s m e) (cond s (neg (ofInt binary64 (pos (suc q)))) (ofInt binary64 (pos q))))
+    go : (s b : Bool) → eqb r 0 ≡ b → (T (not b) → q < 2 ^ 53)
+        → WholeBelow s m e (cond b (fin s m e) (cond s (neg (ofInt binary64 (pos (suc q)))) (ofInt binary64 (pos q))))
     go false true z f = let w = at-whole (m * up e) (down e) q r h (eqb-true r 0 z) (down-pos e) in (q, (refl, w .0), w .1, w .2)
     go true true z f = let w = at-whole (m * up e) (down e) q r h (eqb-true r 0 z) (down-pos e) in (q, (refl, w .0), w .3, w .4)
     go false false z f = let w = above-cut (m * up e) (down e) q r h k in (q, ofInt-val q (le-of-lt (f tt)), w .0, w .1)
@@ -91,10 +94,12 @@ floor-below nan t f = absurd f
 floor-below (inf s) t f = absurd f
 floor-below (fin false m e) t f =
     let w = floor-whole false m e t in
-    le-of-values (floorOf (fin false m e)) (fin false m e) (w .0) 1 (m * up e) (down e) (lit< tt) (down-pos e) (w .1) (refl, refl) (le-trans (w .2) (le-of-eq (sym (mul-one (m * up e)))))
+    le-of-values (floorOf (fin false m e)) (fin false m e) (w .0) 1 (m * up e) (down e) (lit< tt) (down-pos e) (w .1) (refl, refl)
+    (le-trans (w .2) (le-of-eq (sym (mul-one (m * up e)))))
 floor-below (fin true m e) t f =
     let w = floor-whole true m e t in
-    le-by-minus (floorOf (fin true m e)) (fin true m e) (w .0) 1 (m * up e) (down e) (lit< tt) (down-pos e) (w .1) (refl, refl) (le-trans (le-of-eq (mul-one (m * up e))) (w .2))
+    le-by-minus (floorOf (fin true m e)) (fin true m e) (w .0) 1 (m * up e) (down e) (lit< tt) (down-pos e) (w .1) (refl, refl)
+    (le-trans (le-of-eq (mul-one (m * up e))) (w .2))
 
 -- x less its floor is one rounding of a fraction from 0 to 1
 pub floor-rest : Floor-rest
@@ -105,7 +110,8 @@ floor-rest (fin false m e) t f =
     let w = floor-whole false m e t in
     let b = range (m * up e) (down e) (w .0 * down e) (down-pos e) (w .2) (le-trans (le-of-lt (w .3)) (le-of-eq (next (w .0) (down e)))) in
     subst (λ (z : Float). T (le (fin false 0 (pos 0)) z) × T (le z (fin false 1 (pos 0))))
-    (sym (sub-round (fin false m e) (floorOf (fin false m e)) false false (m * up e) (down e) (w .0) 1 (down-pos e) (lit< tt) (refl, refl) (w .1) ∙ sum-pos-neg (m * up e * 1) (w .0 * down e) (down e * 1) (b .0)))
+    (sym (sub-round (fin false m e) (floorOf (fin false m e)) false false (m * up e) (down e) (w .0) 1 (down-pos e) (lit< tt) (refl, refl) (w .1)
+    ∙ sum-pos-neg (m * up e * 1) (w .0 * down e) (down e * 1) (b .0)))
     (unit-law (m * up e * 1 - w .0 * down e) (down e * 1) (b .1) (b .2))
   where
     next : (q d : ℕ) → (q + 1) * d ≡ q * d + d
@@ -117,7 +123,8 @@ floor-rest (fin true m e) t f =
     let w = floor-whole true m e t in
     let b = range (m * up e) (down e) (w .0 * down e) (down-pos e) (w .2) (le-of-lt (w .3)) in
     subst (λ (z : Float). T (le (fin false 0 (pos 0)) z) × T (le z (fin false 1 (pos 0))))
-    (sym (sub-round (fin true m e) (floorOf (fin true m e)) true true (m * up e) (down e) (w .0) 1 (down-pos e) (lit< tt) (refl, refl) (w .1) ∙ sum-neg-pos (m * up e * 1) (w .0 * down e) (down e * 1) (b .0)))
+    (sym (sub-round (fin true m e) (floorOf (fin true m e)) true true (m * up e) (down e) (w .0) 1 (down-pos e) (lit< tt) (refl, refl) (w .1)
+    ∙ sum-neg-pos (m * up e * 1) (w .0 * down e) (down e * 1) (b .0)))
     (unit-law (w .0 * down e - m * up e * 1) (down e * 1) (b .1) (b .2))
   where
     range : (n d x : ℕ) → 0 < d → n ≤ x → x ≤ n + d → (n * 1 ≤ x) × (0 < d * 1) × (x - n * 1 ≤ d * 1)

@@ -20,7 +20,7 @@ use Rattle.laws.proofs.Values.{add-round, lt-by-minus, neg-value, ofInt-val, ro
 use Rattle.laws.specs.Float.{F64, one, zer}
 use Rattle.numeric.proofs.FloorLaws.{big-whole}
 use Rattle.numeric.proofs.RangeLaws.{suc-less}
-use Rattle.numeric.proofs.SmallFloor.{floor-frac, floor-kept, floor-whole-kept, none-below}
+use Rattle.numeric.proofs.SmallFloor.{floor-frac, floor-kept, floor-whole-kept, none-below, some-above}
 use Rattle.numeric.specs.Floor.{floorOf}
 
 -- ---- what `pick` makes of x and a whole number r next to it
@@ -51,23 +51,25 @@ pos-pick m e R top hi lo =
     )
     (go R top hi lo (ltb (m * up e) (R * down e)) (eqb (R * down e) (m * up e)) refl refl)
   where
-    no : (n d : ℕ) → n < 0 * d → ⊥
-    no n d h = omega arith
-
-    go : (R : ℕ) → R ≤ 9007199254740992 → R * down e * 2 ≤ m * up e * 2 + down e → m * up e * 2 ≤ R * down e * 2 + down e → (a b : Bool) → ltb (m * up e) (R * down e) ≡ a → eqb (R * down e) (m * up e) ≡ b
+    go : (R : ℕ) → R ≤ 9007199254740992 → R * down e * 2 ≤ m * up e * 2 + down e → m * up e * 2 ≤ R * down e * 2 + down e → (a b : Bool)
+        → ltb (m * up e) (R * down e) ≡ a → eqb (R * down e) (m * up e) ≡ b
         → cond a (sub binary64 (ofInt binary64 (pos R)) one) (cond b (fin false m e) (ofInt binary64 (pos R))) ≡ floorOf (fin false m e)
-    go zero top hi lo true b p q = absurd (no (m * up e) (down e) (ltb-true (m * up e) (0 * down e) p))
+    go zero top hi lo true b p q = absurd (none-below (m * up e) (down e) (ltb-true (m * up e) (0 * down e) p))
     go (suc S) top hi lo true b p q =
         suc-less S top
-        ∙ sym (floor-frac false m e S (above-last (m * up e) (down e) (suc S) (down-pos e) hi lo S refl) (subst (λ (z : ℕ). m * up e < z) (sym (next S (down e))) (ltb-true (m * up e) (suc S * down e) p)))
+        ∙ sym (floor-frac false m e S (above-last (m * up e) (down e) (suc S) (down-pos e) hi lo S refl)
+        (subst (λ (z : ℕ). m * up e < z) (sym (next S (down e))) (ltb-true (m * up e) (suc S * down e) p)))
     go R top hi lo false true p q = sym (floor-kept false m e R (sym (eqb-true (R * down e) (m * up e) q)))
-    go R top hi lo false false p q = sym (floor-frac false m e R (lt-of-le-ne (ltb-false (m * up e) (R * down e) p) (eqb-false (R * down e) (m * up e) q)) (below-next (m * up e) (down e) R (down-pos e) hi lo))
+    go R top hi lo false false p q = sym
+        (floor-frac false m e R (lt-of-le-ne (ltb-false (m * up e) (R * down e) p) (eqb-false (R * down e) (m * up e) q))
+        (below-next (m * up e) (down e) R (down-pos e) hi lo))
 
 -- the same below 0: r is -R, or +0
 minus-less : (R : ℕ) → R ≤ 4503599627370496 → sub binary64 (round binary64 true R 1) one ≡ neg (ofInt binary64 (pos (suc R)))
 unfolding ofInt
 minus-less R h =
-    sub-round (round binary64 true R 1) one true false R 1 1 1 (lit< tt) (lit< tt) (round-whole binary64 true R (le-trans h (lit≤ tt))) (unfold ofBits in (refl, refl))
+    sub-round (round binary64 true R 1) one true false R 1 1 1 (lit< tt) (lit< tt) (round-whole binary64 true R (le-trans h (lit≤ tt)))
+    (unfold ofBits in (refl, refl))
     ∙ unfold sum in ap (λ (z : ℕ). round binary64 true z 1) (at R)
     ∙ round-neg (suc R) 1
   where
@@ -87,12 +89,17 @@ neg-pick m e S top hi lo =
   where
     go : (a b : Bool) → ltb (suc S * down e) (m * up e) ≡ a → eqb (suc S * down e) (m * up e) ≡ b
         → cond a (sub binary64 (round binary64 true (suc S) 1) one) (cond b (fin true m e) (round binary64 true (suc S) 1)) ≡ floorOf (fin true m e)
-    go true b p q = minus-less (suc S) top ∙ sym (floor-frac true m e (suc S) (ltb-true (suc S * down e) (m * up e) p) (below-next (m * up e) (down e) (suc S) (down-pos e) hi lo))
+    go true b p q = minus-less (suc S) top
+        ∙ sym (floor-frac true m e (suc S) (ltb-true (suc S * down e) (m * up e) p) (below-next (m * up e) (down e) (suc S) (down-pos e) hi lo))
     go false true p q = sym (floor-kept true m e (suc S) (sym (eqb-true (suc S * down e) (m * up e) q)))
     go false false p q =
         round-neg (suc S) 1
         ∙ unfold ofInt in sym (floor-frac true m e S (above-last (m * up e) (down e) (suc S) (down-pos e) hi lo S refl)
-        (subst (λ (z : ℕ). m * up e < z) (sym (next S (down e))) (lt-of-le-ne (ltb-false (suc S * down e) (m * up e) p) (λ (z : m * up e ≡ suc S * down e). eqb-false (suc S * down e) (m * up e) q (sym z)))))
+        (subst (λ (z : ℕ). m * up e < z) (sym (next S (down e)))
+        (lt-of-le-ne (ltb-false (suc S * down e) (m * up e) p) (λ (z : m * up e ≡ suc S * down e). eqb-false (suc S * down e) (m * up e) q (sym z)))))
+
+nil : (n d : ℕ) → n * 1 + 0 * d ≤ 0 → n ≡ 0
+nil n d h = omega arith
 
 zer-pick : (m : ℕ) (e : ℤ) → m * up e * 2 ≤ down e → pick (fin true m e) (fin false 0 (pos 0)) ≡ floorOf (fin true m e)
 unfolding lt eq
@@ -102,20 +109,16 @@ zer-pick m e h = go (ltb 0 (m * up e * 1 + 0 * down e)) (level false (0 * down e
     less = unfold sub ofInt neg ofBits in refl
 
     both : (n d : ℕ) → n ≡ 0 → (eqb (0 * d) (n * 1) && eqb (0 * d) 0) ≡ true
-    both n d z = is-true (eqb (0 * d) (n * 1) && eqb (0 * d) 0) (and-i (eqb (0 * d) (n * 1)) (eqb (0 * d) 0) (eq→eqb (zero-mul d ∙ sym (mul-one n ∙ z))) (eq→eqb (zero-mul d)))
-
-    above : (n d : ℕ) → 0 < n * 1 + 0 * d → 0 * d < n
-    above n d h = omega arith
+    both n d z = is-true (eqb (0 * d) (n * 1) && eqb (0 * d) 0)
+        (and-i (eqb (0 * d) (n * 1)) (eqb (0 * d) 0) (eq→eqb (zero-mul d ∙ sym (mul-one n ∙ z))) (eq→eqb (zero-mul d)))
 
     top : (n d : ℕ) → n * 2 ≤ d → 0 < d → n < (0 + 1) * d
     top n d h p = omega arith
 
-    nil : (n d : ℕ) → n * 1 + 0 * d ≤ 0 → n ≡ 0
-    nil n d h = omega arith
-
     go : (a b : Bool) → ltb 0 (m * up e * 1 + 0 * down e) ≡ a → (m * up e ≡ 0 → b ≡ true)
         → cond a (sub binary64 (fin false 0 (pos 0)) one) (cond b (fin true m e) (fin false 0 (pos 0))) ≡ floorOf (fin true m e)
-    go true b p q = less ∙ sym (floor-frac true m e 0 (above (m * up e) (down e) (ltb-true 0 (m * up e * 1 + 0 * down e) p)) (top (m * up e) (down e) h (down-pos e)))
+    go true b p q =
+        less ∙ sym (floor-frac true m e 0 (some-above (m * up e) (down e) (ltb-true 0 (m * up e * 1 + 0 * down e) p)) (top (m * up e) (down e) h (down-pos e)))
     go false b p q =
         let z = nil (m * up e) (down e) (ltb-false 0 (m * up e * 1 + 0 * down e) p) in
         ap (λ (b : Bool). cond b (fin true m e) (fin false 0 (pos 0))) (q z) ∙ sym (floor-kept true m e 0 (z ∙ sym (zero-mul (down e))))
@@ -136,7 +139,8 @@ big-val = (refl, refl)
 
 -- n / d + 2 ^ 52 is rounded to the whole number 2 ^ 52 + R, R being nearest to n / d
 nearest : (n d : ℕ) → 0 < d → n < 4503599627370496 * d
-    → (R : ℕ) × HasValue (round binary64 false (n + 4503599627370496 * d) d) false (4503599627370496 + R) 1 × (R ≤ 4503599627370496) × (R * d * 2 ≤ n * 2 + d) × (n * 2 ≤ R * d * 2 + d)
+    → (R : ℕ) × HasValue (round binary64 false (n + 4503599627370496 * d) d) false (4503599627370496 + R) 1 × (R ≤ 4503599627370496) × (R * d * 2 ≤ n * 2 + d)
+    × (n * 2 ≤ R * d * 2 + d)
 nearest n d D h =
     let w = whole-round (n + 4503599627370496 * d) d D (low n d) (high n d h) in
     let N = w .0 in
@@ -157,7 +161,8 @@ nearest n d D h =
     most : (N : ℕ) → N ≤ 9007199254740992 → N - 4503599627370496 ≤ 4503599627370496
     most N g = omega arith
 
-    shift : (x y : ℕ) → x ≡ 4503599627370496 * d + y → x * 2 ≤ (n + 4503599627370496 * d) * 2 + d → (n + 4503599627370496 * d) * 2 ≤ x * 2 + d → (y * 2 ≤ n * 2 + d) × (n * 2 ≤ y * 2 + d)
+    shift : (x y : ℕ) → x ≡ 4503599627370496 * d + y → x * 2 ≤ (n + 4503599627370496 * d) * 2 + d → (n + 4503599627370496 * d) * 2 ≤ x * 2 + d
+        → (y * 2 ≤ n * 2 + d) × (n * 2 ≤ y * 2 + d)
     shift x y e h k = (omega arith, omega arith)
 
 up-sum : (m : ℕ) (e : ℤ) → m * up e < 4503599627370496 * down e → pick (fin false m e) (upOf (fin false m e)) ≡ floorOf (fin false m e)
@@ -165,7 +170,9 @@ up-sum m e h =
     let w = nearest (m * up e) (down e) (down-pos e) h in
     let R = w .0 in
     let t : HasValue (add binary64 (fin false m e) big) false (4503599627370496 + R) 1 =
-    subst (λ (z : Float). HasValue z false (4503599627370496 + R) 1) (sym (add-round (fin false m e) big false false (m * up e) (down e) 4503599627370496 1 (down-pos e) (lit< tt) (refl, refl) big-val ∙ plain (m * up e) (down e))) (w .1) in
+    subst (λ (z : Float). HasValue z false (4503599627370496 + R) 1)
+    (sym (add-round (fin false m e) big false false (m * up e) (down e) 4503599627370496 1 (down-pos e) (lit< tt) (refl, refl) big-val
+    ∙ plain (m * up e) (down e))) (w .1) in
     ap (λ (r : Float). pick (fin false m e) r)
     (sub-round (add binary64 (fin false m e) big) big false false (4503599627370496 + R) 1 4503599627370496 1 (lit< tt) (lit< tt) t big-val
     ∙ sum-pos-neg ((4503599627370496 + R) * 1) 4503599627370496 1 (least R)
@@ -190,9 +197,11 @@ down-sum m e h =
     let R = w .0 in
     let t : HasValue (sub binary64 (fin true m e) big) true (4503599627370496 + R) 1 =
     subst (λ (z : Float). HasValue z true (4503599627370496 + R) 1)
-    (sym (sub-round (fin true m e) big true false (m * up e) (down e) 4503599627370496 1 (down-pos e) (lit< tt) (refl, refl) big-val ∙ plain (m * up e) (down e) ∙ round-neg (m * up e + 4503599627370496 * down e) (down e)))
+    (sym (sub-round (fin true m e) big true false (m * up e) (down e) 4503599627370496 1 (down-pos e) (lit< tt) (refl, refl) big-val
+    ∙ plain (m * up e) (down e) ∙ round-neg (m * up e + 4503599627370496 * down e) (down e)))
     (neg-value (round binary64 false (m * up e + 4503599627370496 * down e) (down e)) false (4503599627370496 + R) 1 (w .1)) in
-    ap (λ (r : Float). pick (fin true m e) r) (add-round (sub binary64 (fin true m e) big) big true false (4503599627370496 + R) 1 4503599627370496 1 (lit< tt) (lit< tt) t big-val)
+    ap (λ (r : Float). pick (fin true m e) r)
+    (add-round (sub binary64 (fin true m e) big) big true false (4503599627370496 + R) 1 4503599627370496 1 (lit< tt) (lit< tt) t big-val)
     ∙ go R (w .2) (w .3) (w .4)
   where
     plain : (n d : ℕ) → sum binary64 true (n * 1) true (4503599627370496 * d) (d * 1) ≡ round binary64 true (n + 4503599627370496 * d) d
@@ -213,7 +222,8 @@ down-sum m e h =
         ap (λ (r : Float). pick (fin true m e) r) (sum-neg-pos 4503599627370496 4503599627370496 1 (lit≤ tt) ∙ round-zero false 1 (lit< tt))
         ∙ zer-pick m e (flat (m * up e) (down e) lo)
     go (suc S) top hi lo =
-        ap (λ (r : Float). pick (fin true m e) r) (sum-neg-neg ((4503599627370496 + suc S) * 1) 4503599627370496 1 (less S) ∙ ap (λ (z : ℕ). round binary64 true z 1) (rest S))
+        ap (λ (r : Float). pick (fin true m e) r)
+        (sum-neg-neg ((4503599627370496 + suc S) * 1) 4503599627370496 1 (less S) ∙ ap (λ (z : ℕ). round binary64 true z 1) (rest S))
         ∙ neg-pick m e S top hi lo
 
 -- -0 goes the way of the numbers that are not below 0
@@ -221,9 +231,12 @@ minus-zero : (m : ℕ) (e : ℤ) → m * up e ≡ 0 → pick (fin true m e) (upO
 minus-zero m e h =
     let v : HasValue (fin true m e) true 0 1 = (refl, mul-one (m * up e) ∙ h ∙ sym (zero-mul (down e))) in
     let t : HasValue (add binary64 (fin true m e) big) false 4503599627370496 1 =
-    subst (λ (z : Float). HasValue z false 4503599627370496 1) (sym (add-round (fin true m e) big true false 0 1 4503599627370496 1 (lit< tt) (lit< tt) v big-val ∙ sum-neg-pos 0 4503599627370496 1 (lit≤ tt))) (round-whole binary64 false 4503599627370496 (lit≤ tt)) in
+    subst (λ (z : Float). HasValue z false 4503599627370496 1)
+    (sym (add-round (fin true m e) big true false 0 1 4503599627370496 1 (lit< tt) (lit< tt) v big-val ∙ sum-neg-pos 0 4503599627370496 1 (lit≤ tt)))
+    (round-whole binary64 false 4503599627370496 (lit≤ tt)) in
     ap (λ (r : Float). pick (fin true m e) r)
-    (sub-round (add binary64 (fin true m e) big) big false false 4503599627370496 1 4503599627370496 1 (lit< tt) (lit< tt) t big-val ∙ sum-pos-neg 4503599627370496 4503599627370496 1 (lit≤ tt) ∙ round-zero false 1 (lit< tt))
+    (sub-round (add binary64 (fin true m e) big) big false false 4503599627370496 1 4503599627370496 1 (lit< tt) (lit< tt) t big-val
+    ∙ sum-pos-neg 4503599627370496 4503599627370496 1 (lit≤ tt) ∙ round-zero false 1 (lit< tt))
     ∙ zer-pick m e (subst (λ (z : ℕ). z * 2 ≤ down e) (sym h) zero-le)
 
 -- ---- the four ways of the body
@@ -234,23 +247,23 @@ pub floor-up : (x : Float) → lt x zer ≡ false → lt x big ≡ true → pick
 floor-up nan h k = absurd (false≢true (unfold lt ofBits in k))
 floor-up (inf true) h k = absurd (true≢false (unfold lt ofBits in h))
 floor-up (inf false) h k = absurd (false≢true (unfold lt ofBits in k))
-floor-up (fin false m e) h k = up-sum m e (one-less (m * up e) (4503599627370496 * down e) (ltb-true (m * up e * 1) (4503599627370496 * down e) (unfold lt ofBits in k)))
+floor-up (fin false m e) h k =
+    up-sum m e (one-less (m * up e) (4503599627370496 * down e) (ltb-true (m * up e * 1) (4503599627370496 * down e) (unfold lt ofBits in k)))
 floor-up (fin true m e) h k = minus-zero m e (nil (m * up e) (down e) (ltb-false 0 (m * up e * 1 + 0 * down e) (unfold lt ofBits in h)))
-  where
-    nil : (n d : ℕ) → n * 1 + 0 * d ≤ 0 → n ≡ 0
-    nil n d h = omega arith
 
 pub floor-down : (x : Float) → lt x zer ≡ true → lt (neg big) x ≡ true → pick x (downOf x) ≡ floorOf x
 floor-down nan h k = absurd (false≢true (unfold lt ofBits in h))
 floor-down (inf true) h k = absurd (false≢true (unfold lt ofBits neg in k))
 floor-down (inf false) h k = absurd (false≢true (unfold lt ofBits in h))
-floor-down (fin true m e) h k = down-sum m e (one-less (m * up e) (4503599627370496 * down e) (ltb-true (m * up e * 1) (4503599627370496 * down e) (unfold lt ofBits neg in k)))
+floor-down (fin true m e) h k =
+    down-sum m e (one-less (m * up e) (4503599627370496 * down e) (ltb-true (m * up e * 1) (4503599627370496 * down e) (unfold lt ofBits neg in k)))
 floor-down (fin false m e) h k = absurd (none-below (m * up e * 1) (down e) (ltb-true (m * up e * 1) (0 * down e) (unfold lt ofBits in h)))
 
 pub floor-high : (x : Float) → F64 x → lt x zer ≡ false → lt x big ≡ false → floorOf x ≡ x
 floor-high nan t h k = unfold floorOf in refl
 floor-high (inf s) t h k = unfold floorOf in refl
-floor-high (fin false m e) t h k = floor-whole-kept false m e (big-whole false m e t (ltb-false (m * up e * 1) (4503599627370496 * down e) (unfold lt ofBits in k)))
+floor-high (fin false m e) t h k =
+    floor-whole-kept false m e (big-whole false m e t (ltb-false (m * up e * 1) (4503599627370496 * down e) (unfold lt ofBits in k)))
 floor-high (fin true m e) t h k = absurd (no (m * up e) (down e) (down-pos e) (ltb-false 0 (m * up e * 1 + 4503599627370496 * down e) (unfold lt ofBits in k)))
   where
     no : (n d : ℕ) → 0 < d → n * 1 + 4503599627370496 * d ≤ 0 → ⊥
@@ -259,5 +272,6 @@ floor-high (fin true m e) t h k = absurd (no (m * up e) (down e) (down-pos e) (l
 pub floor-low : (x : Float) → F64 x → lt x zer ≡ true → lt (neg big) x ≡ false → floorOf x ≡ x
 floor-low nan t h k = unfold floorOf in refl
 floor-low (inf s) t h k = unfold floorOf in refl
-floor-low (fin true m e) t h k = floor-whole-kept true m e (big-whole true m e t (ltb-false (m * up e * 1) (4503599627370496 * down e) (unfold lt ofBits neg in k)))
+floor-low (fin true m e) t h k =
+    floor-whole-kept true m e (big-whole true m e t (ltb-false (m * up e * 1) (4503599627370496 * down e) (unfold lt ofBits neg in k)))
 floor-low (fin false m e) t h k = absurd (none-below (m * up e * 1) (down e) (ltb-true (m * up e * 1) (0 * down e) (unfold lt ofBits in h)))

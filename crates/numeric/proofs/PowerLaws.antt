@@ -20,7 +20,8 @@ use Rattle.laws.proofs.Unique.{one-times, value-unique}
 use Rattle.laws.proofs.Values.{add-round, neg-round, ofInt-val, rescale, sub-round, sub-self-zero, sum-neg, sum-neg-pos, sum-pos-neg}
 use Rattle.laws.specs.Float.{F64, one, zer}
 use Rattle.numeric.specs.Power.{biased, exp2Of, expPart, midOf, pow3000Of, scaleOf, scaledOf, sixOf}
-use Rattle.numeric.specs.Promises.{Exp2-above, Exp2-below, Exp2-minus-zero, Exp2-nan, Exp2-whole, Pow3000-minus-zero, Pow3000-nan, Pow3000-one, Pow3000-zero}
+use Rattle.numeric.specs.Promises.{Exp2-above, Exp2-below, Exp2-minus-zero, Exp2-nan, Exp2-whole}
+use Rattle.numeric.specs.Promises.{Pow3000-minus-zero, Pow3000-nan, Pow3000-one, Pow3000-zero}
 
 -- ---- the bits of a power of two
 fields-pow : (x : ℕ) → suc x < 2047 → ofFields binary64 false (suc x) 0 ≡ fin false 1 (minus (x + 52) 1074)
@@ -54,7 +55,8 @@ minus-up n = ap (λ (b : Bool). cond b (pos (1022 + n + 52 - 1074)) (negsuc (107
     at n = omega arith
 
 minus-down : (k : ℕ) → k ≤ 1021 → minus (1021 - k + 52) 1074 ≡ negsuc k
-minus-down k h = ap (λ (b : Bool). cond b (pos (1021 - k + 52 - 1074)) (negsuc (1074 - suc (1021 - k + 52)))) (leb-no 1074 (1021 - k + 52) (ok k h)) ∙ ap negsuc (at k h)
+minus-down k h =
+    ap (λ (b : Bool). cond b (pos (1021 - k + 52 - 1074)) (negsuc (1074 - suc (1021 - k + 52)))) (leb-no 1074 (1021 - k + 52) (ok k h)) ∙ ap negsuc (at k h)
   where
     ok : (k : ℕ) → k ≤ 1021 → 1021 - k + 52 < 1074
     ok k h = omega arith
@@ -72,7 +74,8 @@ bits-up n h = ap (λ (z : ℕ). ofBits binary64 (z * 4503599627370496)) (same n)
     room n h = omega arith
 
 bits-down : (k : ℕ) → suc k ≤ 1022 → ofBits binary64 ((1023 - suc k) * 4503599627370496) ≡ fin false 1 (negsuc k)
-bits-down k h = ap (λ (z : ℕ). ofBits binary64 (z * 4503599627370496)) (same k h) ∙ bits-pow (1021 - k) (room k) ∙ ap (λ (z : ℤ). fin false 1 z) (minus-down k (less k h))
+bits-down k h =
+    ap (λ (z : ℕ). ofBits binary64 (z * 4503599627370496)) (same k h) ∙ bits-pow (1021 - k) (room k) ∙ ap (λ (z : ℤ). fin false 1 z) (minus-down k (less k h))
   where
     same : (k : ℕ) → suc k ≤ 1022 → 1023 - suc k ≡ suc (1021 - k)
     same k h = omega arith
@@ -95,10 +98,12 @@ whole-pattern : (j : ℕ) → j < 4503599627370496 → HasValue (ofBits binary64
 unfolding ofBits ofFields
 whole-pattern j h =
     let b = 4841369599423283200 + j in
-    subst (λ (z : Bool). HasValue (ofFields binary64 z (b % 9223372036854775808 / 4503599627370496) (b % 4503599627370496)) false (4503599627370496 + j) 1) (sym (leb-no 9223372036854775808 b (low j h)))
+    subst (λ (z : Bool). HasValue (ofFields binary64 z (b % 9223372036854775808 / 4503599627370496) (b % 4503599627370496)) false (4503599627370496 + j) 1)
+    (sym (leb-no 9223372036854775808 b (low j h)))
     (subst (λ (z : ℕ). HasValue (ofFields binary64 false z (b % 4503599627370496)) false (4503599627370496 + j) 1) (sym (field j h))
     (subst (λ (z : ℕ). HasValue (ofFields binary64 false 1075 z) false (4503599627370496 + j) 1) (sym (digits j h))
-    (rescale (odd 53 false (4503599627370496 + j) 1074 1074) false ((4503599627370496 + j) * 2 ^ 1074) (2 ^ 1074) (4503599627370496 + j) 1 (pow-pos 1074) (sym (mul-one ((4503599627370496 + j) * 2 ^ 1074))) (odd-sign 53 false (4503599627370496 + j) 1074 1074))))
+    (rescale (odd 53 false (4503599627370496 + j) 1074 1074) false ((4503599627370496 + j) * 2 ^ 1074) (2 ^ 1074) (4503599627370496 + j) 1 (pow-pos 1074)
+    (sym (mul-one ((4503599627370496 + j) * 2 ^ 1074))) (odd-sign 53 false (4503599627370496 + j) 1074 1074))))
   where
     low : (j : ℕ) → j < 4503599627370496 → 4841369599423283200 + j < 9223372036854775808
     low j h = omega arith
@@ -111,8 +116,11 @@ whole-pattern j h =
 
 whole-bits : (t : Float) (j : ℕ) → j < 4503599627370496 → F64 t → HasValue t false (4503599627370496 + j) 1 → toBits binary64 t ≡ 4841369599423283200 + j
 whole-bits t j h f v =
-    ap (toBits binary64) (value-unique t (ofBits binary64 (4841369599423283200 + j)) false (4503599627370496 + j) 1 (zero-lt-suc 0) f (ofBits-fits binary64 (4841369599423283200 + j)) v (whole-pattern j h))
-    ∙ toBits-ofBits binary64 (4841369599423283200 + j) (low j h) (fin-number (ofBits binary64 (4841369599423283200 + j)) (value-finite (ofBits binary64 (4841369599423283200 + j)) false (4503599627370496 + j) 1 (whole-pattern j h)))
+    ap (toBits binary64) (value-unique t (ofBits binary64 (4841369599423283200 + j)) false (4503599627370496 + j) 1 (zero-lt-suc 0) f
+    (ofBits-fits binary64 (4841369599423283200 + j)) v (whole-pattern j h))
+    ∙ toBits-ofBits binary64 (4841369599423283200 + j) (low j h)
+    (fin-number (ofBits binary64 (4841369599423283200 + j))
+    (value-finite (ofBits binary64 (4841369599423283200 + j)) false (4503599627370496 + j) 1 (whole-pattern j h)))
   where
     low : (j : ℕ) → j < 4503599627370496 → 4841369599423283200 + j < 18446744073709551616
     low j h = omega arith
@@ -133,7 +141,8 @@ sum-up : (n : ℕ) → n ≤ 1023 → HasValue (add binary64 (ofInt binary64 (po
 unfolding ofBits
 sum-up n h =
     subst (λ (z : Float). HasValue z false (n + 6755399441056767) 1)
-    (sym (add-round (ofInt binary64 (pos n)) (fin false 6755399441056767 (pos 0)) false false n 1 6755399441056767 1 (zero-lt-suc 0) (zero-lt-suc 0) (val-up n h) (refl, refl) ∙ plain n ∙ ap (λ (z : ℕ). round binary64 false (z + 6755399441056767) 1) (mul-one n)))
+    (sym (add-round (ofInt binary64 (pos n)) (fin false 6755399441056767 (pos 0)) false false n 1 6755399441056767 1 (zero-lt-suc 0) (zero-lt-suc 0)
+    (val-up n h) (refl, refl) ∙ plain n ∙ ap (λ (z : ℕ). round binary64 false (z + 6755399441056767) 1) (mul-one n)))
     (round-whole binary64 false (n + 6755399441056767) (room n h))
   where
     plain : (n : ℕ) → sum binary64 false (n * 1) false 6755399441056767 1 ≡ round binary64 false (n * 1 + 6755399441056767) 1
@@ -146,7 +155,9 @@ sum-down : (k : ℕ) → suc k ≤ 1022 → HasValue (add binary64 (ofInt binary
 unfolding ofBits
 sum-down k h =
     subst (λ (z : Float). HasValue z false (6755399441056767 - suc k) 1)
-    (sym (add-round (ofInt binary64 (negsuc k)) (fin false 6755399441056767 (pos 0)) true false (suc k) 1 6755399441056767 1 (zero-lt-suc 0) (zero-lt-suc 0) (val-down k h) (refl, refl) ∙ sum-neg-pos (suc k * 1) 6755399441056767 1 (least k h) ∙ ap (λ (z : ℕ). round binary64 false (6755399441056767 - z) 1) (mul-one (suc k))))
+    (sym (add-round (ofInt binary64 (negsuc k)) (fin false 6755399441056767 (pos 0)) true false (suc k) 1 6755399441056767 1 (zero-lt-suc 0) (zero-lt-suc 0)
+    (val-down k h) (refl, refl) ∙ sum-neg-pos (suc k * 1) 6755399441056767 1 (least k h)
+    ∙ ap (λ (z : ℕ). round binary64 false (6755399441056767 - z) 1) (mul-one (suc k))))
     (round-whole binary64 false (6755399441056767 - suc k) (room k))
   where
     least : (k : ℕ) → suc k ≤ 1022 → suc k * 1 ≤ 6755399441056767
@@ -159,7 +170,8 @@ sum-down k h =
 back-up : (n : ℕ) → n ≤ 1023 → sub binary64 (add binary64 (ofInt binary64 (pos n)) biased) biased ≡ ofInt binary64 (pos n)
 unfolding ofBits ofInt
 back-up n h =
-    sub-round (add binary64 (ofInt binary64 (pos n)) (fin false 6755399441056767 (pos 0))) (fin false 6755399441056767 (pos 0)) false false (n + 6755399441056767) 1 6755399441056767 1 (zero-lt-suc 0) (zero-lt-suc 0) (sum-up n h) (refl, refl)
+    sub-round (add binary64 (ofInt binary64 (pos n)) (fin false 6755399441056767 (pos 0))) (fin false 6755399441056767 (pos 0)) false false
+    (n + 6755399441056767) 1 6755399441056767 1 (zero-lt-suc 0) (zero-lt-suc 0) (sum-up n h) (refl, refl)
     ∙ sum-pos-neg ((n + 6755399441056767) * 1) 6755399441056767 1 (least n)
     ∙ ap (λ (z : ℕ). round binary64 false z 1) (at n)
   where
@@ -172,7 +184,8 @@ back-up n h =
 back-down : (k : ℕ) → suc k ≤ 1022 → sub binary64 (add binary64 (ofInt binary64 (negsuc k)) biased) biased ≡ ofInt binary64 (negsuc k)
 unfolding ofBits ofInt
 back-down k h =
-    sub-round (add binary64 (ofInt binary64 (negsuc k)) (fin false 6755399441056767 (pos 0))) (fin false 6755399441056767 (pos 0)) false false (6755399441056767 - suc k) 1 6755399441056767 1 (zero-lt-suc 0) (zero-lt-suc 0) (sum-down k h) (refl, refl)
+    sub-round (add binary64 (ofInt binary64 (negsuc k)) (fin false 6755399441056767 (pos 0))) (fin false 6755399441056767 (pos 0)) false false
+    (6755399441056767 - suc k) 1 6755399441056767 1 (zero-lt-suc 0) (zero-lt-suc 0) (sum-down k h) (refl, refl)
     ∙ sum-neg ((6755399441056767 - suc k) * 1) 6755399441056767 1 (least k)
     ∙ ap (λ (z : ℕ). round binary64 true z 1) (at k h)
   where
@@ -186,7 +199,8 @@ back-down k h =
 pub scale-at : (t : Float) (F : ℕ) → F ≤ 2046 → F64 t → HasValue t false (6755399441055744 + F) 1 → scaleOf t ≡ ofBits binary64 (F * 4503599627370496)
 unfolding scaleOf
 scale-at t F h f v =
-    ap (λ (z : ℕ). ofBits binary64 (z % 4096 * 4503599627370496)) (whole-bits t (2251799813685248 + F) (room F h) f (subst (λ (z : ℕ). HasValue t false z 1) (same F) v))
+    ap (λ (z : ℕ). ofBits binary64 (z % 4096 * 4503599627370496))
+    (whole-bits t (2251799813685248 + F) (room F h) f (subst (λ (z : ℕ). HasValue t false z 1) (same F) v))
     ∙ ap (λ (z : ℕ). ofBits binary64 (z * 4503599627370496)) (lowest-bits F h)
   where
     room : (F : ℕ) → F ≤ 2046 → 2251799813685248 + F < 4503599627370496
@@ -199,7 +213,8 @@ scale-at t F h f v =
     lowest-bits F h = omega arith
 
 scale-up : (n : ℕ) → n ≤ 1023 → scaleOf (add binary64 (ofInt binary64 (pos n)) biased) ≡ fin false 1 (pos n)
-scale-up n h = scale-at (add binary64 (ofInt binary64 (pos n)) biased) (1023 + n) (room n h) (add-fits binary64 (ofInt binary64 (pos n)) biased) (subst (λ (z : ℕ). HasValue (add binary64 (ofInt binary64 (pos n)) biased) false z 1) (same n) (sum-up n h)) ∙ bits-up n h
+scale-up n h = scale-at (add binary64 (ofInt binary64 (pos n)) biased) (1023 + n) (room n h) (add-fits binary64 (ofInt binary64 (pos n)) biased)
+    (subst (λ (z : ℕ). HasValue (add binary64 (ofInt binary64 (pos n)) biased) false z 1) (same n) (sum-up n h)) ∙ bits-up n h
   where
     room : (n : ℕ) → n ≤ 1023 → 1023 + n ≤ 2046
     room n h = omega arith
@@ -208,7 +223,8 @@ scale-up n h = scale-at (add binary64 (ofInt binary64 (pos n)) biased) (1023 + n
     same n = omega arith
 
 scale-down : (k : ℕ) → suc k ≤ 1022 → scaleOf (add binary64 (ofInt binary64 (negsuc k)) biased) ≡ fin false 1 (negsuc k)
-scale-down k h = scale-at (add binary64 (ofInt binary64 (negsuc k)) biased) (1023 - suc k) (room k) (add-fits binary64 (ofInt binary64 (negsuc k)) biased) (subst (λ (z : ℕ). HasValue (add binary64 (ofInt binary64 (negsuc k)) biased) false z 1) (same k h) (sum-down k h)) ∙ bits-down k h
+scale-down k h = scale-at (add binary64 (ofInt binary64 (negsuc k)) biased) (1023 - suc k) (room k) (add-fits binary64 (ofInt binary64 (negsuc k)) biased)
+    (subst (λ (z : ℕ). HasValue (add binary64 (ofInt binary64 (negsuc k)) biased) false z 1) (same k h) (sum-down k h)) ∙ bits-down k h
   where
     room : (k : ℕ) → 1023 - suc k ≤ 2046
     room k = omega arith
@@ -223,11 +239,23 @@ exp-zero = refl
 
 mid-up : (n : ℕ) → n ≤ 1023 → midOf (ofInt binary64 (pos n)) ≡ fin false 1 (pos n)
 unfolding midOf scaledOf
-mid-up n h = simp (back-up n h, sub-self-zero (ofInt binary64 (pos n)) (value-finite (ofInt binary64 (pos n)) false n 1 (val-up n h)), exp-zero, scale-up n h, one-times (fin false 1 (pos n)) (fits-up n h))
+mid-up n h = simp (
+  back-up n h,
+  sub-self-zero (ofInt binary64 (pos n)) (value-finite (ofInt binary64 (pos n)) false n 1 (val-up n h)),
+  exp-zero,
+  scale-up n h,
+  one-times (fin false 1 (pos n)) (fits-up n h),
+)
 
 mid-down : (k : ℕ) → suc k ≤ 1022 → midOf (ofInt binary64 (negsuc k)) ≡ fin false 1 (negsuc k)
 unfolding midOf scaledOf
-mid-down k h = simp (back-down k h, sub-self-zero (ofInt binary64 (negsuc k)) (value-finite (ofInt binary64 (negsuc k)) true (suc k) 1 (val-down k h)), exp-zero, scale-down k h, one-times (fin false 1 (negsuc k)) (fits-down k h))
+mid-down k h = simp (
+  back-down k h,
+  sub-self-zero (ofInt binary64 (negsuc k)) (value-finite (ofInt binary64 (negsuc k)) true (suc k) 1 (val-down k h)),
+  exp-zero,
+  scale-down k h,
+  one-times (fin false 1 (negsuc k)) (fits-down k h),
+)
 
 -- ---- 2 ^ x at whole x
 abbrev c1024 : Float
@@ -239,26 +267,25 @@ c1023 = ofBits binary64 0x408ff80000000000
 abbrev c1022 : Float
 c1022 = ofBits binary64 0x408ff00000000000
 
+wide : (n : ℕ) → n ≤ 1022 → n ≤ 1023
+wide n h = omega arith
+
 below-top : (n : ℕ) → n ≤ 1022 → lt (ofInt binary64 (pos n)) c1023 ≡ true
 unfolding ofBits
-below-top n h = lt-by-values (ofInt binary64 (pos n)) (fin false 1023 (pos 0)) n 1 1023 1 (zero-lt-suc 0) (zero-lt-suc 0) (val-up n (wide n h)) (refl, refl) ∙ leb-yes (suc (n * 1)) 1023 (ok n h)
+below-top n h = lt-by-values (ofInt binary64 (pos n)) (fin false 1023 (pos 0)) n 1 1023 1 (zero-lt-suc 0) (zero-lt-suc 0) (val-up n (wide n h)) (refl, refl)
+    ∙ leb-yes (suc (n * 1)) 1023 (ok n h)
   where
     ok : (n : ℕ) → n ≤ 1022 → suc (n * 1) ≤ 1023
     ok n h = omega arith
 
-    wide : (n : ℕ) → n ≤ 1022 → n ≤ 1023
-    wide n h = omega arith
-
 above-low : (n : ℕ) → n ≤ 1023 → le (neg c1022) (ofInt binary64 (pos n)) ≡ true
 unfolding ofBits neg le
-above-low n h = ap (λ (b : Bool). b || eq (fin true 511 (pos 1)) (ofInt binary64 (pos n))) (neg-lt-nonneg 511 (pos 1) (ofInt binary64 (pos n)) n 1 (lit< tt) (val-up n h))
+above-low n h =
+    ap (λ (b : Bool). b || eq (fin true 511 (pos 1)) (ofInt binary64 (pos n))) (neg-lt-nonneg 511 (pos 1) (ofInt binary64 (pos n)) n 1 (lit< tt) (val-up n h))
 
 exp2-most : (n : ℕ) → n ≤ 1022 → exp2Of (ofInt binary64 (pos n)) ≡ fin false 1 (pos n)
 unfolding exp2Of
 exp2-most n h = simp (below-top n h, above-low n (wide n h), mid-up n (wide n h))
-  where
-    wide : (n : ℕ) → n ≤ 1022 → n ≤ 1023
-    wide n h = omega arith
 
 less-one : sub binary64 (ofInt binary64 (pos 1023)) one ≡ ofInt binary64 (pos 1022)
 unfolding sub ofInt ofBits
@@ -290,7 +317,10 @@ exp2-up n h = go (leb n 1022) (leb→le n 1022) (nleb→lt n 1022)
 low-enough : (k : ℕ) → suc k ≤ 1022 → le (neg c1022) (ofInt binary64 (negsuc k)) ≡ true
 low-enough k h = is-true (le (neg c1022) (ofInt binary64 (negsuc k)))
     (subst (λ (z : Float). T (le (neg c1022) z)) (ap neg (sym (neg-int k)) ∙ neg-neg (ofInt binary64 (negsuc k)))
-    (le-neg (ofInt binary64 (pos (suc k))) c1022 (unfold ofBits in le-of-values (ofInt binary64 (pos (suc k))) (fin false 511 (pos 1)) (suc k) 1 1022 1 (zero-lt-suc 0) (zero-lt-suc 0) (val-up (suc k) (le-trans h (lit≤ tt))) (refl, refl) (ok k h))))
+    (le-neg (ofInt binary64 (pos (suc k))) c1022
+    (unfold ofBits in
+    le-of-values (ofInt binary64 (pos (suc k))) (fin false 511 (pos 1)) (suc k) 1 1022 1 (zero-lt-suc 0) (zero-lt-suc 0)
+    (val-up (suc k) (le-trans h (lit≤ tt))) (refl, refl) (ok k h))))
   where
     ok : (k : ℕ) → suc k ≤ 1022 → suc k * 1 ≤ 1022
     ok k h = omega arith
@@ -321,7 +351,9 @@ low-below x h = go (lt x c1023) refl
   where
     go : (b : Bool) → lt x c1023 ≡ b → b ≡ true
     go true e = refl
-    go false e = absurd (lt-not-ge x (neg c1022) h (float-le-trans (neg c1022) c1023 x (tops .1) (le-of-lt-false x c1023 (lt-number x (neg c1022) (is-true (lt x (neg c1022)) h)) (unfold isNan ofBits in tt) e)))
+    go false e = absurd (lt-not-ge x (neg c1022) h
+        (float-le-trans (neg c1022) c1023 x (tops .1)
+        (le-of-lt-false x c1023 (lt-number x (neg c1022) (is-true (lt x (neg c1022)) h)) (unfold isNan ofBits in tt) e)))
 
 pub exp2-below : Exp2-below
 unfolding exp2Of

@@ -27,7 +27,8 @@ use Rattle.numeric.specs.Promises.{Exp2-number, Pow3000-number}
 
 -- ---- the split: t = x + biased is the whole number 1.5 * 2 ^ 52 + F, with F from 1 to 2046 the exponent's field, and x - (t - biased) is from -1 to 1
 abbrev Split : Float → Type 0
-Split x = (F : ℕ) × (1 ≤ F) × (F ≤ 2046) × HasValue (add binary64 x biased) false (6755399441055744 + F) 1 × Within 0 (sub binary64 x (sub binary64 (add binary64 x biased) biased))
+Split x = (F : ℕ) × (1 ≤ F) × (F ≤ 2046) × HasValue (add binary64 x biased) false (6755399441055744 + F) 1
+    × Within 0 (sub binary64 x (sub binary64 (add binary64 x biased) biased))
 
 biased-value : HasValue biased false 6755399441056767 1
 unfolding ofBits
@@ -77,7 +78,8 @@ split (fin false m e) l h = split-of false m e 1023 (lit≤ tt) (le-below false 
 split (fin true m e) l h = split-of true m e 1022 (lit≤ tt) (le-below true true 511 m (pos 1) e (unfold neg ofBits in l)) field-down
 
 -- ---- the polynomial
-six-within : (z c0 c1 c2 c3 c4 c5 : Float) → Within 0 z → Within 0 c0 → Within 0 c1 → Within 0 c2 → Within 0 c3 → Within 0 c4 → Within 0 c5 → Within 3 (sixOf z c0 c1 c2 c3 c4 c5)
+six-within : (z c0 c1 c2 c3 c4 c5 : Float) → Within 0 z → Within 0 c0 → Within 0 c1 → Within 0 c2 → Within 0 c3 → Within 0 c4 → Within 0 c5
+    → Within 3 (sixOf z c0 c1 c2 c3 c4 c5)
 unfolding sixOf
 six-within z c0 c1 c2 c3 c4 c5 Z h0 h1 h2 h3 h4 h5 =
     let w = mul binary64 z z in
@@ -96,11 +98,13 @@ six-within z c0 c1 c2 c3 c4 c5 Z h0 h1 h2 h3 h4 h5 =
 abbrev Unit-bits : ℕ → Type 0
 Unit-bits b = InUnit (ofBits binary64 b)
 
-evens : Unit-bits 0x3ff0000000000000 × Unit-bits 0x3fcebfbdff82c598 × Unit-bits 0x3f83b2ab6fba1dda × Unit-bits 0x3f2430913096fd9f × Unit-bits 0x3eb62bfd47773353 × Unit-bits 0x3e3e6063f7217bc6
+evens : Unit-bits 0x3ff0000000000000 × Unit-bits 0x3fcebfbdff82c598 × Unit-bits 0x3f83b2ab6fba1dda × Unit-bits 0x3f2430913096fd9f
+    × Unit-bits 0x3eb62bfd47773353 × Unit-bits 0x3e3e6063f7217bc6
 unfolding le lt eq neg ofBits
 evens = ((tt, tt), (tt, tt), (tt, tt), (tt, tt), (tt, tt), (tt, tt))
 
-odds : Unit-bits 0x3fe62e42fefa39ef × Unit-bits 0x3fac6b08d704a0c2 × Unit-bits 0x3f55d87fe78a5276 × Unit-bits 0x3eeffcbfc670dcd4 × Unit-bits 0x3e7b524fae627834 × Unit-bits 0x3dfe9d3fe3952179
+odds : Unit-bits 0x3fe62e42fefa39ef × Unit-bits 0x3fac6b08d704a0c2 × Unit-bits 0x3f55d87fe78a5276 × Unit-bits 0x3eeffcbfc670dcd4 × Unit-bits 0x3e7b524fae627834
+    × Unit-bits 0x3dfe9d3fe3952179
 unfolding le lt eq neg ofBits
 odds = ((tt, tt), (tt, tt), (tt, tt), (tt, tt), (tt, tt), (tt, tt))
 
@@ -110,10 +114,15 @@ exp-within f h =
     let z = mul binary64 f f in
     let Z = within-mul 0 0 f f (lit≤ tt) h h in
     within-add 3 _ _ (lit≤ tt)
-    (six-within z (ofBits binary64 0x3ff0000000000000) (ofBits binary64 0x3fcebfbdff82c598) (ofBits binary64 0x3f83b2ab6fba1dda) (ofBits binary64 0x3f2430913096fd9f) (ofBits binary64 0x3eb62bfd47773353) (ofBits binary64 0x3e3e6063f7217bc6) Z
-    (u 0x3ff0000000000000 (evens .0)) (u 0x3fcebfbdff82c598 (evens .1)) (u 0x3f83b2ab6fba1dda (evens .2)) (u 0x3f2430913096fd9f (evens .3)) (u 0x3eb62bfd47773353 (evens .4)) (u 0x3e3e6063f7217bc6 (evens .5)))
-    (within-mul 0 3 f _ (lit≤ tt) h (six-within z (ofBits binary64 0x3fe62e42fefa39ef) (ofBits binary64 0x3fac6b08d704a0c2) (ofBits binary64 0x3f55d87fe78a5276) (ofBits binary64 0x3eeffcbfc670dcd4) (ofBits binary64 0x3e7b524fae627834) (ofBits binary64 0x3dfe9d3fe3952179) Z
-    (u 0x3fe62e42fefa39ef (odds .0)) (u 0x3fac6b08d704a0c2 (odds .1)) (u 0x3f55d87fe78a5276 (odds .2)) (u 0x3eeffcbfc670dcd4 (odds .3)) (u 0x3e7b524fae627834 (odds .4)) (u 0x3dfe9d3fe3952179 (odds .5))))
+    (six-within z (ofBits binary64 0x3ff0000000000000) (ofBits binary64 0x3fcebfbdff82c598) (ofBits binary64 0x3f83b2ab6fba1dda)
+    (ofBits binary64 0x3f2430913096fd9f) (ofBits binary64 0x3eb62bfd47773353) (ofBits binary64 0x3e3e6063f7217bc6) Z
+    (u 0x3ff0000000000000 (evens .0)) (u 0x3fcebfbdff82c598 (evens .1)) (u 0x3f83b2ab6fba1dda (evens .2)) (u 0x3f2430913096fd9f (evens .3))
+    (u 0x3eb62bfd47773353 (evens .4)) (u 0x3e3e6063f7217bc6 (evens .5)))
+    (within-mul 0 3 f _ (lit≤ tt) h
+    (six-within z (ofBits binary64 0x3fe62e42fefa39ef) (ofBits binary64 0x3fac6b08d704a0c2) (ofBits binary64 0x3f55d87fe78a5276)
+    (ofBits binary64 0x3eeffcbfc670dcd4) (ofBits binary64 0x3e7b524fae627834) (ofBits binary64 0x3dfe9d3fe3952179) Z
+    (u 0x3fe62e42fefa39ef (odds .0)) (u 0x3fac6b08d704a0c2 (odds .1)) (u 0x3f55d87fe78a5276 (odds .2)) (u 0x3eeffcbfc670dcd4 (odds .3))
+    (u 0x3e7b524fae627834 (odds .4)) (u 0x3dfe9d3fe3952179 (odds .5))))
   where
     u : (b : ℕ) → Unit-bits b → Within 0 (ofBits binary64 b)
     u b h = unit-within (ofBits binary64 b) h
@@ -149,9 +158,14 @@ less-one (fin false m e) l h =
     let hi : n * 1 < 1024 * d = ltb→lt (n * 1) (1024 * d) (unfold lt ofBits in h) in
     let b = range n d (down-pos e) lo hi in
     let is : sub binary64 (fin false m e) one ≡ round binary64 false (n * 1 - 1 * d) (d * 1) =
-    sub-round (fin false m e) one false false n d 1 1 (down-pos e) (lit< tt) (refl, refl) (unfold ofBits in (refl, refl)) ∙ sum-pos-neg (n * 1) (1 * d) (d * 1) (b .0) in (
-      subst (λ (z : Float). T (le (neg (ofBits binary64 0x408ff00000000000)) z)) (sym is) (subst (λ (z : Float). T (le z (round binary64 false (n * 1 - 1 * d) (d * 1)))) low (round-le true false 1022 1 (n * 1 - 1 * d) (d * 1) (lit< tt) (b .1) tt)),
-      subst (λ (z : Float). T (le z (ofBits binary64 0x408ff80000000000))) (sym is) (subst (λ (z : Float). T (le (round binary64 false (n * 1 - 1 * d) (d * 1)) z)) high (round-le false false (n * 1 - 1 * d) (d * 1) 1023 1 (b .1) (lit< tt) (b .2))),
+    sub-round (fin false m e) one false false n d 1 1 (down-pos e) (lit< tt) (refl, refl) (unfold ofBits in (refl, refl))
+    ∙ sum-pos-neg (n * 1) (1 * d) (d * 1) (b .0) in (
+      subst (λ (z : Float). T (le (neg (ofBits binary64 0x408ff00000000000)) z)) (sym is)
+          (subst (λ (z : Float). T (le z (round binary64 false (n * 1 - 1 * d) (d * 1)))) low
+          (round-le true false 1022 1 (n * 1 - 1 * d) (d * 1) (lit< tt) (b .1) tt)),
+      subst (λ (z : Float). T (le z (ofBits binary64 0x408ff80000000000))) (sym is)
+          (subst (λ (z : Float). T (le (round binary64 false (n * 1 - 1 * d) (d * 1)) z)) high
+          (round-le false false (n * 1 - 1 * d) (d * 1) 1023 1 (b .1) (lit< tt) (b .2))),
     )
   where
     range : (n d : ℕ) → 0 < d → 1023 * d ≤ n * 1 → n * 1 < 1024 * d → (1 * d ≤ n * 1) × (0 < d * 1) × ((n * 1 - 1 * d) * 1 ≤ 1023 * (d * 1))

@@ -1,9 +1,11 @@
--- Where clamp, min, max and the casts land, and the casts that oscillators make: of a clamped period, of a rate over 20, of a phase over 256 cells, of a share of n.
+-- Where clamp, min, max and the casts land, and the casts that oscillators make:
+-- of a clamped period, of a rate over 20, of a phase over 256 cells, of a share of n.
 use mathlib.Core.Bool.{Bool, cond, false, not, true, true≢false}
 use mathlib.Core.Logic.{_⊎_, inl, inr}
 use mathlib.Core.Path.{_∙_, _≡_, ap, refl, subst, sym}
 use Prim.Native.Nat.{_%_, _*_, _+_, _-_, _/_, _<_, _^_, _≤_, min, suc, zero, zero-le, ℕ}
-use native.Mathlib.Nat.{div-add-mod', div-lt-iff-lt-mul, div-one, le-of-eq, le-refl, le-trans, lt-of-le-of-lt, min-le-left, min-le-right, mul-le-mul-right, mul-one, not-suc-le-zero, zero-div}
+use native.Mathlib.Nat.{div-add-mod', div-lt-iff-lt-mul, div-one, le-of-eq, le-refl, le-trans, lt-of-le-of-lt}
+use native.Mathlib.Nat.{min-le-left, min-le-right, mul-le-mul-right, mul-one, not-suc-le-zero, zero-div}
 use native.Mathlib.Omega.{arith}
 use lib.Dec.{T, eqb, eqb→eq, le→leb, lit<, lit≤, ltb→lt}
 use lib.Ieee.{Float, binary64, div, down, eq, fin, inFloat, inf, isNan, le, lt, nan, ofBits, ofInt, round, sub, toUnsigned, up}
@@ -24,7 +26,8 @@ use Rattle.laws.proofs.Values.{ofInt-val, sub-round, sum-pos-neg}
 use Rattle.laws.specs.Float.{F64, one, two}
 use Rattle.numeric.specs.Basic.{clampOf, maxOf, minOf, realOf, wholeOf}
 use Rattle.numeric.specs.Floor.{floorOf}
-use Rattle.numeric.specs.Promises.{Clamp-nan, Clamp-range, Max-either, Max-nan, Max-range, Min-either, Min-nan, Min-range, Whole-below, Whole-monotone, Whole-real, Whole-top}
+use Rattle.numeric.specs.Promises.{Clamp-nan, Clamp-range, Max-either, Max-nan, Max-range, Min-either}
+use Rattle.numeric.specs.Promises.{Min-nan, Min-range, Whole-below, Whole-monotone, Whole-real, Whole-top}
 
 -- ---- clamp
 pub clamp-range : Clamp-range
@@ -53,7 +56,8 @@ chosen-either false true a b = inl refl
 chosen-either false false a b = inr refl
 
 -- R is at most, or at least
-chosen-range : (R : Float → Float → Type 0) (p q : Bool) (a b : Float) → ((x : Float) → T (not (isNan x)) → R x x) → isNan b ≡ q → (T p → R a b) → (T (not p) → T (not (isNan a)) → T (not (isNan b)) → R b a)
+chosen-range : (R : Float → Float → Type 0) (p q : Bool) (a b : Float) → ((x : Float) → T (not (isNan x)) → R x x) → isNan b ≡ q → (T p → R a b)
+    → (T (not p) → T (not (isNan a)) → T (not (isNan b)) → R b a)
     → (T (not (isNan a)) → R (chosen p q a b) a) × (T (not (isNan b)) → R (chosen p q a b) b)
 chosen-range R true q a b r e f g = (r a, λ _. f tt)
 chosen-range R false true a b r e f g = (r a, λ h. absurd (subst (λ (z : Bool). T (not z)) e h))
@@ -75,11 +79,13 @@ max-either a b = chosen-either (lt b a) (isNan b) a b
 
 pub min-range : Min-range
 unfolding minOf
-min-range a b = chosen-range (λ x y. T (le x y)) (lt a b) (isNan b) a b float-le-refl refl (le-of-lt-true a b) (λ n p q. le-of-lt-false a b p q (is-false (lt a b) n))
+min-range a b =
+    chosen-range (λ x y. T (le x y)) (lt a b) (isNan b) a b float-le-refl refl (le-of-lt-true a b) (λ n p q. le-of-lt-false a b p q (is-false (lt a b) n))
 
 pub max-range : Max-range
 unfolding maxOf
-max-range a b = chosen-range (λ x y. T (le y x)) (lt b a) (isNan b) a b float-le-refl refl (le-of-lt-true b a) (λ n p q. le-of-lt-false b a q p (is-false (lt b a) n))
+max-range a b =
+    chosen-range (λ x y. T (le y x)) (lt b a) (isNan b) a b float-le-refl refl (le-of-lt-true b a) (λ n p q. le-of-lt-false b a q p (is-false (lt b a) n))
 
 pub min-nan : Min-nan
 unfolding minOf isNan
@@ -106,8 +112,10 @@ whole-monotone (fin false m e) nan h = absurd (unfold le lt eq in h)
 whole-monotone (fin false m e) (inf true) h = absurd (unfold le lt eq in h)
 whole-monotone (fin false m e) (inf false) h = min-le-right (m * up e / down e) 18446744073709551615
 whole-monotone (fin false m e) (fin true n d) h =
-    le-trans (min-le-left (m * up e / down e) 18446744073709551615) (le-of-eq (ap (λ (z : ℕ). z / down e) (zero-of (m * up e) (down d) (down-pos d) (le-of-eq (le-below false true m n e d h .0))) ∙ zero-div (down e)))
-whole-monotone (fin false m e) (fin false n d) h = min-mono (m * up e / down e) (n * up d / down d) 18446744073709551615 (div-mono (m * up e) (down e) (n * up d) (down d) (down-pos e) (down-pos d) (le-below false false m n e d h))
+    le-trans (min-le-left (m * up e / down e) 18446744073709551615)
+    (le-of-eq (ap (λ (z : ℕ). z / down e) (zero-of (m * up e) (down d) (down-pos d) (le-of-eq (le-below false true m n e d h .0))) ∙ zero-div (down e)))
+whole-monotone (fin false m e) (fin false n d) h = min-mono (m * up e / down e) (n * up d / down d) 18446744073709551615
+    (div-mono (m * up e) (down e) (n * up d) (down d) (down-pos e) (down-pos d) (le-below false false m n e d h))
 
 pub whole-top : Whole-top
 whole-top x = toUnsigned-lt 64 x
@@ -127,14 +135,16 @@ whole-below (fin true m e) n h p l = p
 whole-below (fin false m e) n h p l =
     lt-of-le-of-lt (min-le-left (m * up e / down e) 18446744073709551615)
     (div-lt-iff-lt-mul (down-pos e) .1 (subst (λ (z : ℕ). z < n * down e) (mul-one (m * up e))
-    (ltb→lt (m * up e * 1) (n * down e) (subst T (lt-by-values (fin false m e) (realOf n) (m * up e) (down e) n 1 (down-pos e) (lit< tt) (refl, refl) (ofInt-val n h)) l))))
+    (ltb→lt (m * up e * 1) (n * down e)
+    (subst T (lt-by-values (fin false m e) (realOf n) (m * up e) (down e) n 1 (down-pos e) (lit< tt) (refl, refl) (ofInt-val n h)) l))))
 
 -- ---- casts of what is clamped, divided and scaled
 real-le : (a b : ℕ) → a ≤ b → b ≤ 2 ^ 53 → T (le (realOf a) (realOf b))
 real-le a b h k = le-of-values (realOf a) (realOf b) a 1 b 1 (lit< tt) (lit< tt) (ofInt-val a (le-trans h k)) (ofInt-val b k) (mul-le-mul-right 1 h)
 
 -- clamped from a to b, so is the whole part
-pub clamp-whole : (x : Float) (a b : ℕ) → a ≤ b → b ≤ 2 ^ 53 → T (not (isNan x)) → (a ≤ wholeOf (clampOf x (realOf a) (realOf b))) × (wholeOf (clampOf x (realOf a) (realOf b)) ≤ b)
+pub clamp-whole : (x : Float) (a b : ℕ) → a ≤ b → b ≤ 2 ^ 53 → T (not (isNan x))
+    → (a ≤ wholeOf (clampOf x (realOf a) (realOf b))) × (wholeOf (clampOf x (realOf a) (realOf b)) ≤ b)
 clamp-whole x a b h k q =
     let r = clamp-range x (realOf a) (realOf b) (real-le a b h k) q in (
       le-trans (le-of-eq (sym (whole-real a (le-trans h k)))) (whole-monotone (realOf a) (clampOf x (realOf a) (realOf b)) (r .0)),
@@ -220,7 +230,8 @@ floor-cast (fin false m e) a c C t v h = go (eqb N 0) (eqb→eq N 0) ∙ ap real
     q = m * up e / down e
 
     small : q ≤ 2 ^ 53
-    small = le-trans (div-mono (m * up e) (down e) a c (down-pos e) C (le-of-eq (v .1))) (le-trans (div-mono a c (2 ^ 53) 1 C (lit< tt) (le-trans (le-of-eq (mul-one a)) h)) (le-of-eq (div-one (2 ^ 53))))
+    small = le-trans (div-mono (m * up e) (down e) a c (down-pos e) C (le-of-eq (v .1)))
+        (le-trans (div-mono a c (2 ^ 53) 1 C (lit< tt) (le-trans (le-of-eq (mul-one a)) h)) (le-of-eq (div-one (2 ^ 53))))
 
     cut : min q 18446744073709551615 ≡ q
     cut = fits-in q small

@@ -29,7 +29,8 @@ frac-parts n d q h k =
     bad : (a r n b : ℕ) → a + r ≡ n → a ≡ b → r ≡ 0 → b < n → ⊥
     bad a r n b p e z h = omega arith
 
-pub floor-frac : (s : Bool) (m : ℕ) (e : ℤ) (q : ℕ) → q * down e < m * up e → m * up e < (q + 1) * down e → floorOf (fin s m e) ≡ cond s (neg (ofInt binary64 (pos (suc q)))) (ofInt binary64 (pos q))
+pub floor-frac : (s : Bool) (m : ℕ) (e : ℤ) (q : ℕ) → q * down e < m * up e → m * up e < (q + 1) * down e
+    → floorOf (fin s m e) ≡ cond s (neg (ofInt binary64 (pos (suc q)))) (ofInt binary64 (pos q))
 unfolding floorOf
 floor-frac s m e q h k =
     let p = frac-parts (m * up e) (down e) q h k in
@@ -49,6 +50,12 @@ int-one = refl
 pub none-below : (n d : ℕ) → n < 0 * d → ⊥
 none-below n d h = omega arith
 
+pub some-above : (n d : ℕ) → 0 < n * 1 + 0 * d → 0 * d < n
+some-above n d h = omega arith
+
+under-one : (n d : ℕ) → n * 1 < 1 * d → n < (0 + 1) * d
+under-one n d h = omega arith
+
 -- ---- above 0 and below 1
 pub floor-zero : (x : Float) → lt zer x ≡ true → lt x one ≡ true → floorOf x ≡ zer
 unfolding lt ofBits
@@ -58,14 +65,11 @@ floor-zero (inf false) h k = absurd (false≢true k)
 floor-zero (fin true m e) h k = absurd (false≢true h)
 floor-zero (fin false m e) h k =
     floor-frac false m e 0 (low (m * up e) (down e) (ltb-true (0 * down e) (m * up e * 1) h))
-    (top (m * up e) (down e) (ltb-true (m * up e * 1) (1 * down e) k))
+    (under-one (m * up e) (down e) (ltb-true (m * up e * 1) (1 * down e) k))
     ∙ unfold ofInt in refl
   where
     low : (n d : ℕ) → 0 * d < n * 1 → 0 * d < n
     low n d h = omega arith
-
-    top : (n d : ℕ) → n * 1 < 1 * d → n < (0 + 1) * d
-    top n d h = omega arith
 
 -- ---- from 1 to below 2
 pub floor-one : (x : Float) → F64 x → lt x one ≡ false → lt x two ≡ true → lt zer x ≡ true → floorOf x ≡ one
@@ -101,15 +105,9 @@ floor-minus (inf true) h k = absurd (false≢true k)
 floor-minus (inf false) h k = absurd (false≢true h)
 floor-minus (fin false m e) h k = absurd (none-below (m * up e * 1) (down e) (ltb-true (m * up e * 1) (0 * down e) h))
 floor-minus (fin true m e) h k =
-    floor-frac true m e 0 (low (m * up e) (down e) (ltb-true 0 (m * up e * 1 + 0 * down e) h))
-    (top (m * up e) (down e) (ltb-true (m * up e * 1) (1 * down e) k))
+    floor-frac true m e 0 (some-above (m * up e) (down e) (ltb-true 0 (m * up e * 1 + 0 * down e) h))
+    (under-one (m * up e) (down e) (ltb-true (m * up e * 1) (1 * down e) k))
     ∙ ap neg (unfold ofBits in int-one)
-  where
-    low : (n d : ℕ) → 0 < n * 1 + 0 * d → 0 * d < n
-    low n d h = omega arith
-
-    top : (n d : ℕ) → n * 1 < 1 * d → n < (0 + 1) * d
-    top n d h = omega arith
 
 -- ---- what is left: x itself where the floor is 0
 pub pos-sub-zer : (x : Float) → F64 x → lt zer x ≡ true → lt x one ≡ true → sub binary64 x zer ≡ x
@@ -130,8 +128,10 @@ pos-sub-zer (fin false m e) t h k =
         kept n d = omega arith
 
 -- ---- x from 1 to below 2 less 1 is exact, so it is below 1
-rest-value : (m : ℕ) (e : ℤ) → F64 (fin false m e) → 1 * down e ≤ m * up e * 1 → m * up e * 1 < 2 * down e → HasValue (round binary64 false (m * up e * 1 - 1 * down e) (down e * 1)) false (m * up e - down e) (down e)
-rest-value m (pos k) t h l = subst (λ (z : ℕ). HasValue (round binary64 false (m * 2 ^ k * 1 - 1) 1) false z 1) (nil (m * 2 ^ k) h l .1) (subst (λ (z : ℕ). HasValue (round binary64 false z 1) false 0 1) (sym (nil (m * 2 ^ k) h l .0)) (exact-at false 0 0 (lit< tt) (lit≤ tt)))
+rest-value : (m : ℕ) (e : ℤ) → F64 (fin false m e) → 1 * down e ≤ m * up e * 1 → m * up e * 1 < 2 * down e
+    → HasValue (round binary64 false (m * up e * 1 - 1 * down e) (down e * 1)) false (m * up e - down e) (down e)
+rest-value m (pos k) t h l = subst (λ (z : ℕ). HasValue (round binary64 false (m * 2 ^ k * 1 - 1) 1) false z 1) (nil (m * 2 ^ k) h l .1)
+    (subst (λ (z : ℕ). HasValue (round binary64 false z 1) false 0 1) (sym (nil (m * 2 ^ k) h l .0)) (exact-at false 0 0 (lit< tt) (lit≤ tt)))
   where
     nil : (n : ℕ) → 1 ≤ n * 1 → n * 1 < 2 → (n * 1 - 1 ≡ 0) × (0 ≡ n - 1)
     nil n h l = (omega arith, omega arith)
@@ -159,9 +159,15 @@ rest-below (fin false m e) t h k l =
     let lo : 1 * down e ≤ m * up e * 1 = ltb-false (m * up e * 1) (1 * down e) (unfold lt ofBits in h) in
     let hi : m * up e * 1 < 2 * down e = ltb-true (m * up e * 1) (2 * down e) (unfold lt ofBits in k) in
     let is : sub binary64 (fin false m e) one ≡ round binary64 false (m * up e * 1 - 1 * down e) (down e * 1) =
-    unfold ofBits in (sub-round (fin false m e) (fin false 1 (pos 0)) false false (m * up e) (down e) 1 1 (down-pos e) (zero-lt-suc 0) (refl, refl) (refl, refl) ∙ sum-pos-neg (m * up e * 1) (1 * down e) (down e * 1) lo) in
-    let v : HasValue (sub binary64 (fin false m e) one) false (m * up e - down e) (down e) = subst (λ (z : Float). HasValue z false (m * up e - down e) (down e)) (sym is) (rest-value m e t lo hi) in
-    le-false (sub binary64 (fin false m e) one) one (of-true (lt (sub binary64 (fin false m e) one) one) (lt-by-values (sub binary64 (fin false m e) one) one (m * up e - down e) (down e) 1 1 (down-pos e) (zero-lt-suc 0) v (unfold ofBits in (refl, refl)) ∙ leb-yes (suc ((m * up e - down e) * 1)) (1 * down e) (ok (m * up e) (down e) (down-pos e) lo hi)))
+    unfold ofBits in
+    (sub-round (fin false m e) (fin false 1 (pos 0)) false false (m * up e) (down e) 1 1 (down-pos e) (zero-lt-suc 0) (refl, refl) (refl, refl)
+    ∙ sum-pos-neg (m * up e * 1) (1 * down e) (down e * 1) lo) in
+    let v : HasValue (sub binary64 (fin false m e) one) false (m * up e - down e) (down e) =
+    subst (λ (z : Float). HasValue z false (m * up e - down e) (down e)) (sym is) (rest-value m e t lo hi) in
+    le-false (sub binary64 (fin false m e) one) one
+    (of-true (lt (sub binary64 (fin false m e) one) one)
+    (lt-by-values (sub binary64 (fin false m e) one) one (m * up e - down e) (down e) 1 1 (down-pos e) (zero-lt-suc 0) v (unfold ofBits in (refl, refl))
+    ∙ leb-yes (suc ((m * up e - down e) * 1)) (1 * down e) (ok (m * up e) (down e) (down-pos e) lo hi)))
   where
     ok : (n d : ℕ) → 0 < d → 1 * d ≤ n * 1 → n * 1 < 2 * d → suc ((n - d) * 1) ≤ 1 * d
     ok n d p h l = omega arith

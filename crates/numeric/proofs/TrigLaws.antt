@@ -7,7 +7,8 @@ use lib.Dec.{T, eqb, lit<, lit≤}
 use lib.Ieee.{Float, add, binary64, eq, le, lt, mul, nan, neg, ofBits, sub}
 use lib.Ieee.Bits.{is-true}
 use lib.Ieee.Fits.{and-l, and-r}
-use Rattle.laws.proofs.Interval.{Part, Sized, between-of, inPart, isBetween, neg-unit, part-add, part-mul, part-mul', part-of, part-sized, part-square, part-sub, sized-mul, unit-sub, unit-within}
+use Rattle.laws.proofs.Interval.{Part, Sized, between-of, inPart, isBetween, neg-unit, part-add, part-mul, part-mul'}
+use Rattle.laws.proofs.Interval.{part-of, part-sized, part-square, part-sub, sized-mul, unit-sub, unit-within}
 use Rattle.laws.proofs.Order.{float-le-trans}
 use Rattle.laws.specs.Float.{InUnit, one}
 use Rattle.numeric.proofs.RestLaws.{rest-inside}
@@ -91,7 +92,8 @@ abbrev falls : ℕ → ℕ → ℕ → Float → Float → Float → Float → F
 falls j1 j3 j5 c1 c2 c3 c4 c5 c6 c7 =
     (isBetween j1 1 c1 && inPart j1 c2) && ((isBetween j3 2 c3 && inPart j3 c4) && ((isBetween j5 3 c5 && inPart j5 c6) && inPart 3 c7))
 
-pairs-part : (j1 j3 j5 : ℕ) (z c1 c2 c3 c4 c5 c6 c7 : Float) → Part 0 z → j1 ≤ 1074 → j3 ≤ 1074 → j5 ≤ 1074 → T (falls j1 j3 j5 c1 c2 c3 c4 c5 c6 c7) → Part 0 (pairsOf z c1 c2 c3 c4 c5 c6 c7)
+pairs-part : (j1 j3 j5 : ℕ) (z c1 c2 c3 c4 c5 c6 c7 : Float) → Part 0 z → j1 ≤ 1074 → j3 ≤ 1074 → j5 ≤ 1074 → T (falls j1 j3 j5 c1 c2 c3 c4 c5 c6 c7)
+    → Part 0 (pairsOf z c1 c2 c3 c4 c5 c6 c7)
 unfolding pairsOf
 pairs-part j1 j3 j5 z c1 c2 c3 c4 c5 c6 c7 Z l1 l3 l5 f =
     let w = mul binary64 z z in
@@ -99,14 +101,17 @@ pairs-part j1 j3 j5 z c1 c2 c3 c4 c5 c6 c7 Z l1 l3 l5 f =
     let f3 = and-r (isBetween j1 1 c1 && inPart j1 c2) ((isBetween j3 2 c3 && inPart j3 c4) && ((isBetween j5 3 c5 && inPart j5 c6) && inPart 3 c7)) f in
     let f5 = and-r (isBetween j3 2 c3 && inPart j3 c4) ((isBetween j5 3 c5 && inPart j5 c6) && inPart 3 c7) f3 in
     let a = pair j5 3 c5 c6 (lit≤ tt) l5 (and-l (isBetween j5 3 c5 && inPart j5 c6) (inPart 3 c7) f5) in
-    let b = part-add 2 (sub binary64 c5 (mul binary64 z c6)) (mul binary64 w c7) (lit≤ tt) a (part-mul' 3 w c7 (lit≤ tt) W (part-of 3 c7 (and-r (isBetween j5 3 c5 && inPart j5 c6) (inPart 3 c7) f5))) in
+    let b = part-add 2 (sub binary64 c5 (mul binary64 z c6)) (mul binary64 w c7) (lit≤ tt) a
+    (part-mul' 3 w c7 (lit≤ tt) W (part-of 3 c7 (and-r (isBetween j5 3 c5 && inPart j5 c6) (inPart 3 c7) f5))) in
     let c = pair j3 2 c3 c4 (lit≤ tt) l3 (and-l (isBetween j3 2 c3 && inPart j3 c4) ((isBetween j5 3 c5 && inPart j5 c6) && inPart 3 c7) f3) in
     let d = part-add 1 (sub binary64 c3 (mul binary64 z c4)) (mul binary64 w _) (lit≤ tt) c (part-mul' 2 w _ (lit≤ tt) W b) in
-    let e = pair j1 1 c1 c2 (lit≤ tt) l1 (and-l (isBetween j1 1 c1 && inPart j1 c2) ((isBetween j3 2 c3 && inPart j3 c4) && ((isBetween j5 3 c5 && inPart j5 c6) && inPart 3 c7)) f) in
+    let e = pair j1 1 c1 c2 (lit≤ tt) l1
+    (and-l (isBetween j1 1 c1 && inPart j1 c2) ((isBetween j3 2 c3 && inPart j3 c4) && ((isBetween j5 3 c5 && inPart j5 c6) && inPart 3 c7)) f) in
     part-add 0 (sub binary64 c1 (mul binary64 z c2)) (mul binary64 w _) (lit≤ tt) e (part-mul' 1 w _ (lit≤ tt) W d)
   where
     pair : (j i : ℕ) (c d : Float) → i ≤ 1074 → j ≤ 1074 → T (isBetween j i c && inPart j d) → Part i (sub binary64 c (mul binary64 z d))
-    pair j i c d I J t = part-sub j i c (mul binary64 z d) I (between-of j i c (and-l (isBetween j i c) (inPart j d) t)) (part-mul' j z d J Z (part-of j d (and-r (isBetween j i c) (inPart j d) t)))
+    pair j i c d I J t = part-sub j i c (mul binary64 z d) I (between-of j i c (and-l (isBetween j i c) (inPart j d) t))
+        (part-mul' j z d J Z (part-of j d (and-r (isBetween j i c) (inPart j d) t)))
 
 pub sin-pairs : (z : Float) → Part 0 z
     → Part 0 (pairsOf z (ofBits binary64 0x3fc5555555555555) (ofBits binary64 0x3f81111111111111) (ofBits binary64 0x3f2a01a01a01a01a)
@@ -130,7 +135,8 @@ cos-unit : (s : Bool) (r : Float) → Sized s 0 r → InUnit (kernelCos r)
 unfolding kernelCos
 cos-unit s r p =
     let Z : Part 0 (mul binary64 r r) = part-square s r p in
-    unit-sub false one _ (1, 1, lit< tt, lit≤ tt, unfold ofBits in (refl, refl)) (part-sized (mul binary64 (mul binary64 r r) _) (part-mul 0 (mul binary64 r r) _ (lit≤ tt) Z (cos-pairs (mul binary64 r r) Z)))
+    unit-sub false one _ (1, 1, lit< tt, lit≤ tt, unfold ofBits in (refl, refl))
+    (part-sized (mul binary64 (mul binary64 r r) _) (part-mul 0 (mul binary64 r r) _ (lit≤ tt) Z (cos-pairs (mul binary64 r r) Z)))
 
 quadrant-unit : (q : ℕ) (r : Float) → InUnit (kernelSin r) → InUnit (kernelCos r) → InUnit (quadrant q r)
 unfolding quadrant

@@ -51,7 +51,8 @@ decimal-large n h = more n h
         from-large m (suc m) h ∙ ap (λ (t : List ℕ). t ++ (glyph (suc m % 10) ∷ [])) (enough m (suc m / 10) (suc m / 10) (omega arith) (omega arith))
 
 -- ---- what holds of one digit, and of a text with one more digit, holds of every number's text
-module _ (P : ℕ → List ℕ → Type 0) (one : (n : ℕ) → n < 10 → P n (glyph n ∷ [])) (more : (n : ℕ) (t : List ℕ) → 10 ≤ n → P (n / 10) t → P n (t ++ (glyph (n % 10) ∷ []))) where
+module _ (P : ℕ → List ℕ → Type 0) (one : (n : ℕ) → n < 10 → P n (glyph n ∷ []))
+    (more : (n : ℕ) (t : List ℕ) → 10 ≤ n → P (n / 10) t → P n (t ++ (glyph (n % 10) ∷ []))) where
   by : (k n : ℕ) (b : Bool) → ltb n 10 ≡ b → P (n / 10) (decimalFrom k (n / 10)) → P n (decimalFrom (suc k) n)
   by k n true e r = let l = ltb-true n 10 e in rw (from-small (suc k) n l) (one n l)
   by k n false e r = let l = ltb-false n 10 e in rw (from-large k n l) (more n (decimalFrom k (n / 10)) l r)

@@ -73,7 +73,8 @@ read-by d true e h =
     simp (e, le-ltb (48 + d) 48 (omega arith), lt-ltb (48 + d) 58 (omega arith)) (omega arith)
 read-by d false e h =
     let l = ltb-false d 10 e in
-    simp (e, le-ltb (55 + d) 48 (omega arith), le-ltb (55 + d) 58 (omega arith), le-ltb (55 + d) 65 (omega arith), lt-ltb (55 + d) 71 (omega arith)) (omega arith)
+    simp (e, le-ltb (55 + d) 48 (omega arith), le-ltb (55 + d) 58 (omega arith), le-ltb (55 + d) 65 (omega arith), lt-ltb (55 + d) 71 (omega arith))
+    (omega arith)
 
 pub nibble-glyph : (d : ℕ) → d < 16 → nibbleOf (glyph d) ≡ d
 nibble-glyph d h = read-by d (ltb d 10) refl h

@@ -11,7 +11,8 @@ mid-requires c κs = lt-number (c .before .before .args .x) (ofBits binary64 0x4
 
 mid-requires-2 : tie.Need-mid-requires-2
 unfolding ofBits
-mid-requires-2 c κs = sub-number (c .before .before .args .x) one tt (lt-number (c .before .before .args .x) (ofBits binary64 0x4090000000000000) (c .if3 .taken))
+mid-requires-2 c κs =
+    sub-number (c .before .before .args .x) one tt (lt-number (c .before .before .args .x) (ofBits binary64 0x4090000000000000) (c .if3 .taken))
 
 returns : tie.Need-returns
 unfolding exp2Of ofBits div

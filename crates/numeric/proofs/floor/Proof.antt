@@ -17,13 +17,17 @@ returns : tie.Need-returns
 returns c = c .pick .ensures ∙ floor-down (c .before .before .before .args .x) (c .before .before .if1 .taken) (c .before .if2 .taken)
 
 returns-2 : tie.Need-returns-2
-returns-2 c = let s = c .before .before in sym (floor-low (s .args .x) (of-true (fits binary64 (s .args .x)) (s .good .0 .1)) (c .before .if1 .taken) (c .if2 .left))
+returns-2 c =
+    let s = c .before .before in
+    sym (floor-low (s .args .x) (of-true (fits binary64 (s .args .x)) (s .good .0 .1)) (c .before .if1 .taken) (c .if2 .left))
 
 returns-3 : tie.Need-returns-3
 returns-3 c = c .pick2 .ensures ∙ floor-up (c .before .before .before .args .x) (c .before .before .if1 .left) (c .before .if3 .taken)
 
 returns-4 : tie.Need-returns-4
-returns-4 c = let s = c .before .before in sym (floor-high (s .args .x) (of-true (fits binary64 (s .args .x)) (s .good .0 .1)) (c .before .if1 .left) (c .if3 .left))
+returns-4 c =
+    let s = c .before .before in
+    sym (floor-high (s .args .x) (of-true (fits binary64 (s .args .x)) (s .good .0 .1)) (c .before .if1 .left) (c .if3 .left))
 
 pub floor-spec : {M : Type 1} → statement M
 floor-spec =

@@ -23,15 +23,23 @@ returns c = simp (eqb-yes (c .before .before .args .q) 0 (c .before .if1 .taken)
 
 returns-2 : tie.Need-returns-2
 unfolding quadrant
-returns-2 c = simp (eqb-no (c .before .before .before .args .q) 0 (c .before .before .if1 .left), eqb-yes (c .before .before .before .args .q) 1 (c .before .if2 .taken), c .kernel-cos .ensures)
+returns-2 c =
+    let passed = c .before .before in
+    simp (eqb-no (passed .before .args .q) 0 (passed .if1 .left), eqb-yes (passed .before .args .q) 1 (c .before .if2 .taken), c .kernel-cos .ensures)
 
 returns-3 : tie.Need-returns-3
 unfolding quadrant
-returns-3 c = let q = c .before .before .before .before .args .q in simp (eqb-no q 0 (c .before .before .before .if1 .left), eqb-no q 1 (c .before .before .if2 .left), eqb-yes q 2 (c .before .if3 .taken), c .kernel-sin2 .ensures)
+returns-3 c =
+    let passed-2 = c .before .before in
+    let q = passed-2 .before .before .args .q in
+    simp (eqb-no q 0 (passed-2 .before .if1 .left), eqb-no q 1 (passed-2 .if2 .left), eqb-yes q 2 (c .before .if3 .taken), c .kernel-sin2 .ensures)
 
 returns-4 : tie.Need-returns-4
 unfolding quadrant
-returns-4 c = let q = c .before .before .before .before .args .q in simp (eqb-no q 0 (c .before .before .before .if1 .left), eqb-no q 1 (c .before .before .if2 .left), eqb-no q 2 (c .before .if3 .left), c .kernel-cos2 .ensures)
+returns-4 c =
+    let passed-2 = c .before .before in
+    let q = passed-2 .before .before .args .q in
+    simp (eqb-no q 0 (passed-2 .before .if1 .left), eqb-no q 1 (passed-2 .if2 .left), eqb-no q 2 (c .before .if3 .left), c .kernel-cos2 .ensures)
 
 pub quadrant-of-spec : {M : Type 1} → statement M
 quadrant-of-spec =

@@ -47,13 +47,21 @@ put-decimal-same-length : (t : ℕ) → put-decimal-lts.Need-same-length (claims
 put-decimal-same-length t c = within _ _ _ (c .before .before .put-byte .ensures) .1
 
 put-decimal-returns : (t : ℕ) → put-decimal-lts.Need-returns (claims t) (put-decimal-at t) put-decimal.Post
-put-decimal-returns t c = rw (decimal-small _ (c .before .before .before .before .before .if1 .taken), ← c .before .before .before .digit .ensures) (c .before .before .put-byte .ensures)
+put-decimal-returns t c =
+    let at-digit = c .before .before .before in
+    rw (decimal-small _ (at-digit .before .before .if1 .taken), ← at-digit .digit .ensures) (c .before .before .put-byte .ensures)
 
 put-decimal-same-length-2 : (t : ℕ) → put-decimal-lts.Need-same-length-2 (claims t) (put-decimal-at t) put-decimal.Post
-put-decimal-same-length-2 t c = within _ _ _ (c .before .before .put-byte2 .ensures) .1 ∙ within _ _ _ (c .before .before .before .before .before .before .before .put-decimal .ensures) .1
+put-decimal-same-length-2 t c =
+    let at-digit = c .before .before .before in let put = at-digit .before .before .before .before in
+    within _ _ _ (c .before .before .put-byte2 .ensures) .1 ∙ within _ _ _ (put .put-decimal .ensures) .1
 
 put-decimal-returns-2 : (t : ℕ) → put-decimal-lts.Need-returns-2 (claims t) (put-decimal-at t) put-decimal.Post
-put-decimal-returns-2 t c = rw (decimal-large _ (c .before .before .before .before .before .before .before .before .before .if1 .left), ← c .before .before .before .digit2 .ensures) (after _ _ _ _ (c .before .before .before .before .before .before .before .put-decimal .ensures) (c .before .before .put-byte2 .ensures))
+put-decimal-returns-2 t c =
+    let at-digit = c .before .before .before in
+    let put = at-digit .before .before .before .before in
+    rw (decimal-large _ (put .before .before .if1 .left), ← at-digit .digit2 .ensures)
+    (after _ _ _ _ (put .put-decimal .ensures) (c .before .before .put-byte2 .ensures))
 
 pub +put-decimal-spec : {M : Type 1} → statement M
 +put-decimal-spec = close μ-put-decimal λ t. put-decimal-lts.spec (claims t) (put-decimal-at t)

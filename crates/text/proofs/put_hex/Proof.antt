@@ -45,8 +45,11 @@ loop-less c = search needs
 
 loop-again : tie.Need-loop-again Inv-loop μ-loop
 loop-again c =
-    let (d, (e, p)) = c .before .before .before .before .before .before .loop .inv .1 in
-    (omega arith, (d ++ (c .before .before .before .digit .result ∷ []), (rw (c .before .before .before .digit .ensures) (hex-next d _ _ _ (c .before .before .before .before .before .loop-test .taken) e), after _ _ d _ p (c .before .before .put-byte .ensures))))
+    let put = c .before .before in
+    let at-digit = put .before in
+    let (d, (e, p)) = at-digit .before .before .before .loop .inv .1 in
+    let more = hex-next d _ _ _ (at-digit .before .before .loop-test .taken) e in
+    (omega arith, (d ++ (at-digit .digit .result ∷ []), (rw (at-digit .digit .ensures) more, after _ _ d _ p (put .put-byte .ensures))))
 
 same-length : tie.Need-same-length Inv-loop μ-loop
 same-length c = within _ _ _ (c .before .loop .inv .1 .1 .1) .1

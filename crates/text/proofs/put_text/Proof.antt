@@ -40,9 +40,10 @@ loop-less c = search needs
 
 loop-again : tie.Need-loop-again Inv-loop μ-loop
 loop-again c =
-    let h = c .before .before .before .before .before .loop-test .taken in
-    let l = c .before .before .before .before .before .before .loop in
-    (omega arith, rw (add-one, take-suc {A = ℕ} _ (l .i) 0 h) (after _ _ (take (l .i) _) (_ ∷ []) (l .inv .1) (c .before .before .put-byte .ensures)))
+    let put = c .before .before in
+    let h = put .before .before .before .loop-test .taken in
+    let l = put .before .before .before .before .loop in
+    (omega arith, rw (add-one, take-suc {A = ℕ} _ (l .i) 0 h) (after _ _ (take (l .i) _) (_ ∷ []) (l .inv .1) (put .put-byte .ensures)))
 
 same-length : tie.Need-same-length Inv-loop μ-loop
 same-length c = within _ _ _ (c .before .loop .inv .1) .1

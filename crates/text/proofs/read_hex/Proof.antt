@@ -31,7 +31,8 @@ nibble-requires : tie.Need-nibble-requires Inv-loop μ-loop
 nibble-requires c κs = search needs
 
 returns-2 : tie.Need-returns-2 Inv-loop μ-loop
-returns-2 c = sym (c .before .before .before .before .loop .inv .1 .1 ∙ word-stops _ _ (c .before .before .before .loop-test .taken) _ (rw (← c .before .nibble .ensures) (c .if2 .taken)))
+returns-2 c = sym (c .before .before .before .before .loop .inv .1 .1
+    ∙ word-stops _ _ (c .before .before .before .loop-test .taken) _ (rw (← c .before .nibble .ensures) (c .if2 .taken)))
 
 mul-x : tie.Need-mul-x Inv-loop μ-loop
 mul-x c =
@@ -51,9 +52,12 @@ loop-less c = search needs
 
 loop-again : tie.Need-loop-again Inv-loop μ-loop
 loop-again c =
-    let l = c .before .before .before .before .loop in
-    let n = c .before .nibble .ensures in
-    ((omega (arith, c .before .before .before .loop-test .taken), sixteen-fold _ _ _ (l .inv .0 .1) (c .if2 .left)), (l .inv .1 .0, l .inv .1 .1 ∙ rw n (word-next _ _ (c .before .before .before .loop-test .taken) _ (rw (← n) (c .if2 .left)))))
+    let going = c .before .before .before in
+    let l = going .before .loop in
+    let n = c .before .nibble .ensures in (
+      (omega (arith, going .loop-test .taken), sixteen-fold _ _ _ (l .inv .0 .1) (c .if2 .left)),
+      (l .inv .1 .0, l .inv .1 .1 ∙ rw n (word-next _ _ (going .loop-test .taken) _ (rw (← n) (c .if2 .left)))),
+    )
 
 returns-3 : tie.Need-returns-3 Inv-loop μ-loop
 returns-3 c = sym (c .before .loop .inv .1 .1 ∙ word-end _ _ _ (c .loop-test .left))
