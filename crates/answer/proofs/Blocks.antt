@@ -47,7 +47,8 @@ room-says t n h = go (eqb (t .begun) (sumOf t)) (leb (t .begun + n) 4294967295) 
 -- ---- how many
 one-of : (n : ℕ) → oneIf n (told clean) + oneIf n (told cleared) + oneIf n (told notfinite) + oneIf n (told lost) ≤ 1
 unfolding oneIf
-one-of n = go (eqb n (told clean)) (eqb n (told cleared)) (eqb n (told notfinite)) (eqb n (told lost)) (eqb-true n (told clean)) (eqb-true n (told cleared)) (eqb-true n (told notfinite)) (eqb-true n (told lost))
+one-of n = go (eqb n (told clean)) (eqb n (told cleared)) (eqb n (told notfinite)) (eqb n (told lost)) (eqb-true n (told clean)) (eqb-true n (told cleared))
+    (eqb-true n (told notfinite)) (eqb-true n (told lost))
   where
     go : (a b c d : Bool) → (a ≡ true → n ≡ (told clean)) → (b ≡ true → n ≡ (told cleared)) → (c ≡ true → n ≡ (told notfinite)) → (d ≡ true → n ≡ (told lost))
         → cond a 1 0 + cond b 1 0 + cond c 1 0 + cond d 1 0 ≤ 1
@@ -121,7 +122,8 @@ unfolding joined
 joined-none f l = refl
 
 -- one turn of a loop that stores a frame after those before it
-pub joined-more : {A : Type 0} (f : ℕ → List A) (i at : ℕ) (l m v : List A) → at ≡ length (joined f i) → m ≡ sets l 0 (joined f i) → v ≡ f i → sets m at v ≡ sets l 0 (joined f (i + 1))
+pub joined-more : {A : Type 0} (f : ℕ → List A) (i at : ℕ) (l m v : List A) → at ≡ length (joined f i) → m ≡ sets l 0 (joined f i) → v ≡ f i
+    → sets m at v ≡ sets l 0 (joined f (i + 1))
 unfolding joined
 joined-more f i at l m v h e q = rw (add-one, e, q, h ∙ sym (zero-add (length (joined f i)))) (sets-append l 0 (joined f i) (f i))
 
@@ -222,7 +224,8 @@ module _ {S : Type 0} (ports : ℕ) (whole : (v : Volts) → length (portsOf por
       ∙ joined-more (frameAt ports answer next s) i (ports * i) l m (portsOf ports (voltsOf a)) (sym (frames-length i)) e
       (ap (λ (b : Answer). portsOf ports (voltsOf b)) q)
 
-  pub frames-done : (i n : ℕ) (l m : List Float) → i ≡ n → length l ≡ ports * n → m ≡ sets l 0 (joined (frameAt ports answer next s) i) → m ≡ joined (frameAt ports answer next s) n
+  pub frames-done : (i n : ℕ) (l m : List Float) → i ≡ n → length l ≡ ports * n → m ≡ sets l 0 (joined (frameAt ports answer next s) i)
+      → m ≡ joined (frameAt ports answer next s) n
   frames-done i n l m h k e =
       e ∙ ap (λ (j : ℕ). sets l 0 (joined (frameAt ports answer next s) j)) h ∙ joined-all (frameAt ports answer next s) n l (k ∙ sym (frames-length n))
 
@@ -241,7 +244,8 @@ ticks-keep P next k s h (suc n) = k (afterTicks next n s) (ticks-keep P next k s
 
 -- ---- held controls: a machine with less state goes through the same ticks. `embed` is the whole state that a small one stands for,
 -- from the second tick on; before the first the whole state may still be another.
-pub record Holds {S H : Type 0} (answer : S → Answer) (next : S → S) (told : H → Answer) (step : H → H) (embed : H → S) (Good : H → Type 0) (s : S) (h : H) : Type 0 where
+pub record Holds {S H : Type 0} (answer : S → Answer) (next : S → S) (told : H → Answer) (step : H → H) (embed : H → S) (Good : H → Type 0) (s : S)
+    (h : H) : Type 0 where
   pub good : Good h
   pub first : answer s ≡ told h
   pub second : next s ≡ embed (step h)
@@ -249,7 +253,8 @@ pub record Holds {S H : Type 0} (answer : S → Answer) (next : S → S) (told :
   pub answers : (g : H) → Good g → answer (embed g) ≡ told g
   pub moves : (g : H) → Good g → next (embed g) ≡ embed (step g)
 
-module _ {S H : Type 0} (answer : S → Answer) (next : S → S) (told : H → Answer) (step : H → H) (embed : H → S) (Good : H → Type 0) (s : S) (h : H) (w : Holds answer next told step embed Good s h) where
+module _ {S H : Type 0} (answer : S → Answer) (next : S → S) (told : H → Answer) (step : H → H) (embed : H → S) (Good : H → Type 0) (s : S) (h : H)
+    (w : Holds answer next told step embed Good s h) where
   good-at : (n : ℕ) → Good (afterTicks step n h)
   good-at n = ticks-keep Good step (w .stays) h (w .good) n
 
@@ -274,20 +279,23 @@ module _ {S H : Type 0} (answer : S → Answer) (next : S → S) (told : H → A
   held-marks n = tab-ext (markAt answer next s) (markAt told step h) n (λ i l. ap hostNumber (held-answer i))
 
   pub held-frames : (ports n : ℕ) → joined (frameAt ports answer next s) n ≡ joined (frameAt ports told step h) n
-  held-frames ports n = joined-ext (frameAt ports answer next s) (frameAt ports told step h) n (λ i. ap (λ (a : Answer). portsOf ports (voltsOf a)) (held-answer i))
+  held-frames ports n =
+      joined-ext (frameAt ports answer next s) (frameAt ports told step h) n (λ i. ap (λ (a : Answer). portsOf ports (voltsOf a)) (held-answer i))
 
 -- ---- a block as its code has it
 pub not-refused : (fits : Bool) (number : ℕ) (t : Tally) (n : ℕ) → blockRefusalOf fits number t n ≡ 0 → (fits ≡ true) × (number ≡ 0) × (roomFor t n ≡ true)
 unfolding blockRefusalOf
 not-refused fits number t n = go fits (eqb number 0) (roomFor t n) (eqb-true number 0) (eqb-false number 0)
   where
-    go : (a b d : Bool) → (b ≡ true → number ≡ 0) → (b ≡ false → number ≡ 0 → ⊥) → _≡_ {A = ℕ} (cond a (cond b (cond d 0 7) number) 52) 0 → (a ≡ true) × (number ≡ 0) × (d ≡ true)
+    go : (a b d : Bool) → (b ≡ true → number ≡ 0) → (b ≡ false → number ≡ 0 → ⊥) → _≡_ {A = ℕ} (cond a (cond b (cond d 0 7) number) 52) 0
+        → (a ≡ true) × (number ≡ 0) × (d ≡ true)
     go true true true k l h = (refl, k refl, refl)
     go true true false k l h = absurd (omega arith)
     go true false d k l h = absurd (l refl h)
     go false b d k l h = absurd (omega arith)
 
-pub block-fits : (ports number : ℕ) (t : Tally) (o : List Float) (m : List ℕ) (n : ℕ) → n ≡ blockRefusalOf (eqb (length o) (ports * length m)) number t (length m) → n ≡ 0
+pub block-fits : (ports number : ℕ) (t : Tally) (o : List Float) (m : List ℕ) (n : ℕ)
+    → n ≡ blockRefusalOf (eqb (length o) (ports * length m)) number t (length m) → n ≡ 0
     → (length o ≡ ports * length m) × (number ≡ 0) × (roomFor t (length m) ≡ true)
 block-fits ports number t o m n e h = let k = not-refused _ number t (length m) (sym e ∙ h) in (eqb-true (length o) (ports * length m) (k .0), k .1, k .2)
 
@@ -311,7 +319,8 @@ nil : {A : Type 0} (l : List A) → length l ≡ 0 → l ≡ []
 nil [] h = refl
 nil (x ∷ l) h = absurd (omega arith)
 
-module _ {S : Type 0} (ports number : ℕ) (answer : S → Answer) (next : S → S) (s : S) (t : Tally) (o : List Float) (m : List ℕ) (n : ℕ) (e : n ≡ blockRefusalOf (eqb (length o) (ports * length m)) number t (length m)) where
+module _ {S : Type 0} (ports number : ℕ) (answer : S → Answer) (next : S → S) (s : S) (t : Tally) (o : List Float) (m : List ℕ) (n : ℕ)
+    (e : n ≡ blockRefusalOf (eqb (length o) (ports * length m)) number t (length m)) where
   pub block-refused : (n ≡ 0 → ⊥) → block n s t o m ≡ blockOf ports number answer next s t o m
   unfolding blockOf
   block-refused h = simp (← e, ne-eqb n 0 h)
@@ -330,7 +339,8 @@ module _ {S : Type 0} (ports number : ℕ) (answer : S → Answer) (next : S →
       let q : m ≡ [] = nil m z in
       (λ i. block 0 s t (p i) (q i)) ∙ sym no-ticks ∙ ap (λ (k : ℕ). ticksOf ports answer next k s t) (sym z) ∙ sym (accepted-block h)
 
-  pub block-done : n ≡ 0 → (u : Tally) (r : S) (p : List Float) (l : List ℕ) → r ≡ afterTicks next (length m) s → p ≡ joined (frameAt ports answer next s) (length m)
+  pub block-done : n ≡ 0 → (u : Tally) (r : S) (p : List Float) (l : List ℕ) → r ≡ afterTicks next (length m) s
+      → p ≡ joined (frameAt ports answer next s) (length m)
       → l ≡ tab (markAt answer next s) (length m) → u ≡ tallyOr t (marksTaken t l) → block 0 r u p l ≡ blockOf ports number answer next s t o m
   unfolding ticksOf
   block-done h u r p l a b d g = simp (accepted-block h, a, b, g, d, counted-tab t (markAt answer next s) (length m) (block-fits ports number t o m n e h .2))
@@ -404,7 +414,16 @@ module _ {S : Type 0} (next : S → S) (s r : S) (e : next s ≡ next r) where
       block-same h =
           let frames = joined-ext (frameAt ports answer next s) (frameAt ports answer next r) (length m) same-frames in
           let marks = tab-ext (markAt answer next s) (markAt answer next r) (length m) (λ i l. same-marks i) in
-          simp (h .0, ticks-meet (length m) (h .1), same-many (told cleared), same-many (told notfinite), same-many (told lost), same-many (told clean), frames, marks)
+          simp (
+            h .0,
+            ticks-meet (length m) (h .1),
+            same-many (told cleared),
+            same-many (told notfinite),
+            same-many (told lost),
+            same-many (told clean),
+            frames,
+            marks,
+          )
 
 -- ---- the tally of a block is the one that is given each answer
 -- one more answer that a host was told by the number n
@@ -420,7 +439,8 @@ counted-by t n =
 
 -- one of the four counts grows, and it is the one that the tick's mark has
 record Marks-one (a : Answer) : Type 0 where
-  pub one : oneIf (hostNumber a) (told clean) + oneIf (hostNumber a) (told cleared) + oneIf (hostNumber a) (told notfinite) + oneIf (hostNumber a) (told lost) ≡ 1
+  pub one : oneIf (hostNumber a) (told clean) + oneIf (hostNumber a) (told cleared) + oneIf (hostNumber a) (told notfinite) + oneIf (hostNumber a) (told lost)
+      ≡ 1
   pub marked : eqb (markNumber a) 0 ≡ false
   pub same : (t : Tally) → counted t (markNumber a) ≡ counted-by t (hostNumber a)
 
@@ -455,11 +475,18 @@ module _ (t : Tally) (a : ℕ → Answer) (n : ℕ) (h : (i : ℕ) → i < n →
       let q = mark-one (a i) (h i k) .one in
       let b : t .begun + (manyTo (told clean) marks i + manyTo (told cleared) marks i + manyTo (told notfinite) marks i + manyTo (told lost) marks i) + 1
       ≡ t .begun
-      + (manyTo (told clean) marks i + oneIf (marks i) (told clean) + (manyTo (told cleared) marks i + oneIf (marks i) (told cleared)) + (manyTo (told notfinite) marks i + oneIf (marks i) (told notfinite)) + (manyTo (told lost) marks i + oneIf (marks i) (told lost))) = omega arith in
-      let f : t .finished + manyTo (told clean) marks i + oneIf (marks i) (told clean) ≡ t .finished + (manyTo (told clean) marks i + oneIf (marks i) (told clean)) = omega arith in
-      let c : t .cleared + manyTo (told cleared) marks i + oneIf (marks i) (told cleared) ≡ t .cleared + (manyTo (told cleared) marks i + oneIf (marks i) (told cleared)) = omega arith in
-      let n : t .notfinite + manyTo (told notfinite) marks i + oneIf (marks i) (told notfinite) ≡ t .notfinite + (manyTo (told notfinite) marks i + oneIf (marks i) (told notfinite)) = omega arith in
-      let l : t .lost + manyTo (told lost) marks i + oneIf (marks i) (told lost) ≡ t .lost + (manyTo (told lost) marks i + oneIf (marks i) (told lost)) = omega arith in
+      + (manyTo (told clean) marks i + oneIf (marks i)
+      (told clean) + (manyTo (told cleared) marks i + oneIf (marks i) (told cleared)) + (manyTo (told notfinite) marks i + oneIf (marks i)
+      (told notfinite)) + (manyTo (told lost) marks i + oneIf (marks i) (told lost))) =
+      omega arith in
+      let f : t .finished + manyTo (told clean) marks i + oneIf (marks i) (told clean)
+      ≡ t .finished + (manyTo (told clean) marks i + oneIf (marks i) (told clean)) = omega arith in
+      let c : t .cleared + manyTo (told cleared) marks i + oneIf (marks i) (told cleared)
+      ≡ t .cleared + (manyTo (told cleared) marks i + oneIf (marks i) (told cleared)) = omega arith in
+      let n : t .notfinite + manyTo (told notfinite) marks i + oneIf (marks i) (told notfinite)
+      ≡ t .notfinite + (manyTo (told notfinite) marks i + oneIf (marks i) (told notfinite)) = omega arith in
+      let l : t .lost + manyTo (told lost) marks i + oneIf (marks i) (told lost) ≡ t .lost + (manyTo (told lost) marks i + oneIf (marks i) (told lost)) =
+      omega arith in
       (λ j. record { begun = b j; finished = f j; cleared = c j; notfinite = n j; lost = l j })
 
   taken-at : (i : ℕ) → roomFor t n ≡ true → i < n → tallyOf (countedTo t marks i) (a i) ≡ tallied.Taken (countedTo t marks (suc i))

@@ -85,7 +85,8 @@ refused-by {T} told n x y h e = go (eqb n 0) refl
 
 -- ---- the tally
 -- the four marks of an accepted answer: one of the counts grows by one
-mark-one : (a : Answer) → (markNumber a ≡ 0 → ⊥) → oneIf (markNumber a) clean + oneIf (markNumber a) cleared + oneIf (markNumber a) notfinite + oneIf (markNumber a) lost ≡ 1
+mark-one : (a : Answer) → (markNumber a ≡ 0 → ⊥)
+    → oneIf (markNumber a) clean + oneIf (markNumber a) cleared + oneIf (markNumber a) notfinite + oneIf (markNumber a) lost ≡ 1
 unfolding markNumber oneIf
 mark-one (answer.Clean v) h = refl
 mark-one (answer.Cleared v) h = refl
@@ -130,7 +131,8 @@ counts-refused r a z h =
     plus : (m k : ℕ) → eqb 0 k ≡ false → m ≡ m + cond (eqb (markNumber a) k) 1 0
     plus m k e = sym (ap (λ (n : ℕ). m + cond (eqb n k) 1 0) z ∙ ap (λ (b : Bool). m + cond b 1 0) e ∙ add-zero m)
 
-counts-more : (r : Run) (a : Answer) → (markNumber a ≡ 0 → ⊥) → (r .tally .begun ≡ 4294967295 → ⊥) → Counts r → Counts (record { tally = counted (r .tally) (markNumber a); took = a ∷ r .took })
+counts-more : (r : Run) (a : Answer) → (markNumber a ≡ 0 → ⊥) → (r .tally .begun ≡ 4294967295 → ⊥) → Counts r
+    → Counts (record { tally = counted (r .tally) (markNumber a); took = a ∷ r .took })
 unfolding counted many
 counts-more r a n t h =
     record {
@@ -148,10 +150,13 @@ counts-more r a n t h =
 
 counts-step : (r : Run) (a : Answer) → Counts r → Counts (settle r a (tallyOf (r .tally) a))
 unfolding tallyOf settle talliedNumber tallyOr
-counts-step r a h = go (addsUp (r .tally)) (eqb (markNumber a) 0) (eqb (r .tally .begun) 4294967295) (eqb-true (markNumber a) 0) (eqb-false (markNumber a) 0) (eqb-false (r .tally .begun) 4294967295) refl refl
+counts-step r a h = go (addsUp (r .tally)) (eqb (markNumber a) 0) (eqb (r .tally .begun) 4294967295) (eqb-true (markNumber a) 0) (eqb-false (markNumber a) 0)
+    (eqb-false (r .tally .begun) 4294967295) refl refl
   where
-    go : (b c d : Bool) → (eqb (markNumber a) 0 ≡ true → markNumber a ≡ 0) → (eqb (markNumber a) 0 ≡ false → markNumber a ≡ 0 → ⊥) → (eqb (r .tally .begun) 4294967295 ≡ false → r .tally .begun ≡ 4294967295 → ⊥) → eqb (markNumber a) 0 ≡ c → eqb (r .tally .begun) 4294967295 ≡ d
-        → Counts (settle r a (cond b (cond c (tallied.Taken (r .tally)) (cond d (tallied.Refused 7) (tallied.Taken (counted (r .tally) (markNumber a))))) (tallied.Refused 7)))
+    go : (b c d : Bool) → (eqb (markNumber a) 0 ≡ true → markNumber a ≡ 0) → (eqb (markNumber a) 0 ≡ false → markNumber a ≡ 0 → ⊥)
+        → (eqb (r .tally .begun) 4294967295 ≡ false → r .tally .begun ≡ 4294967295 → ⊥) → eqb (markNumber a) 0 ≡ c → eqb (r .tally .begun) 4294967295 ≡ d
+        → Counts (settle r a
+        (cond b (cond c (tallied.Taken (r .tally)) (cond d (tallied.Refused 7) (tallied.Taken (counted (r .tally) (markNumber a))))) (tallied.Refused 7)))
     go true true d f g k e q = counts-refused r a (f e) h
     go true false true f g k e q = h
     go true false false f g k e q = counts-more r a (g e) (k q) h

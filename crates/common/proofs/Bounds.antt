@@ -21,7 +21,8 @@ pub phase-within : (p : Float) → phaseOk (turns p) ≡ true → Within 0 p
 unfolding phaseOk
 phase-within p h =
     let t = of-true (le zer p && lt p one) h in
-    unit-within p (float-le-trans (neg one) zer p (unfold le lt eq neg ofBits in tt) (and-l (le zer p) (lt p one) t), le-of-lt-true p one (and-r (le zer p) (lt p one) t))
+    unit-within p
+    (float-le-trans (neg one) zer p (unfold le lt eq neg ofBits in tt) (and-l (le zer p) (lt p one) t), le-of-lt-true p one (and-r (le zer p) (lt p one) t))
 
 pub zer-within : Within 0 zer
 unfolding ofBits

@@ -28,14 +28,17 @@ recall1-is f m h x t = go (m .valid && eqb (m .key) (toBits binary64 x)) refl
         let a = both-true (m .valid) (eqb (m .key) (toBits binary64 x)) e in
         ⊎-elim (λ (n : m .valid ≡ false). absurd (true≢false (sym (a .0) ∙ n)))
         (λ (k : (y : Float) × F64 y × (m ≡ filled1 y (f y))).
-        k .2 ∙ ap (λ (z : Float). filled1 z (f z)) (bits-same (k .0) x (k .1) t (unfold filled1 in sym (ap (λ (n : Memo1). n .key) (k .2)) ∙ eqb-true (m .key) (toBits binary64 x) (a .1))))
+        k .2 ∙ ap (λ (z : Float). filled1 z (f z))
+        (bits-same (k .0) x (k .1) t (unfold filled1 in sym (ap (λ (n : Memo1). n .key) (k .2)) ∙ eqb-true (m .key) (toBits binary64 x) (a .1))))
         h
 
 pub recall3-is : Recall3-is
 unfolding recall3 hits3
-recall3-is f m h x y z t u v = go (m .valid && (eqb (m .key0) (toBits binary64 x) && (eqb (m .key1) (toBits binary64 y) && eqb (m .key2) (toBits binary64 z)))) refl
+recall3-is f m h x y z t u v =
+    go (m .valid && (eqb (m .key0) (toBits binary64 x) && (eqb (m .key1) (toBits binary64 y) && eqb (m .key2) (toBits binary64 z)))) refl
   where
-    go : (b : Bool) → (m .valid && (eqb (m .key0) (toBits binary64 x) && (eqb (m .key1) (toBits binary64 y) && eqb (m .key2) (toBits binary64 z)))) ≡ b → cond b m (filled3 x y z (f x y z)) ≡ filled3 x y z (f x y z)
+    go : (b : Bool) → (m .valid && (eqb (m .key0) (toBits binary64 x) && (eqb (m .key1) (toBits binary64 y) && eqb (m .key2) (toBits binary64 z)))) ≡ b
+        → cond b m (filled3 x y z (f x y z)) ≡ filled3 x y z (f x y z)
     go false e = refl
     go true e =
         let a = both-true (m .valid) (eqb (m .key0) (toBits binary64 x) && (eqb (m .key1) (toBits binary64 y) && eqb (m .key2) (toBits binary64 z))) e in
@@ -43,9 +46,12 @@ recall3-is f m h x y z t u v = go (m .valid && (eqb (m .key0) (toBits binary64 x
         let c = both-true (eqb (m .key1) (toBits binary64 y)) (eqb (m .key2) (toBits binary64 z)) (b .1) in
         ⊎-elim (λ (n : m .valid ≡ false). absurd (true≢false (sym (a .0) ∙ n)))
         (λ (k : (x' : Float) × (y' : Float) × (z' : Float) × F64 x' × F64 y' × F64 z' × (m ≡ filled3 x' y' z' (f x' y' z'))).
-        let p : k .0 ≡ x = bits-same (k .0) x (k .3) t (unfold filled3 in sym (ap (λ (n : Memo3). n .key0) (k .6)) ∙ eqb-true (m .key0) (toBits binary64 x) (b .0)) in
-        let q : k .1 ≡ y = bits-same (k .1) y (k .4) u (unfold filled3 in sym (ap (λ (n : Memo3). n .key1) (k .6)) ∙ eqb-true (m .key1) (toBits binary64 y) (c .0)) in
-        let r : k .2 ≡ z = bits-same (k .2) z (k .5) v (unfold filled3 in sym (ap (λ (n : Memo3). n .key2) (k .6)) ∙ eqb-true (m .key2) (toBits binary64 z) (c .1)) in
+        let p : k .0 ≡ x =
+        bits-same (k .0) x (k .3) t (unfold filled3 in sym (ap (λ (n : Memo3). n .key0) (k .6)) ∙ eqb-true (m .key0) (toBits binary64 x) (b .0)) in
+        let q : k .1 ≡ y =
+        bits-same (k .1) y (k .4) u (unfold filled3 in sym (ap (λ (n : Memo3). n .key1) (k .6)) ∙ eqb-true (m .key1) (toBits binary64 y) (c .0)) in
+        let r : k .2 ≡ z =
+        bits-same (k .2) z (k .5) v (unfold filled3 in sym (ap (λ (n : Memo3). n .key2) (k .6)) ∙ eqb-true (m .key2) (toBits binary64 z) (c .1)) in
         k .6 ∙ (λ i. filled3 (p i) (q i) (r i) (f (p i) (q i) (r i))))
         h
 
@@ -77,4 +83,8 @@ recall3-again f m x y z = go (hits3 m x y z) refl
 
     go : (b : Bool) → hits3 m x y z ≡ b → recall3 f (cond b m hit) x y z ≡ cond b m hit
     go true e = simp e
-    go false e = simp (eq-eqb (toBits binary64 x) (toBits binary64 x) refl, eq-eqb (toBits binary64 y) (toBits binary64 y) refl, eq-eqb (toBits binary64 z) (toBits binary64 z) refl)
+    go false e = simp (
+      eq-eqb (toBits binary64 x) (toBits binary64 x) refl,
+      eq-eqb (toBits binary64 y) (toBits binary64 y) refl,
+      eq-eqb (toBits binary64 z) (toBits binary64 z) refl,
+    )

@@ -32,7 +32,8 @@ abbrev pub Recall1-is : Type 0
 Recall1-is = (f : Float → Hertz) (m : Memo1) → Coherent1 f m → (x : Float) → F64 x → recall1 f m x ≡ filled1 x (f x)
 
 abbrev pub Recall3-is : Type 0
-Recall3-is = (f : Float → Float → Float → Hertz) (m : Memo3) → Coherent3 f m → (x y z : Float) → F64 x → F64 y → F64 z → recall3 f m x y z ≡ filled3 x y z (f x y z)
+Recall3-is =
+    (f : Float → Float → Float → Hertz) (m : Memo3) → Coherent3 f m → (x y z : Float) → F64 x → F64 y → F64 z → recall3 f m x y z ≡ filled3 x y z (f x y z)
 
 -- an edge is one for a new detector too, whose previous sample is 0, where the threshold isn't below 0
 abbrev pub Rises-new : Type 0

@@ -20,15 +20,48 @@ is-finite-requires-5 c κs = search needs
 
 returns : tie.Need-returns
 unfolding allFinite
-returns c = simp (c .is-finite5 .ensures, c .before .if4 .taken, ← c .before .before .is-finite4 .ensures, c .before .before .before .if3 .taken, ← c .before .before .before .before .is-finite3 .ensures, c .before .before .before .before .before .if2 .taken, ← c .before .before .before .before .before .before .is-finite2 .ensures, c .before .before .before .before .before .before .before .if1 .taken, ← c .before .before .before .before .before .before .before .before .is-finite .ensures)
+returns c =
+    let tested-3 = c .before .before .before in
+    let checked-2 = tested-3 .before .before .before in
+    simp (
+      c .is-finite5 .ensures,
+      c .before .if4 .taken,
+      ← c .before .before .is-finite4 .ensures,
+      tested-3 .if3 .taken,
+      ← tested-3 .before .is-finite3 .ensures,
+      tested-3 .before .before .if2 .taken,
+      ← checked-2 .is-finite2 .ensures,
+      checked-2 .before .if1 .taken,
+      ← checked-2 .before .before .is-finite .ensures,
+    )
 
 returns-2 : tie.Need-returns-2
 unfolding allFinite
-returns-2 c = simp (c .if4 .left, ← c .before .is-finite4 .ensures, c .before .before .if3 .taken, ← c .before .before .before .is-finite3 .ensures, c .before .before .before .before .if2 .taken, ← c .before .before .before .before .before .is-finite2 .ensures, c .before .before .before .before .before .before .if1 .taken, ← c .before .before .before .before .before .before .before .is-finite .ensures)
+returns-2 c =
+    let tested-2 = c .before .before .before .before in
+    simp (
+      c .if4 .left,
+      ← c .before .is-finite4 .ensures,
+      c .before .before .if3 .taken,
+      ← c .before .before .before .is-finite3 .ensures,
+      tested-2 .if2 .taken,
+      ← tested-2 .before .is-finite2 .ensures,
+      tested-2 .before .before .if1 .taken,
+      ← tested-2 .before .before .before .is-finite .ensures,
+    )
 
 returns-3 : tie.Need-returns-3
 unfolding allFinite
-returns-3 c = simp (c .if3 .left, ← c .before .is-finite3 .ensures, c .before .before .if2 .taken, ← c .before .before .before .is-finite2 .ensures, c .before .before .before .before .if1 .taken, ← c .before .before .before .before .before .is-finite .ensures)
+returns-3 c =
+    let checked-2 = c .before .before .before in
+    simp (
+      c .if3 .left,
+      ← c .before .is-finite3 .ensures,
+      c .before .before .if2 .taken,
+      ← checked-2 .is-finite2 .ensures,
+      checked-2 .before .if1 .taken,
+      ← checked-2 .before .before .is-finite .ensures,
+    )
 
 returns-4 : tie.Need-returns-4
 unfolding allFinite

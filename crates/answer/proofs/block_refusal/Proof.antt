@@ -12,11 +12,23 @@ has-room-requires c κs = search needs
 
 returns : tie.Need-returns
 unfolding blockRefusalOf
-returns c = simp (c .if3 .taken, ← c .before .has-room .ensures, eq-eqb _ _ (c .before .before .if2 .taken), c .before .before .before .if1 .taken, ← c .before .before .before .before .fits2 .ensures)
+returns c = simp (
+  c .if3 .taken,
+  ← c .before .has-room .ensures,
+  eq-eqb _ _ (c .before .before .if2 .taken),
+  c .before .before .before .if1 .taken,
+  ← c .before .before .before .before .fits2 .ensures,
+)
 
 returns-2 : tie.Need-returns-2
 unfolding blockRefusalOf
-returns-2 c = simp (c .if3 .left, ← c .before .has-room .ensures, eq-eqb _ _ (c .before .before .if2 .taken), c .before .before .before .if1 .taken, ← c .before .before .before .before .fits2 .ensures)
+returns-2 c = simp (
+  c .if3 .left,
+  ← c .before .has-room .ensures,
+  eq-eqb _ _ (c .before .before .if2 .taken),
+  c .before .before .before .if1 .taken,
+  ← c .before .before .before .before .fits2 .ensures,
+)
 
 returns-3 : tie.Need-returns-3
 unfolding blockRefusalOf

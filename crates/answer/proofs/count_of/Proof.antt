@@ -45,7 +45,9 @@ loop-again c =
     (omega arith, rw (add-one, s .1, c .one-if .ensures), omega arith)
 
 returns : tie.Need-returns Inv-loop μ-loop
-returns c = let s = c .before .loop .inv in s .1 ∙ ap (λ k. manyTo (c .before .before .before .args .k) (cellsOf (c .before .before .before .args .marks .now)) k) (le-antisymm (s .0) (c .loop-test .left))
+returns c =
+    let entered = c .before .before .before in
+    let s = c .before .loop .inv in s .1 ∙ ap (λ k. manyTo (entered .args .k) (cellsOf (entered .args .marks .now)) k) (le-antisymm (s .0) (c .loop-test .left))
 
 pub count-of-spec : {M : Type 1} → statement M
 count-of-spec =

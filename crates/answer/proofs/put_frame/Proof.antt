@@ -16,13 +16,22 @@ div-if2 : tie.Need-div-if2
 div-if2 c = search needs
 
 mul-at : tie.Need-mul-at
-mul-at c = let entered = c .before .before .before .args in let h = frame-place (entered .ports) (entered .i) (length (entered .samples .now)) (c .if2 .taken) in omega arith
+mul-at c =
+    let entered = c .before .before .before .args in
+    let h = frame-place (entered .ports) (entered .i) (length (entered .samples .now)) (c .if2 .taken) in
+    omega arith
 
 add-end : tie.Need-add-end
-add-end c = let entered = c .before .before .before .args in let h = frame-place (entered .ports) (entered .i) (length (entered .samples .now)) (c .if2 .taken) in omega arith
+add-end c =
+    let entered = c .before .before .before .args in
+    let h = frame-place (entered .ports) (entered .i) (length (entered .samples .now)) (c .if2 .taken) in
+    omega arith
 
 mul-put-volts : tie.Need-mul-put-volts
-mul-put-volts c = let entered = c .before .before .before .args in let h = frame-place (entered .ports) (entered .i) (length (entered .samples .now)) (c .if2 .taken) in omega arith
+mul-put-volts c =
+    let entered = c .before .before .before .args in
+    let h = frame-place (entered .ports) (entered .i) (length (entered .samples .now)) (c .if2 .taken) in
+    omega arith
 
 sub-put-volts : tie.Need-sub-put-volts
 sub-put-volts c = search needs
@@ -31,7 +40,9 @@ part-put-volts-start : tie.Need-part-put-volts-start
 part-put-volts-start c = search needs
 
 part-put-volts-end : tie.Need-part-put-volts-end
-part-put-volts-end c = let entered = c .before .before .before .args in frame-place (entered .ports) (entered .i) (length (entered .samples .now)) (c .if2 .taken)
+part-put-volts-end c =
+    let entered = c .before .before .before .args in
+    frame-place (entered .ports) (entered .i) (length (entered .samples .now)) (c .if2 .taken)
 
 put-volts-requires : tie.Need-put-volts-requires
 put-volts-requires c κs = search needs

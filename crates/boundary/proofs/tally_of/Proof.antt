@@ -21,7 +21,9 @@ shared-slice-read-t14 c = search needs
 
 returns : tie.Need-returns
 unfolding tallyFrom
-returns c = simp (eq-eqb _ _ (c .before .before .before .before .before .if1 .taken))
+returns c =
+    let tested = c .before .before .before .before .before in
+    simp (eq-eqb _ _ (tested .if1 .taken))
 
 returns-2 : tie.Need-returns-2
 unfolding tallyFrom

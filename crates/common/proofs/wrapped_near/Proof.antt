@@ -16,10 +16,14 @@ wrapped-requires-3 : tie.Need-wrapped-requires-3
 wrapped-requires-3 c κs = search needs
 
 returns : tie.Need-returns
-returns c = let s = c .before .before in sym (wrap-unit (s .args .x) (of-true (fits binary64 (s .args .x)) (s .good .0 .1)) (c .before .if1 .taken) (c .if2 .taken))
+returns c =
+    let s = c .before .before in
+    sym (wrap-unit (s .args .x) (of-true (fits binary64 (s .args .x)) (s .good .0 .1)) (c .before .if1 .taken) (c .if2 .taken))
 
 returns-2 : tie.Need-returns-2
-returns-2 c = let s = c .before .before .before in sym (wrap-two (s .args .x) (of-true (fits binary64 (s .args .x)) (s .good .0 .1)) (c .before .before .if1 .taken) (c .before .if2 .left) (c .if3 .taken))
+returns-2 c =
+    let s = c .before .before .before in
+    sym (wrap-two (s .args .x) (of-true (fits binary64 (s .args .x)) (s .good .0 .1)) (c .before .before .if1 .taken) (c .before .if2 .left) (c .if3 .taken))
 
 returns-3 : tie.Need-returns-3
 returns-3 c = search needs

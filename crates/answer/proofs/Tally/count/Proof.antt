@@ -34,7 +34,9 @@ add-t11 c = omega (arith, at-most-one _ _ _ (c .before .one-if4 .ensures))
 
 returns : tie.Need-returns
 unfolding counted
-returns c = simp (c .before .one-if4 .ensures, c .before .before .before .one-if3 .ensures, c .before .before .before .before .before .one-if2 .ensures, c .before .before .before .before .before .before .before .one-if .ensures)
+returns c =
+    let flagged-2 = c .before .before .before .before .before in
+    simp (c .before .one-if4 .ensures, c .before .before .before .one-if3 .ensures, flagged-2 .one-if2 .ensures, flagged-2 .before .before .one-if .ensures)
 
 pub count-spec : {M : Type 1} → statement M
 count-spec =

@@ -17,7 +17,9 @@ sub-result c = search needs
 
 returns : tie.Need-returns
 unfolding roomFor
-returns c = simp (room-test (c .before .before .before .args .self .begun) (c .before .before .before .args .n) (omega arith), c .before .if1 .taken, ← c .before .before .adds-up .ensures)
+returns c =
+    let added-up = c .before .before in
+    simp (room-test (added-up .before .args .self .begun) (added-up .before .args .n) (omega arith), c .before .if1 .taken, ← added-up .adds-up .ensures)
 
 returns-2 : tie.Need-returns-2
 unfolding roomFor

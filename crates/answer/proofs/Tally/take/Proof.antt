@@ -14,7 +14,9 @@ mark-number-requires : tie.Need-mark-number-requires
 mark-number-requires c κs = search needs
 
 count-requires : tie.Need-count-requires
-count-requires c κs = (omega arith, adds (c .before .before .before .before .before .before .args .self) (sym (c .before .before .before .before .before .adds-up .ensures) ∙ c .before .before .before .before .if1 .taken))
+count-requires c κs =
+    let tested = c .before .before .before .before in
+    (omega arith, adds (tested .before .before .args .self) (sym (tested .before .adds-up .ensures) ∙ tested .if1 .taken))
 
 returns : tie.Need-returns
 unfolding tallyOf
@@ -22,11 +24,28 @@ returns c = simp (eq-eqb _ _ (c .if2 .taken), ← c .before .mark-number .ensure
 
 returns-2 : tie.Need-returns-2
 unfolding tallyOf
-returns-2 c = simp (eq-eqb _ _ (c .if3 .taken), ne-eqb _ _ (c .before .before .if2 .left), ← c .before .before .before .mark-number .ensures, c .before .before .before .before .if1 .taken, ← c .before .before .before .before .before .adds-up .ensures)
+returns-2 c =
+    let numbered-mark = c .before .before .before in
+    simp (
+      eq-eqb _ _ (c .if3 .taken),
+      ne-eqb _ _ (c .before .before .if2 .left),
+      ← numbered-mark .mark-number .ensures,
+      numbered-mark .before .if1 .taken,
+      ← numbered-mark .before .before .adds-up .ensures,
+    )
 
 returns-3 : tie.Need-returns-3
 unfolding tallyOf
-returns-3 c = simp (c .count .ensures, ne-eqb _ _ (c .before .if3 .left), ne-eqb _ _ (c .before .before .before .if2 .left), ← c .before .before .before .before .mark-number .ensures, c .before .before .before .before .before .if1 .taken, ← c .before .before .before .before .before .before .adds-up .ensures)
+returns-3 c =
+    let passed-2 = c .before .before .before in
+    simp (
+      c .count .ensures,
+      ne-eqb _ _ (c .before .if3 .left),
+      ne-eqb _ _ (passed-2 .if2 .left),
+      ← passed-2 .before .mark-number .ensures,
+      passed-2 .before .before .if1 .taken,
+      ← passed-2 .before .before .before .adds-up .ensures,
+    )
 
 returns-4 : tie.Need-returns-4
 unfolding tallyOf

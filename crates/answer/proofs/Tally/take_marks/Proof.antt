@@ -11,21 +11,30 @@ has-room-requires : tie.Need-has-room-requires
 has-room-requires c κs = search needs
 
 count-of-requires : tie.Need-count-of-requires
-count-of-requires c κs = (let h = room-says (c .before .before .before .args .self) (length (c .before .before .before .args .marks .now)) (sym (c .before .has-room .ensures) ∙ c .if1 .taken) in omega arith)
+count-of-requires c κs = (let h = room-says (c .before .before .before .args .self) (length (c .before .before .before .args .marks .now))
+    (sym (c .before .has-room .ensures) ∙ c .if1 .taken) in omega arith)
 
 count-of-requires-2 : tie.Need-count-of-requires-2
-count-of-requires-2 c κs = (let h = room-says (c .before .before .before .before .args .self) (length (c .before .before .before .before .args .marks .now)) (sym (c .before .before .has-room .ensures) ∙ c .before .if1 .taken) in omega arith)
+count-of-requires-2 c κs = (let h = room-says (c .before .before .before .before .args .self) (length (c .before .before .before .before .args .marks .now))
+    (sym (c .before .before .has-room .ensures) ∙ c .before .if1 .taken) in omega arith)
 
 count-of-requires-3 : tie.Need-count-of-requires-3
-count-of-requires-3 c κs = (let h = room-says (c .before .before .before .before .before .args .self) (length (c .before .before .before .before .before .args .marks .now)) (sym (c .before .before .before .has-room .ensures) ∙ c .before .before .if1 .taken) in omega arith)
+count-of-requires-3 c κs =
+    let entered = c .before .before .before .before .before in
+    (let h = room-says (entered .args .self) (length (entered .args .marks .now))
+    (sym (c .before .before .before .has-room .ensures) ∙ c .before .before .if1 .taken) in omega arith)
 
 count-of-requires-4 : tie.Need-count-of-requires-4
-count-of-requires-4 c κs = (let h = room-says (c .before .before .before .before .before .before .args .self) (length (c .before .before .before .before .before .before .args .marks .now)) (sym (c .before .before .before .before .has-room .ensures) ∙ c .before .before .before .if1 .taken) in omega arith)
+count-of-requires-4 c κs =
+    let tested = c .before .before .before in
+    let entered = tested .before .before .before in
+    (let h = room-says (entered .args .self) (length (entered .args .marks .now)) (sym (tested .before .has-room .ensures) ∙ tested .if1 .taken) in omega arith)
 
 grown-requires : tie.Need-grown-requires
 grown-requires c κs =
-    let a = c .before .before .before .before .before .before .before .args in
-    let h = room-says (a .self) (length (a .marks .now)) (sym (c .before .before .before .before .before .has-room .ensures) ∙ c .before .before .before .before .if1 .taken) in
+    let tested = c .before .before .before .before in
+    let a = tested .before .before .before .args in
+    let h = room-says (a .self) (length (a .marks .now)) (sym (tested .before .has-room .ensures) ∙ tested .if1 .taken) in
     let m = many-most (cellsOf (a .marks .now)) (length (a .marks .now)) in
     let w = c .before .before .before .count-of .ensures in
     let x = c .before .before .count-of2 .ensures in
@@ -35,7 +44,17 @@ grown-requires c κs =
 
 returns : tie.Need-returns
 unfolding marksTaken countedTo
-returns c = simp (c .grown .ensures, c .before .count-of4 .ensures, c .before .before .count-of3 .ensures, c .before .before .before .count-of2 .ensures, c .before .before .before .before .count-of .ensures, c .before .before .before .before .before .if1 .taken, ← c .before .before .before .before .before .before .has-room .ensures)
+returns c =
+    let counted-2 = c .before .before .before in
+    simp (
+      c .grown .ensures,
+      c .before .count-of4 .ensures,
+      c .before .before .count-of3 .ensures,
+      counted-2 .count-of2 .ensures,
+      counted-2 .before .count-of .ensures,
+      counted-2 .before .before .if1 .taken,
+      ← counted-2 .before .before .before .has-room .ensures,
+    )
 
 returns-2 : tie.Need-returns-2
 unfolding marksTaken
