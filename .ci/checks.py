@@ -17,6 +17,7 @@ import boundary
 import contracts
 import counts
 import edits
+import kept
 import statements
 from texts import APART, blanked, brings, line, past
 
@@ -205,6 +206,11 @@ def proved(files):
 def boundary_holds(files):
     """Every exported function is in the C header and in the safe crate, with its types and order, and nothing else is; the header's numbers are the crates'."""
     return boundary.differences(files)
+
+
+def kept_while_same(files):
+    """host/tools/native takes what it kept while all that it was made from is the same, and else builds it anew."""
+    return kept.differences(files)
 
 
 # ---- what must not stand in the repository
@@ -396,9 +402,13 @@ def settling(contract, equation, binders, brought=SETTLES):
     }
 
 
+def changed(path, old, new):
+    """A file with one change."""
+    return {path: (ROOT / path).read_text().replace(old, new)}
+
+
 def header(old, new):
-    """The C header with one change."""
-    return {boundary.HEADER: (ROOT / boundary.HEADER).read_text().replace(old, new)}
+    return changed(boundary.HEADER, old, new)
 
 
 KEPT = "use Rattle.x.specs.Promises.{Kept}\n"
@@ -484,6 +494,15 @@ CHECKS = {
         header("#define GRUTTISOL_COUNTS 5", "#define GRUTTISOL_COUNTS 5\n#define GRUTTISOL_MORE 5"),
         {"host/gruttisol/src/more.rs": 'unsafe extern "C" {\n'},
         {"host/gruttisol/src/": "", "host/gruttisol/src/more.rs": "exported! {\n    fn sin(x: f32) -> f64;\n}\n"},
+    ],
+    kept_while_same: [
+        changed(kept.TOOL, "src specs proofs", "src specs"),
+        changed(kept.TOOL, "for crate in $name $needed; do\n        for part", "for crate in $name; do\n        for part"),
+        changed(kept.TOOL, 'for crate in $name $needed; do echo "$crate: $(given "$crate")"; done', ""),
+        changed(kept.TOOL, "        rt version\n", ""),
+        changed(kept.TOOL, "kept=target/native/$triple", "kept=target/native/any"),
+        changed(kept.TOOL, '[ "$(key)" = "$made_from" ]', "true"),
+        changed(kept.TOOL, '|| rm -f "$old"', "|| true"),
     ],
     no_hole: [{"crates/x/proofs/f/Proof.antt": "returns c = ?\n"}],
     own_words: [{"docs/x.md": "built in /" + "work/ here\n"}],
