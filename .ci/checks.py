@@ -223,6 +223,17 @@ def no_hole(files):
             yield f"{path}:{line(text, m.start())}: a hole"
 
 
+LINE = 160  # characters, at most
+
+
+def short_lines(files):
+    """No line of a crate's code, definitions and proofs is longer than 160 characters."""
+    for path, _, text in of_crates(files, ["src", "specs", "proofs"], (".rt", ".antt")):
+        for at, row in enumerate(text.split("\n"), 1):
+            if len(row) > LINE:
+                yield f"{path}:{at}: {len(row)} characters"
+
+
 def own_words(files):
     """No file speaks of the place where it was written."""
     words = re.compile(
@@ -505,6 +516,11 @@ CHECKS = {
         changed(kept.TOOL, '|| rm -f "$old"', "|| true"),
     ],
     no_hole: [{"crates/x/proofs/f/Proof.antt": "returns c = ?\n"}],
+    short_lines: [
+        {"crates/x/src/lib.rt": f"//{159 * 'a'}\n"},
+        {"crates/x/specs/A.antt": f"a : A\n--{159 * '≡'}"},
+        {"crates/x/proofs/f/Proof.antt": f"{161 * 'a'}\n"},
+    ],
     own_words: [{"docs/x.md": "built in /" + "work/ here\n"}],
     no_copy: [{"x.rs": COPY}],
     map_holds: [
