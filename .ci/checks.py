@@ -224,6 +224,7 @@ def no_hole(files):
 
 
 LINE = 160  # characters, at most
+BEFORES = 5  # in a row, at most: a longer path names its stages
 
 
 def short_lines(files):
@@ -232,6 +233,15 @@ def short_lines(files):
         for at, row in enumerate(text.split("\n"), 1):
             if len(row) > LINE:
                 yield f"{path}:{at}: {len(row)} characters"
+
+
+def stages_named(files):
+    """No path of a proof goes six or more `.before` back in a row: its stages have names."""
+    for path, _, text in of_crates(files, ["proofs"], ".antt"):
+        text = blanked(path, text)
+        for m in re.finditer(r"\.before\b(?:\s*\.before\b)+", text):
+            if m[0].count(".before") > BEFORES:
+                yield f"{path}:{line(text, m.start())}: {m[0].count('.before')} times .before"
 
 
 def own_words(files):
@@ -520,6 +530,10 @@ CHECKS = {
         {"crates/x/src/lib.rt": f"//{159 * 'a'}\n"},
         {"crates/x/specs/A.antt": f"a : A\n--{159 * '≡'}"},
         {"crates/x/proofs/f/Proof.antt": f"{161 * 'a'}\n"},
+    ],
+    stages_named: [
+        {"crates/x/proofs/f/Proof.antt": f"returns c = simp (c{6 * ' .before'} .hits)\n"},
+        {"crates/x/proofs/f/Proof.antt": f"returns c = let a = c{3 * ' .before'}\n   {3 * ' .before'} in a\n"},
     ],
     own_words: [{"docs/x.md": "built in /" + "work/ here\n"}],
     no_copy: [{"x.rs": COPY}],
