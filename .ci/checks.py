@@ -17,6 +17,7 @@ import boundary
 import contracts
 import counts
 import edits
+import kept
 import statements
 from texts import APART, blanked, brings, line, past
 
@@ -207,6 +208,11 @@ def boundary_holds(files):
     return boundary.differences(files)
 
 
+def kept_while_same(files):
+    """host/tools/native takes what it kept while all that it was made from is the same, and else builds it anew."""
+    return kept.differences(files)
+
+
 # ---- what must not stand in the repository
 
 def no_hole(files):
@@ -215,6 +221,27 @@ def no_hole(files):
         text = blanked(path, text)
         for m in re.finditer(r"(?<![^\s(,=])\?(?![^\s),])", text):
             yield f"{path}:{line(text, m.start())}: a hole"
+
+
+LINE = 160  # characters, at most
+BEFORES = 5  # in a row, at most: a longer path names its stages
+
+
+def short_lines(files):
+    """No line of a crate's code, definitions and proofs is longer than 160 characters."""
+    for path, _, text in of_crates(files, ["src", "specs", "proofs"], (".rt", ".antt")):
+        for at, row in enumerate(text.split("\n"), 1):
+            if len(row) > LINE:
+                yield f"{path}:{at}: {len(row)} characters"
+
+
+def stages_named(files):
+    """No path of a proof goes six or more `.before` back in a row: its stages have names."""
+    for path, _, text in of_crates(files, ["proofs"], ".antt"):
+        text = blanked(path, text)
+        for m in re.finditer(r"\.before\b(?:\s*\.before\b)+", text):
+            if m[0].count(".before") > BEFORES:
+                yield f"{path}:{line(text, m.start())}: {m[0].count('.before')} times .before"
 
 
 def own_words(files):
@@ -396,9 +423,13 @@ def settling(contract, equation, binders, brought=SETTLES):
     }
 
 
+def changed(path, old, new):
+    """A file with one change."""
+    return {path: (ROOT / path).read_text().replace(old, new)}
+
+
 def header(old, new):
-    """The C header with one change."""
-    return {boundary.HEADER: (ROOT / boundary.HEADER).read_text().replace(old, new)}
+    return changed(boundary.HEADER, old, new)
 
 
 KEPT = "use Rattle.x.specs.Promises.{Kept}\n"
@@ -485,7 +516,25 @@ CHECKS = {
         {"host/gruttisol/src/more.rs": 'unsafe extern "C" {\n'},
         {"host/gruttisol/src/": "", "host/gruttisol/src/more.rs": "exported! {\n    fn sin(x: f32) -> f64;\n}\n"},
     ],
+    kept_while_same: [
+        changed(kept.TOOL, "src specs proofs", "src specs"),
+        changed(kept.TOOL, "for crate in $name $needed; do\n        for part", "for crate in $name; do\n        for part"),
+        changed(kept.TOOL, 'for crate in $name $needed; do echo "$crate: $(given "$crate")"; done', ""),
+        changed(kept.TOOL, "        rt version\n", ""),
+        changed(kept.TOOL, "kept=target/native/$triple", "kept=target/native/any"),
+        changed(kept.TOOL, '[ "$(key)" = "$made_from" ]', "true"),
+        changed(kept.TOOL, '|| rm -f "$old"', "|| true"),
+    ],
     no_hole: [{"crates/x/proofs/f/Proof.antt": "returns c = ?\n"}],
+    short_lines: [
+        {"crates/x/src/lib.rt": f"//{159 * 'a'}\n"},
+        {"crates/x/specs/A.antt": f"a : A\n--{159 * '≡'}"},
+        {"crates/x/proofs/f/Proof.antt": f"{161 * 'a'}\n"},
+    ],
+    stages_named: [
+        {"crates/x/proofs/f/Proof.antt": f"returns c = simp (c{6 * ' .before'} .hits)\n"},
+        {"crates/x/proofs/f/Proof.antt": f"returns c = let a = c{3 * ' .before'}\n   {3 * ' .before'} in a\n"},
+    ],
     own_words: [{"docs/x.md": "built in /" + "work/ here\n"}],
     no_copy: [{"x.rs": COPY}],
     map_holds: [

@@ -1,32 +1,23 @@
-//! For build scripts: what `tools/native` makes of a proved crate, or what was made before.
+//! For build scripts: what `tools/native` and `tools/library` make of the proved crates, or what was made before.
+use std::ffi::OsStr;
 use std::path::{Path, PathBuf};
 use std::process::{exit, Command};
 use std::{env, fs};
 
-/// The folder `host`, of a package in it.
-fn host() -> PathBuf {
-    Path::new(&env::var_os("CARGO_MANIFEST_DIR").unwrap()).parent().unwrap().to_owned()
-}
-
-/// Names what a build reads, so that cargo makes it again when that changes. Answers the list of the crates.
-pub fn watch() -> PathBuf {
-    let host = host();
-    let repository = host.parent().unwrap();
-    let crates = repository.join("crates.txt");
-    for read in [&repository.join("crates"), &crates, &host.join("tools/native")] {
-        println!("cargo:rerun-if-changed={}", read.display());
+/// Runs a tool of `host/tools` with these words, and cargo's target after them. Names what it reads, so that cargo
+/// runs it again when that changes.
+pub fn make(tool: &str, words: impl IntoIterator<Item = impl AsRef<OsStr>>) {
+    let package = PathBuf::from(env::var_os("CARGO_MANIFEST_DIR").unwrap());
+    let host = package.parent().unwrap();
+    for read in ["tools/native", "tools/library", "../crates.txt", "../crates"] {
+        println!("cargo:rerun-if-changed={}", host.join(read).display());
     }
     println!("cargo:rerun-if-env-changed=RATTLE_HOME");
-    crates
-}
-
-/// Makes a crate's static library or program.
-pub fn make(name: &str, out: &Path) {
-    let native = host().join("tools/native");
-    match Command::new(&native).arg(name).arg(out).status() {
+    let tool = host.join("tools").join(tool);
+    match Command::new(&tool).args(words).arg(env::var_os("TARGET").unwrap()).status() {
         Ok(status) if status.success() => {}
-        Ok(_) => fail(&format!("tools/native made nothing of the crate {name}; it said why above")),
-        Err(e) => fail(&format!("{}: {e}", native.display())),
+        Ok(_) => fail(&format!("{} made nothing; it said why above", tool.display())),
+        Err(e) => fail(&format!("{}: {e}", tool.display())),
     }
 }
 
@@ -41,7 +32,7 @@ pub fn copied(variable: &str, out: &Path) -> bool {
     true
 }
 
-pub fn fail(why: &str) -> ! {
+fn fail(why: &str) -> ! {
     eprintln!("{why}");
     exit(1);
 }
