@@ -4,12 +4,6 @@ use Rattle.answer.specs.Block.{blockRefusalOf}
 use Rattle.answer.proofs.block_refusal.Statement.{statement}
 use Rattle.answer.proofs.block_refusal.Tie as tie
 
-fits-requires : tie.Need-fits-requires
-fits-requires c κs = search needs
-
-has-room-requires : tie.Need-has-room-requires
-has-room-requires c κs = search needs
-
 returns : tie.Need-returns
 unfolding blockRefusalOf
 returns c = simp (
@@ -39,4 +33,4 @@ unfolding blockRefusalOf
 returns-4 c = simp (c .if1 .left, ← c .before .fits2 .ensures)
 
 pub block-refusal-spec : {M : Type 1} → statement M
-block-refusal-spec = tie.close (tie.spec fits-requires has-room-requires returns returns-2 returns-3 returns-4)
+block-refusal-spec = tie.close (tie.spec (λ c κs. search needs) (λ c κs. search needs) returns returns-2 returns-3 returns-4)

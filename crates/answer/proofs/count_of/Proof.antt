@@ -19,23 +19,8 @@ loop-holds : tie.Need-loop-holds Inv-loop μ-loop
 unfolding manyTo
 loop-holds c = (omega arith, refl, omega arith)
 
-mul-one-if : tie.Need-mul-one-if Inv-loop μ-loop
-mul-one-if c = omega arith
-
-shared-slice-read-one-if : tie.Need-shared-slice-read-one-if Inv-loop μ-loop
-shared-slice-read-one-if c = omega arith
-
-one-if-requires : tie.Need-one-if-requires Inv-loop μ-loop
-one-if-requires c κs = tt
-
 add-many : tie.Need-add-many Inv-loop μ-loop
 add-many c = let o = at-most-one _ _ _ (c .one-if .ensures) in omega arith
-
-add-i : tie.Need-add-i Inv-loop μ-loop
-add-i c = omega arith
-
-loop-less : tie.Need-loop-less Inv-loop μ-loop
-loop-less c = omega arith
 
 loop-again : tie.Need-loop-again Inv-loop μ-loop
 unfolding manyTo
@@ -56,11 +41,11 @@ count-of-spec =
     Inv-loop
     μ-loop
     loop-holds
-    mul-one-if
-    shared-slice-read-one-if
-    one-if-requires
+    (λ c. omega arith)
+    (λ c. omega arith)
+    (λ c κs. tt)
     add-many
-    add-i
-    loop-less
+    (λ c. omega arith)
+    (λ c. omega arith)
     loop-again
     returns)

@@ -7,12 +7,6 @@ use Rattle.answer.proofs.Blocks.{whole-frames, part-frames}
 use Rattle.answer.proofs.fits.Statement.{statement}
 use Rattle.answer.proofs.fits.Tie as tie
 
-rem-if2 : tie.Need-rem-if2
-rem-if2 c = search needs
-
-div-result : tie.Need-div-result
-div-result c = search needs
-
 returns : tie.Need-returns
 returns c =
     let none : (o n p : ℕ) → p ≡ 0 → eqb o 0 ≡ eqb o (p * n) = λ o n p h. simp (h, zero-mul n) in
@@ -25,4 +19,4 @@ returns-3 : tie.Need-returns-3
 returns-3 c = part-frames _ _ _ (c .if2 .left)
 
 pub fits-spec : {M : Type 1} → statement M
-fits-spec = tie.close (tie.spec rem-if2 div-result returns returns-2 returns-3)
+fits-spec = tie.close (tie.spec (λ c. search needs) (λ c. search needs) returns returns-2 returns-3)

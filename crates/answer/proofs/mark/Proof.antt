@@ -3,15 +3,6 @@ use Rattle.answer.specs.Mark.{markOf}
 use Rattle.answer.proofs.mark.Statement.{statement}
 use Rattle.answer.proofs.mark.Tie as tie
 
-all-finite-requires : tie.Need-all-finite-requires
-all-finite-requires c κs = search needs
-
-marked-requires : tie.Need-marked-requires
-marked-requires c κs = search needs
-
-marked-requires-2 : tie.Need-marked-requires-2
-marked-requires-2 c κs = search needs
-
 returns : tie.Need-returns
 unfolding markOf
 returns c = simp (c .marked .ensures, c .before .all-finite .ensures, c .before .before .if1 .taken)
@@ -22,4 +13,4 @@ returns-2 c = simp (c .marked2 .ensures, c .before .if1 .left)
 
 pub mark-spec : {M : Type 1} → statement M
 mark-spec =
-    tie.close (tie.spec all-finite-requires marked-requires marked-requires-2 returns returns-2)
+    tie.close (tie.spec (λ c κs. search needs) (λ c κs. search needs) (λ c κs. search needs) returns returns-2)

@@ -12,9 +12,6 @@ use Rattle.answer.proofs.put_frame.Tie as tie
 returns : tie.Need-returns
 returns c = let entered = c .before .before .args in sym (frame-none (entered .ports) (entered .i) (entered .v) (entered .samples .now) (c .if1 .taken))
 
-div-if2 : tie.Need-div-if2
-div-if2 c = search needs
-
 mul-at : tie.Need-mul-at
 mul-at c =
     let entered = c .before .before .before .args in
@@ -33,22 +30,10 @@ mul-put-volts c =
     let h = frame-place (entered .ports) (entered .i) (length (entered .samples .now)) (c .if2 .taken) in
     omega arith
 
-sub-put-volts : tie.Need-sub-put-volts
-sub-put-volts c = search needs
-
-part-put-volts-start : tie.Need-part-put-volts-start
-part-put-volts-start c = search needs
-
 part-put-volts-end : tie.Need-part-put-volts-end
 part-put-volts-end c =
     let entered = c .before .before .before .args in
     frame-place (entered .ports) (entered .i) (length (entered .samples .now)) (c .if2 .taken)
-
-put-volts-requires : tie.Need-put-volts-requires
-put-volts-requires c κs = search needs
-
-same-length : tie.Need-same-length
-same-length c = search needs
 
 returns-2 : tie.Need-returns-2
 returns-2 c =
@@ -67,14 +52,14 @@ put-frame-spec =
     tie.close
     (tie.spec
     returns
-    div-if2
+    (λ c. search needs)
     mul-at
     add-end
     mul-put-volts
-    sub-put-volts
-    part-put-volts-start
+    (λ c. search needs)
+    (λ c. search needs)
     part-put-volts-end
-    put-volts-requires
-    same-length
+    (λ c κs. search needs)
+    (λ c. search needs)
     returns-2
     returns-3)

@@ -23,21 +23,12 @@ returns : tie.Need-returns
 unfolding portsOf
 returns c = sym (ports-at (c .before .args .v) (c .before .args .part .now) 0 (omega arith))
 
-slice-write-part : tie.Need-slice-write-part
-slice-write-part c = search needs
-
-same-length : tie.Need-same-length
-same-length c = search needs
-
 returns-2 : tie.Need-returns-2
 unfolding portsOf
 returns-2 c = let began = c .before .before .args in sym (ports-at (began .v) (began .part .now) 1 (omega arith))
 
 slice-write-part-2 : tie.Need-slice-write-part-2
 slice-write-part-2 c = simp length-set (omega arith)
-
-same-length-2 : tie.Need-same-length-2
-same-length-2 c = search needs
 
 returns-3 : tie.Need-returns-3
 unfolding portsOf
@@ -46,9 +37,6 @@ returns-3 c = let began = c .before .before .before .args in sym (ports-at (bega
 slice-write-part-3 : tie.Need-slice-write-part-3
 slice-write-part-3 c = simp length-set (omega arith)
 
-same-length-3 : tie.Need-same-length-3
-same-length-3 c = search needs
-
 returns-4 : tie.Need-returns-4
 unfolding portsOf
 returns-4 c = let began = c .before .before .before .before .args in sym (ports-at (began .v) (began .part .now) 3 (omega arith))
@@ -56,18 +44,12 @@ returns-4 c = let began = c .before .before .before .before .args in sym (ports-
 slice-write-part-4 : tie.Need-slice-write-part-4
 slice-write-part-4 c = simp length-set (omega arith)
 
-same-length-4 : tie.Need-same-length-4
-same-length-4 c = search needs
-
 returns-5 : tie.Need-returns-5
 unfolding portsOf
 returns-5 c = let began = c .before .before .before .before .before .args in sym (ports-at (began .v) (began .part .now) 4 (omega arith))
 
 slice-write-part-5 : tie.Need-slice-write-part-5
 slice-write-part-5 c = simp length-set (omega arith)
-
-same-length-5 : tie.Need-same-length-5
-same-length-5 c = search needs
 
 returns-6 : tie.Need-returns-6
 returns-6 c = let began = c .before .before .before .before .before .args in sym (all-ports (began .v) (began .part .now) (omega arith))
@@ -77,18 +59,18 @@ put-volts-spec =
     tie.close
     (tie.spec
     returns
-    slice-write-part
-    same-length
+    (λ c. search needs)
+    (λ c. search needs)
     returns-2
     slice-write-part-2
-    same-length-2
+    (λ c. search needs)
     returns-3
     slice-write-part-3
-    same-length-3
+    (λ c. search needs)
     returns-4
     slice-write-part-4
-    same-length-4
+    (λ c. search needs)
     returns-5
     slice-write-part-5
-    same-length-5
+    (λ c. search needs)
     returns-6)

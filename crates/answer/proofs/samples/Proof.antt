@@ -3,24 +3,6 @@ use borrow.Author.Needs.{needs}
 use Rattle.answer.proofs.samples.Statement.{statement}
 use Rattle.answer.proofs.samples.Tie as tie
 
-enum-known-a : tie.Need-enum-known-a
-enum-known-a c = search needs
-
-enum-known-a-2 : tie.Need-enum-known-a-2
-enum-known-a-2 c = search needs
-
-enum-known-a-3 : tie.Need-enum-known-a-3
-enum-known-a-3 c = search needs
-
-enum-known-a-4 : tie.Need-enum-known-a-4
-enum-known-a-4 c = search needs
-
-enum-told : tie.Need-enum-told
-enum-told c = search needs
-
-volts1-requires : tie.Need-volts1-requires
-volts1-requires c κs = search needs
-
 returns : tie.Need-returns
 unfolding voltsOf
 returns c = simp (c .before .a .given .1)
@@ -45,12 +27,12 @@ pub samples-spec : {M : Type 1} → statement M
 samples-spec =
     tie.close
     (tie.spec
-    enum-known-a
-    enum-known-a-2
-    enum-known-a-3
-    enum-known-a-4
-    enum-told
-    volts1-requires
+    (λ c. search needs)
+    (λ c. search needs)
+    (λ c. search needs)
+    (λ c. search needs)
+    (λ c. search needs)
+    (λ c κs. search needs)
     returns
     returns-2
     returns-3

@@ -6,15 +6,6 @@ use borrow.Author.Needs.{needs}
 use Rattle.boundary.proofs.edge_at.Statement.{statement}
 use Rattle.boundary.proofs.edge_at.Tie as tie
 
-mul-t6 : tie.Need-mul-t6
-mul-t6 c = search needs
-
-shared-slice-read-t8 : tie.Need-shared-slice-read-t8
-shared-slice-read-t8 c = search needs
-
-returns : tie.Need-returns
-returns c = search needs
-
 returns-2 : tie.Need-returns-2
 unfolding div ofBits
 returns-2 c =
@@ -22,4 +13,4 @@ returns-2 c =
     ap (λ (x : Float). record { prev = x }) (sym (List·getD-eq-default (entered .floats .now) nan {n = entered .at} (omega arith)))
 
 pub edge-at-spec : {M : Type 1} → statement M
-edge-at-spec = tie.close (tie.spec mul-t6 shared-slice-read-t8 returns returns-2)
+edge-at-spec = tie.close (tie.spec (λ c. search needs) (λ c. search needs) (λ c. search needs) returns-2)

@@ -7,23 +7,8 @@ use borrow.Author.Needs.{needs}
 use Rattle.boundary.proofs.put_counts.Statement.{statement}
 use Rattle.boundary.proofs.put_counts.Tie as tie
 
-slice-write-counts : tie.Need-slice-write-counts
-slice-write-counts c = search needs
-
-slice-write-counts-2 : tie.Need-slice-write-counts-2
-slice-write-counts-2 c = search needs
-
-slice-write-counts-3 : tie.Need-slice-write-counts-3
-slice-write-counts-3 c = search needs
-
-slice-write-counts-4 : tie.Need-slice-write-counts-4
-slice-write-counts-4 c = search needs
-
 slice-write-counts-5 : tie.Need-slice-write-counts-5
 slice-write-counts-5 c = simp length-set (omega arith)
-
-same-length : tie.Need-same-length
-same-length c = search needs
 
 returns : tie.Need-returns
 unfolding countsOutcome countsPut countsOf
@@ -39,11 +24,11 @@ pub put-counts-spec : {M : Type 1} → statement M
 put-counts-spec =
     tie.close
     (tie.spec
-    slice-write-counts
-    slice-write-counts-2
-    slice-write-counts-3
-    slice-write-counts-4
+    (λ c. search needs)
+    (λ c. search needs)
+    (λ c. search needs)
+    (λ c. search needs)
     slice-write-counts-5
-    same-length
+    (λ c. search needs)
     returns
     returns-2)

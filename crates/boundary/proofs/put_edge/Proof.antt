@@ -5,20 +5,8 @@ use borrow.Author.Needs.{needs}
 use Rattle.boundary.proofs.put_edge.Statement.{statement}
 use Rattle.boundary.proofs.put_edge.Tie as tie
 
-mul-floats : tie.Need-mul-floats
-mul-floats c = search needs
-
-slice-write-floats : tie.Need-slice-write-floats
-slice-write-floats c = search needs
-
-same-length : tie.Need-same-length
-same-length c = search needs
-
-returns : tie.Need-returns
-returns c = search needs
-
 returns-2 : tie.Need-returns-2
 returns-2 c = let entered = c .before .args in sym (set-out (entered .floats .now) (entered .at) (entered .e .prev) (omega arith))
 
 pub put-edge-spec : {M : Type 1} → statement M
-put-edge-spec = tie.close (tie.spec mul-floats slice-write-floats same-length returns returns-2)
+put-edge-spec = tie.close (tie.spec (λ c. search needs) (λ c. search needs) (λ c. search needs) (λ c. search needs) returns-2)

@@ -4,9 +4,6 @@ use Rattle.boundary.specs.Flat.{tickSizesOf}
 use Rattle.boundary.proofs.tick_sizes.Statement.{statement}
 use Rattle.boundary.proofs.tick_sizes.Tie as tie
 
-sizes-requires : tie.Need-sizes-requires
-sizes-requires c κs = search needs
-
 returns : tie.Need-returns
 unfolding tickSizesOf
 returns c = simp (← c .before .before .sizes .ensures, eq-eqb _ _ (c .before .if1 .taken), eq-eqb _ _ (c .if2 .taken))
@@ -20,4 +17,4 @@ unfolding tickSizesOf
 returns-3 c = simp (← c .before .sizes .ensures, ne-eqb _ _ (c .if1 .left))
 
 pub tick-sizes-spec : {M : Type 1} → statement M
-tick-sizes-spec = tie.close (tie.spec sizes-requires returns returns-2 returns-3)
+tick-sizes-spec = tie.close (tie.spec (λ c κs. search needs) returns returns-2 returns-3)

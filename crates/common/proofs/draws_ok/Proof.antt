@@ -19,18 +19,6 @@ loop-holds : tie.Need-loop-holds Inv-loop μ-loop
 unfolding drawsOk
 loop-holds c = (omega arith, refl)
 
-mul-digits : tie.Need-mul-digits Inv-loop μ-loop
-mul-digits c = omega arith
-
-shared-slice-read-digits : tie.Need-shared-slice-read-digits Inv-loop μ-loop
-shared-slice-read-digits c = omega arith
-
-add-i : tie.Need-add-i Inv-loop μ-loop
-add-i c = omega arith
-
-loop-less : tie.Need-loop-less Inv-loop μ-loop
-loop-less c = omega arith
-
 loop-again : tie.Need-loop-again Inv-loop μ-loop
 loop-again c = let l = c .before .before .loop in (omega arith, digits-more (c .before .before .before .args .draws .now) (l .i) (l .digits) (l .inv .1))
 
@@ -44,9 +32,9 @@ draws-ok-spec =
     Inv-loop
     μ-loop
     loop-holds
-    mul-digits
-    shared-slice-read-digits
-    add-i
-    loop-less
+    (λ c. omega arith)
+    (λ c. omega arith)
+    (λ c. omega arith)
+    (λ c. omega arith)
     loop-again
     returns)

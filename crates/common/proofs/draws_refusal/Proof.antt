@@ -4,9 +4,6 @@ use Rattle.common.specs.Tests.{drawsRefusalOf}
 use Rattle.common.proofs.draws_refusal.Statement.{statement}
 use Rattle.common.proofs.draws_refusal.Tie as tie
 
-draws-ok-requires : tie.Need-draws-ok-requires
-draws-ok-requires c κs = search needs
-
 returns : tie.Need-returns
 unfolding drawsRefusalOf
 returns c = simp (lt-leb _ _ (c .if1 .taken))
@@ -20,4 +17,4 @@ unfolding drawsRefusalOf
 returns-3 c = simp (le-leb _ _ (c .before .before .if1 .left), ← c .before .draws-ok .ensures, c .if2 .left)
 
 pub draws-refusal-spec : {M : Type 1} → statement M
-draws-refusal-spec = tie.close (tie.spec draws-ok-requires returns returns-2 returns-3)
+draws-refusal-spec = tie.close (tie.spec (λ c κs. search needs) returns returns-2 returns-3)

@@ -2,11 +2,8 @@ use borrow.Author.Needs.{needs}
 use Rattle.common.proofs.wrap_phase.Statement.{statement}
 use Rattle.common.proofs.wrap_phase.Tie as tie
 
-wrapped-near-requires : tie.Need-wrapped-near-requires
-wrapped-near-requires c κs = search needs
-
 returns : tie.Need-returns
 returns c = simp (c .wrapped-near .ensures)
 
 pub wrap-phase-spec : {M : Type 1} → statement M
-wrap-phase-spec = tie.close (tie.spec wrapped-near-requires returns)
+wrap-phase-spec = tie.close (tie.spec (λ c κs. search needs) returns)

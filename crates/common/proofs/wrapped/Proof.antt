@@ -3,12 +3,6 @@ use borrow.Author.Needs.{needs}
 use Rattle.common.proofs.wrapped.Statement.{statement}
 use Rattle.common.proofs.wrapped.Tie as tie
 
-is-finite-requires : tie.Need-is-finite-requires
-is-finite-requires c κs = search needs
-
-floor-requires : tie.Need-floor-requires
-floor-requires c κs = search needs
-
 returns : tie.Need-returns
 unfolding wrapOf
 returns c = simp (c .if2 .taken, ← c .before .floor .ensures, c .before .before .if1 .taken, ← c .before .before .before .is-finite .ensures)
@@ -22,4 +16,4 @@ unfolding wrapOf
 returns-3 c = simp (c .if1 .left, ← c .before .is-finite .ensures)
 
 pub wrapped-spec : {M : Type 1} → statement M
-wrapped-spec = tie.close (tie.spec is-finite-requires floor-requires returns returns-2 returns-3)
+wrapped-spec = tie.close (tie.spec (λ c κs. search needs) (λ c κs. search needs) returns returns-2 returns-3)

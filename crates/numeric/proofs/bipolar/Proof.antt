@@ -4,12 +4,9 @@ use Rattle.numeric.specs.Draw.{bipolarOf}
 use Rattle.numeric.proofs.bipolar.Statement.{statement}
 use Rattle.numeric.proofs.bipolar.Tie as tie
 
-draw-requires : tie.Need-draw-requires
-draw-requires c κs = search needs
-
 returns : tie.Need-returns
 unfolding bipolarOf
 returns c = simp (c .draw .ensures)
 
 pub bipolar-spec : {M : Type 1} → statement M
-bipolar-spec = tie.close (tie.spec draw-requires returns)
+bipolar-spec = tie.close (tie.spec (λ c κs. search needs) returns)

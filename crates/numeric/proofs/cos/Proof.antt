@@ -4,15 +4,6 @@ use Rattle.numeric.specs.Trig.{cosOf}
 use Rattle.numeric.proofs.cos.Statement.{statement}
 use Rattle.numeric.proofs.cos.Tie as tie
 
-is-near-requires : tie.Need-is-near-requires
-is-near-requires c κs = search needs
-
-kernel-cos-requires : tie.Need-kernel-cos-requires
-kernel-cos-requires c κs = search needs
-
-far-requires : tie.Need-far-requires
-far-requires c κs = search needs
-
 returns : tie.Need-returns
 unfolding cosOf
 returns c = simp (c .kernel-cos .ensures, c .before .if1 .taken, ← c .before .before .is-near .ensures)
@@ -24,4 +15,4 @@ returns-2 c = simp (c .far .ensures, c .before .if1 .left, ← c .before .before
 pub cos-spec : {M : Type 1} → statement M
 cos-spec =
     tie.close
-    (tie.spec is-near-requires kernel-cos-requires far-requires returns returns-2)
+    (tie.spec (λ c κs. search needs) (λ c κs. search needs) (λ c κs. search needs) returns returns-2)

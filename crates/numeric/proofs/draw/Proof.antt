@@ -12,9 +12,6 @@ int-to-float-result : tie.Need-int-to-float-result
 unfolding inFloat
 int-to-float-result c = le→leb _ 9007199254740992 (le-of-lt (c .before .if1 .taken))
 
-of-u64-requires : tie.Need-of-u64-requires
-of-u64-requires c κs = search needs
-
 returns : tie.Need-returns
 unfolding drawOf
 returns c = refl
@@ -24,4 +21,4 @@ unfolding drawOf
 returns-2 c = simp (c .of-u64 .ensures)
 
 pub draw-spec : {M : Type 1} → statement M
-draw-spec = tie.close (tie.spec int-to-float-result of-u64-requires returns returns-2)
+draw-spec = tie.close (tie.spec int-to-float-result (λ c κs. search needs) returns returns-2)

@@ -7,12 +7,6 @@ use Rattle.numeric.proofs.MagicFloor.{floor-down, floor-high, floor-low
 use Rattle.numeric.proofs.floor.Statement.{statement}
 use Rattle.numeric.proofs.floor.Tie as tie
 
-pick-requires : tie.Need-pick-requires
-pick-requires c κs = search needs
-
-pick-requires-2 : tie.Need-pick-requires-2
-pick-requires-2 c κs = search needs
-
 returns : tie.Need-returns
 returns c = c .pick .ensures ∙ floor-down (c .before .before .before .args .x) (c .before .before .if1 .taken) (c .before .if2 .taken)
 
@@ -31,4 +25,4 @@ returns-4 c =
 
 pub floor-spec : {M : Type 1} → statement M
 floor-spec =
-    tie.close (tie.spec pick-requires pick-requires-2 returns returns-2 returns-3 returns-4)
+    tie.close (tie.spec (λ c κs. search needs) (λ c κs. search needs) returns returns-2 returns-3 returns-4)

@@ -4,12 +4,9 @@ use Rattle.numeric.specs.Trig.{kernelCos}
 use Rattle.numeric.proofs.kernel_cos.Statement.{statement}
 use Rattle.numeric.proofs.kernel_cos.Tie as tie
 
-pairs-requires : tie.Need-pairs-requires
-pairs-requires c κs = search needs
-
 returns : tie.Need-returns
 unfolding kernelCos
 returns c = simp (c .pairs .ensures)
 
 pub kernel-cos-spec : {M : Type 1} → statement M
-kernel-cos-spec = tie.close (tie.spec pairs-requires returns)
+kernel-cos-spec = tie.close (tie.spec (λ c κs. search needs) returns)

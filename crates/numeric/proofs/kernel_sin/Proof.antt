@@ -4,12 +4,9 @@ use Rattle.numeric.specs.Trig.{kernelSin}
 use Rattle.numeric.proofs.kernel_sin.Statement.{statement}
 use Rattle.numeric.proofs.kernel_sin.Tie as tie
 
-pairs-requires : tie.Need-pairs-requires
-pairs-requires c κs = search needs
-
 returns : tie.Need-returns
 unfolding kernelSin
 returns c = simp (c .pairs .ensures)
 
 pub kernel-sin-spec : {M : Type 1} → statement M
-kernel-sin-spec = tie.close (tie.spec pairs-requires returns)
+kernel-sin-spec = tie.close (tie.spec (λ c κs. search needs) returns)

@@ -6,9 +6,6 @@ use Rattle.numeric.specs.Power.{biased, midOf, scaledOf}
 use Rattle.numeric.proofs.mid.Statement.{statement}
 use Rattle.numeric.proofs.mid.Tie as tie
 
-exp-part-requires : tie.Need-exp-part-requires
-exp-part-requires c κs = search needs
-
 scale-requires : tie.Need-scale-requires
 unfolding ofBits
 scale-requires c κs = add-number (c .before .args .x) biased tt (c .before .pre)
@@ -18,4 +15,4 @@ unfolding midOf scaledOf
 returns c = simp (c .scale .ensures, c .before .exp-part .ensures)
 
 pub mid-spec : {M : Type 1} → statement M
-mid-spec = tie.close (tie.spec exp-part-requires scale-requires returns)
+mid-spec = tie.close (tie.spec (λ c κs. search needs) scale-requires returns)

@@ -4,9 +4,6 @@ use Rattle.numeric.specs.Power.{pow3000Of}
 use Rattle.numeric.proofs.pow3000.Statement.{statement}
 use Rattle.numeric.proofs.pow3000.Tie as tie
 
-exp2-requires : tie.Need-exp2-requires
-exp2-requires c κs = search needs
-
 returns : tie.Need-returns
 unfolding pow3000Of
 returns c = simp (c .if1 .taken)
@@ -16,4 +13,4 @@ unfolding pow3000Of
 returns-2 c = simp (c .exp2 .ensures, c .before .if1 .left)
 
 pub pow3000-spec : {M : Type 1} → statement M
-pow3000-spec = tie.close (tie.spec exp2-requires returns returns-2)
+pow3000-spec = tie.close (tie.spec (λ c κs. search needs) returns returns-2)

@@ -5,18 +5,6 @@ use Rattle.numeric.specs.Trig.{quadrant}
 use Rattle.numeric.proofs.quadrant_of.Statement.{statement}
 use Rattle.numeric.proofs.quadrant_of.Tie as tie
 
-kernel-sin-requires : tie.Need-kernel-sin-requires
-kernel-sin-requires c κs = search needs
-
-kernel-cos-requires : tie.Need-kernel-cos-requires
-kernel-cos-requires c κs = search needs
-
-kernel-sin-requires-2 : tie.Need-kernel-sin-requires-2
-kernel-sin-requires-2 c κs = search needs
-
-kernel-cos-requires-2 : tie.Need-kernel-cos-requires-2
-kernel-cos-requires-2 c κs = search needs
-
 returns : tie.Need-returns
 unfolding quadrant
 returns c = simp (eqb-yes (c .before .before .args .q) 0 (c .before .if1 .taken), c .kernel-sin .ensures)
@@ -45,10 +33,10 @@ pub quadrant-of-spec : {M : Type 1} → statement M
 quadrant-of-spec =
     tie.close
     (tie.spec
-    kernel-sin-requires
-    kernel-cos-requires
-    kernel-sin-requires-2
-    kernel-cos-requires-2
+    (λ c κs. search needs)
+    (λ c κs. search needs)
+    (λ c κs. search needs)
+    (λ c κs. search needs)
     returns
     returns-2
     returns-3

@@ -6,12 +6,6 @@ use Rattle.numeric.specs.Power.{scaleOf}
 use Rattle.numeric.proofs.scale.Statement.{statement}
 use Rattle.numeric.proofs.scale.Tie as tie
 
-float-to-bits-result : tie.Need-float-to-bits-result
-float-to-bits-result c = search needs
-
-mul-result : tie.Need-mul-result
-mul-result c = search needs
-
 float-from-bits-result : tie.Need-float-from-bits-result
 float-from-bits-result c = no-nan-bits _
 
@@ -20,4 +14,4 @@ unfolding scaleOf
 returns c = refl
 
 pub scale-spec : {M : Type 1} → statement M
-scale-spec = tie.close (tie.spec float-to-bits-result mul-result float-from-bits-result returns)
+scale-spec = tie.close (tie.spec (λ c. search needs) (λ c. search needs) float-from-bits-result returns)

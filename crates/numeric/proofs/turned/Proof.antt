@@ -10,18 +10,9 @@ float-to-bits-q : tie.Need-float-to-bits-q
 unfolding ofBits
 float-to-bits-q c = add-number _ shift tt (mul-number (c .args .x) _ tt (c .pre .1))
 
-add-quadrant-of : tie.Need-add-quadrant-of
-add-quadrant-of c = search needs
-
-rest-requires : tie.Need-rest-requires
-rest-requires c κs = search needs
-
-quadrant-of-requires : tie.Need-quadrant-of-requires
-quadrant-of-requires c κs = search needs
-
 returns : tie.Need-returns
 unfolding turnedOf shiftedOf
 returns c = simp (c .quadrant-of .ensures, c .before .rest .ensures)
 
 pub turned-spec : {M : Type 1} → statement M
-turned-spec = tie.close (tie.spec float-to-bits-q add-quadrant-of rest-requires quadrant-of-requires returns)
+turned-spec = tie.close (tie.spec float-to-bits-q (λ c. search needs) (λ c κs. search needs) (λ c κs. search needs) returns)

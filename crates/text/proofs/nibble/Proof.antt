@@ -5,12 +5,6 @@ use Rattle.text.specs.Hex.{nibbleOf}
 use Rattle.text.proofs.nibble.Statement.{statement}
 use Rattle.text.proofs.nibble.Tie as tie
 
-sub-result : tie.Need-sub-result
-sub-result c = search needs
-
-sub-result-2 : tie.Need-sub-result-2
-sub-result-2 c = search needs
-
 returns : tie.Need-returns
 unfolding nibbleOf
 returns c = simp (lt-ltb _ _ (c .if1 .taken))
@@ -37,4 +31,4 @@ returns-5 c =
 
 pub nibble-spec : {M : Type 1} → statement M
 nibble-spec =
-    tie.close (tie.spec sub-result sub-result-2 returns returns-2 returns-3 returns-4 returns-5)
+    tie.close (tie.spec (λ c. search needs) (λ c. search needs) returns returns-2 returns-3 returns-4 returns-5)

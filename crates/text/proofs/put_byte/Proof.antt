@@ -7,15 +7,6 @@ use Rattle.text.specs.Put.{placeOf}
 use Rattle.text.proofs.put_byte.Statement.{statement}
 use Rattle.text.proofs.put_byte.Tie as tie
 
-slice-write-out : tie.Need-slice-write-out
-slice-write-out c = search needs
-
-add-result : tie.Need-add-result
-add-result c = search needs
-
-same-length : tie.Need-same-length
-same-length c = search needs
-
 returns : tie.Need-returns
 unfolding placeOf
 returns c = (omega arith, refl)
@@ -25,4 +16,4 @@ unfolding placeOf
 returns-2 c = (omega arith, sym (set-out _ _ _ (c .if1 .left)))
 
 pub put-byte-spec : {M : Type 1} → statement M
-put-byte-spec = tie.close (tie.spec slice-write-out add-result same-length returns returns-2)
+put-byte-spec = tie.close (tie.spec (λ c. search needs) (λ c. search needs) (λ c. search needs) returns returns-2)

@@ -18,30 +18,9 @@ Inv-loop out₀ at x to₀ k₀ out to k = (k ≤ 16) × ((d : List ℕ) × ((d 
 abbrev μ-loop : tie.MeasureT-loop
 μ-loop out₀ at x to₀ k₀ out to k = k
 
-least-requires : tie.Need-least-requires Inv-loop μ-loop
-least-requires c κs = search needs
-
 loop-holds : tie.Need-loop-holds Inv-loop μ-loop
 unfolding placeOf hexText
 loop-holds c = (omega arith, ([], (refl, (omega arith, refl))))
-
-sub-k : tie.Need-sub-k Inv-loop μ-loop
-sub-k c = search needs
-
-mul-digit : tie.Need-mul-digit Inv-loop μ-loop
-mul-digit c = search needs
-
-shr-digit : tie.Need-shr-digit Inv-loop μ-loop
-shr-digit c = search needs
-
-digit-requires : tie.Need-digit-requires Inv-loop μ-loop
-digit-requires c κs = search needs
-
-put-byte-requires : tie.Need-put-byte-requires Inv-loop μ-loop
-put-byte-requires c κs = search needs
-
-loop-less : tie.Need-loop-less Inv-loop μ-loop
-loop-less c = search needs
 
 loop-again : tie.Need-loop-again Inv-loop μ-loop
 loop-again c =
@@ -65,14 +44,14 @@ put-hex-spec =
     (tie.spec
     Inv-loop
     μ-loop
-    least-requires
+    (λ c κs. search needs)
     loop-holds
-    sub-k
-    mul-digit
-    shr-digit
-    digit-requires
-    put-byte-requires
-    loop-less
+    (λ c. search needs)
+    (λ c. search needs)
+    (λ c. search needs)
+    (λ c κs. search needs)
+    (λ c κs. search needs)
+    (λ c. search needs)
     loop-again
     same-length
     returns)

@@ -24,12 +24,6 @@ loop-holds : tie.Need-loop-holds Inv-loop μ-loop
 unfolding wordOf
 loop-holds c = ((omega arith, omega arith), (c .if1 .left, simp (eq-eqb _ _ (c .if1 .left))))
 
-shared-slice-read-nibble : tie.Need-shared-slice-read-nibble Inv-loop μ-loop
-shared-slice-read-nibble c = search needs
-
-nibble-requires : tie.Need-nibble-requires Inv-loop μ-loop
-nibble-requires c κs = search needs
-
 returns-2 : tie.Need-returns-2 Inv-loop μ-loop
 returns-2 c = sym (c .before .before .before .before .loop .inv .1 .1
     ∙ word-stops _ _ (c .before .before .before .loop-test .taken) _ (rw (← c .before .nibble .ensures) (c .if2 .taken)))
@@ -43,12 +37,6 @@ add-x : tie.Need-add-x Inv-loop μ-loop
 add-x c =
     let l = c .before .before .before .before .loop in
     omega (arith, sixteen-fits (l .x) (c .before .nibble .result) (l .i) (l .inv .0 .1) (c .if2 .left) (omega arith))
-
-add-i : tie.Need-add-i Inv-loop μ-loop
-add-i c = search needs
-
-loop-less : tie.Need-loop-less Inv-loop μ-loop
-loop-less c = search needs
 
 loop-again : tie.Need-loop-again Inv-loop μ-loop
 loop-again c =
@@ -70,12 +58,12 @@ read-hex-spec =
     μ-loop
     returns
     loop-holds
-    shared-slice-read-nibble
-    nibble-requires
+    (λ c. search needs)
+    (λ c κs. search needs)
     returns-2
     mul-x
     add-x
-    add-i
-    loop-less
+    (λ c. search needs)
+    (λ c. search needs)
     loop-again
     returns-3)

@@ -3,12 +3,6 @@ use Rattle.answer.specs.Tally.{tallyOr}
 use Rattle.answer.proofs.Tallied.or.Statement.{statement}
 use Rattle.answer.proofs.Tallied.or.Tie as tie
 
-enum-known-self : tie.Need-enum-known-self
-enum-known-self c = search needs
-
-enum-told : tie.Need-enum-told
-enum-told c = search needs
-
 returns : tie.Need-returns
 unfolding tallyOr
 returns c = simp (c .before .self .given .1)
@@ -18,4 +12,4 @@ unfolding tallyOr
 returns-2 c = simp (c .enum-told .given .1)
 
 pub or-spec : {M : Type 1} → statement M
-or-spec = tie.close (tie.spec enum-known-self enum-told returns returns-2)
+or-spec = tie.close (tie.spec (λ c. search needs) (λ c. search needs) returns returns-2)

@@ -6,15 +6,6 @@ use Rattle.answer.specs.Block.{roomFor}
 use Rattle.answer.proofs.Tally.has_room.Statement.{statement}
 use Rattle.answer.proofs.Tally.has_room.Tie as tie
 
-adds-up-requires : tie.Need-adds-up-requires
-adds-up-requires c κs = search needs
-
-cast-result : tie.Need-cast-result
-cast-result c = search needs
-
-sub-result : tie.Need-sub-result
-sub-result c = search needs
-
 returns : tie.Need-returns
 unfolding roomFor
 returns c =
@@ -26,4 +17,4 @@ unfolding roomFor
 returns-2 c = simp (c .if1 .left, ← c .before .adds-up .ensures)
 
 pub has-room-spec : {M : Type 1} → statement M
-has-room-spec = tie.close (tie.spec adds-up-requires cast-result sub-result returns returns-2)
+has-room-spec = tie.close (tie.spec (λ c κs. search needs) (λ c. search needs) (λ c. search needs) returns returns-2)

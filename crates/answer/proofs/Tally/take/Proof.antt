@@ -7,12 +7,6 @@ use borrow.Author.Needs.{needs}
 use Rattle.answer.proofs.Tally.take.Statement.{statement}
 use Rattle.answer.proofs.Tally.take.Tie as tie
 
-adds-up-requires : tie.Need-adds-up-requires
-adds-up-requires c κs = search needs
-
-mark-number-requires : tie.Need-mark-number-requires
-mark-number-requires c κs = search needs
-
 count-requires : tie.Need-count-requires
 count-requires c κs =
     let tested = c .before .before .before .before in
@@ -55,8 +49,8 @@ pub take-spec : {M : Type 1} → statement M
 take-spec =
     tie.close
     (tie.spec
-    adds-up-requires
-    mark-number-requires
+    (λ c κs. search needs)
+    (λ c κs. search needs)
     count-requires
     returns
     returns-2

@@ -7,9 +7,6 @@ use Rattle.answer.specs.Block.{cellsOf, countedTo, marksTaken}
 use Rattle.answer.proofs.Tally.take_marks.Statement.{statement}
 use Rattle.answer.proofs.Tally.take_marks.Tie as tie
 
-has-room-requires : tie.Need-has-room-requires
-has-room-requires c κs = search needs
-
 count-of-requires : tie.Need-count-of-requires
 count-of-requires c κs = (let h = room-says (c .before .before .before .args .self) (length (c .before .before .before .args .marks .now))
     (sym (c .before .has-room .ensures) ∙ c .if1 .taken) in omega arith)
@@ -64,7 +61,7 @@ pub take-marks-spec : {M : Type 1} → statement M
 take-marks-spec =
     tie.close
     (tie.spec
-    has-room-requires
+    (λ c κs. search needs)
     count-of-requires
     count-of-requires-2
     count-of-requires-3

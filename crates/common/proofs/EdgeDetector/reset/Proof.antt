@@ -3,12 +3,9 @@ use borrow.Author.Needs.{needs}
 use Rattle.common.proofs.EdgeDetector.reset.Statement.{statement}
 use Rattle.common.proofs.EdgeDetector.reset.Tie as tie
 
-new-requires : tie.Need-new-requires
-new-requires c κs = search needs
-
 returns : tie.Need-returns
 unfolding resetOf
 returns c = c .new .ensures
 
 pub reset-spec : {M : Type 1} → statement M
-reset-spec = tie.close (tie.spec new-requires returns)
+reset-spec = tie.close (tie.spec (λ c κs. search needs) returns)

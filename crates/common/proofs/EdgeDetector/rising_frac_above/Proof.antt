@@ -3,9 +3,6 @@ use borrow.Author.Needs.{needs}
 use Rattle.common.proofs.EdgeDetector.rising_frac_above.Statement.{statement}
 use Rattle.common.proofs.EdgeDetector.rising_frac_above.Tie as tie
 
-clamp-requires : tie.Need-clamp-requires
-clamp-requires c κs = search needs
-
 returns : tie.Need-returns
 unfolding crossedAboveOf risesAbove fracAbove
 returns c = simp (c .clamp .ensures, c .before .if3 .taken, c .before .before .if2 .taken, c .before .before .before .if1 .taken)
@@ -23,4 +20,4 @@ unfolding crossedAboveOf risesAbove fracAbove
 returns-4 c = simp (c .if1 .left)
 
 pub rising-frac-above-spec : {M : Type 1} → statement M
-rising-frac-above-spec = tie.close (tie.spec clamp-requires returns returns-2 returns-3 returns-4)
+rising-frac-above-spec = tie.close (tie.spec (λ c κs. search needs) returns returns-2 returns-3 returns-4)

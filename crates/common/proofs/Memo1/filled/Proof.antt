@@ -3,12 +3,9 @@ use borrow.Author.Needs.{needs}
 use Rattle.common.proofs.Memo1.filled.Statement.{statement}
 use Rattle.common.proofs.Memo1.filled.Tie as tie
 
-bits-requires : tie.Need-bits-requires
-bits-requires c κs = search needs
-
 returns : tie.Need-returns
 unfolding filled1
 returns c = simp (c .bits .ensures)
 
 pub filled-spec : {M : Type 1} → statement M
-filled-spec = tie.close (tie.spec bits-requires returns)
+filled-spec = tie.close (tie.spec (λ c κs. search needs) returns)

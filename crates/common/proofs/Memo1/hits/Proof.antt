@@ -3,9 +3,6 @@ use borrow.Author.Needs.{needs}
 use Rattle.common.proofs.Memo1.hits.Statement.{statement}
 use Rattle.common.proofs.Memo1.hits.Tie as tie
 
-bits-requires : tie.Need-bits-requires
-bits-requires c κs = search needs
-
 returns : tie.Need-returns
 unfolding hits1
 returns c = simp (c .before .bits .ensures, c .before .before .if1 .taken)
@@ -15,4 +12,4 @@ unfolding hits1
 returns-2 c = simp (c .if1 .left)
 
 pub hits-spec : {M : Type 1} → statement M
-hits-spec = tie.close (tie.spec bits-requires returns returns-2)
+hits-spec = tie.close (tie.spec (λ c κs. search needs) returns returns-2)

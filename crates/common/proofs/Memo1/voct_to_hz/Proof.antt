@@ -3,15 +3,6 @@ use borrow.Author.Needs.{needs}
 use Rattle.common.proofs.Memo1.voct_to_hz.Statement.{statement}
 use Rattle.common.proofs.Memo1.voct_to_hz.Tie as tie
 
-hits-requires : tie.Need-hits-requires
-hits-requires c κs = search needs
-
-voct-to-hz-requires : tie.Need-voct-to-hz-requires
-voct-to-hz-requires c κs = search needs
-
-filled-requires : tie.Need-filled-requires
-filled-requires c κs = search needs
-
 returns : tie.Need-returns
 unfolding recall1
 returns c = simp (c .if1 .taken, ← c .before .hits .ensures)
@@ -22,4 +13,4 @@ returns-2 c = simp (c .filled .ensures, c .before .voct-to-hz .ensures, c .befor
 
 pub voct-to-hz-spec : {M : Type 1} → statement M
 voct-to-hz-spec =
-    tie.close (tie.spec hits-requires voct-to-hz-requires filled-requires returns returns-2)
+    tie.close (tie.spec (λ c κs. search needs) (λ c κs. search needs) (λ c κs. search needs) returns returns-2)

@@ -2,11 +2,8 @@ use borrow.Author.Needs.{needs}
 use Rattle.exports.proofs.numeric_calls.gruttisol_clamp.Statement.{statement}
 use Rattle.exports.proofs.numeric_calls.gruttisol_clamp.Tie as tie
 
-clamp-requires : tie.Need-clamp-requires
-clamp-requires c κs = search needs
-
 returns : tie.Need-returns
 returns c = simp (c .clamp .ensures)
 
 pub gruttisol-clamp-spec : {M : Type 1} → statement M
-gruttisol-clamp-spec = tie.close (tie.spec clamp-requires returns)
+gruttisol-clamp-spec = tie.close (tie.spec (λ c κs. search needs) returns)
