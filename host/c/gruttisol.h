@@ -10,7 +10,7 @@
  *
  * A call answers a number:
  *   0         done, and so is a block
- *   11 to 14  an accepted tick: cleared, notfinite, lost, clean
+ *   11 to 14  an accepted tick, a gruttisol_mark: cleared, notfinite, lost, clean
  *   1 to 7    refused, and so is a score by 20 to 23; see gruttisol_refusal below
  *   50 to 53  an array of another length: floats, wholes, samples, counts
  * A refused call leaves every array as it stood.

@@ -48,13 +48,7 @@ impl Mark {
     /// The mark of this number, if it is one's.
     #[inline]
     pub fn of_number(number: u32) -> Option<Mark> {
-        match number {
-            11 => Some(Mark::Cleared),
-            12 => Some(Mark::NotFinite),
-            13 => Some(Mark::Lost),
-            14 => Some(Mark::Clean),
-            _ => None,
-        }
+        Mark::ALL.into_iter().find(|&mark| mark as u32 == number)
     }
 
     /// The word that stands for it in texts.

@@ -126,6 +126,7 @@ macro_rules! oscillator {
 #[cfg(test)]
 mod tests {
     use super::*;
+    use crate::answer::Mark;
 
     const UNTOUCHED: u64 = 0x7ff8_0bad_0bad_0bad;
     const NO_RATE: f64 = 0.0;
@@ -299,7 +300,7 @@ mod tests {
     fn tally() {
         for n in [0, 1, 4, 6, 64] {
             let mut counts = vec![0; n];
-            assert_eq!(tally_take(14, &mut counts), 53);
+            assert_eq!(tally_take(Mark::Clean as u32, &mut counts), 53);
             assert!(counts.iter().all(|&count| count == 0));
         }
     }

@@ -2,29 +2,32 @@
 use crate::answer::{done, Mark, Refused};
 use crate::lent::tally_take;
 
+/// How many counts a tally has.
+pub const COUNTS: usize = 5;
+
 /// Counts: begun, finished (the clean ones), cleared, notfinite, lost.
 #[derive(Clone, Copy, PartialEq, Eq, Debug, Default)]
 pub struct Tally {
-    counts: [u32; 5],
+    counts: [u32; COUNTS],
 }
 
 impl Tally {
     /// A tally that has counted nothing.
     pub fn new() -> Self {
-        Tally { counts: [0; 5] }
+        Tally { counts: [0; COUNTS] }
     }
 
     /// Counts of the caller's making; where the first isn't the sum of the others, nothing is taken any more.
-    pub fn of_counts(counts: [u32; 5]) -> Self {
+    pub fn of_counts(counts: [u32; COUNTS]) -> Self {
         Tally { counts }
     }
 
-    pub fn counts(&self) -> &[u32; 5] {
+    pub fn counts(&self) -> &[u32; COUNTS] {
         &self.counts
     }
 
     /// For calls that count their own ticks.
-    pub(crate) fn counts_mut(&mut self) -> &mut [u32; 5] {
+    pub(crate) fn counts_mut(&mut self) -> &mut [u32; COUNTS] {
         &mut self.counts
     }
 
