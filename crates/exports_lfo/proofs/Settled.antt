@@ -1,6 +1,5 @@
 -- What is stored is read back, and each contract, being one equation, settles what it speaks of.
-use Rattle.answer.proofs.Flat.{flag}
-use Rattle.exports_lfo.specs.Calls.{lfoNewAt, lfoResetAt, lfoSetSampleRateAt, lfoTickAt, lfoBlockAt}
+use Rattle.boundary.proofs.Flat.{flag}
 use Rattle.exports_lfo.specs.Promises.{Read-back, Settled}
 use Rattle.exports_lfo.specs.State.{stateOf, floatsOf, wholesOf}
 use Rattle.laws.proofs.Settled as laws
@@ -12,9 +11,9 @@ read-back s = simp flag
 pub settled : Settled
 settled =
     record {
-      new = λ rate f w. laws.settled (lfoNewAt rate f w);
-      tick = λ rate depth reset wanted f w o. laws.settled (lfoTickAt rate depth reset wanted f w o);
-      reset = λ f w. laws.settled (lfoResetAt f w);
-      «set_sample_rate» = λ rate f w. laws.settled (lfoSetSampleRateAt rate f w);
-      block = λ rate depth reset wanted f w k o m. laws.settled (lfoBlockAt rate depth reset wanted f w k o m);
+      new = λ rate f w. laws.settled _;
+      tick = λ rate depth reset wanted f w o. laws.settled _;
+      block = λ rate depth reset wanted f w k o m. laws.settled _;
+      reset = λ f w. laws.settled _;
+      «set_sample_rate» = λ rate f w. laws.settled _;
     }

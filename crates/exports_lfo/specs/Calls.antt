@@ -3,32 +3,36 @@
 use mathlib.Core.List.{List}
 use Prim.Native.Nat.{ℕ}
 use lib.Ieee.{Float}
-use Rattle.answer.specs.Flat.{Kept, kept, keptSized, Heard, heardOf, heardSized, Played, playedOf, playedSized}
+use Rattle.boundary.specs.Flat.{Kept, keptBy, keptSized, Heard, heardOf, heardSized, Played, playedOf, playedSized}
 use Rattle.lfo.specs.Lfo.{lfoNewOf, lfoTickOf, lfoBlockOf, lfoResetOf, lfoSetSampleRateOf}
-use Rattle.exports_lfo.specs.State.{stateOf, floatsOf, wholesOf, samplesOf}
+use Rattle.exports_lfo.specs.State.{nFloats, nWholes, nSamples, stateOf, floatsOf, wholesOf, samplesOf}
+use Rattle.lfo.specs.declared.LfoControls.{LfoControls}
 use Rattle.lfo.specs.declared.LfoMade.{LfoMade}
-use Rattle.lfo.specs.declared.LfoMade.the-variants as made
 
 -- 0 and the new state, or what refused it
-unfoldable pub keptOf : LfoMade → List Float → List ℕ → Kept
-keptOf (made.Made s) f w = kept 0 (floatsOf s) (wholesOf s)
-keptOf (made.Refused n) f w = kept n f w
+abbrev pub keptOf : LfoMade → List Float → List ℕ → Kept
+keptOf m f w = keptBy floatsOf wholesOf (m .outcome) (m .lfo) f w
 
 unfoldable pub lfoNewAt : Float → List Float → List ℕ → Kept
-lfoNewAt rate f w = keptSized 4 2 (keptOf (lfoNewOf (record { 0 = rate })) f w) f w
+lfoNewAt rate f w = keptSized nFloats nWholes (keptOf (lfoNewOf (record { 0 = rate })) f w) f w
 
 unfoldable pub lfoResetAt : List Float → List ℕ → Kept
-lfoResetAt f w = keptSized 4 2 (keptOf (lfoResetOf (stateOf f w)) f w) f w
+lfoResetAt f w = keptSized nFloats nWholes (keptOf (lfoResetOf (stateOf f w)) f w) f w
 
 unfoldable pub lfoSetSampleRateAt : Float → List Float → List ℕ → Kept
-lfoSetSampleRateAt rate f w = keptSized 4 2 (keptOf (lfoSetSampleRateOf (stateOf f w) (record { 0 = rate })) f w) f w
+lfoSetSampleRateAt rate f w = keptSized nFloats nWholes (keptOf (lfoSetSampleRateOf (stateOf f w) (record { 0 = rate })) f w) f w
+
+abbrev pub controls : Float → Float → Float → LfoControls
+controls rate depth reset = record { rate = rate; depth = depth; reset = reset }
 
 unfoldable pub lfoTickAt : Float → Float → Float → ℕ → List Float → List ℕ → List Float → Heard
 lfoTickAt rate depth reset wanted f w o =
-    let t = lfoTickOf (stateOf f w) (record { rate = rate; depth = depth; reset = reset }) wanted in
-    heardSized 4 2 5 (heardOf floatsOf wholesOf samplesOf (t .answer) (t .lfo) f w o) f w o
+    let t = lfoTickOf (stateOf f w) (controls rate depth reset) wanted in
+    heardSized nFloats nWholes nSamples (heardOf floatsOf wholesOf samplesOf (t .answer) (t .lfo) f w o) f w o
 
 -- a block: 0, the state, the counts, the samples and the marks after it, or what refused it
 unfoldable pub lfoBlockAt : Float → Float → Float → ℕ → List Float → List ℕ → List ℕ → List Float → List ℕ → Played
 lfoBlockAt rate depth reset wanted f w k o m =
-    playedSized 4 2 (λ t. playedOf floatsOf wholesOf (lfoBlockOf (stateOf f w) (record { rate = rate; depth = depth; reset = reset }) wanted t o m) f w k) f w k o m
+    playedSized nFloats nWholes
+    (λ t. playedOf floatsOf wholesOf (lfoBlockOf (stateOf f w) (controls rate depth reset) wanted t o m) f w k)
+    f w k o m

@@ -1,12 +1,10 @@
 // The Lfo for hosts, over lent slices. A state is floats [phase, sample_rate, reset_edge.prev, freq_memo.val] and
 // wholes [freq_memo.key, freq_memo.valid], the last 0 or not; samples are [sin, tri, saw, sqr, sin_uni].
-// Each call answers a number: 0 done; of an accepted tick 11 cleared, 12 notfinite, 13 lost, 14 clean; of a refused call
-// 1 to 7 as the scope has them, or 50, 51, 52, 53 where floats, wholes, samples or counts have another length. A refused
-// call writes nothing. A block answers 0, with the tick's samples one after another, their marks by the same numbers, and
-// the tally's five counts: begun, finished, cleared, notfinite, lost.
+// Each call answers a number: 0 done; of an accepted tick what its mark is told by; of a refused call 1 to 7 as the scope has
+// them, or 50, 51, 52, 53 where floats, wholes, samples or counts have another length. A refused call writes nothing. A block
+// answers 0, with the ticks' samples one after another, their marks by the same numbers, and the tally's counts.
+use answer::Outcome;
 use answer::Tallied;
-use answer::Tally;
-use common::EdgeDetector;
 use common::Hertz;
 use common::Memo1;
 use common::Turns;
@@ -21,20 +19,32 @@ ghost use Prim.Native.Nat.{ℕ};
 ghost use lib.Ieee.{Float};
 ghost use lib.ListN.{length};
 ghost use Rattle.answer.specs.Block.{block};
-ghost use Rattle.answer.specs.Flat.{kept, heard, heardOf, played, playedOf};
-ghost use Rattle.exports_lfo.specs.State.{stateOf, floatsOf, wholesOf, samplesOf};
+ghost use Rattle.boundary.specs.Flat.{nCounts, kept, heard, heardOf, played, playedOf};
+ghost use Rattle.exports_lfo.specs.State.{nFloats, nWholes, nSamples, stateOf, floatsOf, wholesOf, samplesOf};
 ghost use Rattle.exports_lfo.specs.Calls.{keptOf, lfoNewAt, lfoTickAt, lfoBlockAt, lfoResetAt, lfoSetSampleRateAt};
 
+// Where the edge record's floats begin, and what stands after them.
+const EDGE: usize = 2;
+
+const VAL: usize = EDGE + boundary::EDGE_FLOATS;
+
+// How many floats, wholes and samples there are.
+const FLOATS: usize = VAL + 1;
+
+const WHOLES: usize = 2;
+
+const SAMPLES: usize = 5;
+
 fn state(floats: &[f64], wholes: &[u64]) -> Lfo
-    requires { ⌜ (length (now floats) ≡ 4) × (length (now wholes) ≡ 2) ⌝ }
+    requires { ⌜ (length (now floats) ≡ nFloats) × (length (now wholes) ≡ nWholes) ⌝ }
     ensures { λ r. ⌜ r ≡ stateOf (now (floats .entry)) (now (wholes .entry)) ⌝ }
 {
     let phase = Turns(floats[0]);
     let sample_rate = Hertz(floats[1]);
-    let reset_edge = EdgeDetector { prev: floats[2] };
+    let reset_edge = boundary::edge_at(floats, EDGE);
     let freq_memo = Memo1 {
         key: wholes[0],
-        val: Hertz(floats[3]),
+        val: Hertz(floats[VAL]),
         valid: wholes[1] != 0,
     };
     Lfo {
@@ -46,7 +56,7 @@ fn state(floats: &[f64], wholes: &[u64]) -> Lfo
 }
 
 fn store(s: Lfo, floats: &mut [f64], wholes: &mut [u64])
-    requires { ⌜ (length (now floats) ≡ 4) × (length (now wholes) ≡ 2) ⌝ }
+    requires { ⌜ (length (now floats) ≡ nFloats) × (length (now wholes) ≡ nWholes) ⌝ }
     ensures { λ _. ⌜ (now (floats .exit) ≡ floatsOf s) × (now (wholes .exit) ≡ wholesOf s) ⌝ }
 {
     let phase = s.phase;
@@ -56,23 +66,25 @@ fn store(s: Lfo, floats: &mut [f64], wholes: &mut [u64])
     let val = memo.val;
     floats[0] = phase.0;
     floats[1] = sample_rate.0;
-    floats[2] = reset_edge.prev;
-    floats[3] = val.0;
+    boundary::put_edge(reset_edge, &mut *floats, EDGE);
+    floats[VAL] = val.0;
     wholes[0] = memo.key;
     wholes[1] = memo.valid as u64;
 }
 
 // What a call without samples made.
 fn put_made(m: LfoMade, floats: &mut [f64], wholes: &mut [u64]) -> u32
-    requires { ⌜ (length (now floats) ≡ 4) × (length (now wholes) ≡ 2) ⌝ }
+    requires { ⌜ (length (now floats) ≡ nFloats) × (length (now wholes) ≡ nWholes) ⌝ }
     ensures { λ r. ⌜ kept r (now (floats .exit)) (now (wholes .exit)) ≡ keptOf m (now (floats .entry)) (now (wholes .entry)) ⌝ }
 {
-    match m {
-        LfoMade::Made(s) => {
+    let outcome = m.outcome;
+    let s = m.lfo;
+    match outcome {
+        Outcome::Done => {
             store(s, floats, wholes);
             0
         }
-        LfoMade::Refused(n) => n,
+        Outcome::Refused(n) => n,
     }
 }
 
@@ -80,7 +92,7 @@ fn put_made(m: LfoMade, floats: &mut [f64], wholes: &mut [u64]) -> u32
 pub extern "C" fn gruttisol_lfo_new(sample_rate: f64, floats: &mut [f64], wholes: &mut [u64]) -> u32
     ensures { λ r. ⌜ kept r (now (floats .exit)) (now (wholes .exit)) ≡ lfoNewAt «sample_rate» (now (floats .entry)) (now (wholes .entry)) ⌝ }
 {
-    let n = answer::sizes(4, 2, floats, wholes);
+    let n = boundary::sizes(FLOATS, WHOLES, floats, wholes);
     if n == 0 {
         put_made(Lfo::new(Hertz(sample_rate)), floats, wholes)
     } else {
@@ -90,8 +102,9 @@ pub extern "C" fn gruttisol_lfo_new(sample_rate: f64, floats: &mut [f64], wholes
 
 // The samples and the state after an accepted tick; a refused one leaves them.
 fn put_ticked(t: LfoTicked, floats: &mut [f64], wholes: &mut [u64], samples: &mut [f64]) -> u32
-    requires { ⌜ (length (now floats) ≡ 4) × (length (now wholes) ≡ 2) × (length (now samples) ≡ 5) ⌝ }
-    ensures { λ r. ⌜ heard r (now (floats .exit)) (now (wholes .exit)) (now (samples .exit)) ≡ heardOf floatsOf wholesOf samplesOf (t .answer) (t .lfo) (now (floats .entry)) (now (wholes .entry)) (now (samples .entry)) ⌝ }
+    requires { ⌜ (length (now floats) ≡ nFloats) × (length (now wholes) ≡ nWholes) × (length (now samples) ≡ nSamples) ⌝ }
+    ensures { λ r. ⌜ heard r (now (floats .exit)) (now (wholes .exit)) (now (samples .exit))
+        ≡ heardOf floatsOf wholesOf samplesOf (t .answer) (t .lfo) (now (floats .entry)) (now (wholes .entry)) (now (samples .entry)) ⌝ }
 {
     let answer = t.answer;
     let code = answer::host_number(answer);
@@ -118,9 +131,10 @@ pub extern "C" fn gruttisol_lfo_tick(
     wholes: &mut [u64],
     samples: &mut [f64],
 ) -> u32
-    ensures { λ r. ⌜ heard r (now (floats .exit)) (now (wholes .exit)) (now (samples .exit)) ≡ lfoTickAt rate depth reset wanted (now (floats .entry)) (now (wholes .entry)) (now (samples .entry)) ⌝ }
+    ensures { λ r. ⌜ heard r (now (floats .exit)) (now (wholes .exit)) (now (samples .exit))
+        ≡ lfoTickAt rate depth reset wanted (now (floats .entry)) (now (wholes .entry)) (now (samples .entry)) ⌝ }
 {
-    let n = answer::tick_sizes(4, 2, 5, floats, wholes, samples);
+    let n = boundary::tick_sizes(FLOATS, WHOLES, SAMPLES, floats, wholes, samples);
     if n == 0 {
         let c = LfoControls { rate, depth, reset };
         put_ticked(
@@ -136,15 +150,18 @@ pub extern "C" fn gruttisol_lfo_tick(
 
 // The state and the counts after a block; a refused one leaves them.
 fn put_block(b: LfoBlock, floats: &mut [f64], wholes: &mut [u64], counts: &mut [u32]) -> u32
-    requires { ⌜ (length (now floats) ≡ 4) × (length (now wholes) ≡ 2) × (length (now counts) ≡ 5) ⌝ }
-    ensures { λ r. ⌜ ((o : List Float) → (m : List ℕ) → played r (now (floats .exit)) (now (wholes .exit)) (now (counts .exit)) o m ≡ playedOf floatsOf wholesOf (block (b .refused) (b .lfo) (b .tally) o m) (now (floats .entry)) (now (wholes .entry)) (now (counts .entry))) ⌝ }
+    requires { ⌜ (length (now floats) ≡ nFloats) × (length (now wholes) ≡ nWholes) × (length (now counts) ≡ nCounts) ⌝ }
+    ensures { λ r. ⌜ ((o : List Float) → (m : List ℕ)
+        → played r (now (floats .exit)) (now (wholes .exit)) (now (counts .exit)) o m
+        ≡ playedOf floatsOf wholesOf (block (b .refused) (b .lfo) (b .tally) o m)
+        (now (floats .entry)) (now (wholes .entry)) (now (counts .entry))) ⌝ }
 {
     let refused = b.refused;
     if refused == 0 {
         let s = b.lfo;
         let tally = b.tally;
         store(s, &mut *floats, &mut *wholes);
-        tally.put_counts(counts);
+        boundary::put_counts(tally, counts);
         0
     } else {
         refused
@@ -163,11 +180,13 @@ pub extern "C" fn gruttisol_lfo_block(
     samples: &mut [f64],
     marks: &mut [u32],
 ) -> u32
-    ensures { λ r. ⌜ played r (now (floats .exit)) (now (wholes .exit)) (now (counts .exit)) (now (samples .exit)) (now (marks .exit)) ≡ lfoBlockAt rate depth reset wanted (now (floats .entry)) (now (wholes .entry)) (now (counts .entry)) (now (samples .entry)) (now (marks .entry)) ⌝ }
+    ensures { λ r. ⌜ played r (now (floats .exit)) (now (wholes .exit)) (now (counts .exit)) (now (samples .exit)) (now (marks .exit))
+        ≡ lfoBlockAt rate depth reset wanted (now (floats .entry)) (now (wholes .entry)) (now (counts .entry)) (now (samples .entry))
+        (now (marks .entry)) ⌝ }
 {
-    let n = answer::sizes(4, 2, floats, wholes);
+    let n = boundary::sizes(FLOATS, WHOLES, floats, wholes);
     if n == 0 {
-        let given = Tally::from_counts(counts);
+        let given = boundary::tally_of(counts);
         match given {
             Tallied::Taken(tally) => {
                 let c = LfoControls { rate, depth, reset };
@@ -185,7 +204,7 @@ pub extern "C" fn gruttisol_lfo_block(
 pub extern "C" fn gruttisol_lfo_reset(floats: &mut [f64], wholes: &mut [u64]) -> u32
     ensures { λ r. ⌜ kept r (now (floats .exit)) (now (wholes .exit)) ≡ lfoResetAt (now (floats .entry)) (now (wholes .entry)) ⌝ }
 {
-    let n = answer::sizes(4, 2, floats, wholes);
+    let n = boundary::sizes(FLOATS, WHOLES, floats, wholes);
     if n == 0 {
         put_made(state(floats, wholes).reset(), floats, wholes)
     } else {
@@ -201,7 +220,7 @@ pub extern "C" fn gruttisol_lfo_set_sample_rate(
 ) -> u32
     ensures { λ r. ⌜ kept r (now (floats .exit)) (now (wholes .exit)) ≡ lfoSetSampleRateAt «sample_rate» (now (floats .entry)) (now (wholes .entry)) ⌝ }
 {
-    let n = answer::sizes(4, 2, floats, wholes);
+    let n = boundary::sizes(FLOATS, WHOLES, floats, wholes);
     if n == 0 {
         put_made(
             state(floats, wholes).set_sample_rate(Hertz(sample_rate)),

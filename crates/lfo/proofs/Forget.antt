@@ -1,44 +1,58 @@
--- Demand 3: the tick that takes the reset edge leaves what a new Lfo would, and answers what it would.
+-- Demand 3: the tick that takes the reset edge leaves what a new Lfo like it would, and answers what it would.
 use mathlib.Core.Bool.{true}
 use mathlib.Core.List.{_∷_}
 use mathlib.Core.Logic.{inl}
 use mathlib.Core.Path.{_≡_, refl, sym, ap, _∙_}
 use Prim.Native.Nat.{ℕ}
-use lib.Ieee.{Float, le}
+use lib.Ieee.{le}
 use Rattle.answer.proofs.Blocks.{block-same}
-use Rattle.common.proofs.EdgeLaws.{rises-new, gate-above, rises-five}
+use Rattle.common.proofs.EdgeLaws.{rising-like, rising-comes}
 use Rattle.common.proofs.MemoLaws.{recall1-is}
-use Rattle.common.specs.Consts.{gateThreshold, five}
-use Rattle.common.specs.Edge.{risingAboveOf, risingOf}
+use Rattle.common.specs.Consts.{five}
+use Rattle.common.specs.Edge.{thresholdOf, resetOf}
 use Rattle.common.specs.Memo.{newMemo1}
-use Rattle.common.specs.Phase.{restartOf}
-use Rattle.laws.specs.Float.{F64}
+use Rattle.common.specs.Phase.{turns, restartOf}
+use Rattle.laws.specs.Float.{zer}
 use Rattle.laws.specs.Machine.{replies, more}
 use Rattle.lfo.proofs.Reached.{Good, unrefused, tick-sounds, good-new, good, never-refused}
-use Rattle.lfo.specs.Calls.{after, reply, Tick, Ticked}
-use Rattle.lfo.specs.Lfo.{newLfo, lfoNewOf, lfoSoundOf, lfoTickOf, lfoAnswerOf, lfoNextOf, lfoBlockOf}
-use Rattle.lfo.specs.Promises.{takesEdge, Forgets, Block-forgets, Edge-comes}
+use Rattle.lfo.specs.Calls.{Tick, Ticked, Fit, after, reply}
+use Rattle.lfo.specs.Consts.{nPorts}
+use Rattle.lfo.specs.Lfo.{newLfo, newLike, madeUnless, lfoNewOf, lfoSoundOf, lfoTickOf, lfoToldOf, lfoNextOf, lfoBlockOf}
+use Rattle.lfo.specs.Promises.{taken, Forgets, Block-forgets, Edge-comes}
 use Rattle.lfo.specs.Waves.{rateToHz}
-use Rattle.common.specs.declared.EdgeDetector.{EdgeDetector}
 use Rattle.lfo.specs.declared.Lfo.{Lfo}
 use Rattle.lfo.specs.declared.LfoControls.{LfoControls}
 use Rattle.lfo.specs.declared.LfoTicked.{LfoTicked}
 
-struck : (s : Lfo) (c : LfoControls) (w : ℕ) → Good s → F64 (c .rate) → takesEdge s c ≡ true → lfoSoundOf s c w ≡ lfoSoundOf (newLfo (s .«sample_rate»)) c w
-unfolding lfoSoundOf newLfo risingOf risingAboveOf restartOf
-struck s c w g f e =
-    simp (recall1-is rateToHz (s .«freq_memo») (g .memo) (c .rate) f, recall1-is rateToHz newMemo1 (inl refl) (c .rate) f, e, rises-new gateThreshold (s .«reset_edge» .prev) (c .reset) gate-above e)
+-- a new one like s has a detector like its own
+like : (s : Lfo) → newLike s ≡ record { phase = turns zer; «sample_rate» = s .«sample_rate»; «reset_edge» = resetOf (s .«reset_edge»); «freq_memo» = newMemo1 }
+unfolding newLike newLfo resetOf
+like s = refl
 
-struck-tick : (s : Lfo) (c : LfoControls) (w : ℕ) → Good s → F64 (c .rate) → takesEdge s c ≡ true → lfoTickOf s c w ≡ lfoTickOf (newLfo (s .«sample_rate»)) c w
-struck-tick s c w g f e =
-    tick-sounds s c w g ∙ struck s c w g f e ∙ sym (tick-sounds (newLfo (s .«sample_rate»)) c w (good-new (s .«sample_rate») (g .rate)))
+struck : (s : Lfo) (c : LfoControls) (w : ℕ) → Good s → Fit c → taken s c ≡ true → lfoSoundOf s c w ≡ lfoSoundOf (newLike s) c w
+unfolding lfoSoundOf restartOf
+struck s c w g f e =
+    simp (
+      like s,
+      rising-like (s .«reset_edge») (c .reset) e,
+      e,
+      recall1-is rateToHz (s .«freq_memo») (g .memo) (c .rate) f,
+      recall1-is rateToHz newMemo1 (inl refl) (c .rate) f,
+    )
+
+good-like : (s : Lfo) → Good s → Good (newLike s)
+unfolding newLike
+good-like s g = good-new (s .«sample_rate») (g .rate)
+
+struck-tick : (s : Lfo) (c : LfoControls) (w : ℕ) → Good s → Fit c → taken s c ≡ true → lfoTickOf s c w ≡ lfoTickOf (newLike s) c w
+struck-tick s c w g f e = tick-sounds s c w g ∙ struck s c w g f e ∙ sym (tick-sounds (newLike s) c w (good-like s g))
 
 pub forgets : Forgets
 unfolding replies after reply
 forgets s h c w f a e =
     let g = good h in
     record {
-      new = unfold lfoNewOf in simp (g .rate);
+      new = unfold lfoNewOf madeUnless newLike in simp (g .rate);
       state = ap (λ (t : LfoTicked). t .lfo) (struck-tick s c w g f e);
       same = λ cs. ap (λ (t : LfoTicked). Ticked (t .answer) ∷ replies after reply (t .lfo) cs) (struck-tick s c w g f e);
     }
@@ -47,26 +61,19 @@ pub block-forgets : Block-forgets
 unfolding lfoBlockOf
 block-forgets s h c w t o m f a z e =
     let g = good h in
-    let new = newLfo (s .«sample_rate») in
     let tick = struck-tick s c w g f e in
     let next = ap (λ (k : LfoTicked). k .lfo) tick in
     let told = ap (λ (k : LfoTicked). k .answer) tick in
-    let taken = sym (never-refused s h .plays c w t o m) ∙ a in
-    simp (unrefused s g, unrefused new (good-new (s .«sample_rate») (g .rate)))
-    (block-same (lfoNextOf c w) s new next 5 0 (lfoAnswerOf c w) t o m told (taken, z))
+    let accepts = sym (never-refused s h .play c w t o m) ∙ a in
+    simp (unrefused s g, unrefused (newLike s) (good-like s g))
+    (block-same (lfoNextOf c w) s (newLike s) next nPorts 0 (lfoToldOf c w) t o m told (accepts, z))
 
 -- ---- an edge can be had
-held : (s : Lfo) (c : LfoControls) (w : ℕ) → lfoSoundOf s c w .lfo .«reset_edge» ≡ record { prev = c .reset }
-unfolding lfoSoundOf risingOf risingAboveOf
-held s c w = refl
-
-rises : (edge : EdgeDetector) (prev v : Float) → edge ≡ record { prev = prev } → le prev gateThreshold ≡ true → v ≡ five → risingOf edge v .rising ≡ true
-unfolding risingOf risingAboveOf
-rises edge prev v e l q = rw (e, q) (rises-five prev l)
+rises : (s : Lfo) (c d : LfoControls) (w : ℕ) → Good s → le (c .reset) (thresholdOf (s .«reset_edge»)) ≡ true → d .reset ≡ five
+    → taken (lfoTickOf s c w .lfo) d ≡ true
+unfolding lfoSoundOf
+rises s c d w g l e = rw (e, tick-sounds s c w g) (rising-comes (s .«reset_edge») (c .reset) l)
 
 pub edge-comes : Edge-comes
 unfolding after
-edge-comes s h c d v w f l e = (
-  never-refused (after s (Tick c v)) (more h (Tick c v) f) .ticks d w,
-  rises (lfoTickOf s c v .lfo .«reset_edge») (c .reset) (d .reset) (ap (λ (t : LfoTicked). t .lfo .«reset_edge») (tick-sounds s c v (good h)) ∙ held s c v) l e,
-)
+edge-comes s h c d v w f l e = (never-refused (after s (Tick c v)) (more h (Tick c v) f) .tick d w, rises s c d v (good h) l e)

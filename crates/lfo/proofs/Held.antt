@@ -13,18 +13,18 @@ use Rattle.answer.specs.Mark.{markOf}
 use Rattle.answer.specs.declared.Answer.{Answer}
 use Rattle.answer.specs.declared.Volts.{Volts}
 use Rattle.common.specs.Phase.{turns, wrapOf, incrementOf, restartOf}
-use Rattle.common.specs.Edge.{risingOf, risingAboveOf}
+use Rattle.common.specs.Edge.{risingOf}
 use Rattle.common.specs.Memo.{recall1}
 use Rattle.common.specs.Tests.{phaseOk}
-use Rattle.common.proofs.EdgeLaws.{rises-once}
+use Rattle.common.proofs.EdgeLaws.{rising-once}
 use Rattle.common.proofs.MemoLaws.{recall1-again}
 use Rattle.common.proofs.PhaseLaws.{wrap-in, restart-in}
 use Rattle.common.specs.declared.Turns.{Turns}
 use Rattle.laws.specs.Float.{isFin}
-use Rattle.lfo.specs.Held.{heldAnswer, heldNext}
+use Rattle.lfo.specs.Shortcuts.{heldTold, heldNext}
 use Rattle.lfo.proofs.Accepted.{accepts, sounds}
 use Rattle.lfo.specs.Consts.{ten}
-use Rattle.lfo.specs.Lfo.{lfoRefusalOf, lfoOutputsOf, lfoSoundOf, lfoTickOf, lfoAnswerOf, lfoNextOf}
+use Rattle.lfo.specs.Lfo.{lfoRefusalOf, lfoOutputsOf, lfoSoundOf, lfoTickOf, lfoToldOf, lfoNextOf}
 use Rattle.lfo.specs.Waves.{rateToHz}
 use Rattle.lfo.specs.Promises.{Block-accepts, Block-tallies}
 use Rattle.lfo.specs.declared.Lfo.{Lfo}
@@ -35,11 +35,12 @@ use Rattle.common.specs.declared.Memo1.{Memo1}
 -- ---- a turn of the loop
 pub heard : (wanted : ℕ) (depth : Float) (step start : Turns) (i : ℕ) (p : Turns) (v : Volts) (f : Bool) (a : Answer) → a ≡ markOf v false true f
     → v ≡ lfoOutputsOf wanted (p .0) depth → f ≡ isFin (add binary64 (p .0) (step .0)) → p ≡ afterTicks (heldNext step) i start
-    → a ≡ answerAt (heldAnswer wanted depth step) (heldNext step) start i
-unfolding answerAt heldAnswer
+    → a ≡ answerAt (heldTold wanted depth step) (heldNext step) start i
+unfolding answerAt heldTold
 heard wanted depth step start i p v f a e q w z = simp (e, q, w, z)
 
-pub moved : (step start : Turns) (i : ℕ) (p q : Turns) → q ≡ turns (wrapOf (add binary64 (p .0) (step .0))) → p ≡ afterTicks (heldNext step) i start → q ≡ afterTicks (heldNext step) (i + 1) start
+pub moved : (step start : Turns) (i : ℕ) (p q : Turns) → q ≡ turns (wrapOf (add binary64 (p .0) (step .0))) → p ≡ afterTicks (heldNext step) i start
+    → q ≡ afterTicks (heldNext step) (i + 1) start
 unfolding afterTicks heldNext
 moved step start i p q e z = rw add-one (simp (e, z))
 
@@ -63,16 +64,18 @@ state-accepted s c p h k = simp (accepts s h .0, k)
 
 -- in such a state a tick takes no edge and finds its rate in the memo
 held-sound : (s : Lfo) (c : LfoControls) (wanted : ℕ) (p : Turns)
-    → lfoSoundOf (stateOf s c p) c wanted ≡ record { answer = heldAnswer wanted (div binary64 (c .depth) ten) (stepOf s c) p; lfo = stateOf s c (heldNext (stepOf s c) p) }
-unfolding lfoSoundOf heldAnswer heldNext risingOf risingAboveOf restartOf
-held-sound s c wanted p = simp (recall1-again rateToHz (s .«freq_memo») (c .rate), rises-once)
+    → lfoSoundOf (stateOf s c p) c wanted
+    ≡ record { answer = heldTold wanted (div binary64 (c .depth) ten) (stepOf s c) p; lfo = stateOf s c (heldNext (stepOf s c) p) }
+unfolding lfoSoundOf heldTold heldNext restartOf
+held-sound s c wanted p = simp (recall1-again rateToHz (s .«freq_memo») (c .rate), rising-once (s .«reset_edge») (c .reset))
 
 pub holds : (s : Lfo) (c : LfoControls) (wanted : ℕ) → lfoRefusalOf s ≡ 0
-    → Holds (lfoAnswerOf c wanted) (lfoNextOf c wanted) (heldAnswer wanted (div binary64 (c .depth) ten) (stepOf s c)) (heldNext (stepOf s c)) (stateOf s c) (λ p. phaseOk p ≡ true) s (startOf s c)
+    → Holds (lfoToldOf c wanted) (lfoNextOf c wanted) (heldTold wanted (div binary64 (c .depth) ten) (stepOf s c)) (heldNext (stepOf s c)) (stateOf s c)
+    (λ p. phaseOk p ≡ true) s (startOf s c)
 holds s c wanted h =
     record {
       good = restart-in (s .phase) (risingOf (s .«reset_edge») (c .reset) .rising) (accepts s h .1);
-      first = unfold lfoSoundOf heldAnswer in ap (λ (t : LfoTicked). t .answer) (sounds s c wanted h);
+      first = unfold lfoSoundOf heldTold in ap (λ (t : LfoTicked). t .answer) (sounds s c wanted h);
       second = unfold lfoSoundOf heldNext in ap (λ (t : LfoTicked). t .lfo) (sounds s c wanted h);
       stays = λ p k. unfold heldNext in wrap-in _ (add-fits binary64 _ _);
       answers = λ p k. ap (λ (t : LfoTicked). t .answer) (sounds (stateOf s c p) c wanted (state-accepted s c p h k) ∙ held-sound s c wanted p);
@@ -81,7 +84,7 @@ holds s c wanted h =
 
 -- ---- so none of them is refused
 pub block-accepts : Block-accepts
-block-accepts s c wanted h = held-accepted _ _ _ _ _ _ _ _ (holds s c wanted h) (λ p. unfold heldAnswer in mark-says _ _ _ _ .is-accepted)
+block-accepts s c wanted h = held-accepted _ _ _ _ _ _ _ _ (holds s c wanted h) (λ p. unfold heldTold in mark-says _ _ _ _ .is-accepted)
 
 pub block-tallies : Block-tallies
 block-tallies s c wanted h = all-taken _ _ s (block-accepts s c wanted h)

@@ -8,7 +8,7 @@ use lib.Ieee.Bits.{is-true}
 use lib.Ieee.Fits.{and-l, and-r}
 use Rattle.answer.specs.Mark.{allFinite}
 use Rattle.common.proofs.Bounds.{phase-within, sin-within, one-within, half-within, two-within, four-within, five-within, tau-within}
-use Rattle.common.specs.Consts.{four, five, half, tau}
+use Rattle.common.specs.Consts.{four, five, half}
 use Rattle.common.specs.Phase.{turns}
 use Rattle.common.specs.Ports.{wants}
 use Rattle.common.specs.Tests.{phaseOk}
@@ -16,7 +16,7 @@ use Rattle.laws.proofs.Interval.{Within, within-add, within-between, within-fin
 use Rattle.laws.proofs.Tests.{of-true}
 use Rattle.laws.specs.Float.{zer, one, two, isFin}
 use Rattle.numeric.proofs.BasicLaws.{within-fabs}
-use Rattle.numeric.specs.Basic.{fabsOf}
+use Rattle.numeric.specs.Basic.{fabsOf, tau}
 use Rattle.lfo.specs.Consts.{ten}
 use Rattle.lfo.specs.Lfo.{lfoOutputsOf}
 use Rattle.lfo.specs.Small.{most, isSmall}
@@ -57,19 +57,22 @@ outputs-finite wanted p d h k = simp (sin-finite, tri-finite, saw-finite, sqr-fi
     loud = within-mul 3 30 five d (lit≤ tt) five-within depth
 
     sin-finite : isFin (sinWave (wants wanted 1) (sineOf p) scale) ≡ true
-    sin-finite = unfold sinWave in finite-if (wants wanted 1) 33 (mul binary64 (sineOf p) scale) (within-mul 0 33 (sineOf p) scale (lit≤ tt) (sine-within p phase) loud)
+    sin-finite =
+        unfold sinWave in finite-if (wants wanted 1) 33 (mul binary64 (sineOf p) scale) (within-mul 0 33 (sineOf p) scale (lit≤ tt) (sine-within p phase) loud)
 
     tri-finite : isFin (triWave (wants wanted 2) p scale) ≡ true
     tri-finite =
         unfold triWave in
         let off = within-fabs 1 (sub binary64 p half) (within-minus 0 p half (lit≤ tt) phase half-within) in
-        let side = within-minus 3 one (mul binary64 four (fabsOf (sub binary64 p half))) (lit≤ tt) (within-to 0 3 one (lit≤ tt) one-within) (within-mul 2 1 four (fabsOf (sub binary64 p half)) (lit≤ tt) four-within off) in
+        let side = within-minus 3 one (mul binary64 four (fabsOf (sub binary64 p half))) (lit≤ tt) (within-to 0 3 one (lit≤ tt) one-within)
+        (within-mul 2 1 four (fabsOf (sub binary64 p half)) (lit≤ tt) four-within off) in
         finite-if (wants wanted 2) 37 _ (within-mul 4 33 _ scale (lit≤ tt) side loud)
 
     saw-finite : isFin (sawWave (wants wanted 4) p scale) ≡ true
     saw-finite =
         unfold sawWave in
-        let ramp = within-minus 1 (mul binary64 two p) one (lit≤ tt) (within-mul 1 0 two p (lit≤ tt) two-within phase) (within-to 0 1 one (lit≤ tt) one-within) in
+        let ramp = within-minus 1 (mul binary64 two p) one (lit≤ tt) (within-mul 1 0 two p (lit≤ tt) two-within phase)
+        (within-to 0 1 one (lit≤ tt) one-within) in
         finite-if (wants wanted 4) 35 _ (within-mul 2 33 _ scale (lit≤ tt) ramp loud)
 
     sqr-finite : isFin (sqrWave (wants wanted 8) p scale) ≡ true
@@ -82,6 +85,7 @@ outputs-finite wanted p d h k = simp (sin-finite, tri-finite, saw-finite, sqr-fi
     uni-finite : isFin (sinUniWave (wants wanted 16) (sineOf p) d) ≡ true
     uni-finite =
         unfold sinUniWave in
-        let lifted = within-add 0 (mul binary64 (sineOf p) half) half (lit≤ tt) (within-mul 0 0 (sineOf p) half (lit≤ tt) (sine-within p phase) half-within) half-within in
+        let lifted = within-add 0 (mul binary64 (sineOf p) half) half (lit≤ tt)
+        (within-mul 0 0 (sineOf p) half (lit≤ tt) (sine-within p phase) half-within) half-within in
         let deep = within-mul 1 30 (add binary64 (mul binary64 (sineOf p) half) half) d (lit≤ tt) lifted depth in
         finite-if (wants wanted 16) 35 _ (within-mul 31 4 _ ten (lit≤ tt) deep (unfold ofBits in within-of 4 ten tt))

@@ -5,14 +5,15 @@ use Prim.Native.Nat.{ℕ}
 use lib.Ieee.{Float}
 use Rattle.laws.specs.Float.{F64}
 use Rattle.laws.specs.Machine.{Reached}
-use Rattle.lfo.specs.Lfo.{lfoNewOf, lfoTickOf, lfoBlockOf, lfoResetOf, lfoSetSampleRateOf, madeNumber, madeOr}
+use Rattle.lfo.specs.Lfo.{lfoNewOf, lfoTickOf, lfoBlockOf, lfoResetOf, lfoSetSampleRateOf}
 use Rattle.common.specs.declared.Hertz.{Hertz}
+use Rattle.answer.specs.Answer.{outcomeNumber}
 use Rattle.answer.specs.Block.{Block}
 use Rattle.answer.specs.declared.Answer.{Answer}
+use Rattle.answer.specs.declared.Outcome.the-variants as outcome
 use Rattle.answer.specs.declared.Tally.{Tally}
 use Rattle.lfo.specs.declared.Lfo.{Lfo}
 use Rattle.lfo.specs.declared.LfoControls.{LfoControls}
-use Rattle.lfo.specs.declared.LfoMade.the-variants as made
 
 -- a block is given a tally, and buffers of samples and marks
 pub data Call : Type 0 where
@@ -27,28 +28,32 @@ pub data Reply : Type 0 where
   Played : Block Lfo → Reply
   Told : ℕ → Reply
 
+-- what controls must be: the memo's key is an f64, as every control is in Rattle
+abbrev pub Fit : LfoControls → Type 0
+Fit c = F64 (c .rate)
+
+abbrev pub FitCall : Call → Type 0
+FitCall (Tick c wanted) = Fit c
+FitCall (Play c wanted t o m) = Fit c
+FitCall Reset = Unit {0}
+FitCall (SetSampleRate r) = Unit {0}
+
+-- the state after a call; a refused one leaves it
 unfoldable pub after : Lfo → Call → Lfo
 after s (Tick c wanted) = lfoTickOf s c wanted .lfo
 after s (Play c wanted t o m) = lfoBlockOf s c wanted t o m .state
-after s Reset = madeOr s (lfoResetOf s)
-after s (SetSampleRate r) = madeOr s (lfoSetSampleRateOf s r)
+after s Reset = lfoResetOf s .lfo
+after s (SetSampleRate r) = lfoSetSampleRateOf s r .lfo
 
 unfoldable pub reply : Lfo → Call → Reply
 reply s (Tick c wanted) = Ticked (lfoTickOf s c wanted .answer)
 reply s (Play c wanted t o m) = Played (lfoBlockOf s c wanted t o m)
-reply s Reset = Told (madeNumber (lfoResetOf s))
-reply s (SetSampleRate r) = Told (madeNumber (lfoSetSampleRateOf s r))
-
--- the rate control is an f64, as every control is
-abbrev pub FitCall : Call → Type 0
-FitCall (Tick c wanted) = F64 (c .rate)
-FitCall (Play c wanted t o m) = F64 (c .rate)
-FitCall Reset = Unit {0}
-FitCall (SetSampleRate r) = Unit {0}
+reply s Reset = Told (outcomeNumber (lfoResetOf s .outcome))
+reply s (SetSampleRate r) = Told (outcomeNumber (lfoSetSampleRateOf s r .outcome))
 
 -- an accepted new one
 abbrev pub First : Lfo → Type 0
-First s = (r : Hertz) × (lfoNewOf r ≡ made.Made s)
+First s = (r : Hertz) × (lfoNewOf r ≡ record { outcome = outcome.Done; lfo = s })
 
 abbrev pub ReachedLfo : Lfo → Type 0
 ReachedLfo = Reached First FitCall after

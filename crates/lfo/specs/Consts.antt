@@ -1,5 +1,10 @@
 -- The Rust's constants of the Lfo, by their bits.
+use Prim.Native.Nat.{ℕ}
 use lib.Ieee.{Float, binary64, ofBits}
+
+-- how many outputs there are
+abbrev pub nPorts : ℕ
+nPorts = 5
 
 -- 10, and the lowest frequency in hertz: 0.01
 abbrev pub ten : Float

@@ -4,51 +4,63 @@ use mathlib.Core.List.{List}
 use Prim.Native.Nat.{ℕ}
 use lib.Dec.{eqb}
 use lib.Ieee.{Float, binary64, mul, div, add}
+use Rattle.answer.specs.Answer.{volts5}
 use Rattle.answer.specs.Block.{Block, blockOf}
 use Rattle.answer.specs.Mark.{markOf}
 use Rattle.common.specs.Consts.{five}
-use Rattle.common.specs.Edge.{newEdge, risingOf}
+use Rattle.common.specs.Edge.{newEdge, resetOf, risingOf}
 use Rattle.common.specs.Memo.{newMemo1, recall1}
 use Rattle.common.specs.Phase.{turns, wrapOf, incrementOf, restartOf}
 use Rattle.common.specs.Ports.{wants}
 use Rattle.common.specs.Tests.{rateOk, phaseOk}
 use Rattle.laws.specs.Float.{zer, isFin}
-use Rattle.lfo.specs.Consts.{ten}
+use Rattle.lfo.specs.Consts.{ten, nPorts}
 use Rattle.lfo.specs.Waves.{rateToHz, sineOf, sinWave, triWave, sawWave, sqrWave, sinUniWave}
 use Rattle.common.specs.declared.Hertz.{Hertz}
 use Rattle.answer.specs.declared.Volts.{Volts}
 use Rattle.answer.specs.declared.Answer.{Answer}
 use Rattle.answer.specs.declared.Answer.the-variants as answer
+use Rattle.answer.specs.declared.Outcome.the-variants as outcome
 use Rattle.answer.specs.declared.Tally.{Tally}
 use Rattle.lfo.specs.declared.Lfo.{Lfo}
 use Rattle.lfo.specs.declared.LfoControls.{LfoControls}
 use Rattle.lfo.specs.declared.LfoTicked.{LfoTicked}
 use Rattle.lfo.specs.declared.LfoMade.{LfoMade}
-use Rattle.lfo.specs.declared.LfoMade.the-variants as made
 
 -- Lfo::new
 unfoldable pub newLfo : Hertz → Lfo
 newLfo r = record { phase = turns zer; «sample_rate» = r; «reset_edge» = newEdge; «freq_memo» = newMemo1 }
 
+-- a new one like this
+unfoldable pub newLike : Lfo → Lfo
+newLike s = newLfo (s .«sample_rate»)
+
 -- 0, or what refuses a state: 1 its rate, 2 its phase
 unfoldable pub lfoRefusalOf : Lfo → ℕ
 lfoRefusalOf s = cond (rateOk (s .«sample_rate»)) (cond (phaseOk (s .phase)) 0 2) 1
 
--- 1 on the rate
+-- and a rate change: 1 on the new rate and on the old, then 2
+unfoldable pub lfoRateRefusalOf : Lfo → Hertz → ℕ
+lfoRateRefusalOf s r = cond (rateOk r) (lfoRefusalOf s) 1
+
+-- `new`, unless n refuses, which leaves `old`
+unfoldable pub madeUnless : ℕ → Lfo → Lfo → LfoMade
+madeUnless n old new = cond (eqb n 0) (record { outcome = outcome.Done; lfo = new }) (record { outcome = outcome.Refused n; lfo = old })
+
+-- 1 on the rate: refused, the state has it, and so refuses every call
 unfoldable pub lfoNewOf : Hertz → LfoMade
-lfoNewOf r = cond (rateOk r) (made.Made (newLfo r)) (made.Refused 1)
+lfoNewOf r = madeUnless (cond (rateOk r) 0 1) (newLfo r) (newLfo r)
 
 -- the outputs of tick_wanted, each where it is wanted
 unfoldable pub lfoOutputsOf : ℕ → Float → Float → Volts
 lfoOutputsOf wanted phase depth =
     let scale = mul binary64 five depth in
-    record {
-      p10 = sinWave (wants wanted 1) (sineOf phase) scale;
-      p11 = triWave (wants wanted 2) phase scale;
-      p12 = sawWave (wants wanted 4) phase scale;
-      p13 = sqrWave (wants wanted 8) phase scale;
-      p14 = sinUniWave (wants wanted 16) (sineOf phase) depth;
-    }
+    volts5
+    (sinWave (wants wanted 1) (sineOf phase) scale)
+    (triWave (wants wanted 2) phase scale)
+    (sawWave (wants wanted 4) phase scale)
+    (sqrWave (wants wanted 8) phase scale)
+    (sinUniWave (wants wanted 16) (sineOf phase) depth)
 
 -- tick_wanted, line by line
 unfoldable pub lfoSoundOf : Lfo → LfoControls → ℕ → LfoTicked
@@ -69,37 +81,27 @@ lfoTickOf s c wanted =
     let n = lfoRefusalOf s in
     cond (eqb n 0) (lfoSoundOf s c wanted) (record { answer = answer.Refused n; lfo = s })
 
--- a block of as many ticks with these controls as there are marks: five samples a tick
-abbrev pub lfoAnswerOf : LfoControls → ℕ → Lfo → Answer
-lfoAnswerOf c wanted s = lfoTickOf s c wanted .answer
+-- what a tick with these controls answers, and what it leaves
+abbrev pub lfoToldOf : LfoControls → ℕ → Lfo → Answer
+lfoToldOf c wanted s = lfoTickOf s c wanted .answer
 
 abbrev pub lfoNextOf : LfoControls → ℕ → Lfo → Lfo
 lfoNextOf c wanted s = lfoTickOf s c wanted .lfo
 
+-- a block of as many such ticks as there are marks
 unfoldable pub lfoBlockOf : Lfo → LfoControls → ℕ → Tally → List Float → List ℕ → Block Lfo
-lfoBlockOf s c wanted t o m = blockOf 5 (lfoRefusalOf s) (lfoAnswerOf c wanted) (lfoNextOf c wanted) s t o m
-
--- the scope's number of what a call made, 0 unless it was refused, and the state then: a refusal leaves the old one
-unfoldable pub madeNumber : LfoMade → ℕ
-madeNumber (made.Made t) = 0
-madeNumber (made.Refused n) = n
-
-unfoldable pub madeOr : Lfo → LfoMade → Lfo
-madeOr s (made.Made t) = t
-madeOr s (made.Refused n) = s
-
--- s, unless n refuses
-unfoldable pub madeUnless : ℕ → Lfo → LfoMade
-madeUnless n s = cond (eqb n 0) (made.Made s) (made.Refused n)
+lfoBlockOf s c wanted t o m = blockOf nPorts (lfoRefusalOf s) (lfoToldOf c wanted) (lfoNextOf c wanted) s t o m
 
 -- reset: the rate and the memo stay
+unfoldable pub restarted : Lfo → Lfo
+restarted s = record { phase = turns zer; «sample_rate» = s .«sample_rate»; «reset_edge» = resetOf (s .«reset_edge»); «freq_memo» = s .«freq_memo» }
+
 unfoldable pub lfoResetOf : Lfo → LfoMade
-lfoResetOf s = madeUnless (lfoRefusalOf s) (record { phase = turns zer; «sample_rate» = s .«sample_rate»; «reset_edge» = newEdge; «freq_memo» = s .«freq_memo» })
+lfoResetOf s = madeUnless (lfoRefusalOf s) s (restarted s)
 
 -- set_sample_rate: all but the rate stays
-abbrev pub rated : Lfo → Hertz → Lfo
+unfoldable pub rated : Lfo → Hertz → Lfo
 rated s r = record { phase = s .phase; «sample_rate» = r; «reset_edge» = s .«reset_edge»; «freq_memo» = s .«freq_memo» }
 
--- 1 on the new rate and on the old, then 2
 unfoldable pub lfoSetSampleRateOf : Lfo → Hertz → LfoMade
-lfoSetSampleRateOf s r = cond (rateOk r) (madeUnless (lfoRefusalOf s) (rated s r)) (made.Refused 1)
+lfoSetSampleRateOf s r = madeUnless (lfoRateRefusalOf s r) s (rated s r)

@@ -2,6 +2,6 @@ pub mod Consts
 pub mod Waves
 pub mod Lfo
 pub mod Small
-pub mod Held
+pub mod Shortcuts
 pub mod Calls
 pub mod Promises

@@ -2,10 +2,10 @@
 use mathlib.Core.Bool.{Bool, cond, _||_}
 use Prim.Native.Nat.{ℕ}
 use lib.Ieee.{Float, binary64, lt, mul, sub, add, neg}
-use Rattle.common.specs.Consts.{four, half, tau}
+use Rattle.common.specs.Consts.{four, half}
 use Rattle.common.specs.Ports.{wants}
 use Rattle.laws.specs.Float.{zer, one, two}
-use Rattle.numeric.specs.Basic.{fabsOf, clampOf}
+use Rattle.numeric.specs.Basic.{fabsOf, clampOf, tau}
 use Rattle.numeric.specs.Power.{pow3000Of}
 use Rattle.numeric.specs.Trig.{sinOf}
 use Rattle.lfo.specs.Consts.{ten, lowest}

@@ -1,6 +1,7 @@
 // The Lfo of oscillators.rs, in its order: a slow oscillator with rate, depth and a reset trigger.
 // Its outputs: p10 sin, p11 tri, p12 saw, p13 sqr, p14 sin_uni.
 use answer::Answer;
+use answer::Outcome;
 use answer::Tally;
 use answer::Volts;
 use common::EdgeDetector;
@@ -10,19 +11,18 @@ use common::Turns;
 ghost use mathlib.Core.Path.{_≡_};
 ghost use mathlib.Core.Bool.{true, false, _||_};
 ghost use Prim.Native.Nat.{_<_, _*_};
-ghost use lib.Dec.{eqb};
-ghost use lib.ListN.{length, set};
-ghost use lib.Seq.{sets};
+ghost use lib.ListN.{length};
 ghost use Rattle.laws.specs.Lists.{tab};
 ghost use Rattle.common.specs.Memo.{recall1};
 ghost use Rattle.common.specs.Tests.{phaseOk};
-ghost use Rattle.answer.specs.Answer.{hostNumber, voltsOf};
 ghost use Rattle.answer.specs.Mark.{allFinite, markOf};
-ghost use Rattle.answer.specs.Block.{afterTicks, portsOf, joined, block, markAt, frameAt};
+ghost use Rattle.answer.specs.Block.{afterTicks, joined, block, markAt, frameAt};
+ghost use Rattle.lfo.specs.Consts.{nPorts};
 ghost use Rattle.lfo.specs.Waves.{rateToHz, sharedSine, sinWave, triWave, sawWave, sqrWave, sinUniWave};
 ghost use Rattle.lfo.specs.Small.{isSmall};
-ghost use Rattle.lfo.specs.Held.{heldAnswer, heldNext};
-ghost use Rattle.lfo.specs.Lfo.{lfoRefusalOf, lfoNewOf, lfoOutputsOf, lfoSoundOf, lfoTickOf, lfoAnswerOf, lfoNextOf, lfoBlockOf, lfoResetOf, lfoSetSampleRateOf};
+ghost use Rattle.lfo.specs.Shortcuts.{heldTold, heldNext};
+ghost use Rattle.lfo.specs.Lfo.{lfoRefusalOf, lfoRateRefusalOf, lfoNewOf, lfoOutputsOf, lfoSoundOf, lfoTickOf, lfoToldOf, lfoNextOf};
+ghost use Rattle.lfo.specs.Lfo.{lfoBlockOf, lfoResetOf, lfoSetSampleRateOf};
 
 pub struct Lfo {
     pub phase: Turns,
@@ -50,13 +50,14 @@ pub struct LfoBlock {
     pub tally: Tally,
 }
 
-pub enum LfoMade {
-    Made(Lfo),
-    Refused(u32),
+// What a call without samples leaves: a refused one the old state, and a refused `new` a state that refuses every call.
+pub struct LfoMade {
+    pub outcome: Outcome,
+    pub lfo: Lfo,
 }
 
-// A whole turn in radians.
-const TAU: f64 = 6.283185307179586;
+// How many outputs there are.
+const PORTS: usize = 5;
 
 // A rate from 0 to 1 as 0.01 Hz to 30 Hz. The clamp lets a NaN pass.
 fn rate_to_hz(rate: f64) -> Hertz
@@ -141,52 +142,33 @@ fn mark(v: Volts, small: bool, phases: bool) -> Answer
     requires { ⌜ (small ≡ true → allFinite v ≡ true) ⌝ }
     ensures { λ r. ⌜ r ≡ markOf v false true phases ⌝ }
 {
-    if small && phases {
-        Answer::Clean(v)
+    if small {
+        answer::marked(v, false, true, phases)
     } else {
         answer::mark(v, false, true, phases)
     }
-}
-
-// Whether a block has five samples for each of n marks. A product could be too large.
-fn fits(samples: usize, n: usize) -> bool
-    ensures { λ r. ⌜ r ≡ eqb samples (5 * n) ⌝ }
-{
-    if samples % 5 == 0 {
-        samples / 5 == n
-    } else {
-        false
-    }
-}
-
-// What tick i of a block answers.
-fn put(a: Answer, i: usize, samples: &mut [f64], marks: &mut [u32])
-    requires { ⌜ (i < length (now marks)) × (length (now samples) ≡ 5 * length (now marks)) ⌝ }
-    ensures { λ _. ⌜ (now (samples .exit) ≡ sets (now (samples .entry)) (5 * i) (portsOf 5 (voltsOf a))) × (now (marks .exit) ≡ set (now (marks .entry)) i (hostNumber a)) ⌝ }
-{
-    let v = answer::samples(a);
-    let at = 5 * i;
-    samples[at] = v.p10;
-    samples[at + 1] = v.p11;
-    samples[at + 2] = v.p12;
-    samples[at + 3] = v.p13;
-    samples[at + 4] = v.p14;
-    marks[i] = answer::host_number(a);
 }
 
 impl Lfo {
     pub fn new(sample_rate: Hertz) -> LfoMade
         ensures { λ r. ⌜ r ≡ lfoNewOf «sample_rate» ⌝ }
     {
+        let lfo = Lfo {
+            phase: Turns(0.0),
+            sample_rate,
+            reset_edge: EdgeDetector::new(),
+            freq_memo: Memo1::new(),
+        };
         if common::rate_ok(sample_rate) {
-            LfoMade::Made(Lfo {
-                phase: Turns(0.0),
-                sample_rate,
-                reset_edge: EdgeDetector::new(),
-                freq_memo: Memo1::new(),
-            })
+            LfoMade {
+                outcome: Outcome::Done,
+                lfo,
+            }
         } else {
-            LfoMade::Refused(1)
+            LfoMade {
+                outcome: Outcome::Refused(1),
+                lfo,
+            }
         }
     }
 
@@ -209,7 +191,7 @@ impl Lfo {
             wanted & Self::WANT_SIN != 0,
             wanted & Self::WANT_SIN_UNI != 0,
         ) {
-            numeric::sin(phase.0 * TAU)
+            numeric::sin(phase.0 * numeric::TAU)
         } else {
             0.0
         }
@@ -221,16 +203,16 @@ impl Lfo {
         ensures { λ r. ⌜ r ≡ lfoOutputsOf wanted (phase .0) depth ⌝ }
     {
         let scale = 5.0 * depth;
-        Volts {
-            p10: sin(wanted & Self::WANT_SIN != 0, sine, scale),
-            p11: tri(wanted & Self::WANT_TRI != 0, phase, scale),
-            p12: saw(wanted & Self::WANT_SAW != 0, phase, scale),
-            p13: sqr(wanted & Self::WANT_SQR != 0, phase, scale),
-            p14: sin_uni(wanted & Self::WANT_SIN_UNI != 0, sine, depth),
-        }
+        answer::volts5(
+            sin(wanted & Self::WANT_SIN != 0, sine, scale),
+            tri(wanted & Self::WANT_TRI != 0, phase, scale),
+            saw(wanted & Self::WANT_SAW != 0, phase, scale),
+            sqr(wanted & Self::WANT_SQR != 0, phase, scale),
+            sin_uni(wanted & Self::WANT_SIN_UNI != 0, sine, depth),
+        )
     }
 
-    // 0, or the number that refuses this state: 1 its rate, 2 its phase.
+    // 0, or what refuses this state: 1 its rate, 2 its phase.
     fn refusal(self) -> u32
         ensures { λ r. ⌜ r ≡ lfoRefusalOf self ⌝ }
     {
@@ -295,10 +277,11 @@ impl Lfo {
         samples: &mut [f64],
         marks: &mut [u32],
     ) -> Turns
-        requires { ⌜ (phaseOk start ≡ true) × (length (now samples) ≡ 5 * length (now marks)) ⌝ }
+        requires { ⌜ (phaseOk start ≡ true) × (length (now samples) ≡ nPorts * length (now marks)) ⌝ }
         ensures { λ r. ⌜ r ≡ afterTicks (heldNext step) (length (now (marks .entry))) start ⌝ }
-        ensures { λ r. ⌜ now (samples .exit) ≡ joined (frameAt 5 (heldAnswer wanted depth step) (heldNext step) start) (length (now (marks .entry))) ⌝ }
-        ensures { λ r. ⌜ now (marks .exit) ≡ tab (markAt (heldAnswer wanted depth step) (heldNext step) start) (length (now (marks .entry))) ⌝ }
+        ensures { λ r. ⌜ now (samples .exit)
+            ≡ joined (frameAt nPorts (heldTold wanted depth step) (heldNext step) start) (length (now (marks .entry))) ⌝ }
+        ensures { λ r. ⌜ now (marks .exit) ≡ tab (markAt (heldTold wanted depth step) (heldNext step) start) (length (now (marks .entry))) ⌝ }
     {
         let small = is_small(depth);
         let mut phase = start;
@@ -308,7 +291,7 @@ impl Lfo {
             let sine = Self::shared_sine(wanted, phase);
             let volts = Self::outputs(wanted, phase, sine, depth);
             let heard = mark(volts, small, numeric::is_finite(next.0));
-            put(heard, i, &mut *samples, &mut *marks);
+            answer::put(heard, PORTS, i, &mut *samples, &mut *marks);
             phase = common::wrap_phase(next);
             i += 1;
         }
@@ -317,10 +300,11 @@ impl Lfo {
 
     // The ticks of a block. Only the first can take the edge, and the memo holds from then on.
     fn run(self, c: LfoControls, wanted: u32, samples: &mut [f64], marks: &mut [u32]) -> Self
-        requires { ⌜ (lfoRefusalOf self ≡ 0) × (0 < length (now marks)) × (length (now samples) ≡ 5 * length (now marks)) ⌝ }
+        requires { ⌜ (lfoRefusalOf self ≡ 0) × (0 < length (now marks)) × (length (now samples) ≡ nPorts * length (now marks)) ⌝ }
         ensures { λ r. ⌜ r ≡ afterTicks (lfoNextOf c wanted) (length (now (marks .entry))) self ⌝ }
-        ensures { λ r. ⌜ now (samples .exit) ≡ joined (frameAt 5 (lfoAnswerOf c wanted) (lfoNextOf c wanted) self) (length (now (marks .entry))) ⌝ }
-        ensures { λ r. ⌜ now (marks .exit) ≡ tab (markAt (lfoAnswerOf c wanted) (lfoNextOf c wanted) self) (length (now (marks .entry))) ⌝ }
+        ensures { λ r. ⌜ now (samples .exit)
+            ≡ joined (frameAt nPorts (lfoToldOf c wanted) (lfoNextOf c wanted) self) (length (now (marks .entry))) ⌝ }
+        ensures { λ r. ⌜ now (marks .exit) ≡ tab (markAt (lfoToldOf c wanted) (lfoNextOf c wanted) self) (length (now (marks .entry))) ⌝ }
     {
         let old = self.phase;
         let sample_rate = self.sample_rate;
@@ -349,10 +333,11 @@ impl Lfo {
         samples: &mut [f64],
         marks: &mut [u32],
     ) -> LfoBlock
-        ensures { λ r. ⌜ block (r .refused) (r .lfo) (r .tally) (now (samples .exit)) (now (marks .exit)) ≡ lfoBlockOf self c wanted tally (now (samples .entry)) (now (marks .entry)) ⌝ }
+        ensures { λ r. ⌜ block (r .refused) (r .lfo) (r .tally) (now (samples .exit)) (now (marks .exit))
+            ≡ lfoBlockOf self c wanted tally (now (samples .entry)) (now (marks .entry)) ⌝ }
     {
         let n = marks.len();
-        let refused = answer::block_refusal(fits(samples.len(), n), self.refusal(), tally, n);
+        let refused = answer::block_refusal(PORTS, samples.len(), self.refusal(), tally, n);
         if refused == 0 {
             if n == 0 {
                 LfoBlock {
@@ -386,37 +371,57 @@ impl Lfo {
             let sample_rate = self.sample_rate;
             let edge = self.reset_edge;
             let freq_memo = self.freq_memo;
-            LfoMade::Made(Lfo {
-                phase: Turns(0.0),
-                sample_rate,
-                reset_edge: edge.reset(),
-                freq_memo,
-            })
+            LfoMade {
+                outcome: Outcome::Done,
+                lfo: Lfo {
+                    phase: Turns(0.0),
+                    sample_rate,
+                    reset_edge: edge.reset(),
+                    freq_memo,
+                },
+            }
         } else {
-            LfoMade::Refused(n)
+            LfoMade {
+                outcome: Outcome::Refused(n),
+                lfo: self,
+            }
         }
     }
 
+    // What refuses a rate change: 1 the new rate or the old, then 2.
+    fn rate_refusal(self, sample_rate: Hertz) -> u32
+        ensures { λ r. ⌜ r ≡ lfoRateRefusalOf self «sample_rate» ⌝ }
+    {
+        if common::rate_ok(sample_rate) {
+            self.refusal()
+        } else {
+            1
+        }
+    }
+
+    // The memo stays: no frequency depends on the rate.
     pub fn set_sample_rate(self, sample_rate: Hertz) -> LfoMade
         ensures { λ r. ⌜ r ≡ lfoSetSampleRateOf self «sample_rate» ⌝ }
     {
-        if common::rate_ok(sample_rate) {
-            let n = self.refusal();
-            if n == 0 {
-                let phase = self.phase;
-                let reset_edge = self.reset_edge;
-                let freq_memo = self.freq_memo;
-                LfoMade::Made(Lfo {
+        let refused = self.rate_refusal(sample_rate);
+        if refused == 0 {
+            let phase = self.phase;
+            let reset_edge = self.reset_edge;
+            let freq_memo = self.freq_memo;
+            LfoMade {
+                outcome: Outcome::Done,
+                lfo: Lfo {
                     phase,
                     sample_rate,
                     reset_edge,
                     freq_memo,
-                })
-            } else {
-                LfoMade::Refused(n)
+                },
             }
         } else {
-            LfoMade::Refused(1)
+            LfoMade {
+                outcome: Outcome::Refused(refused),
+                lfo: self,
+            }
         }
     }
 }

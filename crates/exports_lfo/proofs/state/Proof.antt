@@ -1,4 +1,3 @@
-use mathlib.Core.Path.{refl}
 use borrow.Author.Needs.{needs}
 use Rattle.exports_lfo.specs.State.{stateOf}
 use Rattle.exports_lfo.proofs.state.Statement.{statement}
@@ -10,21 +9,21 @@ shared-slice-read-t8 c = search needs
 shared-slice-read-t8-2 : tie.Need-shared-slice-read-t8-2
 shared-slice-read-t8-2 c = search needs
 
+edge-at-requires : tie.Need-edge-at-requires
+edge-at-requires c κs = search needs
+
+shared-slice-read-t11 : tie.Need-shared-slice-read-t11
+shared-slice-read-t11 c = search needs
+
 shared-slice-read-t8-3 : tie.Need-shared-slice-read-t8-3
 shared-slice-read-t8-3 c = search needs
 
-shared-slice-read-t12 : tie.Need-shared-slice-read-t12
-shared-slice-read-t12 c = search needs
-
-shared-slice-read-t8-4 : tie.Need-shared-slice-read-t8-4
-shared-slice-read-t8-4 c = search needs
-
-shared-slice-read-t16 : tie.Need-shared-slice-read-t16
-shared-slice-read-t16 c = search needs
+shared-slice-read-t15 : tie.Need-shared-slice-read-t15
+shared-slice-read-t15 c = search needs
 
 returns : tie.Need-returns
 unfolding stateOf
-returns c = refl
+returns c = simp (c .before .before .before .edge-at .ensures)
 
 pub state-spec : {M : Type 1} → statement M
 state-spec =
@@ -32,8 +31,8 @@ state-spec =
     (tie.spec
     shared-slice-read-t8
     shared-slice-read-t8-2
+    edge-at-requires
+    shared-slice-read-t11
     shared-slice-read-t8-3
-    shared-slice-read-t12
-    shared-slice-read-t8-4
-    shared-slice-read-t16
+    shared-slice-read-t15
     returns)

@@ -5,15 +5,16 @@ use native.Mathlib.Nat.{le-antisymm}
 use native.Mathlib.Omega.{arith}
 use lib.Ieee.{binary64}
 use lib.Ieee.Fits.{add-fits}
-use lib.ListN.{length, length-set}
-use lib.Seq.{sets, length-sets}
+use lib.ListN.{length}
+use lib.Seq.{sets}
 use Rattle.laws.specs.Lists.{over}
 use Rattle.laws.proofs.Over.{over-none}
 use Rattle.answer.specs.Block.{afterTicks, markAt, frameAt, joined}
 use Rattle.answer.proofs.Blocks.{five-ports, joined-none, frames-more, frames-done, marks-more, marks-done}
 use Rattle.common.specs.Tests.{phaseOk}
 use Rattle.common.proofs.PhaseLaws.{wrap-in}
-use Rattle.lfo.specs.Held.{heldAnswer, heldNext}
+use Rattle.lfo.specs.Consts.{nPorts}
+use Rattle.lfo.specs.Shortcuts.{heldTold, heldNext}
 use Rattle.lfo.proofs.Held.{heard, moved}
 use Rattle.lfo.proofs.Small.{outputs-finite}
 use Rattle.lfo.proofs.Lfo.glide.Statement.{statement}
@@ -21,7 +22,14 @@ use Rattle.lfo.proofs.Lfo.glide.Tie as tie
 
 abbrev Inv-loop : tie.InvT-loop
 Inv-loop step depth wanted samples₀ marks₀ small phase₀ i₀ samples marks phase i =
-    (i ≤ length marks₀) × (length samples ≡ length samples₀) × (length marks ≡ length marks₀) × (samples ≡ sets samples₀ 0 (joined (frameAt 5 (heldAnswer wanted depth step) (heldNext step) phase₀) i)) × (marks ≡ over (markAt (heldAnswer wanted depth step) (heldNext step) phase₀) i marks₀) × (phase ≡ afterTicks (heldNext step) i phase₀) × (phaseOk phase ≡ true) × (length marks₀ < 18446744073709551616)
+    (i ≤ length marks₀)
+    × (length samples ≡ length samples₀)
+    × (length marks ≡ length marks₀)
+    × (samples ≡ sets samples₀ 0 (joined (frameAt nPorts (heldTold wanted depth step) (heldNext step) phase₀) i))
+    × (marks ≡ over (markAt (heldTold wanted depth step) (heldNext step) phase₀) i marks₀)
+    × (phase ≡ afterTicks (heldNext step) i phase₀)
+    × (phaseOk phase ≡ true)
+    × (length marks₀ < 18446744073709551616)
 
 abbrev μ-loop : tie.MeasureT-loop
 μ-loop step depth wanted samples₀ marks₀ small phase₀ i₀ samples marks phase i = length marks₀ - i
@@ -44,26 +52,54 @@ is-finite-requires c κs = tt
 
 mark-requires : tie.Need-mark-requires Inv-loop μ-loop
 mark-requires c κs =
-    λ t. rw (c .before .outputs .ensures) (outputs-finite _ _ _ (c .before .before .before .before .before .before .loop .inv .6) (sym (c .before .before .before .before .before .before .before .is-small .ensures) ∙ t))
+    let turned = c .before .before .before .before .before in
+    let looped = turned .before in
+    λ t. rw (c .before .outputs .ensures) (outputs-finite _ _ _ (looped .loop .inv .6) (sym (looped .before .is-small .ensures) ∙ t))
 
 put-requires : tie.Need-put-requires Inv-loop μ-loop
-put-requires c κs = (omega arith, omega arith)
+put-requires c κs = tt
 
 wrap-phase-requires : tie.Need-wrap-phase-requires Inv-loop μ-loop
 wrap-phase-requires c κs = tt
 
 add-i : tie.Need-add-i Inv-loop μ-loop
-add-i c = let s = c .before .before .before .before .before .before .before .before .before .before .before .before .before .before .before .loop .inv in let t = c .before .before .before .before .before .before .before .before .before .before .before .before .before .before .loop-test .taken in omega arith
+add-i c =
+    let put = c .before .before .before .before .before in
+    let sounded = put .before .before .before .before .before in
+    let turned = sounded .before .before .before .before in
+    let s = turned .before .loop .inv in
+    let t = turned .loop-test .taken in
+    omega arith
 
 loop-less : tie.Need-loop-less Inv-loop μ-loop
-loop-less c = let t = c .before .before .before .before .before .before .before .before .before .before .before .before .before .before .loop-test .taken in omega arith
+loop-less c =
+    let put = c .before .before .before .before .before in
+    let sounded = put .before .before .before .before .before in
+    let t = sounded .before .before .before .before .loop-test .taken in
+    omega arith
 
 loop-again : tie.Need-loop-again Inv-loop μ-loop
 loop-again c =
-    let s = c .before .before .before .before .before .before .before .before .before .before .before .before .before .before .before .loop .inv in
-    let a = heard _ _ _ _ _ _ _ _ _ (c .before .before .before .before .before .before .before .before .mark .ensures) (c .before .before .before .before .before .before .before .before .before .before .outputs .ensures) (c .before .before .before .before .before .before .before .before .before .is-finite .ensures) (s .5) in
-    let p = c .before .before .before .before .before .put .ensures in
-    (omega arith, simp (p .0, length-sets) (s .1), simp (p .1, length-set) (s .2), rw (p .0) (frames-more 5 five-ports _ _ _ _ _ _ _ (s .3) a), rw (p .1) (marks-more 5 five-ports _ _ _ _ _ _ _ (omega arith) (s .4) a), moved _ _ _ _ _ (c .wrap-phase .ensures) (s .5), rw (c .wrap-phase .ensures) (wrap-in _ (add-fits binary64 _ _)), s .7)
+    let put = c .before .before .before .before .before in
+    let marked = put .before .before .before in
+    let sounded = marked .before .before in
+    let turned = sounded .before .before .before .before in
+    let looped = turned .before in
+    let began = looped .before .before .before .before in
+    let s = looped .loop .inv in
+    let t = turned .loop-test .taken in
+    let a = heard _ _ _ _ _ _ _ _ _ (marked .mark .ensures) (sounded .outputs .ensures) (marked .before .is-finite .ensures) (s .5) in
+    let p = put .put .ensures in
+    let k = put .put .kept in (
+      omega arith,
+      k .1 .1 .1 .0 ∙ s .1,
+      k .1 .1 .1 .1 .0 ∙ s .2,
+      rw (p .0) (frames-more nPorts five-ports _ _ _ _ _ _ _ _ (rw (s .2) at t) (s .1 ∙ began .pre .1) (s .3) a),
+      rw (p .1) (marks-more nPorts five-ports _ _ _ _ _ _ _ (rw (s .2) at t) (s .4) a),
+      moved _ _ _ _ _ (c .wrap-phase .ensures) (s .5),
+      rw (c .wrap-phase .ensures) (wrap-in _ (add-fits binary64 _ _)),
+      s .7,
+    )
 
 same-length : tie.Need-same-length Inv-loop μ-loop
 same-length c = c .before .loop .inv .1
@@ -73,10 +109,13 @@ same-length-2 c = c .before .loop .inv .2
 
 returns : tie.Need-returns Inv-loop μ-loop
 returns c =
-    let s = c .before .loop .inv in
-    let a = c .before .before .before .before .before .args in
-    let n : c .before .loop .i ≡ length (a .marks .now) = le-antisymm (s .0) (omega arith) in
-    (s .5 ∙ ap (λ k. afterTicks (heldNext (a .step)) k (a .start)) n, (frames-done 5 five-ports _ _ _ _ _ _ _ n (c .before .before .before .before .before .pre .1) (s .3), marks-done 5 five-ports _ _ _ _ _ _ _ n refl (s .4)))
+    let looped = c .before in
+    let start = looped .before .before .before .before in
+    let s = looped .loop .inv in
+    let a = start .args in
+    let n : looped .loop .i ≡ length (a .marks .now) = le-antisymm (s .0) (omega arith) in
+    let frames = frames-done nPorts five-ports _ _ _ _ _ _ _ n (start .pre .1) (s .3) in
+    (s .5 ∙ ap (λ k. afterTicks (heldNext (a .step)) k (a .start)) n, (frames, marks-done nPorts five-ports _ _ _ _ _ _ _ n refl (s .4)))
 
 pub glide-spec : {M : Type 1} → statement M
 glide-spec =

@@ -20,11 +20,27 @@ sqr-requires c κs = search needs
 sin-uni-requires : tie.Need-sin-uni-requires
 sin-uni-requires c κs = search needs
 
+volts5-requires : tie.Need-volts5-requires
+volts5-requires c κs = search needs
+
 returns : tie.Need-returns
 unfolding lfoOutputsOf sharedSine
-returns c = simp (c .sin-uni .ensures, c .before .sqr .ensures, c .before .before .saw .ensures, c .before .before .before .tri .ensures, c .before .before .before .before .sin .ensures, c .before .before .before .before .before .pre, sin-shared, uni-shared)
+returns c =
+    let voiced = c .before in
+    let scaled = voiced .before .before .before .before in
+    simp (
+      c .volts5 .ensures,
+      voiced .sin-uni .ensures,
+      voiced .before .sqr .ensures,
+      voiced .before .before .saw .ensures,
+      voiced .before .before .before .tri .ensures,
+      scaled .sin .ensures,
+      scaled .before .pre,
+      sin-shared,
+      uni-shared,
+    )
 
 pub outputs-spec : {M : Type 1} → statement M
 outputs-spec =
     tie.close
-    (tie.spec sin-requires tri-requires saw-requires sqr-requires sin-uni-requires returns)
+    (tie.spec sin-requires tri-requires saw-requires sqr-requires sin-uni-requires volts5-requires returns)

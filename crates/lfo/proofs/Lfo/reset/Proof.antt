@@ -1,6 +1,6 @@
 use borrow.Author.Needs.{needs}
 use borrow.Author.Tests.{ne-eqb, eq-eqb}
-use Rattle.lfo.specs.Lfo.{madeUnless, lfoResetOf}
+use Rattle.lfo.specs.Lfo.{madeUnless, restarted, lfoResetOf}
 use Rattle.lfo.proofs.Lfo.reset.Statement.{statement}
 use Rattle.lfo.proofs.Lfo.reset.Tie as tie
 
@@ -11,8 +11,10 @@ reset-requires : tie.Need-reset-requires
 reset-requires c κs = search needs
 
 returns : tie.Need-returns
-unfolding lfoResetOf madeUnless
-returns c = simp (c .reset .ensures, eq-eqb _ _ (c .before .before .before .before .if1 .taken), ← c .before .before .before .before .before .refusal .ensures)
+unfolding lfoResetOf madeUnless restarted
+returns c =
+    let tested = c .before .before .before .before in
+    simp (c .reset .ensures, eq-eqb _ _ (tested .if1 .taken), ← tested .before .refusal .ensures)
 
 returns-2 : tie.Need-returns-2
 unfolding lfoResetOf madeUnless

@@ -5,6 +5,7 @@ use Rattle.answer.proofs.Blocks.{held-after, held-marks, held-frames}
 use Rattle.common.proofs.PhaseLaws.{restart-in}
 use Rattle.lfo.proofs.Accepted.{accepts}
 use Rattle.lfo.proofs.Held.{holds}
+use Rattle.lfo.specs.Consts.{nPorts}
 use Rattle.lfo.proofs.Lfo.run.Statement.{statement}
 use Rattle.lfo.proofs.Lfo.run.Tie as tie
 
@@ -22,8 +23,11 @@ increment-requires c κs = search needs
 
 glide-requires : tie.Need-glide-requires
 glide-requires c κs =
-    let p = c .before .before .before .before .before .before .before .before .before .before .before .before .before .before .before .pre in
-    (rw (c .before .before .before .before .restart .ensures) (restart-in _ _ (accepts _ (p .0) .1)), p .2)
+    let restarted = c .before .before .before .before in
+    let recalled = restarted .before .before .before .before in
+    let known-2 = recalled .before .before .before .before .before in
+    let p = known-2 .before .before .pre in
+    (rw (restarted .restart .ensures) (restart-in _ _ (accepts _ (p .0) .1)), p .2)
 
 same-length : tie.Need-same-length
 same-length c = search needs
@@ -33,12 +37,25 @@ same-length-2 c = search needs
 
 returns : tie.Need-returns
 returns c =
-    let a = c .before .before .before .before .before .before .before .before .before .before .before .before .before .before .before .before .before .before .before .before .args in
-    let p = c .before .before .before .before .before .before .before .before .before .before .before .before .before .before .before .before .before .before .before .before .pre in
-    let g = c .before .before .before .before .glide .ensures in
-    let w = holds (a .self) (a .c) (a .wanted) (p .0) in
+    let glided = c .before .before .before .before in
+    let stepped = glided .before .before .before .before in
+    let risen = stepped .before .before .before in
+    let recalled = risen .before .before in
+    let known-2 = recalled .before .before .before .before .before in let start = known-2 .before .before in
+    let a = start .args in
+    let g = glided .glide .ensures in
+    let w = holds (a .self) (a .c) (a .wanted) (start .pre .0) in
     let n = length (a .marks .now) in
-    (simp (g .0, c .before .before .before .before .before .before .before .before .increment .ensures, c .before .before .before .before .before .before .before .before .before .restart .ensures, c .before .before .before .before .before .before .before .before .before .before .before .rising .ensures, c .before .before .before .before .before .before .before .before .before .before .before .before .before .recall .ensures) (sym (held-after _ _ _ _ _ _ _ _ w n (p .1))), (g .1 .0 ∙ simp (c .before .before .before .before .before .before .before .before .increment .ensures, c .before .before .before .before .before .before .before .before .before .restart .ensures, c .before .before .before .before .before .before .before .before .before .before .before .rising .ensures, c .before .before .before .before .before .before .before .before .before .before .before .before .before .recall .ensures) (sym (held-frames _ _ _ _ _ _ _ _ w 5 n)), g .1 .1 ∙ simp (c .before .before .before .before .before .before .before .before .increment .ensures, c .before .before .before .before .before .before .before .before .before .restart .ensures, c .before .before .before .before .before .before .before .before .before .before .before .rising .ensures, c .before .before .before .before .before .before .before .before .before .before .before .before .before .recall .ensures) (sym (held-marks _ _ _ _ _ _ _ _ w n))))
+    let step = stepped .increment .ensures in
+    let at = stepped .before .restart .ensures in
+    let edge = risen .rising .ensures in
+    let memo = recalled .recall .ensures in (
+      simp (g .0, step, at, edge, memo) (sym (held-after _ _ _ _ _ _ _ _ w n (start .pre .1))),
+      (
+        g .1 .0 ∙ simp (step, at, edge, memo) (sym (held-frames _ _ _ _ _ _ _ _ w nPorts n)),
+        g .1 .1 ∙ simp (step, at, edge, memo) (sym (held-marks _ _ _ _ _ _ _ _ w n)),
+      ),
+    )
 
 pub run-spec : {M : Type 1} → statement M
 run-spec =

@@ -29,14 +29,31 @@ is-finite-requires : tie.Need-is-finite-requires
 is-finite-requires c κs = search needs
 
 mark-requires : tie.Need-mark-requires
-mark-requires c κs = sound-finite _ _ _ _ _ _ _ (c .before .before .before .before .before .before .before .before .before .before .before .before .before .before .before .before .before .pre) (c .before .before .before .before .before .before .before .restart .ensures) (c .before .before .before .before .before .outputs .ensures) (c .before .is-small .ensures)
+mark-requires c κs =
+    let put-out = c .before .before .before .before .before in
+    let restarted = put-out .before .before in
+    let known = restarted .before .before .before .before .before in let began = known .before .before .before .before .before in
+    sound-finite _ _ _ _ _ _ _ (began .pre) (restarted .restart .ensures) (put-out .outputs .ensures) (c .before .is-small .ensures)
 
 wrap-phase-requires : tie.Need-wrap-phase-requires
 wrap-phase-requires c κs = search needs
 
 returns : tie.Need-returns
 unfolding lfoSoundOf
-returns c = simp (c .wrap-phase .ensures, c .before .mark .ensures, c .before .before .is-finite .ensures, c .before .before .before .before .before .before .increment .ensures, c .before .before .before .before .before .before .before .outputs .ensures, c .before .before .before .before .before .before .before .before .before .restart .ensures, c .before .before .before .before .before .before .before .before .before .before .before .rising .ensures, c .before .before .before .before .before .before .before .before .before .before .before .before .before .recall .ensures)
+returns c =
+    let marked = c .before in
+    let stepped = marked .before .before .before .before .before in
+    let edged = stepped .before .before .before .before .before in
+    simp (
+      c .wrap-phase .ensures,
+      marked .mark .ensures,
+      marked .before .is-finite .ensures,
+      stepped .increment .ensures,
+      stepped .before .outputs .ensures,
+      stepped .before .before .before .restart .ensures,
+      edged .rising .ensures,
+      edged .before .before .recall .ensures,
+    )
 
 pub sound-spec : {M : Type 1} → statement M
 sound-spec =

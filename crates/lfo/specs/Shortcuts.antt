@@ -1,5 +1,5 @@
--- A tick whose reset and rate stand still: no edge is taken and the memo holds, so only the phase moves. proofs/Held.antt shows
--- that a block is made of such ticks.
+-- Shortcuts of the code: no public contract and no promise cites them, so nobody need believe them; proofs/Held.antt shows that they
+-- are what the definitions say.
 use mathlib.Core.Bool.{true, false}
 use Prim.Native.Nat.{ℕ}
 use lib.Ieee.{Float, binary64, add}
@@ -10,8 +10,9 @@ use Rattle.common.specs.declared.Turns.{Turns}
 use Rattle.laws.specs.Float.{isFin}
 use Rattle.lfo.specs.Lfo.{lfoOutputsOf}
 
-unfoldable pub heldAnswer : ℕ → Float → Turns → Turns → Answer
-heldAnswer wanted depth step phase = markOf (lfoOutputsOf wanted (phase .0) depth) false true (isFin (add binary64 (phase .0) (step .0)))
+-- ---- a tick whose reset and rate stand still: no edge is taken and the memo holds, so only the phase moves
+unfoldable pub heldTold : ℕ → Float → Turns → Turns → Answer
+heldTold wanted depth step phase = markOf (lfoOutputsOf wanted (phase .0) depth) false true (isFin (add binary64 (phase .0) (step .0)))
 
 unfoldable pub heldNext : Turns → Turns → Turns
 heldNext step phase = turns (wrapOf (add binary64 (phase .0) (step .0)))
