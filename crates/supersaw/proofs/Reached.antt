@@ -24,7 +24,7 @@ use Rattle.answer.specs.Block.{blockRefusalOf}
 use Rattle.laws.proofs.All.{all-at, all-of}
 use Rattle.supersaw.specs.Calls.{Call, Tick, Play, Reset, SetSampleRate, Reply, Told, after, reply, First, ReachedSupersaw}
 use Rattle.supersaw.specs.Promises.{New-accepts, Never-refused}
-use Rattle.supersaw.specs.Supersaw.{startPhases, phasesOk, newSupersaw, supersawRefusalOf, madeUnless, supersawNewOf}
+use Rattle.supersaw.specs.Supersaw.{startPhases, nPorts, phasesOk, newSupersaw, supersawRefusalOf, supersawRateRefusalOf, madeUnless, supersawNewOf}
 use Rattle.supersaw.specs.Supersaw.{supersawSoundOf, supersawTickOf, supersawBlockOf, restarted, supersawResetOf, rated, supersawSetSampleRateOf}
 use Rattle.supersaw.specs.Voices.{at, voiceOf, voicesOf}
 use Rattle.supersaw.specs.declared.Supersaw.{Supersaw}
@@ -96,7 +96,7 @@ unfolding supersawResetOf madeUnless
 reset-is s h = simp (not-refused s h)
 
 rate-is : (s : Supersaw) → Good s → (r : Hertz) → supersawSetSampleRateOf s r ≡ cond (rateOk r) (done (rated s r)) (refused 1 s)
-unfolding supersawSetSampleRateOf madeUnless
+unfolding supersawSetSampleRateOf supersawRateRefusalOf madeUnless
 rate-is s h r = simp (not-refused s h) (go (rateOk r))
   where
     go : (b : Bool) → _≡_ {A = SupersawMade} (cond (eqb (cond b 0 1) 0) (done (rated s r)) (refused (cond b 0 1) s)) (cond b (done (rated s r)) (refused 1 s))
@@ -107,7 +107,8 @@ first-good : (s : Supersaw) → First s → Good s
 unfolding supersawNewOf madeUnless
 first-good s f = go (rateOk (f .0)) refl (f .1)
   where
-    go : (b : Bool) → rateOk (f .0) ≡ b → _≡_ {A = SupersawMade} (cond (eqb (cond b 0 1) 0) (done (newSupersaw (f .0))) (refused (cond b 0 1) (newSupersaw (f .0)))) (done s) → Good s
+    go : (b : Bool) → rateOk (f .0) ≡ b
+        → _≡_ {A = SupersawMade} (cond (eqb (cond b 0 1) 0) (done (newSupersaw (f .0))) (refused (cond b 0 1) (newSupersaw (f .0)))) (done s) → Good s
     go true e h = subst Good (ap (λ (m : SupersawMade). m .supersaw) h) (good-new (f .0) e)
     go false e h = absurd (let k : outcome.Refused 1 ≡ outcome.Done = ap (λ (m : SupersawMade). m .outcome) h in let z : _≡_ {A = ℕ} 0 1 = cc in omega arith)
 
@@ -118,7 +119,7 @@ good-tick s h c = subst (λ (t : SupersawTicked). Good (t .supersaw)) (sym (tick
 good-after : (s : Supersaw) (c : Call) → Good s → Good (after s c)
 unfolding after
 good-after s (Tick c) h = good-tick s h c
-good-after s (Play c t o m) h = unfold supersawBlockOf in block-keeps 2 _ _ _ Good (λ r g. good-tick r g c) s h t o m
+good-after s (Play c t o m) h = unfold supersawBlockOf in block-keeps nPorts _ _ _ Good (λ r g. good-tick r g c) s h t o m
 good-after s Reset h =
     subst (λ (m : SupersawMade). Good (m .supersaw)) (sym (reset-is s h)) (record { rate = h .rate; phases = start; low = zero-in })
 good-after s (SetSampleRate r) h = subst (λ (m : SupersawMade). Good (m .supersaw)) (sym (rate-is s h r)) (go (rateOk r) refl)
@@ -149,11 +150,11 @@ never-refused s h =
     record {
       phases = g .phases .ok;
       «sub_phase» = g .low;
-      ticks = λ c. ap (λ (t : SupersawTicked). accepted (t .answer)) (tick-is s g c) ∙ sound-accepted s c;
-      plays = λ c t o m. unfold supersawBlockOf in
-          block-refusal 2 _ _ _ s t o m ∙ ap (λ (n : ℕ). blockRefusalOf (eqb (length o) (2 * length m)) n t (length m)) (not-refused s g);
-      resets = ap told (reset-is s g) ∙ (unfold outcomeNumber in refl);
-      rates = λ r. ap told (rate-is s g r) ∙ by-rate r (rateOk r);
+      tick = λ c. ap (λ (t : SupersawTicked). accepted (t .answer)) (tick-is s g c) ∙ sound-accepted s c;
+      play = λ c t o m. unfold supersawBlockOf in
+          block-refusal nPorts _ _ _ s t o m ∙ ap (λ (n : ℕ). blockRefusalOf (eqb (length o) (nPorts * length m)) n t (length m)) (not-refused s g);
+      reset = ap told (reset-is s g) ∙ (unfold outcomeNumber in refl);
+      rate = λ r. ap told (rate-is s g r) ∙ by-rate r (rateOk r);
     }
   where
     told : SupersawMade → Reply
