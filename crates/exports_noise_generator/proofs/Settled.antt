@@ -13,7 +13,7 @@ use Rattle.noise_generator.specs.NoiseGenerator.{neededOf, neededBy}
 use Rattle.exports_noise_generator.specs.Calls.{noiseGeneratorNewAt, noiseGeneratorWithCorrelationAt, noiseGeneratorNeededAt, noiseGeneratorNeededByAt}
 use Rattle.exports_noise_generator.specs.Calls.{noiseGeneratorTickAt, noiseGeneratorBlockAt, noiseGeneratorResetAt, noiseGeneratorSetSampleRateAt}
 use Rattle.exports_noise_generator.specs.Promises.{Read-back, Needed-told, Settled}
-use Rattle.exports_noise_generator.specs.State.{rowsAt, counterOf, stateOf, floatsOf, wholesOf}
+use Rattle.exports_noise_generator.specs.State.{nWholes, rowsAt, counterOf, stateOf, floatsOf, wholesOf}
 
 -- cells past the first run
 later : (a b : List Float) (n at i : ℕ) → length a ≡ n → at ≡ n + i → getD (a ++ b) at nan ≡ getD b i nan
@@ -61,7 +61,7 @@ read-back s p q =
 
 pub needed-told : Needed-told
 unfolding noiseGeneratorNeededAt noiseGeneratorNeededByAt neededOf neededBy stateOf
-needed-told f w h = record { one = simp (eq-eqb (length w) 2 h); many = λ ticks. simp (eq-eqb (length w) 2 h) }
+needed-told f w h = record { one = simp (eq-eqb (length w) nWholes h); many = λ ticks. simp (eq-eqb (length w) nWholes h) }
 
 pub settled : Settled
 settled =

@@ -8,6 +8,7 @@ use lib.Ieee.{Float, nan}
 use lib.ListN.{length, length-append, length-set, getD, set, take}
 use lib.Seq.{sets, length-take-le, take-all, take-suc}
 use Rattle.laws.proofs.Slices.{stored, sets-append}
+use Rattle.exports_noise_generator.specs.State.{nFloats}
 
 -- one turn of a loop that stores rows from a place on, and its end
 pub rows-more : (l m rows : List Float) (at i : ℕ) → i < length rows → m ≡ sets l at (take i rows)
@@ -23,13 +24,13 @@ rows-done l m rows at i z h e = e ∙ ap (sets l at) (take-all i rows (omega ari
 
 -- ---- the floats of a state: the first rows, their sum, the second rows, and what is left. m is what stands after the first rows
 -- are stored, k after the second
-pub first-kept : (l m : List Float) (i n : ℕ) (v : Float) → length l ≡ 36 → length m ≡ length l → n ≤ 36 → n ≤ length (set m i v)
+pub first-kept : (l m : List Float) (i n : ℕ) (v : Float) → length l ≡ nFloats → length m ≡ length l → n ≤ nFloats → n ≤ length (set m i v)
 first-kept l m i n v h e b = let z = length-set m i v in omega arith
 
-pub both-kept : (l m k : List Float) (i : ℕ) (v : Float) → length l ≡ 36 → length m ≡ length l → length k ≡ length (set m i v) → length k ≡ 36
+pub both-kept : (l m k : List Float) (i : ℕ) (v : Float) → length l ≡ nFloats → length m ≡ length l → length k ≡ length (set m i v) → length k ≡ nFloats
 both-kept l m k i v h e d = d ∙ length-set m i v ∙ e ∙ h
 
-pub state-stored : (l m k rows rows2 : List Float) (sum sum2 correlation white : Float) → length l ≡ 36 → length rows ≡ 16 → length rows2 ≡ 16
+pub state-stored : (l m k rows rows2 : List Float) (sum sum2 correlation white : Float) → length l ≡ nFloats → length rows ≡ 16 → length rows2 ≡ 16
     → m ≡ sets l 0 rows → k ≡ sets (set m 16 sum) 17 rows2
     → let rest = sum2 ∷ correlation ∷ white ∷ [] in sets k 33 rest ≡ rows ++ (sum ∷ rows2 ++ rest)
 state-stored l m k rows rows2 sum sum2 correlation white h h1 h2 e1 e2 =

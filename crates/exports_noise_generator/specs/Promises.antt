@@ -4,14 +4,14 @@ use mathlib.Core.Path.{_≡_}
 use Prim.Native.Nat.{ℕ, _<_}
 use lib.Ieee.{Float}
 use lib.ListN.{length}
-use Rattle.answer.specs.Flat.{Kept, Heard, Played}
+use Rattle.boundary.specs.Flat.{Kept, Heard, Played}
 use Rattle.laws.specs.Machine.{Settles}
 use Rattle.noise_generator.specs.NoiseGenerator.{neededOf, neededBy}
 use Rattle.noise_generator.specs.declared.NoiseGenerator.{NoiseGenerator}
 use Rattle.noise_generator.specs.declared.PinkNoiseState.{PinkNoiseState}
 use Rattle.exports_noise_generator.specs.Calls.{noiseGeneratorNewAt, noiseGeneratorWithCorrelationAt, noiseGeneratorNeededAt, noiseGeneratorNeededByAt}
 use Rattle.exports_noise_generator.specs.Calls.{noiseGeneratorTickAt, noiseGeneratorBlockAt, noiseGeneratorResetAt, noiseGeneratorSetSampleRateAt}
-use Rattle.exports_noise_generator.specs.State.{stateOf, floatsOf, wholesOf}
+use Rattle.exports_noise_generator.specs.State.{nWholes, stateOf, floatsOf, wholesOf}
 
 -- sixteen rows and a u32, as the types have them
 abbrev pub Fit : PinkNoiseState → Type 0
@@ -27,7 +27,7 @@ pub record Needed-by-counters (f : List Float) (w : List ℕ) : Type 0 where
   pub many : (ticks : ℕ) → noiseGeneratorNeededByAt ticks w ≡ neededBy (stateOf f w) ticks
 
 abbrev pub Needed-told : Type 0
-Needed-told = (f : List Float) (w : List ℕ) → length w ≡ 2 → Needed-by-counters f w
+Needed-told = (f : List Float) (w : List ℕ) → length w ≡ nWholes → Needed-by-counters f w
 
 -- each contract settles the number and every lent slice at exit
 pub record Settled : Type 0 where

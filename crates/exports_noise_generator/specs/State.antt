@@ -1,4 +1,4 @@
--- A NoiseGenerator as 36 floats and two whole numbers, and its samples as four floats.
+-- A NoiseGenerator as floats and whole numbers, and its samples as floats.
 use mathlib.Core.List.{List, [], _∷_, _++_}
 use Prim.Native.Nat.{ℕ, _+_, _%_}
 use lib.Ieee.{Float, nan}
@@ -6,6 +6,16 @@ use lib.ListN.{getD}
 use Rattle.laws.specs.Lists.{tab}
 use Rattle.answer.specs.declared.Volts.{Volts}
 use Rattle.noise_generator.specs.declared.NoiseGenerator.{NoiseGenerator}
+
+-- how many there are
+abbrev pub nFloats : ℕ
+nFloats = 36
+
+abbrev pub nWholes : ℕ
+nWholes = 2
+
+abbrev pub nSamples : ℕ
+nSamples = 4
 
 -- the sixteen rows that stand from a place on
 unfoldable pub rowsAt : List Float → ℕ → List Float

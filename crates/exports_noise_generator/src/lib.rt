@@ -1,12 +1,11 @@
 // The NoiseGenerator for hosts, over lent slices. A state is floats [pink.rows 0 to 15, pink.running_sum, pink2.rows 0 to 15,
 // pink2.running_sum, correlation, last_white] and wholes [pink.index, pink2.index], of each the low 32 bits; samples are
 // [white, pink, white2, pink2]. A `given` of 0 leaves a tick's correlation to the stored one.
-// Each call but `needed` and `needed_by` answers a number: 0 done; of an accepted tick 12 notfinite, 14 clean (11 and 13 are
-// other oscillators'); of a refused call 5 to 7 as the scope has them, or 50, 51, 52, 53 where floats, wholes, samples or
-// counts have another length. A refused call writes nothing. A block answers 0, with the ticks' samples one after another,
-// their marks by the same numbers, and the tally's five counts: begun, finished, cleared, notfinite, lost.
+// Each call but `needed` and `needed_by` answers a number: 0 done; of an accepted tick what its mark, notfinite or clean, is told
+// by; of a refused call 5 to 7 as the scope has them, or 50, 51, 52, 53 where floats, wholes, samples or counts have another
+// length. A refused call writes nothing. A block answers 0, with the ticks' samples one after another, their marks by the same
+// numbers, and the tally's counts.
 use answer::Tallied;
-use answer::Tally;
 use common::Hertz;
 use noise_generator::Correlation;
 use noise_generator::NoiseGenerator;
@@ -21,12 +20,19 @@ ghost use lib.Ieee.{Float};
 ghost use lib.ListN.{length};
 ghost use lib.Seq.{sets};
 ghost use Rattle.answer.specs.Block.{block};
-ghost use Rattle.answer.specs.Flat.{kept, heard, heardOf, played, playedOf};
-ghost use Rattle.exports_noise_generator.specs.State.{rowsAt, counterOf, stateOf, floatsOf, wholesOf, samplesOf};
+ghost use Rattle.boundary.specs.Flat.{nCounts, kept, heard, heardOf, played, playedOf};
+ghost use Rattle.exports_noise_generator.specs.State.{nFloats, nWholes, nSamples, rowsAt, counterOf, stateOf, floatsOf, wholesOf, samplesOf};
 ghost use Rattle.exports_noise_generator.specs.Calls.{noiseGeneratorNewAt, noiseGeneratorWithCorrelationAt};
 ghost use Rattle.exports_noise_generator.specs.Calls.{noiseGeneratorNeededAt, noiseGeneratorNeededByAt};
 ghost use Rattle.exports_noise_generator.specs.Calls.{controlsOf, noiseGeneratorTickAt, noiseGeneratorBlockAt};
 ghost use Rattle.exports_noise_generator.specs.Calls.{noiseGeneratorResetAt, noiseGeneratorSetSampleRateAt};
+
+// How many floats, wholes and samples there are.
+const FLOATS: usize = 36;
+
+const WHOLES: usize = 2;
+
+const SAMPLES: usize = 4;
 
 // The rows that stand from a place on.
 fn rows_at(floats: &[f64], at: usize) -> [f64; 16]
@@ -50,7 +56,7 @@ fn counter(w: u64) -> u32
 }
 
 fn state(floats: &[f64], wholes: &[u64]) -> NoiseGenerator
-    requires { ⌜ (length (now floats) ≡ 36) × (length (now wholes) ≡ 2) ⌝ }
+    requires { ⌜ (length (now floats) ≡ nFloats) × (length (now wholes) ≡ nWholes) ⌝ }
     ensures { λ r. ⌜ r ≡ stateOf (now (floats .entry)) (now (wholes .entry)) ⌝ }
 {
     let rows = rows_at(floats, 0);
@@ -83,7 +89,7 @@ fn put_rows(rows: [f64; 16], at: usize, floats: &mut [f64])
 }
 
 fn store(s: NoiseGenerator, floats: &mut [f64], wholes: &mut [u64])
-    requires { ⌜ (length (now floats) ≡ 36) × (length (now wholes) ≡ 2) ⌝ }
+    requires { ⌜ (length (now floats) ≡ nFloats) × (length (now wholes) ≡ nWholes) ⌝ }
     ensures { λ _. ⌜ (now (floats .exit) ≡ floatsOf s) × (now (wholes .exit) ≡ wholesOf s) ⌝ }
 {
     let pink = s.pink;
@@ -104,7 +110,7 @@ fn store(s: NoiseGenerator, floats: &mut [f64], wholes: &mut [u64])
 pub extern "C" fn gruttisol_noise_generator_new(floats: &mut [f64], wholes: &mut [u64]) -> u32
     ensures { λ r. ⌜ kept r (now (floats .exit)) (now (wholes .exit)) ≡ noiseGeneratorNewAt (now (floats .entry)) (now (wholes .entry)) ⌝ }
 {
-    let n = answer::sizes(36, 2, floats, wholes);
+    let n = boundary::sizes(FLOATS, WHOLES, floats, wholes);
     if n == 0 {
         store(NoiseGenerator::new(), floats, wholes);
     }
@@ -120,7 +126,7 @@ pub extern "C" fn gruttisol_noise_generator_with_correlation(
     ensures { λ r. ⌜ kept r (now (floats .exit)) (now (wholes .exit))
         ≡ noiseGeneratorWithCorrelationAt correlation (now (floats .entry)) (now (wholes .entry)) ⌝ }
 {
-    let n = answer::sizes(36, 2, floats, wholes);
+    let n = boundary::sizes(FLOATS, WHOLES, floats, wholes);
     if n == 0 {
         store(
             NoiseGenerator::with_correlation(correlation),
@@ -136,9 +142,9 @@ pub extern "C" fn gruttisol_noise_generator_with_correlation(
 pub extern "C" fn gruttisol_noise_generator_needed(wholes: &[u64]) -> u64
     ensures { λ r. ⌜ r ≡ noiseGeneratorNeededAt (now (wholes .entry)) ⌝ }
 {
-    if wholes.len() == 2 {
+    if wholes.len() == WHOLES {
         // The counters settle it: any floats do.
-        let floats = [0.0; 36];
+        let floats = [0.0; FLOATS];
         state(&floats, wholes).needed() as u64
     } else {
         0
@@ -150,8 +156,8 @@ pub extern "C" fn gruttisol_noise_generator_needed(wholes: &[u64]) -> u64
 pub extern "C" fn gruttisol_noise_generator_needed_by(ticks: u32, wholes: &[u64]) -> u64
     ensures { λ r. ⌜ r ≡ noiseGeneratorNeededByAt ticks (now (wholes .entry)) ⌝ }
 {
-    if wholes.len() == 2 {
-        let floats = [0.0; 36];
+    if wholes.len() == WHOLES {
+        let floats = [0.0; FLOATS];
         state(&floats, wholes).needed_by(ticks)
     } else {
         0
@@ -179,7 +185,7 @@ fn put_ticked(
     wholes: &mut [u64],
     samples: &mut [f64],
 ) -> u32
-    requires { ⌜ (length (now floats) ≡ 36) × (length (now wholes) ≡ 2) × (length (now samples) ≡ 4) ⌝ }
+    requires { ⌜ (length (now floats) ≡ nFloats) × (length (now wholes) ≡ nWholes) × (length (now samples) ≡ nSamples) ⌝ }
     ensures { λ r. ⌜ heard r (now (floats .exit)) (now (wholes .exit)) (now (samples .exit))
         ≡ heardOf floatsOf wholesOf samplesOf (t .answer) (t .«noise_generator») (now (floats .entry)) (now (wholes .entry)) (now (samples .entry)) ⌝ }
 {
@@ -210,7 +216,7 @@ pub extern "C" fn gruttisol_noise_generator_tick(
     ensures { λ r. ⌜ heard r (now (floats .exit)) (now (wholes .exit)) (now (samples .exit))
         ≡ noiseGeneratorTickAt given correlation wanted (now (floats .entry)) (now (wholes .entry)) (now (draws .entry)) (now (samples .entry)) ⌝ }
 {
-    let n = answer::tick_sizes(36, 2, 4, floats, wholes, samples);
+    let n = boundary::tick_sizes(FLOATS, WHOLES, SAMPLES, floats, wholes, samples);
     if n == 0 {
         let c = controls(given, correlation);
         put_ticked(
@@ -231,7 +237,7 @@ fn put_block(
     wholes: &mut [u64],
     counts: &mut [u32],
 ) -> u32
-    requires { ⌜ (length (now floats) ≡ 36) × (length (now wholes) ≡ 2) × (length (now counts) ≡ 5) ⌝ }
+    requires { ⌜ (length (now floats) ≡ nFloats) × (length (now wholes) ≡ nWholes) × (length (now counts) ≡ nCounts) ⌝ }
     ensures { λ r. ⌜ ((o : List Float) → (m : List ℕ) → played r (now (floats .exit)) (now (wholes .exit)) (now (counts .exit)) o m
         ≡ playedOf floatsOf wholesOf (block (b .refused) (b .«noise_generator») (b .tally) o m)
         (now (floats .entry)) (now (wholes .entry)) (now (counts .entry))) ⌝ }
@@ -241,7 +247,7 @@ fn put_block(
         let s = b.noise_generator;
         let tally = b.tally;
         store(s, &mut *floats, &mut *wholes);
-        tally.put_counts(counts);
+        boundary::put_counts(tally, counts);
         0
     } else {
         refused
@@ -264,9 +270,9 @@ pub extern "C" fn gruttisol_noise_generator_block(
         ≡ noiseGeneratorBlockAt given correlation wanted (now (floats .entry)) (now (wholes .entry))
         (now (draws .entry)) (now (counts .entry)) (now (samples .entry)) (now (marks .entry)) ⌝ }
 {
-    let n = answer::sizes(36, 2, floats, wholes);
+    let n = boundary::sizes(FLOATS, WHOLES, floats, wholes);
     if n == 0 {
-        let taken = Tally::from_counts(counts);
+        let taken = boundary::tally_of(counts);
         match taken {
             Tallied::Taken(tally) => {
                 let c = controls(given, correlation);
@@ -284,7 +290,7 @@ pub extern "C" fn gruttisol_noise_generator_block(
 pub extern "C" fn gruttisol_noise_generator_reset(floats: &mut [f64], wholes: &mut [u64]) -> u32
     ensures { λ r. ⌜ kept r (now (floats .exit)) (now (wholes .exit)) ≡ noiseGeneratorResetAt (now (floats .entry)) (now (wholes .entry)) ⌝ }
 {
-    let n = answer::sizes(36, 2, floats, wholes);
+    let n = boundary::sizes(FLOATS, WHOLES, floats, wholes);
     if n == 0 {
         store(state(floats, wholes).reset(), floats, wholes);
     }
@@ -300,7 +306,7 @@ pub extern "C" fn gruttisol_noise_generator_set_sample_rate(
     ensures { λ r. ⌜ kept r (now (floats .exit)) (now (wholes .exit))
         ≡ noiseGeneratorSetSampleRateAt «sample_rate» (now (floats .entry)) (now (wholes .entry)) ⌝ }
 {
-    let n = answer::sizes(36, 2, floats, wholes);
+    let n = boundary::sizes(FLOATS, WHOLES, floats, wholes);
     if n == 0 {
         let s = state(floats, wholes).set_sample_rate(Hertz(sample_rate));
         store(s, floats, wholes);

@@ -1,7 +1,7 @@
 -- What is stored is read back, and each contract, being one equation, settles what it speaks of.
 use mathlib.Core.Path.{_≡_, refl}
 use lib.Ieee.{nan}
-use Rattle.answer.proofs.Flat.{flag}
+use Rattle.boundary.proofs.Flat.{flag}
 use Rattle.exports_supersaw.specs.Calls.{supersawNewAt, supersawResetAt, supersawSetSampleRateAt, supersawTickAt, supersawBlockAt}
 use Rattle.exports_supersaw.specs.Promises.{Read-back, Settled}
 use Rattle.exports_supersaw.specs.State.{stateOf, floatsOf, wholesOf}

@@ -1,4 +1,4 @@
--- A Supersaw as ten floats and two whole numbers, and its samples as two floats.
+-- A Supersaw as floats and whole numbers, and its samples as floats.
 use mathlib.Core.Bool.{cond, not}
 use mathlib.Core.List.{List, [], _∷_, _++_}
 use Prim.Native.Nat.{ℕ}
@@ -9,6 +9,16 @@ use Rattle.laws.specs.Lists.{tab}
 use Rattle.supersaw.specs.Voices.{at}
 use Rattle.answer.specs.declared.Volts.{Volts}
 use Rattle.supersaw.specs.declared.Supersaw.{Supersaw}
+
+-- how many there are
+abbrev pub nFloats : ℕ
+nFloats = 10
+
+abbrev pub nWholes : ℕ
+nWholes = 2
+
+abbrev pub nSamples : ℕ
+nSamples = 2
 
 -- floats [phases 0 to 6, sub_phase, sample_rate, freq_memo.val], wholes [freq_memo.key, freq_memo.valid]
 unfoldable pub stateOf : List Float → List ℕ → Supersaw

@@ -1,12 +1,10 @@
 // The Supersaw for hosts, over lent slices. A state is floats [phases 0 to 6, sub_phase, sample_rate, freq_memo.val] and
 // wholes [freq_memo.key, freq_memo.valid], the last 0 or not; samples are [out, sub].
-// Each call answers a number: 0 done; of an accepted tick 11 cleared, 12 notfinite, 13 lost, 14 clean; of a refused call
-// 1 to 7 as the scope has them, or 50, 51, 52, 53 where floats, wholes, samples or counts have another length. A refused
-// call writes nothing. A block answers 0, with the ticks' samples one after another, their marks by the same numbers, and
-// the tally's five counts: begun, finished, cleared, notfinite, lost.
+// Each call answers a number: 0 done; of an accepted tick what its mark is told by; of a refused call 1 to 7 as the scope has
+// them, or 50, 51, 52, 53 where floats, wholes, samples or counts have another length. A refused call writes nothing. A block
+// answers 0, with the ticks' samples one after another, their marks by the same numbers, and the tally's counts.
 use answer::Outcome;
 use answer::Tallied;
-use answer::Tally;
 use common::Hertz;
 use common::Memo1;
 use common::Turns;
@@ -22,12 +20,19 @@ ghost use Prim.Native.Nat.{ℕ};
 ghost use lib.Ieee.{Float};
 ghost use lib.ListN.{length};
 ghost use Rattle.answer.specs.Block.{block};
-ghost use Rattle.answer.specs.Flat.{kept, heard, heardOf, played, playedOf};
-ghost use Rattle.exports_supersaw.specs.State.{stateOf, floatsOf, wholesOf, samplesOf};
+ghost use Rattle.boundary.specs.Flat.{nCounts, kept, heard, heardOf, played, playedOf};
+ghost use Rattle.exports_supersaw.specs.State.{nFloats, nWholes, nSamples, stateOf, floatsOf, wholesOf, samplesOf};
 ghost use Rattle.exports_supersaw.specs.Calls.{keptOf, supersawNewAt, supersawTickAt, supersawBlockAt, supersawResetAt, supersawSetSampleRateAt};
 
+// How many floats, wholes and samples there are.
+const FLOATS: usize = 10;
+
+const WHOLES: usize = 2;
+
+const SAMPLES: usize = 2;
+
 fn state(floats: &[f64], wholes: &[u64]) -> Supersaw
-    requires { ⌜ (length (now floats) ≡ 10) × (length (now wholes) ≡ 2) ⌝ }
+    requires { ⌜ (length (now floats) ≡ nFloats) × (length (now wholes) ≡ nWholes) ⌝ }
     ensures { λ r. ⌜ r ≡ stateOf (now (floats .entry)) (now (wholes .entry)) ⌝ }
 {
     let phases = [
@@ -55,7 +60,7 @@ fn state(floats: &[f64], wholes: &[u64]) -> Supersaw
 }
 
 fn store(s: Supersaw, floats: &mut [f64], wholes: &mut [u64])
-    requires { ⌜ (length (now floats) ≡ 10) × (length (now wholes) ≡ 2) ⌝ }
+    requires { ⌜ (length (now floats) ≡ nFloats) × (length (now wholes) ≡ nWholes) ⌝ }
     ensures { λ _. ⌜ (now (floats .exit) ≡ floatsOf s) × (now (wholes .exit) ≡ wholesOf s) ⌝ }
 {
     let phases = s.phases;
@@ -79,7 +84,7 @@ fn store(s: Supersaw, floats: &mut [f64], wholes: &mut [u64])
 
 // What a call without samples made.
 fn put_made(m: SupersawMade, floats: &mut [f64], wholes: &mut [u64]) -> u32
-    requires { ⌜ (length (now floats) ≡ 10) × (length (now wholes) ≡ 2) ⌝ }
+    requires { ⌜ (length (now floats) ≡ nFloats) × (length (now wholes) ≡ nWholes) ⌝ }
     ensures { λ r. ⌜ kept r (now (floats .exit)) (now (wholes .exit)) ≡ keptOf m (now (floats .entry)) (now (wholes .entry)) ⌝ }
 {
     let outcome = m.outcome;
@@ -99,9 +104,10 @@ pub extern "C" fn gruttisol_supersaw_new(
     floats: &mut [f64],
     wholes: &mut [u64],
 ) -> u32
-    ensures { λ r. ⌜ kept r (now (floats .exit)) (now (wholes .exit)) ≡ supersawNewAt «sample_rate» (now (floats .entry)) (now (wholes .entry)) ⌝ }
+    ensures { λ r. ⌜ kept r (now (floats .exit)) (now (wholes .exit))
+        ≡ supersawNewAt «sample_rate» (now (floats .entry)) (now (wholes .entry)) ⌝ }
 {
-    let n = answer::sizes(10, 2, floats, wholes);
+    let n = boundary::sizes(FLOATS, WHOLES, floats, wholes);
     if n == 0 {
         put_made(Supersaw::new(Hertz(sample_rate)), floats, wholes)
     } else {
@@ -111,8 +117,10 @@ pub extern "C" fn gruttisol_supersaw_new(
 
 // The samples and the state after an accepted tick; a refused one leaves them.
 fn put_ticked(t: SupersawTicked, floats: &mut [f64], wholes: &mut [u64], samples: &mut [f64]) -> u32
-    requires { ⌜ (length (now floats) ≡ 10) × (length (now wholes) ≡ 2) × (length (now samples) ≡ 2) ⌝ }
-    ensures { λ r. ⌜ heard r (now (floats .exit)) (now (wholes .exit)) (now (samples .exit)) ≡ heardOf floatsOf wholesOf samplesOf (t .answer) (t .supersaw) (now (floats .entry)) (now (wholes .entry)) (now (samples .entry)) ⌝ }
+    requires { ⌜ (length (now floats) ≡ nFloats) × (length (now wholes) ≡ nWholes) × (length (now samples) ≡ nSamples) ⌝ }
+    ensures { λ r. ⌜ heard r (now (floats .exit)) (now (wholes .exit)) (now (samples .exit))
+        ≡ heardOf floatsOf wholesOf samplesOf (t .answer) (t .supersaw)
+        (now (floats .entry)) (now (wholes .entry)) (now (samples .entry)) ⌝ }
 {
     let answer = t.answer;
     let code = answer::host_number(answer);
@@ -135,9 +143,10 @@ pub extern "C" fn gruttisol_supersaw_tick(
     wholes: &mut [u64],
     samples: &mut [f64],
 ) -> u32
-    ensures { λ r. ⌜ heard r (now (floats .exit)) (now (wholes .exit)) (now (samples .exit)) ≡ supersawTickAt voct detune mix (now (floats .entry)) (now (wholes .entry)) (now (samples .entry)) ⌝ }
+    ensures { λ r. ⌜ heard r (now (floats .exit)) (now (wholes .exit)) (now (samples .exit))
+        ≡ supersawTickAt voct detune mix (now (floats .entry)) (now (wholes .entry)) (now (samples .entry)) ⌝ }
 {
-    let n = answer::tick_sizes(10, 2, 2, floats, wholes, samples);
+    let n = boundary::tick_sizes(FLOATS, WHOLES, SAMPLES, floats, wholes, samples);
     if n == 0 {
         let c = SupersawControls {
             voct: VoltsPerOctave(voct),
@@ -152,15 +161,18 @@ pub extern "C" fn gruttisol_supersaw_tick(
 
 // The state and the counts after a block; a refused one leaves them.
 fn put_block(b: SupersawBlock, floats: &mut [f64], wholes: &mut [u64], counts: &mut [u32]) -> u32
-    requires { ⌜ (length (now floats) ≡ 10) × (length (now wholes) ≡ 2) × (length (now counts) ≡ 5) ⌝ }
-    ensures { λ r. ⌜ ((o : List Float) → (m : List ℕ) → played r (now (floats .exit)) (now (wholes .exit)) (now (counts .exit)) o m ≡ playedOf floatsOf wholesOf (block (b .refused) (b .supersaw) (b .tally) o m) (now (floats .entry)) (now (wholes .entry)) (now (counts .entry))) ⌝ }
+    requires { ⌜ (length (now floats) ≡ nFloats) × (length (now wholes) ≡ nWholes) × (length (now counts) ≡ nCounts) ⌝ }
+    ensures { λ r. ⌜ ((o : List Float) → (m : List ℕ)
+        → played r (now (floats .exit)) (now (wholes .exit)) (now (counts .exit)) o m
+        ≡ playedOf floatsOf wholesOf (block (b .refused) (b .supersaw) (b .tally) o m)
+        (now (floats .entry)) (now (wholes .entry)) (now (counts .entry))) ⌝ }
 {
     let refused = b.refused;
     if refused == 0 {
         let s = b.supersaw;
         let tally = b.tally;
         store(s, &mut *floats, &mut *wholes);
-        tally.put_counts(counts);
+        boundary::put_counts(tally, counts);
         0
     } else {
         refused
@@ -178,11 +190,13 @@ pub extern "C" fn gruttisol_supersaw_block(
     samples: &mut [f64],
     marks: &mut [u32],
 ) -> u32
-    ensures { λ r. ⌜ played r (now (floats .exit)) (now (wholes .exit)) (now (counts .exit)) (now (samples .exit)) (now (marks .exit)) ≡ supersawBlockAt voct detune mix (now (floats .entry)) (now (wholes .entry)) (now (counts .entry)) (now (samples .entry)) (now (marks .entry)) ⌝ }
+    ensures { λ r. ⌜ played r (now (floats .exit)) (now (wholes .exit)) (now (counts .exit)) (now (samples .exit)) (now (marks .exit))
+        ≡ supersawBlockAt voct detune mix
+        (now (floats .entry)) (now (wholes .entry)) (now (counts .entry)) (now (samples .entry)) (now (marks .entry)) ⌝ }
 {
-    let n = answer::sizes(10, 2, floats, wholes);
+    let n = boundary::sizes(FLOATS, WHOLES, floats, wholes);
     if n == 0 {
-        let given = Tally::from_counts(counts);
+        let given = boundary::tally_of(counts);
         match given {
             Tallied::Taken(tally) => {
                 let c = SupersawControls {
@@ -202,9 +216,10 @@ pub extern "C" fn gruttisol_supersaw_block(
 
 #[no_mangle]
 pub extern "C" fn gruttisol_supersaw_reset(floats: &mut [f64], wholes: &mut [u64]) -> u32
-    ensures { λ r. ⌜ kept r (now (floats .exit)) (now (wholes .exit)) ≡ supersawResetAt (now (floats .entry)) (now (wholes .entry)) ⌝ }
+    ensures { λ r. ⌜ kept r (now (floats .exit)) (now (wholes .exit))
+        ≡ supersawResetAt (now (floats .entry)) (now (wholes .entry)) ⌝ }
 {
-    let n = answer::sizes(10, 2, floats, wholes);
+    let n = boundary::sizes(FLOATS, WHOLES, floats, wholes);
     if n == 0 {
         put_made(state(floats, wholes).reset(), floats, wholes)
     } else {
@@ -218,9 +233,10 @@ pub extern "C" fn gruttisol_supersaw_set_sample_rate(
     floats: &mut [f64],
     wholes: &mut [u64],
 ) -> u32
-    ensures { λ r. ⌜ kept r (now (floats .exit)) (now (wholes .exit)) ≡ supersawSetSampleRateAt «sample_rate» (now (floats .entry)) (now (wholes .entry)) ⌝ }
+    ensures { λ r. ⌜ kept r (now (floats .exit)) (now (wholes .exit))
+        ≡ supersawSetSampleRateAt «sample_rate» (now (floats .entry)) (now (wholes .entry)) ⌝ }
 {
-    let n = answer::sizes(10, 2, floats, wholes);
+    let n = boundary::sizes(FLOATS, WHOLES, floats, wholes);
     if n == 0 {
         put_made(
             state(floats, wholes).set_sample_rate(Hertz(sample_rate)),

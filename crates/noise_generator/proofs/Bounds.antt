@@ -26,10 +26,11 @@ use Rattle.common.proofs.DrawLaws.{draw-below, draws-fine}
 use Rattle.common.specs.Tests.{drawsOk}
 use Rattle.answer.proofs.Blocks.{block-keeps, ticks-keep}
 use Rattle.noise_generator.proofs.TickLaws.{drawingAt, tick-by}
-use Rattle.noise_generator.specs.Calls.{Call, Tick, Play, Reset, SetSampleRate, after, First, ReachedNoise}
+use Rattle.noise_generator.specs.Consts.{nPorts}
+use Rattle.noise_generator.specs.Calls.{Call, Tick, Play, Reset, SetSampleRate, after, First, ReachedNoiseGenerator}
 use Rattle.noise_generator.specs.NoiseGenerator.{newNoiseGenerator, withCorrelation, neededOf, turnOf, correlationOf, noiseGeneratorTickOf}
 use Rattle.noise_generator.specs.NoiseGenerator.{Drawing, drawing, noiseGeneratorNextOf, noiseGeneratorBlockOf}
-use Rattle.noise_generator.specs.NoiseGenerator.{noiseGeneratorResetOf, noiseGeneratorSetSampleRateOf}
+use Rattle.noise_generator.specs.NoiseGenerator.{restarted, rated}
 use Rattle.noise_generator.specs.Pink.{newPink, nextIndex, changedOf, Rows, rowed, rowOf, rowsOf, sampledOf}
 use Rattle.noise_generator.specs.Promises.{Bounded, Sums-bounded}
 use Rattle.noise_generator.specs.declared.NoiseGenerator.{NoiseGenerator}
@@ -200,8 +201,8 @@ pub calm-at : (s : NoiseGenerator) (c : NoiseGeneratorControls) (wanted : ℕ) (
     → (i : ℕ) → CalmDrawing (drawingAt s c wanted draws i)
 calm-at s c wanted draws h i = ticks-keep CalmDrawing (noiseGeneratorNextOf c wanted) (calm-next c wanted) (drawing s draws) h i
 
-pub calm-reset : (s : NoiseGenerator) → CalmNoise (noiseGeneratorResetOf s)
-unfolding noiseGeneratorResetOf
+pub calm-reset : (s : NoiseGenerator) → CalmNoise (restarted s)
+unfolding restarted
 calm-reset s = record { pink = calm-new; pink2 = calm-new }
 
 -- ---- each one that is reached is calm
@@ -212,11 +213,11 @@ calm-first s (inr (c, e)) = subst CalmNoise (sym e) (unfold withCorrelation in r
 calm-after : (s : NoiseGenerator) (c : Call) → CalmNoise s → CalmNoise (after s c)
 unfolding after
 calm-after s (Tick c wanted draws) h = calm-tick s c wanted draws h
-calm-after s (Play c wanted draws t o m) h = unfold noiseGeneratorBlockOf in block-keeps 4 _ _ _ CalmDrawing (calm-next c wanted) (drawing s draws) h t o m
+calm-after s (Play c wanted draws t o m) h = unfold noiseGeneratorBlockOf in block-keeps nPorts _ _ _ CalmDrawing (calm-next c wanted) (drawing s draws) h t o m
 calm-after s Reset h = calm-reset s
-calm-after s (SetSampleRate r) h = unfold noiseGeneratorSetSampleRateOf in h
+calm-after s (SetSampleRate r) h = unfold rated in h
 
-pub calm-reached : {s : NoiseGenerator} → ReachedNoise s → CalmNoise s
+pub calm-reached : {s : NoiseGenerator} → ReachedNoiseGenerator s → CalmNoise s
 calm-reached = always CalmNoise calm-first (λ s c h f. calm-after s c h)
 
 -- ---- by the order of floats

@@ -3,7 +3,7 @@ use mathlib.Core.Bool.{Bool, true, false, not, true≢false}
 use mathlib.Core.List.{List}
 use mathlib.Core.Logic.{⊎-elim}
 use mathlib.Core.Path.{_≡_, refl, sym, ap, _∙_, subst}
-use Prim.Native.Nat.{ℕ, _+_, _-_, _≤_, _<_}
+use Prim.Native.Nat.{ℕ, _+_, _-_, _<_}
 use native.Mathlib.Nat.{le-of-lt, le-of-suc-le-suc, eq-or-lt-of-le, not-suc-le-zero}
 use native.Mathlib.Numerals.{add-one}
 use lib.Ieee.{Float, nan}
@@ -13,7 +13,7 @@ use Rattle.laws.specs.Float.{InUnit}
 use Rattle.common.proofs.DrawLaws.{draws-fine}
 use Rattle.common.specs.Tests.{drawsRefusalOf}
 use Rattle.answer.specs.Mark.{allFinite}
-use Rattle.noise_generator.specs.Apart.{turnVolts, Calm}
+use Rattle.noise_generator.specs.Shortcuts.{turnVolts, Calm}
 use Rattle.noise_generator.specs.NoiseGenerator.{neededOf, neededBy, correlationOf}
 use Rattle.noise_generator.specs.declared.NoiseGenerator.{NoiseGenerator}
 use Rattle.noise_generator.specs.declared.NoiseGeneratorControls.{NoiseGeneratorControls}

@@ -8,8 +8,7 @@ use native.Mathlib.Omega.{arith}
 use lib.Dec.{T, lit<, lit≤}
 use lib.ListN.{getD}
 use lib.Ieee.{Float, nan, binary64, eq, isNan, le, lt, mul, neg, ofBits, sub}
-use lib.Ieee.Bits.{is-true}
-use Rattle.laws.proofs.Interval.{Within, round-sized, unit-within, within-add, within-finite, within-minus, within-mul, within-to}
+use Rattle.laws.proofs.Interval.{Within, round-sized, unit-within, within-add, within-minus, within-mul, within-to}
 use Rattle.laws.proofs.Number.{add-nan-l, mul-nan-l, mul-nan-r}
 use Rattle.laws.proofs.Order.{float-le-trans}
 use Rattle.laws.proofs.Values.{div-round}
@@ -24,15 +23,14 @@ use Rattle.common.specs.Consts.{five}
 use Rattle.common.specs.Ports.{wants, outOf}
 use Rattle.common.specs.Tests.{drawsOk}
 use Rattle.answer.proofs.Laws.{mark-says}
-use Rattle.answer.specs.Answer.{markNumber, voltsOf, accepted, answerOf}
+use Rattle.answer.specs.Answer.{notfinite, markNumber, accepted}
 use Rattle.answer.specs.Block.{answerAt}
 use Rattle.answer.specs.Mark.{allFinite, markOf, ruleOf}
-use Rattle.answer.specs.declared.Answer.the-variants as answer
 use Rattle.answer.specs.declared.Volts.{Volts}
-use Rattle.noise_generator.specs.Apart.{turnVolts}
+use Rattle.noise_generator.specs.Shortcuts.{turnVolts}
 use Rattle.noise_generator.specs.Consts.{sixteen}
-use Rattle.noise_generator.specs.NoiseGenerator.{neededOf, givenOr, mixOf, noiseVoltsOf, turnOf, correlationOf, noiseGeneratorTickOf}
-use Rattle.noise_generator.specs.NoiseGenerator.{drawing, noiseGeneratorAnswerOf, noiseGeneratorNextOf}
+use Rattle.noise_generator.specs.NoiseGenerator.{neededOf, givenOr, mixOf, noiseGeneratorVoltsOf, turnOf, correlationOf, noiseGeneratorTickOf}
+use Rattle.noise_generator.specs.NoiseGenerator.{drawing, noiseGeneratorToldOf, noiseGeneratorNextOf}
 use Rattle.noise_generator.specs.Pink.{nextIndex, changedOf, sampledOf, pinkOf}
 use Rattle.noise_generator.specs.Promises.{Nan-told, Clean, Number, Always-clean, Block-clean}
 use Rattle.noise_generator.specs.declared.NoiseGenerator.{NoiseGenerator}
@@ -75,8 +73,8 @@ mix-within k a b c h A B C =
 
 -- ---- the samples are finite
 pub volts-finite : (c white1 independent pink1 pink2 : Float) (wanted : ℕ) → Within 0 c → Within 0 white1 → Within 0 independent → Within 50 pink1
-    → Within 50 pink2 → allFinite (noiseVoltsOf c white1 independent pink1 pink2 wanted) ≡ true
-unfolding allFinite noiseVoltsOf
+    → Within 50 pink2 → allFinite (noiseGeneratorVoltsOf c white1 independent pink1 pink2 wanted) ≡ true
+unfolding allFinite noiseGeneratorVoltsOf
 volts-finite c white1 independent pink1 pink2 wanted C W I P Q = simp (white, pink, mixed, both) (unfold ofBits in refl)
   where
     white : isFin (outOf (wants wanted 1) white1) ≡ true
@@ -108,35 +106,30 @@ turn-finite c s wanted draws e h calm =
     white : (i : ℕ) → i < 2 → Within 0 (bipolarOf (getD draws i 0))
     white i l = bipolar-within (getD draws i 0) (draw-below draws (neededOf s) i e (le-trans l two-first))
 
-pub marked-clean : (v : Volts) → allFinite v ≡ true → markOf v false true true ≡ answer.Clean v
-unfolding markOf ruleOf answerOf
-marked-clean v h = simp h
+marked-clean : (v : Volts) → allFinite v ≡ true → Clean (markOf v false true true)
+unfolding ruleOf
+marked-clean v h = let said = mark-says v false true true in (said .number ∙ simp h, ap allFinite (said .volts) ∙ h)
 
 pub turn-clean : (c : Float) (s : NoiseGenerator) (wanted : ℕ) (draws : List ℕ) → drawsOk draws (neededOf s) ≡ true → Within 0 c → CalmNoise s
-    → turnOf c s wanted draws .answer ≡ answer.Clean (turnVolts c (s .pink) (s .pink2) wanted draws)
+    → Clean (turnOf c s wanted draws .answer)
 unfolding turnOf
 turn-clean c s wanted draws e h calm = marked-clean (turnVolts c (s .pink) (s .pink2) wanted draws) (turn-finite c s wanted draws e h calm)
-
-clean-is : (v : Volts) → allFinite v ≡ true → Clean (answer.Clean v)
-unfolding markNumber voltsOf
-clean-is v h = (refl, h)
 
 pub tick-clean : (s : NoiseGenerator) (c : NoiseGeneratorControls) (wanted : ℕ) (draws : List ℕ) → CalmNoise s → Number s c
     → accepted (noiseGeneratorTickOf s c wanted draws .answer) ≡ true → Clean (noiseGeneratorTickOf s c wanted draws .answer)
 tick-clean s c wanted draws calm h a =
     let e = accepted-taken s c wanted draws a in
     let d = draws-fine (neededOf s) draws e in
-    let k = correlation-within s c h in
-    subst Clean (sym (ap (λ (t : NoiseGeneratorTicked). t .answer) (tick-taken s c wanted draws e) ∙ turn-clean (correlationOf s c) s wanted draws d k calm))
-    (clean-is (turnVolts (correlationOf s c) (s .pink) (s .pink2) wanted draws) (turn-finite (correlationOf s c) s wanted draws d k calm))
+    subst (λ (t : NoiseGeneratorTicked). Clean (t .answer)) (sym (tick-taken s c wanted draws e))
+    (turn-clean (correlationOf s c) s wanted draws d (correlation-within s c h) calm)
 
 pub always-clean : Always-clean
 always-clean s r c wanted draws h a = tick-clean s c wanted draws (calm-reached r) h a
 
 -- ---- and so is each tick of a block that is accepted: those before it leave a calm state with the same correlation
 pub ticks-clean : (s : NoiseGenerator) (c : NoiseGeneratorControls) (wanted : ℕ) (draws : List ℕ) → CalmNoise s → Number s c
-    → (i : ℕ) → accepted (answerAt (noiseGeneratorAnswerOf c wanted) (noiseGeneratorNextOf c wanted) (drawing s draws) i) ≡ true
-    → Clean (answerAt (noiseGeneratorAnswerOf c wanted) (noiseGeneratorNextOf c wanted) (drawing s draws) i)
+    → (i : ℕ) → accepted (answerAt (noiseGeneratorToldOf c wanted) (noiseGeneratorNextOf c wanted) (drawing s draws) i) ≡ true
+    → Clean (answerAt (noiseGeneratorToldOf c wanted) (noiseGeneratorNextOf c wanted) (drawing s draws) i)
 unfolding answerAt
 ticks-clean s c wanted draws calm h i a =
     let x = drawingAt s c wanted draws i in
@@ -155,10 +148,10 @@ mix-nan false a b = unfold ofBits in refl
 
 -- so one of the two outputs that it goes into isn't finite
 volts-nan : (white1 independent pink1 pink2 : Float) (wanted : ℕ) → (wants wanted 4 || wants wanted 8) ≡ true
-    → allFinite (noiseVoltsOf nan white1 independent pink1 pink2 wanted) ≡ false
-unfolding allFinite noiseVoltsOf
+    → allFinite (noiseGeneratorVoltsOf nan white1 independent pink1 pink2 wanted) ≡ false
+unfolding allFinite noiseGeneratorVoltsOf
 volts-nan white1 independent pink1 pink2 wanted h =
-    let v = noiseVoltsOf nan white1 independent pink1 pink2 wanted in
+    let v = noiseGeneratorVoltsOf nan white1 independent pink1 pink2 wanted in
     simp (mix-nan (wants wanted 4) white1 independent, mix-nan (wants wanted 8) pink1 pink2)
     (one-not (isFin (v .p10)) (isFin (v .p11)) (wants wanted 4) (wants wanted 8) (isFin (v .p14)) h)
   where
@@ -169,10 +162,11 @@ volts-nan white1 independent pink1 pink2 wanted h =
     one-not true true false true z h = refl
     one-not true true false false z h = absurd (false≢true h)
 
-marked-nan : (v : Volts) → allFinite v ≡ false → markNumber (markOf v false true true) ≡ 2
+marked-nan : (v : Volts) → allFinite v ≡ false → markNumber (markOf v false true true) ≡ notfinite
 marked-nan v h = mark-says v false true true .number ∙ (unfold ruleOf in simp h)
 
-turn-nan : (s : NoiseGenerator) (wanted : ℕ) (draws : List ℕ) → (wants wanted 4 || wants wanted 8) ≡ true → markNumber (turnOf nan s wanted draws .answer) ≡ 2
+turn-nan : (s : NoiseGenerator) (wanted : ℕ) (draws : List ℕ) → (wants wanted 4 || wants wanted 8) ≡ true
+    → markNumber (turnOf nan s wanted draws .answer) ≡ notfinite
 unfolding turnOf
 turn-nan s wanted draws w = marked-nan _ (volts-nan _ _ _ _ wanted w)
 

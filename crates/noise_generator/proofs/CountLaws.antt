@@ -8,7 +8,7 @@ use lib.Count.{under, trailingZeros}
 use lib.Dec.{lit<, lit≤}
 use Rattle.answer.specs.Block.{afterTicks}
 use Rattle.noise_generator.proofs.RowLaws.{low-digits, changed-zeros, changed-range}
-use Rattle.noise_generator.specs.Climbed.{climbedOf}
+use Rattle.noise_generator.specs.Shortcuts.{climbedOf}
 use Rattle.noise_generator.specs.NoiseGenerator.{changedBy, neededBy}
 use Rattle.noise_generator.specs.Pink.{nextIndex, changedOf}
 use Rattle.noise_generator.specs.declared.NoiseGenerator.{NoiseGenerator}

@@ -19,8 +19,9 @@ use Rattle.answer.specs.declared.Answer.{Answer}
 use Rattle.answer.specs.declared.Tally.{Tally}
 use Rattle.laws.proofs.Over.{tab-ext}
 use Rattle.noise_generator.proofs.TickLaws.{needed-less, drawingAt, ticks-at}
+use Rattle.noise_generator.specs.Consts.{nPorts}
 use Rattle.noise_generator.specs.NoiseGenerator.{neededOf, neededBy, correlationOf, turnOf, noiseGeneratorTickOf}
-use Rattle.noise_generator.specs.NoiseGenerator.{Drawing, drawing, noiseGeneratorAnswerOf, noiseGeneratorNextOf, undrawn, noiseGeneratorBlockOf}
+use Rattle.noise_generator.specs.NoiseGenerator.{Drawing, drawing, noiseGeneratorToldOf, noiseGeneratorNextOf, undrawn, noiseGeneratorBlockOf}
 use Rattle.noise_generator.specs.Pink.{nextIndex, changedOf, Rows, rowOf, rowsOf, rowed, sampledOf}
 use Rattle.noise_generator.specs.Promises.{SameTo, Only-its-draws}
 use Rattle.noise_generator.specs.declared.NoiseGenerator.{NoiseGenerator}
@@ -78,7 +79,7 @@ module _ (answer : Drawing → Answer) (next : Drawing → Drawing) (x y : Drawi
   marks-same : (i : ℕ) → i < n → markAt answer next x i ≡ markAt answer next y i
   marks-same i l = ap hostNumber (same i l)
 
-  frames-same : (i : ℕ) → i < n → frameAt 4 answer next x i ≡ frameAt 4 answer next y i
+  frames-same : (i : ℕ) → i < n → frameAt nPorts answer next x i ≡ frameAt nPorts answer next y i
   frames-same i l = ap (λ (a : Answer). portsOf 4 (voltsOf a)) (same i l)
 
   tally-same : (t : Tally) → countedTo t (markAt answer next x) n ≡ countedTo t (markAt answer next y) n
@@ -89,10 +90,10 @@ module _ (answer : Drawing → Answer) (next : Drawing → Drawing) (x y : Drawi
       many k = many-ext k (markAt answer next x) (markAt answer next y) n marks-same
 
   ticks-same : (t : Tally) → afterTicks next n x .noise ≡ afterTicks next n y .noise
-      → undrawn (ticksOf 4 answer next n x t) ≡ undrawn (ticksOf 4 answer next n y t)
+      → undrawn (ticksOf nPorts answer next n x t) ≡ undrawn (ticksOf nPorts answer next n y t)
   unfolding ticksOf
   ticks-same t e =
-      let samples = joined-below (frameAt 4 answer next x) (frameAt 4 answer next y) n frames-same in
+      let samples = joined-below (frameAt nPorts answer next x) (frameAt nPorts answer next y) n frames-same in
       let marks = tab-ext (markAt answer next x) (markAt answer next y) n marks-same in
       λ i. block 0 (e i) (tally-same t i) (samples i) (marks i)
 
@@ -117,8 +118,8 @@ module _ (s : NoiseGenerator) (c : NoiseGeneratorControls) (wanted : ℕ) (d e :
   noise-same zero l = refl
   noise-same (suc i) l = ap (λ (t : NoiseGeneratorTicked). t .«noise_generator») (next-same i l (noise-same i (omega arith)))
 
-  answers-same : (i : ℕ) → i < n → answerAt (noiseGeneratorAnswerOf c wanted) (noiseGeneratorNextOf c wanted) (drawing s d) i
-      ≡ answerAt (noiseGeneratorAnswerOf c wanted) (noiseGeneratorNextOf c wanted) (drawing s e) i
+  answers-same : (i : ℕ) → i < n → answerAt (noiseGeneratorToldOf c wanted) (noiseGeneratorNextOf c wanted) (drawing s d) i
+      ≡ answerAt (noiseGeneratorToldOf c wanted) (noiseGeneratorNextOf c wanted) (drawing s e) i
   unfolding answerAt
   answers-same i l = ap (λ (t : NoiseGeneratorTicked). t .answer) (next-same i l (noise-same i (omega arith)))
 
@@ -126,7 +127,7 @@ block-same : (s : NoiseGenerator) (c : NoiseGeneratorControls) (wanted : ℕ) (d
     → SameTo (neededBy s (length m)) d e → noiseGeneratorBlockOf s c wanted d t o m ≡ noiseGeneratorBlockOf s c wanted e t o m
 unfolding noiseGeneratorBlockOf blockOf
 block-same s c wanted d e t o m h =
-    ap (λ (k : ℕ). undrawn (blockOf 4 k (noiseGeneratorAnswerOf c wanted) (noiseGeneratorNextOf c wanted) (drawing s d) t o m)) number ∙ go (eqb n 0) refl
+    ap (λ (k : ℕ). undrawn (blockOf nPorts k (noiseGeneratorToldOf c wanted) (noiseGeneratorNextOf c wanted) (drawing s d) t o m)) number ∙ go (eqb n 0) refl
   where
     number : drawsRefusalOf (neededBy s (length m)) d ≡ drawsRefusalOf (neededBy s (length m)) e
     number = refusal-draws (neededBy s (length m)) d e (h .0) (h .1) (h .2)
@@ -135,13 +136,13 @@ block-same s c wanted d e t o m h =
     n = blockRefusalOf (eqb (length o) (4 * length m)) (drawsRefusalOf (neededBy s (length m)) e) t (length m)
 
     run : Drawing → Block Drawing
-    run x = ticksOf 4 (noiseGeneratorAnswerOf c wanted) (noiseGeneratorNextOf c wanted) (length m) x t
+    run x = ticksOf nPorts (noiseGeneratorToldOf c wanted) (noiseGeneratorNextOf c wanted) (length m) x t
 
     go : (b : Bool) → eqb n 0 ≡ b → undrawn (cond b (run (drawing s d)) (block n (drawing s d) t o m))
         ≡ undrawn (cond b (run (drawing s e)) (block n (drawing s e) t o m))
     go true z =
-        let q = block-fits 4 (drawsRefusalOf (neededBy s (length m)) e) t o m n refl (eqb-true n 0 z) .1 in
-        ticks-same (noiseGeneratorAnswerOf c wanted) (noiseGeneratorNextOf c wanted) (drawing s d) (drawing s e) (length m)
+        let q = block-fits nPorts (drawsRefusalOf (neededBy s (length m)) e) t o m n refl (eqb-true n 0 z) .1 in
+        ticks-same (noiseGeneratorToldOf c wanted) (noiseGeneratorNextOf c wanted) (drawing s d) (drawing s e) (length m)
         (answers-same s c wanted d e (length m) h (number ∙ q) q) t (noise-same s c wanted d e (length m) h (number ∙ q) q (length m) (le-refl (length m)))
     go false z = refl
 

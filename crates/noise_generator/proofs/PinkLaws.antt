@@ -1,9 +1,8 @@
 -- The rows as the code goes through them.
 use mathlib.Core.List.{List}
 use mathlib.Core.Path.{_≡_, ap, _∙_}
-use Prim.Native.Nat.{ℕ, _+_, _%_, _^_, _≤_, _<_, min}
+use Prim.Native.Nat.{ℕ, _+_, _%_, _^_, _<_, min}
 use native.Mathlib.Numerals.{add-one}
-use native.Mathlib.Omega.{arith}
 use lib.Bits.{bitXor}
 use lib.Ieee.{Float, nan, binary64, add, sub}
 use lib.ListN.{getD, set}
@@ -19,12 +18,6 @@ row-more draws at i r rows sum row e q = rw (add-one, q) (ap (λ (x : Rows). row
 
 -- ---- the rows that change, from what the code asks of the counter: s is the index before, t its digits that differ
 module _ (i s t : ℕ) (below : s < 4294967296) (before : (s + 1) % 2 ^ 32 ≡ i) (ones : t ≡ trailingOnes 32 (bitXor i s)) where
-  changed-min : min t 16 ≡ changedOf i
+  pub changed-min : min t 16 ≡ changedOf i
   unfolding changedOf
   changed-min = ap (λ (k : ℕ). min k 16) (ones ∙ ap (λ (r : ℕ). trailingOnes 32 (bitXor i r)) (last-index s i below before))
-
-  pub changed-few : t < 16 → t ≡ changedOf i
-  changed-few h = let e = changed-min in omega arith
-
-  pub changed-all : 16 ≤ t → 16 ≡ changedOf i
-  changed-all h = let e = changed-min in omega arith

@@ -1,5 +1,5 @@
 -- Nothing refuses a tick but its draws, and where those of a block are enough, none of its ticks.
-use mathlib.Core.Bool.{true, false, cond, false≢true, true≢false}
+use mathlib.Core.Bool.{true, false, cond, true≢false}
 use mathlib.Core.List.{List}
 use mathlib.Core.Path.{_≡_, refl, sym, ap, _∙_}
 use Prim.Native.Nat.{ℕ}
@@ -9,14 +9,13 @@ use lib.ListN.{length}
 use Rattle.common.proofs.DrawLaws.{draws-taken}
 use Rattle.common.specs.Tests.{drawsRefusalOf}
 use Rattle.answer.proofs.Blocks.{block-refusal, taken-to}
-use Rattle.answer.proofs.Laws.{mark-says}
-use Rattle.answer.specs.Answer.{markNumber, refusalOf, voltsOf, accepted}
+use Rattle.answer.proofs.Laws.{mark-says, accepted-unrefused}
+use Rattle.answer.specs.Answer.{notfinite, clean, markNumber, refusalOf, voltsOf, accepted}
 use Rattle.answer.specs.Block.{answerAt}
 use Rattle.answer.specs.Mark.{allFinite, ruleOf}
-use Rattle.answer.specs.declared.Answer.{Answer}
-use Rattle.answer.specs.declared.Answer.the-variants as answer
 use Rattle.answer.specs.declared.Volts.{Volts}
 use Rattle.noise_generator.proofs.TickLaws.{tick-taken, tick-by, drawingAt, ticks-at}
+use Rattle.noise_generator.specs.Consts.{nPorts}
 use Rattle.noise_generator.specs.NoiseGenerator.{neededOf, neededBy, correlationOf, turnOf, noiseGeneratorTickOf}
 use Rattle.noise_generator.specs.NoiseGenerator.{drawing, noiseGeneratorBlockOf}
 use Rattle.noise_generator.specs.Promises.{Never-refused, Refused-leaves, Block-accepts, Block-tallies, Clean-or-notfinite}
@@ -30,26 +29,18 @@ module _ (k : Float) (s : NoiseGenerator) (wanted : ℕ) (draws : List ℕ) wher
   unfolding turnOf
   turn-accepted = mark-says _ _ _ _ .is-accepted
 
-  turn-mark : markNumber (turnOf k s wanted draws .answer) ≡ cond (allFinite (voltsOf (turnOf k s wanted draws .answer))) 4 2
+  turn-mark : markNumber (turnOf k s wanted draws .answer) ≡ cond (allFinite (voltsOf (turnOf k s wanted draws .answer))) clean notfinite
   unfolding turnOf ruleOf
   turn-mark =
       let said = mark-says _ false true true in
-      said .number ∙ ap (λ (v : Volts). cond (allFinite v) 4 2) (sym (said .volts))
+      said .number ∙ ap (λ (v : Volts). cond (allFinite v) clean notfinite) (sym (said .volts))
 
 -- ---- a tick
-unrefused : (a : Answer) → accepted a ≡ true → refusalOf a ≡ 0
-unfolding accepted refusalOf
-unrefused (answer.Clean v) h = refl
-unrefused (answer.Cleared v) h = refl
-unrefused (answer.NotFinite v) h = refl
-unrefused (answer.Lost v) h = refl
-unrefused (answer.Refused n) h = absurd (false≢true h)
-
 tick-refusal : (s : NoiseGenerator) (c : NoiseGeneratorControls) (wanted : ℕ) (draws : List ℕ)
     → refusalOf (noiseGeneratorTickOf s c wanted draws .answer) ≡ drawsRefusalOf (neededOf s) draws
 tick-refusal s c wanted draws =
     tick-by s c wanted draws (λ (t : NoiseGeneratorTicked). refusalOf (t .answer) ≡ drawsRefusalOf (neededOf s) draws)
-    (λ e. unrefused _ (turn-accepted (correlationOf s c) s wanted draws) ∙ sym e) (λ e. unfold refusalOf in refl)
+    (λ e. accepted-unrefused _ (turn-accepted (correlationOf s c) s wanted draws) ∙ sym e) (λ e. unfold refusalOf in refl)
 
 pub tick-accepted : (s : NoiseGenerator) (c : NoiseGeneratorControls) (wanted : ℕ) (draws : List ℕ) → drawsRefusalOf (neededOf s) draws ≡ 0
     → accepted (noiseGeneratorTickOf s c wanted draws .answer) ≡ true
@@ -58,14 +49,15 @@ tick-accepted s c wanted draws e =
 
 pub accepted-taken : (s : NoiseGenerator) (c : NoiseGeneratorControls) (wanted : ℕ) (draws : List ℕ)
     → accepted (noiseGeneratorTickOf s c wanted draws .answer) ≡ true → drawsRefusalOf (neededOf s) draws ≡ 0
-accepted-taken s c wanted draws z = sym (tick-refusal s c wanted draws) ∙ unrefused _ z
+accepted-taken s c wanted draws z = sym (tick-refusal s c wanted draws) ∙ accepted-unrefused _ z
 
 pub never-refused : Never-refused
 never-refused s =
     record {
       tick = tick-refusal s;
       enough = λ c wanted draws h k. tick-accepted s c wanted draws (draws-taken (neededOf s) draws h k);
-      play = λ c wanted draws t o m. unfold noiseGeneratorBlockOf in block-refusal 4 (drawsRefusalOf (neededBy s (length m)) draws) _ _ (drawing s draws) t o m;
+      play = λ c wanted draws t o m. unfold noiseGeneratorBlockOf in
+          block-refusal nPorts (drawsRefusalOf (neededBy s (length m)) draws) _ _ (drawing s draws) t o m;
     }
 
 pub refused-leaves : Refused-leaves

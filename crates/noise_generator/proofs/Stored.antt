@@ -8,10 +8,11 @@ use Rattle.laws.proofs.Always.{always}
 use Rattle.laws.specs.Float.{zer}
 use Rattle.answer.proofs.Blocks.{block-keeps, ticks-keep}
 use Rattle.noise_generator.proofs.TickLaws.{drawingAt, tick-by}
+use Rattle.noise_generator.specs.Consts.{nPorts}
 use Rattle.noise_generator.specs.Calls.{Call, Tick, Play, Reset, SetSampleRate, after, First}
 use Rattle.noise_generator.specs.NoiseGenerator.{generator, newNoiseGenerator, withCorrelation, turnOf, noiseGeneratorTickOf}
 use Rattle.noise_generator.specs.NoiseGenerator.{Drawing, drawing, noiseGeneratorNextOf, noiseGeneratorBlockOf}
-use Rattle.noise_generator.specs.NoiseGenerator.{noiseGeneratorResetOf, noiseGeneratorSetSampleRateOf}
+use Rattle.noise_generator.specs.NoiseGenerator.{restarted, rated}
 use Rattle.noise_generator.specs.Pink.{newPink}
 use Rattle.noise_generator.specs.Promises.{Reset-new}
 use Rattle.noise_generator.specs.declared.NoiseGenerator.{NoiseGenerator}
@@ -39,21 +40,21 @@ after-stored : (s : NoiseGenerator) (c : Call) → after s c .correlation ≡ s 
 unfolding after
 after-stored s (Tick c wanted draws) = tick-stored s c wanted draws
 after-stored s (Play c wanted draws t o m) =
-    unfold noiseGeneratorBlockOf in block-keeps 4 _ _ _ (Stores (s .correlation)) (next-stored c wanted (s .correlation)) (drawing s draws) refl t o m
-after-stored s Reset = unfold noiseGeneratorResetOf in refl
-after-stored s (SetSampleRate r) = unfold noiseGeneratorSetSampleRateOf in refl
+    unfold noiseGeneratorBlockOf in block-keeps nPorts _ _ _ (Stores (s .correlation)) (next-stored c wanted (s .correlation)) (drawing s draws) refl t o m
+after-stored s Reset = unfold restarted in refl
+after-stored s (SetSampleRate r) = unfold rated in refl
 
 -- a reset looks at nothing else
-reset-same : (s r : NoiseGenerator) → s .correlation ≡ r .correlation → noiseGeneratorResetOf s ≡ noiseGeneratorResetOf r
-unfolding noiseGeneratorResetOf
+reset-same : (s r : NoiseGenerator) → s .correlation ≡ r .correlation → restarted s ≡ restarted r
+unfolding restarted
 reset-same s r e = ap (λ (c : Float). generator newPink newPink c zer) e
 
-reset-first : (s : NoiseGenerator) → First s → First (noiseGeneratorResetOf s)
-reset-first s (inl e) = inl (ap noiseGeneratorResetOf e ∙ (unfold noiseGeneratorResetOf newNoiseGenerator in refl))
-reset-first s (inr (c, e)) = inr (c, ap noiseGeneratorResetOf e ∙ (unfold noiseGeneratorResetOf withCorrelation in refl))
+reset-first : (s : NoiseGenerator) → First s → First (restarted s)
+reset-first s (inl e) = inl (ap restarted e ∙ (unfold restarted newNoiseGenerator in refl))
+reset-first s (inr (c, e)) = inr (c, ap restarted e ∙ (unfold restarted withCorrelation in refl))
 
 pub reset-new : Reset-new
 reset-new s r = (
-  always (λ (s : NoiseGenerator). First (noiseGeneratorResetOf s)) reset-first (λ s c h f. subst First (reset-same s (after s c) (sym (after-stored s c))) h) r,
-  (unfold noiseGeneratorResetOf in refl),
+  always (λ (s : NoiseGenerator). First (restarted s)) reset-first (λ s c h f. subst First (reset-same s (after s c) (sym (after-stored s c))) h) r,
+  (unfold restarted in refl),
 )

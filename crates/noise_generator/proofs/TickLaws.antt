@@ -17,7 +17,7 @@ use Rattle.common.specs.Tests.{drawsOk, drawsRefusalOf}
 use Rattle.answer.specs.Block.{afterTicks, answerAt}
 use Rattle.answer.specs.declared.Answer.the-variants as answer
 use Rattle.noise_generator.specs.NoiseGenerator.{neededOf, changedBy, neededBy, correlationOf, turnOf, noiseGeneratorTickOf}
-use Rattle.noise_generator.specs.NoiseGenerator.{Drawing, drawing, noiseGeneratorAnswerOf, noiseGeneratorNextOf}
+use Rattle.noise_generator.specs.NoiseGenerator.{Drawing, drawing, noiseGeneratorToldOf, noiseGeneratorNextOf}
 use Rattle.noise_generator.specs.Pink.{nextIndex, changedOf, sampledOf}
 use Rattle.noise_generator.specs.declared.NoiseGenerator.{NoiseGenerator}
 use Rattle.noise_generator.specs.declared.NoiseGeneratorControls.{NoiseGeneratorControls}
@@ -173,7 +173,7 @@ module _ (s : NoiseGenerator) (c : NoiseGeneratorControls) (wanted : ℕ) (draws
         let left : drop at draws ≡ drawingAt s c wanted draws i .draws = ap (λ (k : ℕ). drop k draws) f ∙ sym (a .left) in
         e ∙ ap₂ (λ (y : NoiseGenerator) (d : List ℕ). turnOf (correlationOf s c) y wanted d) z left ∙ sym (a .turns l)
 
-    pub heard : t .answer ≡ answerAt (noiseGeneratorAnswerOf c wanted) (noiseGeneratorNextOf c wanted) (drawing s draws) i
+    pub heard : t .answer ≡ answerAt (noiseGeneratorToldOf c wanted) (noiseGeneratorNextOf c wanted) (drawing s draws) i
     unfolding answerAt
     heard = ap (λ (u : NoiseGeneratorTicked). u .answer) ticked
 

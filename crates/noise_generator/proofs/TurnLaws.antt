@@ -16,9 +16,9 @@ use Rattle.answer.specs.Mark.{markOf}
 use Rattle.answer.specs.declared.Answer.{Answer}
 use Rattle.answer.specs.declared.Tally.{Tally}
 use Rattle.noise_generator.specs.Consts.{sixteen}
-use Rattle.noise_generator.specs.Pink.{nextIndex, changedOf, Rows, rowed, rowsOf, sampledOf, pinkOf}
-use Rattle.noise_generator.specs.NoiseGenerator.{noiseVoltsOf, turnOf, Drawing, undrawn}
-use Rattle.noise_generator.specs.Apart.{pinkAt, whole, ticked, neededAt, turnVolts}
+use Rattle.noise_generator.specs.Pink.{nextIndex, changedOf, rowed, rowsOf, sampledOf, pinkOf}
+use Rattle.noise_generator.specs.NoiseGenerator.{noiseGeneratorVoltsOf, turnOf, Drawing, undrawn}
+use Rattle.noise_generator.specs.Shortcuts.{pinkAt, whole, ticked, neededAt, turnVolts}
 use Rattle.noise_generator.specs.declared.NoiseGenerator.{NoiseGenerator}
 use Rattle.noise_generator.specs.declared.NoiseGeneratorTicked.{NoiseGeneratorTicked}
 use Rattle.noise_generator.specs.declared.Rowless.{Rowless}
@@ -58,13 +58,13 @@ module _ (r : Rowless) (index index2 n n2 : ℕ)
     sampled2 = sym (es2 ∙ (λ i. rowsOf d (2 + rows-of i) (rowed rows2 (r .sum2)) (rows-of2 i)))
 
     -- what is heard are the turn's outputs
-    pub outputs : noiseVoltsOf correlation white independent (div binary64 sum sixteen) (div binary64 sum2 sixteen) wanted
+    pub outputs : noiseGeneratorVoltsOf correlation white independent (div binary64 sum sixteen) (div binary64 sum2 sixteen) wanted
         ≡ turnVolts correlation (pinkAt rows (r .sum) (r .index)) (pinkAt rows2 (r .sum2) (r .index2)) wanted d
     unfolding sampledOf pinkOf
     outputs = simp (sampled, sampled2, ew, eu)
 
     pub turned : (a : Answer)
-        → a ≡ markOf (noiseVoltsOf correlation white independent (div binary64 sum sixteen) (div binary64 sum2 sixteen) wanted) false true true
+        → a ≡ markOf (noiseGeneratorVoltsOf correlation white independent (div binary64 sum sixteen) (div binary64 sum2 sixteen) wanted) false true true
         → (stored last : Float) → ticked a (whole to to2 (record { sum = sum; index = index; sum2 = sum2; index2 = index2 }) stored white)
         ≡ turnOf correlation (whole rows rows2 r stored last) wanted d
     unfolding turnOf sampledOf pinkOf

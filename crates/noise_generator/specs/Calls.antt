@@ -8,7 +8,7 @@ use Rattle.laws.specs.Machine.{Reached}
 use Rattle.common.specs.declared.Hertz.{Hertz}
 use Rattle.answer.specs.declared.Tally.{Tally}
 use Rattle.noise_generator.specs.NoiseGenerator.{newNoiseGenerator, withCorrelation, noiseGeneratorTickOf, noiseGeneratorBlockOf}
-use Rattle.noise_generator.specs.NoiseGenerator.{noiseGeneratorResetOf, noiseGeneratorSetSampleRateOf}
+use Rattle.noise_generator.specs.NoiseGenerator.{restarted, rated}
 use Rattle.noise_generator.specs.declared.NoiseGenerator.{NoiseGenerator}
 use Rattle.noise_generator.specs.declared.NoiseGeneratorControls.{NoiseGeneratorControls}
 
@@ -23,8 +23,8 @@ pub data Call : Type 0 where
 unfoldable pub after : NoiseGenerator → Call → NoiseGenerator
 after s (Tick c wanted draws) = noiseGeneratorTickOf s c wanted draws .«noise_generator»
 after s (Play c wanted draws t o m) = noiseGeneratorBlockOf s c wanted draws t o m .state
-after s Reset = noiseGeneratorResetOf s
-after s (SetSampleRate r) = noiseGeneratorSetSampleRateOf s r
+after s Reset = restarted s
+after s (SetSampleRate r) = rated s r
 
 -- a new one, of either making
 abbrev pub First : NoiseGenerator → Type 0
@@ -34,5 +34,5 @@ First s = (s ≡ newNoiseGenerator) ⊎ ((c : Float) × (s ≡ withCorrelation c
 abbrev pub FitCall : Call → Type 0
 FitCall c = Unit {0}
 
-abbrev pub ReachedNoise : NoiseGenerator → Type 0
-ReachedNoise = Reached First FitCall after
+abbrev pub ReachedNoiseGenerator : NoiseGenerator → Type 0
+ReachedNoiseGenerator = Reached First FitCall after

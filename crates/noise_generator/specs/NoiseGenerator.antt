@@ -11,13 +11,14 @@ use Rattle.numeric.specs.Draw.{bipolarOf}
 use Rattle.common.specs.Ports.{wants, outOf}
 use Rattle.common.specs.Tests.{drawsRefusalOf}
 use Rattle.common.specs.declared.Hertz.{Hertz}
+use Rattle.answer.specs.Answer.{volts4}
 use Rattle.answer.specs.Block.{Block, block, blockOf, afterTicks}
 use Rattle.answer.specs.Mark.{markOf}
 use Rattle.answer.specs.declared.Answer.{Answer}
 use Rattle.answer.specs.declared.Answer.the-variants as answer
 use Rattle.answer.specs.declared.Tally.{Tally}
 use Rattle.answer.specs.declared.Volts.{Volts}
-use Rattle.noise_generator.specs.Consts.{newCorrelation}
+use Rattle.noise_generator.specs.Consts.{nPorts, newCorrelation}
 use Rattle.noise_generator.specs.Pink.{newPink, nextIndex, changedOf, sampledOf, pinkOf}
 use Rattle.noise_generator.specs.declared.Correlation.{Correlation}
 use Rattle.noise_generator.specs.declared.Correlation.the-variants as correlation
@@ -62,15 +63,10 @@ unfoldable pub mixOf : Float → Float → Float → Float
 mixOf a b c = add binary64 (mul binary64 a c) (mul binary64 b (sub binary64 one c))
 
 -- the four outputs
-unfoldable pub noiseVoltsOf : Float → Float → Float → Float → Float → ℕ → Volts
-noiseVoltsOf correlation white1 independent pink1 pink2 wanted =
-    record {
-      p10 = outOf (wants wanted 1) white1;
-      p11 = outOf (wants wanted 2) pink1;
-      p12 = outOf (wants wanted 4) (mixOf white1 independent correlation);
-      p13 = outOf (wants wanted 8) (mixOf pink1 pink2 correlation);
-      p14 = zer;
-    }
+unfoldable pub noiseGeneratorVoltsOf : Float → Float → Float → Float → Float → ℕ → Volts
+noiseGeneratorVoltsOf correlation white1 independent pink1 pink2 wanted =
+    volts4 (outOf (wants wanted 1) white1) (outOf (wants wanted 2) pink1) (outOf (wants wanted 4) (mixOf white1 independent correlation))
+    (outOf (wants wanted 8) (mixOf pink1 pink2 correlation))
 
 -- tick_wanted from its clamped correlation on, line by line: white's draw, independent's, pink's, pink2's. It has no phase and no clamp at its end
 unfoldable pub turnOf : Float → NoiseGenerator → ℕ → List ℕ → NoiseGeneratorTicked
@@ -80,7 +76,7 @@ turnOf correlation s wanted draws =
     let pink = sampledOf draws 2 (s .pink) in
     let pink2 = sampledOf draws (2 + changedOf (nextIndex (s .pink .index))) (s .pink2) in
     record {
-      answer = markOf (noiseVoltsOf correlation white1 independent (pinkOf pink) (pinkOf pink2) wanted) false true true;
+      answer = markOf (noiseGeneratorVoltsOf correlation white1 independent (pinkOf pink) (pinkOf pink2) wanted) false true true;
       «noise_generator» = generator pink pink2 (s .correlation) white1;
     }
 
@@ -88,11 +84,15 @@ turnOf correlation s wanted draws =
 unfoldable pub correlationOf : NoiseGenerator → NoiseGeneratorControls → Float
 correlationOf s c = clampOf (givenOr (c .correlation) (s .correlation)) zer one
 
+-- an accepted tick
+abbrev pub noiseGeneratorSoundOf : NoiseGenerator → NoiseGeneratorControls → ℕ → List ℕ → NoiseGeneratorTicked
+noiseGeneratorSoundOf s c wanted draws = turnOf (correlationOf s c) s wanted draws
+
 -- 5 and 6 over the draws that it needs; a refused tick leaves the state
 unfoldable pub noiseGeneratorTickOf : NoiseGenerator → NoiseGeneratorControls → ℕ → List ℕ → NoiseGeneratorTicked
 noiseGeneratorTickOf s c wanted draws =
     let n = drawsRefusalOf (neededOf s) draws in
-    cond (eqb n 0) (turnOf (correlationOf s c) s wanted draws) (record { answer = answer.Refused n; «noise_generator» = s })
+    cond (eqb n 0) (noiseGeneratorSoundOf s c wanted draws) (record { answer = answer.Refused n; «noise_generator» = s })
 
 -- ---- a block: a generator with the draws that are left, which each tick takes its own from
 pub record Drawing : Type 0 where
@@ -102,8 +102,9 @@ pub record Drawing : Type 0 where
 abbrev pub drawing : NoiseGenerator → List ℕ → Drawing
 drawing s draws = record { noise = s; draws = draws }
 
-abbrev pub noiseGeneratorAnswerOf : NoiseGeneratorControls → ℕ → Drawing → Answer
-noiseGeneratorAnswerOf c wanted x = noiseGeneratorTickOf (x .noise) c wanted (x .draws) .answer
+-- what a tick with these controls answers, and what it leaves
+abbrev pub noiseGeneratorToldOf : NoiseGeneratorControls → ℕ → Drawing → Answer
+noiseGeneratorToldOf c wanted x = noiseGeneratorTickOf (x .noise) c wanted (x .draws) .answer
 
 abbrev pub noiseGeneratorNextOf : NoiseGeneratorControls → ℕ → Drawing → Drawing
 noiseGeneratorNextOf c wanted x = drawing (noiseGeneratorTickOf (x .noise) c wanted (x .draws) .«noise_generator») (drop (neededOf (x .noise)) (x .draws))
@@ -115,12 +116,13 @@ undrawn b = block (b .refused) (b .state .noise) (b .tally) (b .samples) (b .mar
 -- as many ticks with these controls as there are marks: four samples a tick. 5 and 6 over the draws of all of them
 unfoldable pub noiseGeneratorBlockOf : NoiseGenerator → NoiseGeneratorControls → ℕ → List ℕ → Tally → List Float → List ℕ → Block NoiseGenerator
 noiseGeneratorBlockOf s c wanted draws t o m =
-    undrawn (blockOf 4 (drawsRefusalOf (neededBy s (length m)) draws) (noiseGeneratorAnswerOf c wanted) (noiseGeneratorNextOf c wanted) (drawing s draws) t o m)
+    undrawn
+    (blockOf nPorts (drawsRefusalOf (neededBy s (length m)) draws) (noiseGeneratorToldOf c wanted) (noiseGeneratorNextOf c wanted) (drawing s draws) t o m)
 
 -- ---- reset: both pinks are new, and the correlation stays
-unfoldable pub noiseGeneratorResetOf : NoiseGenerator → NoiseGenerator
-noiseGeneratorResetOf s = generator newPink newPink (s .correlation) zer
+unfoldable pub restarted : NoiseGenerator → NoiseGenerator
+restarted s = generator newPink newPink (s .correlation) zer
 
 -- set_sample_rate: nothing depends on the rate
-unfoldable pub noiseGeneratorSetSampleRateOf : NoiseGenerator → Hertz → NoiseGenerator
-noiseGeneratorSetSampleRateOf s rate = s
+unfoldable pub rated : NoiseGenerator → Hertz → NoiseGenerator
+rated s rate = s

@@ -1,30 +1,31 @@
 -- Theorems about the NoiseGenerator: the statements. proofs/ proves each under the same name in small letters.
 use mathlib.Core.Path.{_≡_}
-use mathlib.Core.Bool.{Bool, true, false, not, cond, _||_}
+use mathlib.Core.Bool.{true, false, not, cond, _||_}
 use mathlib.Core.List.{List, [], _∷_}
 use Prim.Native.Nat.{ℕ, _+_, _*_, _%_, _^_, _≤_, _<_, min}
 use lib.Count.{trailingZeros}
 use lib.Dec.{T, eqb, ltb}
 use lib.Ieee.{Float, nan, binary64, le, neg, isNan, ofBits}
 use lib.ListN.{length, getD, drop}
-use Rattle.laws.specs.Float.{InUnit, zer}
+use Rattle.laws.specs.Float.{InUnit}
 use Rattle.laws.specs.Machine.{Settles}
 use Rattle.numeric.specs.Draw.{bipolarOf}
 use Rattle.common.specs.Ports.{wants}
 use Rattle.common.specs.Tests.{drawsOk, drawsRefusalOf}
 use Rattle.common.specs.declared.Hertz.{Hertz}
-use Rattle.answer.specs.Answer.{markNumber, refusalOf, voltsOf, accepted}
+use Rattle.answer.specs.Answer.{volts4, notfinite, clean, markNumber, refusalOf, voltsOf, accepted}
 use Rattle.answer.specs.Block.{Block, afterTicks, answerAt, blockRefusalOf}
 use Rattle.answer.specs.Mark.{allFinite}
 use Rattle.answer.specs.Promises.{AcceptedTo, TakenTo}
 use Rattle.answer.specs.declared.Answer.{Answer}
 use Rattle.answer.specs.declared.Answer.the-variants as answer
 use Rattle.answer.specs.declared.Tally.{Tally}
+use Rattle.noise_generator.specs.Consts.{nPorts}
 use Rattle.noise_generator.specs.Pink.{nextIndex, changedOf}
-use Rattle.noise_generator.specs.NoiseGenerator.{newNoiseGenerator, withCorrelation, neededOf, neededBy, givenOr, correlationOf}
-use Rattle.noise_generator.specs.NoiseGenerator.{noiseGeneratorTickOf, drawing, noiseGeneratorAnswerOf, noiseGeneratorNextOf, noiseGeneratorBlockOf}
-use Rattle.noise_generator.specs.NoiseGenerator.{noiseGeneratorResetOf, noiseGeneratorSetSampleRateOf}
-use Rattle.noise_generator.specs.Calls.{First, ReachedNoise}
+use Rattle.noise_generator.specs.NoiseGenerator.{newNoiseGenerator, withCorrelation, neededOf, neededBy, givenOr}
+use Rattle.noise_generator.specs.NoiseGenerator.{noiseGeneratorTickOf, drawing, noiseGeneratorToldOf, noiseGeneratorNextOf, noiseGeneratorBlockOf}
+use Rattle.noise_generator.specs.NoiseGenerator.{restarted, rated}
+use Rattle.noise_generator.specs.Calls.{First, ReachedNoiseGenerator}
 use Rattle.noise_generator.specs.declared.Correlation.the-variants as correlation
 use Rattle.noise_generator.specs.declared.NoiseGenerator.{NoiseGenerator}
 use Rattle.noise_generator.specs.declared.NoiseGeneratorControls.{NoiseGeneratorControls}
@@ -48,7 +49,7 @@ abbrev pub Needed-range : Type 0
 Needed-range = (s : NoiseGenerator) → (4 ≤ neededOf s) × (neededOf s ≤ 34)
 
 -- ---- whatever a state holds, nothing refuses but the draws; and enough of them below 2 ^ 53 are accepted
-pub record Accepting (s : NoiseGenerator) : Type 0 where
+pub record Accepts (s : NoiseGenerator) : Type 0 where
   pub tick : (c : NoiseGeneratorControls) (wanted : ℕ) (draws : List ℕ)
       → refusalOf (noiseGeneratorTickOf s c wanted draws .answer) ≡ drawsRefusalOf (neededOf s) draws
   pub enough : (c : NoiseGeneratorControls) (wanted : ℕ) (draws : List ℕ) → neededOf s ≤ length draws → drawsOk draws (neededOf s) ≡ true
@@ -56,10 +57,10 @@ pub record Accepting (s : NoiseGenerator) : Type 0 where
   -- a block by its buffers' 52, the draws of its ticks together and its tally's 7
   pub play : (c : NoiseGeneratorControls) (wanted : ℕ) (draws : List ℕ) (t : Tally) (o : List Float) (m : List ℕ)
       → noiseGeneratorBlockOf s c wanted draws t o m .refused
-      ≡ blockRefusalOf (eqb (length o) (4 * length m)) (drawsRefusalOf (neededBy s (length m)) draws) t (length m)
+      ≡ blockRefusalOf (eqb (length o) (nPorts * length m)) (drawsRefusalOf (neededBy s (length m)) draws) t (length m)
 
 abbrev pub Never-refused : Type 0
-Never-refused = (s : NoiseGenerator) → Accepting s
+Never-refused = (s : NoiseGenerator) → Accepts s
 
 -- a refused tick leaves the state
 abbrev pub Refused-leaves : Type 0
@@ -88,11 +89,11 @@ Tick-leaves = (s : NoiseGenerator) (c : NoiseGeneratorControls) (wanted : ℕ) (
 -- ---- a block is its ticks: each of them is accepted where the draws are enough for all, and a tally with room takes each of their answers
 abbrev pub Block-accepts : Type 0
 Block-accepts = (s : NoiseGenerator) (c : NoiseGeneratorControls) (wanted : ℕ) (draws : List ℕ) (n : ℕ) → drawsRefusalOf (neededBy s n) draws ≡ 0
-    → AcceptedTo (noiseGeneratorAnswerOf c wanted) (noiseGeneratorNextOf c wanted) (drawing s draws) n
+    → AcceptedTo (noiseGeneratorToldOf c wanted) (noiseGeneratorNextOf c wanted) (drawing s draws) n
 
 abbrev pub Block-tallies : Type 0
 Block-tallies = (s : NoiseGenerator) (c : NoiseGeneratorControls) (wanted : ℕ) (draws : List ℕ) (n : ℕ) → drawsRefusalOf (neededBy s n) draws ≡ 0
-    → TakenTo (noiseGeneratorAnswerOf c wanted) (noiseGeneratorNextOf c wanted) (drawing s draws) n
+    → TakenTo (noiseGeneratorToldOf c wanted) (noiseGeneratorNextOf c wanted) (drawing s draws) n
 
 -- ---- a block takes its draws as its ticks do: tick i begins where those before it end, and the draws of n ticks are those of each together
 pub record InTurn (s : NoiseGenerator) (c : NoiseGeneratorControls) (wanted : ℕ) (draws : List ℕ) (i : ℕ) : Type 0 where
@@ -116,13 +117,13 @@ pub record Only-its-draws : Type 0 where
 -- ---- marks, for every state: clean where the wanted outputs are finite, else notfinite
 abbrev pub Clean-or-notfinite : Type 0
 Clean-or-notfinite = (s : NoiseGenerator) (c : NoiseGeneratorControls) (wanted : ℕ) (draws : List ℕ)
-    → let a = noiseGeneratorTickOf s c wanted draws .answer in accepted a ≡ true → markNumber a ≡ cond (allFinite (voltsOf a)) 4 2
+    → let a = noiseGeneratorTickOf s c wanted draws .answer in accepted a ≡ true → markNumber a ≡ cond (allFinite (voltsOf a)) clean notfinite
 
 -- a NaN correlation, given or stored, is told where an output that it goes into is wanted
 abbrev pub Nan-told : Type 0
 Nan-told = (s : NoiseGenerator) (c : NoiseGeneratorControls) (wanted : ℕ) (draws : List ℕ)
     → let a = noiseGeneratorTickOf s c wanted draws .answer in
-    accepted a ≡ true → givenOr (c .correlation) (s .correlation) ≡ nan → (wants wanted 4 || wants wanted 8) ≡ true → markNumber a ≡ 2
+    accepted a ≡ true → givenOr (c .correlation) (s .correlation) ≡ nan → (wants wanted 4 || wants wanted 8) ≡ true → markNumber a ≡ notfinite
 
 -- ---- from new, the rows stay from -1 to 1 and their sum from -2 ^ 54 to 2 ^ 54, however it drifts
 abbrev pub top : Float
@@ -134,24 +135,24 @@ pub record Bounded (p : PinkNoiseState) : Type 0 where
   pub high : T (le (p .«running_sum») top)
 
 abbrev pub Sums-bounded : Type 0
-Sums-bounded = (s : NoiseGenerator) → ReachedNoise s → Bounded (s .pink) × Bounded (s .pink2)
+Sums-bounded = (s : NoiseGenerator) → ReachedNoiseGenerator s → Bounded (s .pink) × Bounded (s .pink2)
 
 -- so every accepted tick whose correlation is no NaN is clean, and its samples are finite
 abbrev pub Clean : Answer → Type 0
-Clean a = (markNumber a ≡ 4) × (allFinite (voltsOf a) ≡ true)
+Clean a = (markNumber a ≡ clean) × (allFinite (voltsOf a) ≡ true)
 
 abbrev pub Number : NoiseGenerator → NoiseGeneratorControls → Type 0
 Number s c = T (not (isNan (givenOr (c .correlation) (s .correlation))))
 
 abbrev pub Always-clean : Type 0
-Always-clean = (s : NoiseGenerator) → ReachedNoise s → (c : NoiseGeneratorControls) (wanted : ℕ) (draws : List ℕ) → Number s c
+Always-clean = (s : NoiseGenerator) → ReachedNoiseGenerator s → (c : NoiseGeneratorControls) (wanted : ℕ) (draws : List ℕ) → Number s c
     → accepted (noiseGeneratorTickOf s c wanted draws .answer) ≡ true → Clean (noiseGeneratorTickOf s c wanted draws .answer)
 
 -- and so is every tick of a block that isn't refused
 abbrev pub Block-clean : Type 0
-Block-clean = (s : NoiseGenerator) → ReachedNoise s → (c : NoiseGeneratorControls) (wanted : ℕ) (draws : List ℕ) (n : ℕ) → Number s c
+Block-clean = (s : NoiseGenerator) → ReachedNoiseGenerator s → (c : NoiseGeneratorControls) (wanted : ℕ) (draws : List ℕ) (n : ℕ) → Number s c
     → drawsRefusalOf (neededBy s n) draws ≡ 0
-    → (i : ℕ) → i < n → Clean (answerAt (noiseGeneratorAnswerOf c wanted) (noiseGeneratorNextOf c wanted) (drawing s draws) i)
+    → (i : ℕ) → i < n → Clean (answerAt (noiseGeneratorToldOf c wanted) (noiseGeneratorNextOf c wanted) (drawing s draws) i)
 
 -- ---- the first tick of a new one, its correlation stored: the draws 2 ^ 53 - 1, 2 ^ 51, 0 and 3 * 2 ^ 51
 abbrev pub firstDraws : List ℕ
@@ -160,17 +161,13 @@ firstDraws = 9007199254740991 ∷ 2251799813685248 ∷ 0 ∷ 6755399441055744 �
 abbrev pub First-tick : Type 0
 First-tick =
     noiseGeneratorTickOf newNoiseGenerator (record { correlation = correlation.Stored }) 15 firstDraws .answer
-    ≡ answer.Clean (record {
-      p10 = ofBits binary64 0x4013ffffffffffff;
-      p11 = ofBits binary64 0xbfd4000000000000;
-      p12 = ofBits binary64 0xbfd0000000000004;
-      p13 = ofBits binary64 0x3f8ffffffffffffe;
-      p14 = zer;
-    })
+    ≡ answer.Clean
+    (volts4 (ofBits binary64 0x4013ffffffffffff) (ofBits binary64 0xbfd4000000000000) (ofBits binary64 0xbfd0000000000004)
+    (ofBits binary64 0x3f8ffffffffffffe))
 
 -- ---- a reset one is a new one with the correlation that it had
 abbrev pub Reset-new : Type 0
-Reset-new = (s : NoiseGenerator) → ReachedNoise s → First (noiseGeneratorResetOf s) × (noiseGeneratorResetOf s .correlation ≡ s .correlation)
+Reset-new = (s : NoiseGenerator) → ReachedNoiseGenerator s → First (restarted s) × (restarted s .correlation ≡ s .correlation)
 
 -- ---- each contract settles its answer, and what a block leaves in the lent slices
 pub record Settled : Type 0 where
@@ -182,5 +179,5 @@ pub record Settled : Type 0 where
       → Settles (λ (t : NoiseGeneratorTicked). t ≡ noiseGeneratorTickOf s c wanted draws)
   pub block : (s : NoiseGenerator) (c : NoiseGeneratorControls) (wanted : ℕ) (draws : List ℕ) (t : Tally) (o : List Float) (m : List ℕ)
       → Settles (λ (b : Block NoiseGenerator). b ≡ noiseGeneratorBlockOf s c wanted draws t o m)
-  pub reset : (s : NoiseGenerator) → Settles (λ (r : NoiseGenerator). r ≡ noiseGeneratorResetOf s)
-  pub «set_sample_rate» : (s : NoiseGenerator) (rate : Hertz) → Settles (λ (r : NoiseGenerator). r ≡ noiseGeneratorSetSampleRateOf s rate)
+  pub reset : (s : NoiseGenerator) → Settles (λ (r : NoiseGenerator). r ≡ restarted s)
+  pub «set_sample_rate» : (s : NoiseGenerator) (rate : Hertz) → Settles (λ (r : NoiseGenerator). r ≡ rated s rate)

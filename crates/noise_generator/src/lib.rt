@@ -3,30 +3,25 @@
 // A tick changes few rows, so inside the crate they are lent and changed in place: a block copies them once, not at each tick.
 use answer::Answer;
 use answer::Tally;
-use answer::Volts;
 use common::Hertz;
 ghost use mathlib.Core.Path.{_≡_};
 ghost use mathlib.Core.Bool.{false, true};
 ghost use Prim.Native.Nat.{ℕ, _≤_, _<_, _+_, _*_};
-ghost use lib.Dec.{eqb};
 ghost use lib.Ieee.{Float, nan};
-ghost use lib.ListN.{length, getD, set};
-ghost use lib.Seq.{sets};
+ghost use lib.ListN.{length, getD};
 ghost use Rattle.laws.specs.Float.{InUnit};
 ghost use Rattle.laws.specs.Lists.{tab};
 ghost use Rattle.numeric.specs.Draw.{bipolarOf};
 ghost use Rattle.common.specs.Tests.{drawsRefusalOf};
-ghost use Rattle.answer.specs.Answer.{hostNumber, voltsOf};
-ghost use Rattle.answer.specs.Block.{afterTicks, portsOf, joined, block, markAt, frameAt};
+ghost use Rattle.answer.specs.Block.{afterTicks, joined, block, markAt, frameAt};
 ghost use Rattle.answer.specs.Mark.{allFinite, markOf};
+ghost use Rattle.noise_generator.specs.Consts.{nPorts};
 ghost use Rattle.noise_generator.specs.Pink.{newPink, nextIndex, trailingOnes, changedOf, rowed, rowsOf};
 ghost use Rattle.noise_generator.specs.NoiseGenerator.{newNoiseGenerator, withCorrelation, neededOf, changedBy, neededBy};
-ghost use Rattle.noise_generator.specs.NoiseGenerator.{mixOf, noiseVoltsOf, turnOf, correlationOf, noiseGeneratorTickOf};
-ghost use Rattle.noise_generator.specs.NoiseGenerator.{noiseGeneratorAnswerOf, noiseGeneratorNextOf, noiseGeneratorBlockOf};
-ghost use Rattle.noise_generator.specs.NoiseGenerator.{noiseGeneratorResetOf, noiseGeneratorSetSampleRateOf};
-ghost use Rattle.noise_generator.specs.NoiseGenerator.{drawing};
-ghost use Rattle.noise_generator.specs.Apart.{pinkAt, whole, ticked, neededAt, turnVolts, Calm};
-ghost use Rattle.noise_generator.specs.Climbed.{climbedOf};
+ghost use Rattle.noise_generator.specs.NoiseGenerator.{mixOf, noiseGeneratorVoltsOf, turnOf, correlationOf, noiseGeneratorSoundOf, noiseGeneratorTickOf};
+ghost use Rattle.noise_generator.specs.NoiseGenerator.{noiseGeneratorToldOf, noiseGeneratorNextOf, noiseGeneratorBlockOf};
+ghost use Rattle.noise_generator.specs.NoiseGenerator.{drawing, restarted, rated};
+ghost use Rattle.noise_generator.specs.Shortcuts.{pinkAt, whole, ticked, neededAt, turnVolts, Calm, climbedOf};
 ghost use Rattle.noise_generator.specs.Promises.{Bounded};
 
 // Pink noise: rows of which the counter changes row k at every 2^k-th sample, and their sum as it was rounded on the way.
@@ -65,6 +60,9 @@ pub struct NoiseGeneratorBlock {
     pub noise_generator: NoiseGenerator,
     pub tally: Tally,
 }
+
+// How many outputs there are.
+const PORTS: usize = 4;
 
 // The sums and counters of both pinks, which a turn changes beside the lent rows.
 struct Rowless {
@@ -109,7 +107,7 @@ fn changed(index: u32) -> usize
     ensures { λ r. ⌜ r ≡ changedOf index ⌝ }
 {
     let changed_bits = trailing_ones(index ^ std::num::wrapping_sub_u32(index, 1)) as usize;
-    if changed_bits < 16 { changed_bits } else { 16 }
+    numeric::least(changed_bits, 16)
 }
 
 // From -1 to 1. A NaN isn't.
@@ -183,32 +181,6 @@ fn mix(a: f64, b: f64, correlation: f64) -> f64
     ensures { λ r. ⌜ r ≡ mixOf a b correlation ⌝ }
 {
     a * correlation + b * (1.0 - correlation)
-}
-
-// Whether a block has four samples for each of n marks. A product could be too large.
-fn fits(samples: usize, n: usize) -> bool
-    ensures { λ r. ⌜ r ≡ eqb samples (4 * n) ⌝ }
-{
-    if samples % 4 == 0 {
-        samples / 4 == n
-    } else {
-        false
-    }
-}
-
-// What tick i of a block answers.
-fn put(a: Answer, i: usize, samples: &mut [f64], marks: &mut [u32])
-    requires { ⌜ (i < length (now marks)) × (length (now samples) ≡ 4 * length (now marks)) ⌝ }
-    ensures { λ _. ⌜ now (samples .exit) ≡ sets (now (samples .entry)) (4 * i) (portsOf 4 (voltsOf a)) ⌝ }
-    ensures { λ _. ⌜ now (marks .exit) ≡ set (now (marks .entry)) i (hostNumber a) ⌝ }
-{
-    let v = answer::samples(a);
-    let at = 4 * i;
-    samples[at] = v.p10;
-    samples[at + 1] = v.p11;
-    samples[at + 2] = v.p12;
-    samples[at + 3] = v.p13;
-    marks[i] = answer::host_number(a);
 }
 
 // How often sixteen rows change while a counter climbs from 0 to n: row k at each multiple of 2^k.
@@ -334,20 +306,19 @@ impl NoiseGenerator {
         wanted: u32,
         calm: bool,
     ) -> Answer
-        requires { ⌜ (calm ≡ true → allFinite (noiseVoltsOf correlation white1 independent pink1 «pink2_independent» wanted) ≡ true) ⌝ }
-        ensures { λ r. ⌜ r ≡ markOf (noiseVoltsOf correlation white1 independent pink1 «pink2_independent» wanted) false true true ⌝ }
+        requires { ⌜ (calm ≡ true → allFinite (noiseGeneratorVoltsOf correlation white1 independent pink1 «pink2_independent» wanted) ≡ true) ⌝ }
+        ensures { λ r. ⌜ r ≡ markOf (noiseGeneratorVoltsOf correlation white1 independent pink1 «pink2_independent» wanted) false true true ⌝ }
     {
         let white2 = mix(white1, independent, correlation);
         let pink2 = mix(pink1, pink2_independent, correlation);
-        let volts = Volts {
-            p10: common::out(wanted & Self::WANT_WHITE != 0, white1),
-            p11: common::out(wanted & Self::WANT_PINK != 0, pink1),
-            p12: common::out(wanted & Self::WANT_WHITE2 != 0, white2),
-            p13: common::out(wanted & Self::WANT_PINK2 != 0, pink2),
-            p14: 0.0,
-        };
+        let volts = answer::volts4(
+            common::out(wanted & Self::WANT_WHITE != 0, white1),
+            common::out(wanted & Self::WANT_PINK != 0, pink1),
+            common::out(wanted & Self::WANT_WHITE2 != 0, white2),
+            common::out(wanted & Self::WANT_PINK2 != 0, pink2),
+        );
         if calm {
-            Answer::Clean(volts)
+            answer::marked(volts, false, true, true)
         } else {
             answer::mark(volts, false, true, true)
         }
@@ -402,7 +373,7 @@ impl NoiseGenerator {
     // An accepted tick. One alone would pay more for the question whether its state is calm than the answer saves it.
     fn sound(self, c: NoiseGeneratorControls, wanted: u32, draws: &[u64]) -> NoiseGeneratorTicked
         requires { ⌜ drawsRefusalOf (neededOf self) (now draws) ≡ 0 ⌝ }
-        ensures { λ r. ⌜ r ≡ turnOf (correlationOf self c) self wanted (now (draws .entry)) ⌝ }
+        ensures { λ r. ⌜ r ≡ noiseGeneratorSoundOf self c wanted (now (draws .entry)) ⌝ }
     {
         let pink = self.pink;
         let pink2 = self.pink2;
@@ -479,13 +450,13 @@ impl NoiseGenerator {
         samples: &mut [f64],
         marks: &mut [u32],
     ) -> Self
-        requires { ⌜ (drawsRefusalOf (neededBy self (length (now marks))) (now draws) ≡ 0) × (length (now samples) ≡ 4 * length (now marks)) ⌝ }
+        requires { ⌜ (drawsRefusalOf (neededBy self (length (now marks))) (now draws) ≡ 0) × (length (now samples) ≡ nPorts * length (now marks)) ⌝ }
         ensures { λ r. ⌜ r ≡ afterTicks (noiseGeneratorNextOf c wanted) (length (now (marks .entry))) (drawing self (now (draws .entry))) .noise ⌝ }
         ensures { λ r. ⌜ now (samples .exit)
-            ≡ joined (frameAt 4 (noiseGeneratorAnswerOf c wanted) (noiseGeneratorNextOf c wanted) (drawing self (now (draws .entry))))
+            ≡ joined (frameAt nPorts (noiseGeneratorToldOf c wanted) (noiseGeneratorNextOf c wanted) (drawing self (now (draws .entry))))
             (length (now (marks .entry))) ⌝ }
         ensures { λ r. ⌜ now (marks .exit)
-            ≡ tab (markAt (noiseGeneratorAnswerOf c wanted) (noiseGeneratorNextOf c wanted) (drawing self (now (draws .entry))))
+            ≡ tab (markAt (noiseGeneratorToldOf c wanted) (noiseGeneratorNextOf c wanted) (drawing self (now (draws .entry))))
             (length (now (marks .entry))) ⌝ }
     {
         let pink = self.pink;
@@ -514,7 +485,7 @@ impl NoiseGenerator {
                 calm,
             );
             let heard = turned.answer;
-            put(heard, i, &mut *samples, &mut *marks);
+            answer::put(heard, PORTS, i, &mut *samples, &mut *marks);
             rest = turned.rest;
             last_white = turned.last_white;
             at += turned.taken;
@@ -551,7 +522,7 @@ impl NoiseGenerator {
     {
         let n = marks.len();
         let needed = self.draws_refusal(n, draws);
-        let refused = answer::block_refusal(fits(samples.len(), n), needed, tally, n);
+        let refused = answer::block_refusal(PORTS, samples.len(), needed, tally, n);
         if refused == 0 {
             let noise_generator = self.run(c, wanted, draws, samples, marks);
             NoiseGeneratorBlock {
@@ -570,7 +541,7 @@ impl NoiseGenerator {
 
     // The correlation stays.
     pub fn reset(self) -> Self
-        ensures { λ r. ⌜ r ≡ noiseGeneratorResetOf self ⌝ }
+        ensures { λ r. ⌜ r ≡ restarted self ⌝ }
     {
         NoiseGenerator {
             pink: PinkNoiseState::new(),
@@ -582,7 +553,7 @@ impl NoiseGenerator {
 
     // Nothing of it depends on the rate.
     pub fn set_sample_rate(self, sample_rate: Hertz) -> Self
-        ensures { λ r. ⌜ r ≡ noiseGeneratorSetSampleRateOf self «sample_rate» ⌝ }
+        ensures { λ r. ⌜ r ≡ rated self «sample_rate» ⌝ }
     {
         self
     }

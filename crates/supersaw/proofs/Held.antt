@@ -24,12 +24,11 @@ use Rattle.laws.proofs.Over.{length-tab, getD-tab}
 use Rattle.laws.specs.Float.{zer, one}
 use Rattle.laws.specs.Lists.{all, tab}
 use Rattle.numeric.specs.Basic.{clampOf}
-use Rattle.supersaw.proofs.LaneLaws.{tickedOf, sound-is, accepts, quiet-ramped}
+use Rattle.supersaw.proofs.LaneLaws.{advancedOf, tickedOf, sound-is, accepts, quiet-ramped}
 use Rattle.laws.proofs.All.{all-of}
 use Rattle.supersaw.proofs.Sign.{small, clamp-small}
-use Rattle.supersaw.specs.Held.{heldAnswer, heldNext}
-use Rattle.supersaw.specs.Lanes.{lanesOf, incsOf, wrapsOf, sumsOf, movedOf, steppedOf, quietOf, rampedOf, advancedOf}
-use Rattle.supersaw.specs.Supersaw.{phasesOk, supersawRefusalOf, supersawSoundOf, supersawTickOf, supersawAnswerOf, supersawNextOf}
+use Rattle.supersaw.specs.Shortcuts.{lanesOf, incsOf, wrapsOf, sumsOf, movedOf, steppedOf, quietOf, rampedOf, heldTold, heldNext}
+use Rattle.supersaw.specs.Supersaw.{phasesOk, supersawRefusalOf, supersawSoundOf, supersawTickOf, supersawToldOf, supersawNextOf}
 use Rattle.supersaw.specs.Voices.{at}
 use Rattle.supersaw.specs.Promises.{Block-accepts, Block-tallies}
 use Rattle.supersaw.specs.declared.Moved.{Moved}
@@ -38,8 +37,9 @@ use Rattle.supersaw.specs.declared.SupersawControls.{SupersawControls}
 use Rattle.supersaw.specs.declared.SupersawTicked.{SupersawTicked}
 
 -- ---- a turn of the loop
-module _ (dt : List Float) (mix : Float) (first : List Float) (i : ℕ) (t : List Float) (u : Moved) (e : u ≡ steppedOf t dt mix) (z : t ≡ afterTicks (heldNext dt mix) i first) where
-  pub heard : u .answer ≡ answerAt (heldAnswer dt mix) (heldNext dt mix) first i
+module _ (dt : List Float) (mix : Float) (first : List Float) (i : ℕ) (t : List Float) (u : Moved) (e : u ≡ steppedOf t dt mix)
+    (z : t ≡ afterTicks (heldNext dt mix) i first) where
+  pub heard : u .answer ≡ answerAt (heldTold dt mix) (heldNext dt mix) first i
   unfolding answerAt
   heard = simp (e, z)
 
@@ -92,7 +92,7 @@ lanes-back : (t : List Float) → tab (at t) 8 ≡ t → t ≡ lanesOf (tab (at 
 lanes-back t h = sym h ∙ (unfold lanesOf tab in refl)
 
 state-accepted : (s : Supersaw) (c : SupersawControls) (t : List Float) → supersawRefusalOf s ≡ 0 → Good t → supersawRefusalOf (stateOf s c t) ≡ 0
-unfolding supersawRefusalOf advancedOf
+unfolding supersawRefusalOf
 state-accepted s c t h g = simp (accepts s h .0, seven, g .low)
   where
     seven : phasesOk (tab (at t) 7) ≡ true
@@ -110,7 +110,6 @@ first-sound s c k = sym (sound-is s c k)
 
 -- in such a state a tick finds its frequency in the memo
 held-sound : (s : Supersaw) (c : SupersawControls) (t : List Float) → tab (at t) 8 ≡ t → supersawSoundOf (stateOf s c t) c ≡ heldTick s c t
-unfolding advancedOf
 held-sound s c t h = sym (sound-is (stateOf s c t) c (length-tab (at t) 7)) ∙ simp (recall1-again voctToHzAt (s .«freq_memo») (c .voct .0), ← lanes-back t h)
 
 -- where it is quiet the shorter way gives the same
@@ -122,7 +121,8 @@ quiet-held s c detune base dt mix h d i t q =
     quiet-ramped detune base (s .«sample_rate») t dt D (accepts s h .0) i q mix
 
 pub holds : (s : Supersaw) (c : SupersawControls) → supersawRefusalOf s ≡ 0 → length (s .phases) ≡ 7
-    → Holds (supersawAnswerOf c) (supersawNextOf c) (heldAnswer (heldIncs s c) (heldMix c)) (heldNext (heldIncs s c) (heldMix c)) (stateOf s c) Good s (lanesOf (s .phases) (s .«sub_phase»))
+    → Holds (supersawToldOf c) (supersawNextOf c) (heldTold (heldIncs s c) (heldMix c)) (heldNext (heldIncs s c) (heldMix c)) (stateOf s c) Good s
+    (lanesOf (s .phases) (s .«sub_phase»))
 holds s c h k =
     record {
       good = first-good s h;

@@ -21,15 +21,15 @@ use Rattle.laws.specs.Lists.{all, tab}
 use Rattle.numeric.specs.Basic.{clampOf}
 use Rattle.common.specs.Consts.{rateLow, rateHigh}
 use Rattle.common.specs.Memo.{recall1, voctToHzAt}
-use Rattle.common.specs.Phase.{incrementOf, wrapOf, polyblepOf}
+use Rattle.common.specs.Phase.{turns, incrementOf, wrapOf, polyblepOf}
 use Rattle.common.specs.Tests.{rateOk, phaseOk}
 use Rattle.common.specs.declared.Hertz.{Hertz}
 use Rattle.common.specs.declared.Memo1.{Memo1}
 use Rattle.supersaw.proofs.Sign.{small, one-plus}
 use Rattle.supersaw.proofs.StepLaws.{Steady, steady-law}
 use Rattle.supersaw.specs.Consts.{detuneRatios, mixLevels}
-use Rattle.supersaw.specs.Lanes.{lanesOf, incsOf, sawsOf, sumsOf, wrapsOf, lanesFinite, mixTo, totalMix}
-use Rattle.supersaw.specs.Lanes.{blendOf, movedOf, steppedOf, advancedOf, steadyOf, lanesSteady, quietOf, rampsOf, rampedOf}
+use Rattle.supersaw.specs.Shortcuts.{lanesOf, incsOf, sawsOf, sumsOf, wrapsOf, lanesFinite, mixTo, totalMix}
+use Rattle.supersaw.specs.Shortcuts.{blendOf, movedOf, steppedOf, steadyOf, lanesSteady, quietOf, rampsOf, rampedOf}
 use Rattle.supersaw.specs.Supersaw.{phasesOk, supersawRefusalOf, supersawSoundOf}
 use Rattle.supersaw.specs.Voices.{at, freqOf, dtOf, sawOf, subDtOf, Voices, voiceOf, voicesOf}
 use Rattle.supersaw.specs.declared.Supersaw.{Supersaw}
@@ -60,7 +60,8 @@ lastOf t dt =
 short : (n : ℕ) → n ≡ 7 → n < 7 → ⊥
 short n h l = omega arith
 
-loop-is : (ps : List Float) (low detune : Float) (base rate : Hertz) → length ps ≡ 7 → lastOf (tab (at ps) 7 ++ (low ∷ [])) (incsOf detune base rate) ≡ voicesOf detune base rate ps 7
+loop-is : (ps : List Float) (low detune : Float) (base rate : Hertz) → length ps ≡ 7
+    → lastOf (tab (at ps) 7 ++ (low ∷ [])) (incsOf detune base rate) ≡ voicesOf detune base rate ps 7
 unfolding tab all incsOf sawsOf sumsOf wrapsOf mixTo voicesOf voiceOf
 loop-is [] low detune base rate h = absurd (short 0 h (lit< tt))
 loop-is (a ∷ []) low detune base rate h = absurd (short 1 h (lit< tt))
@@ -75,15 +76,24 @@ loop-is (a ∷ b ∷ c ∷ d ∷ e ∷ f ∷ g ∷ x ∷ xs) low detune base rat
     long : (n : ℕ) → suc (suc (suc (suc (suc (suc (suc (suc n))))))) ≡ 7 → ⊥
     long n h = omega arith
 
+-- the state with these phases and this memo
+abbrev pub advancedOf : Supersaw → List Float → Memo1 → Supersaw
+advancedOf s t memo = record { phases = tab (at t) 7; «sub_phase» = turns (at t 7); «sample_rate» = s .«sample_rate»; «freq_memo» = memo }
+
 -- a tick of the lanes, put back into the state
 abbrev pub tickedOf : Supersaw → Moved → Memo1 → SupersawTicked
 tickedOf s r memo = record { answer = r .answer; supersaw = advancedOf s (r .phases) memo }
 
 pub sound-is : (s : Supersaw) (c : SupersawControls) → length (s .phases) ≡ 7
-    → tickedOf s (steppedOf (lanesOf (s .phases) (s .«sub_phase»)) (incsOf (clampOf (c .detune) zer one) (recall1 voctToHzAt (s .«freq_memo») (c .voct .0) .val) (s .«sample_rate»)) (clampOf (c .mix) zer one)) (recall1 voctToHzAt (s .«freq_memo») (c .voct .0)) ≡ supersawSoundOf s c
-unfolding supersawSoundOf movedOf steppedOf advancedOf blendOf lanesOf lanesFinite all wrapsOf sumsOf sawsOf incsOf tab
+    → tickedOf s (steppedOf (lanesOf (s .phases) (s .«sub_phase»))
+    (incsOf (clampOf (c .detune) zer one) (recall1 voctToHzAt (s .«freq_memo») (c .voct .0) .val) (s .«sample_rate»)) (clampOf (c .mix) zer one))
+    (recall1 voctToHzAt (s .«freq_memo») (c .voct .0)) ≡ supersawSoundOf s c
+unfolding supersawSoundOf movedOf steppedOf blendOf lanesOf lanesFinite all wrapsOf sumsOf sawsOf incsOf tab
 sound-is s c h =
-    rw (← loop-is (s .phases) (s .«sub_phase» .0) (clampOf (c .detune) zer one) (recall1 voctToHzAt (s .«freq_memo») (c .voct .0) .val) (s .«sample_rate») h, total-is)
+    rw (
+      ← loop-is (s .phases) (s .«sub_phase» .0) (clampOf (c .detune) zer one) (recall1 voctToHzAt (s .«freq_memo») (c .voct .0) .val) (s .«sample_rate») h,
+      total-is,
+    )
 
 -- ---- no number refuses the state: its rate and its phases are good
 pub accepts : (s : Supersaw) → supersawRefusalOf s ≡ 0
@@ -98,7 +108,8 @@ module _ (detune : Float) (base rate : Hertz) (D : T (small detune)) (B : lt zer
   rate-plus : Plus (rate .0)
   rate-plus =
       above-plus (rate .0)
-      (is-true (lt zer (rate .0)) (lt-le-trans zer rateLow (rate .0) low (of-true (le rateLow (rate .0)) (unfold rateOk in both-true (le rateLow (rate .0)) (le (rate .0) rateHigh) R .0))))
+      (is-true (lt zer (rate .0))
+      (lt-le-trans zer rateLow (rate .0) low (of-true (le rateLow (rate .0)) (unfold rateOk in both-true (le rateLow (rate .0)) (le (rate .0) rateHigh) R .0))))
     where
       low : T (lt zer rateLow)
       low = unfold lt ofBits in tt
@@ -110,7 +121,8 @@ module _ (detune : Float) (base rate : Hertz) (D : T (small detune)) (B : lt zer
   dt-plus i l =
       unfold dtOf freqOf incrementOf in
       div-plus (mul binary64 (base .0) (add binary64 one (mul binary64 (at detuneRatios i) detune))) (rate .0)
-      (mul-plus (base .0) (add binary64 one (mul binary64 (at detuneRatios i) detune)) (above-plus (base .0) B) (one-plus (at detuneRatios i) detune (of-true (small (at detuneRatios i)) (all-at (λ j. small (at detuneRatios j)) 7 ratios-small i l)) D))
+      (mul-plus (base .0) (add binary64 one (mul binary64 (at detuneRatios i) detune)) (above-plus (base .0) B)
+      (one-plus (at detuneRatios i) detune (of-true (small (at detuneRatios i)) (all-at (λ j. small (at detuneRatios j)) 7 ratios-small i l)) D))
       rate-plus
 
   low-plus : Plus (subDtOf base rate .0)
@@ -144,7 +156,8 @@ module _ (t dt : List Float) (lane : (i : ℕ) → i < 8 → Steady (at t i) (at
 
   sums-are : sumsOf t dt ≡ wrapsOf (sumsOf t dt)
   unfolding sumsOf wrapsOf
-  sums-are = tab-ext (λ (i : ℕ). add binary64 (at t i) (at dt i)) (λ (i : ℕ). wrapOf (at (sumsOf t dt) i)) 8 (λ i l. sym (ap wrapOf (sum-at i l) ∙ lane i l .kept))
+  sums-are =
+      tab-ext (λ (i : ℕ). add binary64 (at t i) (at dt i)) (λ (i : ℕ). wrapOf (at (sumsOf t dt) i)) 8 (λ i l. sym (ap wrapOf (sum-at i l) ∙ lane i l .kept))
 
   sums-finite : true ≡ lanesFinite (sumsOf t dt)
   unfolding lanesFinite

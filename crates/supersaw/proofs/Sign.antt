@@ -24,7 +24,8 @@ one-plus (inf s) y h k = absurd h
 one-plus (fin s m e) nan h k = unfold add ofBits in tt
 one-plus (fin s m e) (inf t) h k = absurd k
 one-plus (fin s m e) (fin t n d) h k =
-    one-round (unlike s t) (m * up e * (n * up d)) (down e * down d) (mul-pos (down-pos e) (down-pos d)) (mul-le-mul (leb→le (m * up e) (down e) h) (leb→le (n * up d) (down d) k)) .1
+    one-round (unlike s t) (m * up e * (n * up d)) (down e * down d) (mul-pos (down-pos e) (down-pos d))
+    (mul-le-mul (leb→le (m * up e) (down e) h) (leb→le (n * up d) (down d) k)) .1
 
 pub clamp-small : (x : Float) → T (small (clampOf x zer one))
 unfolding clampOf lt ofBits

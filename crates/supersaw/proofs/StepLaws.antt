@@ -20,7 +20,7 @@ use Rattle.laws.proofs.Values.{sub-round, sum-pos-neg}
 use Rattle.laws.specs.Float.{zer, one, F64, isFin}
 use Rattle.common.proofs.PhaseLaws.{wrap-unit}
 use Rattle.common.specs.Phase.{wrapOf, polyblepOf}
-use Rattle.supersaw.specs.Lanes.{steadyOf}
+use Rattle.supersaw.specs.Shortcuts.{steadyOf}
 
 -- the test of a phase that is more than an increment above its step
 pub steady-above : (t dt : Float) → fits binary64 t ≡ true → lt dt t ≡ true → lt (add binary64 t dt) one ≡ steadyOf t dt
@@ -33,7 +33,8 @@ pub record Steady (t dt : Float) : Type 0 where
   pub finite : isFin (add binary64 t dt) ≡ true
 
 -- t = n / g and dt = m / d, both without a sign
-module _ (n m : ℕ) (g e : ℤ) (F : F64 (fin false n g)) (above : m * up e * down g < n * up g * down e) (below : lt (add binary64 (fin false n g) (fin false m e)) one ≡ true) where
+module _ (n m : ℕ) (g e : ℤ) (F : F64 (fin false n g)) (above : m * up e * down g < n * up g * down e)
+    (below : lt (add binary64 (fin false n g) (fin false m e)) one ≡ true) where
   abbrev t : Float
   t = fin false n g
 
@@ -47,7 +48,8 @@ module _ (n m : ℕ) (g e : ℤ) (F : F64 (fin false n g)) (above : m * up e * d
   next-is = unfold add sum in refl
 
   room : n * up g * down e + m * up e * down g < down g * down e
-  room = round-below-one (n * up g * down e + m * up e * down g) (down g * down e) (mul-pos (down-pos g) (down-pos e)) (subst (λ (z : Float). lt z one ≡ true) next-is below)
+  room = round-below-one (n * up g * down e + m * up e * down g) (down g * down e) (mul-pos (down-pos g) (down-pos e))
+      (subst (λ (z : Float). lt z one ≡ true) next-is below)
 
   -- t is its own rounding
   own : (a c : ℕ) → 0 < c → n * up g * c ≡ a * down g → round binary64 false a c ≡ t
@@ -57,7 +59,8 @@ module _ (n m : ℕ) (g e : ℤ) (F : F64 (fin false n g)) (above : m * up e * d
   grows =
       subst (λ (z : Float). T (le z next)) (own (n * up g * down e) (down g * down e) (mul-pos (down-pos g) (down-pos e)) (turn (n * up g) (down g) (down e)))
       (subst (λ (z : Float). T (le (round binary64 false (n * up g * down e) (down g * down e)) z)) (sym next-is)
-      (round-mono binary64 (n * up g * down e) (down g * down e) (n * up g * down e + m * up e * down g) (down g * down e) (mul-pos (down-pos g) (down-pos e)) (mul-pos (down-pos g) (down-pos e)) (mul-le-mul-right (down g * down e) (more (n * up g * down e) (m * up e * down g)))))
+      (round-mono binary64 (n * up g * down e) (down g * down e) (n * up g * down e + m * up e * down g) (down g * down e) (mul-pos (down-pos g) (down-pos e))
+      (mul-pos (down-pos g) (down-pos e)) (mul-le-mul-right (down g * down e) (more (n * up g * down e) (m * up e * down g)))))
     where
       turn : (a g e : ℕ) → a * (g * e) ≡ a * e * g
       turn a g e = omega arith
@@ -66,7 +69,11 @@ module _ (n m : ℕ) (g e : ℤ) (F : F64 (fin false n g)) (above : m * up e * d
       more a b = omega arith
 
   positive : T (lt zer t)
-  positive = of-true (lt zer t) (unfold ofBits in lt-by-values (fin false 0 (pos 0)) t 0 1 (n * up g) (down g) (zero-lt-suc 0) (down-pos g) (refl, refl) (refl, refl) ∙ is-true (ltb (0 * down g) (n * up g * 1)) (lt→ltb (0 * down g) (n * up g * 1) (some (n * up g) (down g) (first-pos (n * up g) (down e) (over (m * up e * down g) (n * up g * down e) above)))))
+  positive = of-true (lt zer t)
+      (unfold ofBits in
+      lt-by-values (fin false 0 (pos 0)) t 0 1 (n * up g) (down g) (zero-lt-suc 0) (down-pos g) (refl, refl) (refl, refl)
+      ∙ is-true (ltb (0 * down g) (n * up g * 1))
+      (lt→ltb (0 * down g) (n * up g * 1) (some (n * up g) (down g) (first-pos (n * up g) (down e) (over (m * up e * down g) (n * up g * down e) above)))))
     where
       some : (a g : ℕ) → 0 < a → 0 * g < a * 1
       some a g h = omega arith
@@ -79,7 +86,8 @@ module _ (n m : ℕ) (g e : ℤ) (F : F64 (fin false n g)) (above : m * up e * d
   under =
       subst (λ (z : Float). T (le t z)) (sym less)
       (subst (λ (z : Float). T (le z (round binary64 false (1 * down e - m * up e * 1) (1 * down e)))) (own (n * up g) (down g) (down-pos g) refl)
-      (round-mono binary64 (n * up g) (down g) (1 * down e - m * up e * 1) (1 * down e) (down-pos g) (mul-pos (zero-lt-suc 0) (down-pos e)) (rest (n * up g) (m * up e) (down e) (down g) room)))
+      (round-mono binary64 (n * up g) (down g) (1 * down e - m * up e * 1) (1 * down e) (down-pos g) (mul-pos (zero-lt-suc 0) (down-pos e))
+      (rest (n * up g) (m * up e) (down e) (down g) room)))
     where
       rest : (a x d g : ℕ) → a * d + x * g < g * d → a * (1 * d) ≤ (1 * d - x * 1) * g
       rest a x d g h =
@@ -122,4 +130,5 @@ steady-law t dt p h =
     go (inf false) (fin false m e) F p h k = absurd (false≢true (unfold lt add ofBits in k))
     go (fin true n g) (fin false m e) F p h k = absurd (false≢true (unfold lt in h))
     go (fin false n g) (fin false m e) F p h k =
-        steady-fin n m g e F (ltb→lt (m * up e * down g) (n * up g * down e) (unfold lt in of-true (ltb (m * up e * down g) (n * up g * down e)) h)) k (of-true (lt (fin false m e) (fin false n g)) h)
+        steady-fin n m g e F (ltb→lt (m * up e * down g) (n * up g * down e) (unfold lt in of-true (ltb (m * up e * down g) (n * up g * down e)) h)) k
+        (of-true (lt (fin false m e) (fin false n g)) h)

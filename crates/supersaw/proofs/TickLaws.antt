@@ -9,6 +9,7 @@ use Rattle.numeric.specs.Basic.{clampOf}
 use Rattle.common.specs.Memo.{recall1, voctToHzAt}
 use Rattle.common.specs.Phase.{turns, wrapOf}
 use Rattle.common.specs.declared.Memo1.{Memo1}
+use Rattle.answer.specs.Answer.{volts2}
 use Rattle.answer.specs.Mark.{markOf}
 use Rattle.supersaw.specs.Supersaw.{supersawSoundOf}
 use Rattle.supersaw.specs.Voices.{Voices, sawOf, subDtOf, voicesOf}
@@ -28,7 +29,7 @@ tickedOf s mix memo v =
     let next = add binary64 (s .«sub_phase» .0) dt in
     let out = add binary64 (mul binary64 (v .«center_saw») (sub binary64 one mix)) (mul binary64 (div binary64 (v .sum) (v .«total_mix»)) mix) in
     record {
-      answer = markOf (record { p10 = out; p11 = sawOf (s .«sub_phase» .0) dt; p12 = zer; p13 = zer; p14 = zer }) false true (v .finite && isFin next);
+      answer = markOf (volts2 out (sawOf (s .«sub_phase» .0) dt)) false true (v .finite && isFin next);
       supersaw = record { phases = v .phases; «sub_phase» = turns (wrapOf next); «sample_rate» = s .«sample_rate»; «freq_memo» = memo };
     }
 

@@ -1,7 +1,6 @@
 pub mod Consts
 pub mod Voices
 pub mod Supersaw
-pub mod Lanes
-pub mod Held
+pub mod Shortcuts
 pub mod Calls
 pub mod Promises

@@ -14,8 +14,10 @@ use Rattle.answer.specs.Answer.{accepted, outcomeNumber}
 use Rattle.answer.specs.Block.{Block, blockRefusalOf}
 use Rattle.answer.specs.Promises.{AllAccepted, AllTaken}
 use Rattle.answer.specs.declared.Tally.{Tally}
+use Rattle.supersaw.specs.Consts.{nPorts}
 use Rattle.supersaw.specs.Voices.{at}
-use Rattle.supersaw.specs.Supersaw.{newSupersaw, supersawNewOf, supersawTickOf, supersawBlockOf, supersawResetOf, supersawSetSampleRateOf, supersawRefusalOf, supersawAnswerOf, supersawNextOf}
+use Rattle.supersaw.specs.Supersaw.{newSupersaw, supersawRefusalOf, supersawNewOf, supersawTickOf, supersawToldOf, supersawNextOf}
+use Rattle.supersaw.specs.Supersaw.{supersawBlockOf, supersawResetOf, supersawSetSampleRateOf}
 use Rattle.supersaw.specs.Calls.{Told, Reset, SetSampleRate, reply, First, ReachedSupersaw}
 use Rattle.supersaw.specs.declared.Supersaw.{Supersaw}
 use Rattle.supersaw.specs.declared.SupersawControls.{SupersawControls}
@@ -27,27 +29,28 @@ abbrev pub New-accepts : Type 0
 New-accepts = (r : Hertz) → (outcomeNumber (supersawNewOf r .outcome) ≡ cond (rateOk r) 0 1) × (rateOk r ≡ true → First (newSupersaw r))
 
 -- ---- a reached state refuses no call but for the call's own input
-pub record Accepting (s : Supersaw) : Type 0 where
+pub record Accepts (s : Supersaw) : Type 0 where
   pub phases : (i : ℕ) → i < 7 → phaseOk (turns (at (s .phases) i)) ≡ true
   pub «sub_phase» : phaseOk (s .«sub_phase») ≡ true
-  pub ticks : (c : SupersawControls) → accepted (supersawTickOf s c .answer) ≡ true
+  pub tick : (c : SupersawControls) → accepted (supersawTickOf s c .answer) ≡ true
   -- by its buffers' 52 and its tally's 7 alone
-  pub plays : (c : SupersawControls) (t : Tally) (o : List Float) (m : List ℕ)
-      → supersawBlockOf s c t o m .refused ≡ blockRefusalOf (eqb (length o) (2 * length m)) 0 t (length m)
-  pub resets : reply s Reset ≡ Told 0
-  pub rates : (r : Hertz) → reply s (SetSampleRate r) ≡ Told (cond (rateOk r) 0 1)
+  pub play : (c : SupersawControls) (t : Tally) (o : List Float) (m : List ℕ)
+      → supersawBlockOf s c t o m .refused ≡ blockRefusalOf (eqb (length o) (nPorts * length m)) 0 t (length m)
+  pub reset : reply s Reset ≡ Told 0
+  pub rate : (r : Hertz) → reply s (SetSampleRate r) ≡ Told (cond (rateOk r) 0 1)
 
 abbrev pub Never-refused : Type 0
-Never-refused = (s : Supersaw) → ReachedSupersaw s → Accepting s
+Never-refused = (s : Supersaw) → ReachedSupersaw s → Accepts s
 
--- ---- no tick of a block is refused whose first isn't, and a tally with room takes each of their answers. Seven phases stand in the code's array
+-- ---- no tick of a block is refused whose first isn't, and a tally with room takes each of their answers. Seven phases stand in
+-- the code's array
 abbrev pub Block-accepts : Type 0
-Block-accepts = (s : Supersaw) (c : SupersawControls) → length (s .phases) ≡ 7 → supersawRefusalOf s ≡ 0 → AllAccepted (supersawAnswerOf c) (supersawNextOf c) s
+Block-accepts = (s : Supersaw) (c : SupersawControls) → length (s .phases) ≡ 7 → supersawRefusalOf s ≡ 0 → AllAccepted (supersawToldOf c) (supersawNextOf c) s
 
 abbrev pub Block-tallies : Type 0
-Block-tallies = (s : Supersaw) (c : SupersawControls) → length (s .phases) ≡ 7 → supersawRefusalOf s ≡ 0 → AllTaken (supersawAnswerOf c) (supersawNextOf c) s
+Block-tallies = (s : Supersaw) (c : SupersawControls) → length (s .phases) ≡ 7 → supersawRefusalOf s ≡ 0 → AllTaken (supersawToldOf c) (supersawNextOf c) s
 
--- ---- each contract settles its answer, and what a block leaves in the lent slices
+-- ---- each contract settles its answer
 pub record Settled : Type 0 where
   pub new : (r : Hertz) → Settles (λ (m : SupersawMade). m ≡ supersawNewOf r)
   pub tick : (s : Supersaw) (c : SupersawControls) → Settles (λ (t : SupersawTicked). t ≡ supersawTickOf s c)

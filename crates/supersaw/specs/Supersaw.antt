@@ -11,13 +11,14 @@ use Rattle.common.specs.Memo.{newMemo1, recall1, voctToHzAt}
 use Rattle.common.specs.Phase.{turns, wrapOf}
 use Rattle.common.specs.Tests.{rateOk, phaseOk}
 use Rattle.common.specs.declared.Hertz.{Hertz}
+use Rattle.answer.specs.Answer.{volts2}
 use Rattle.answer.specs.Block.{Block, blockOf}
 use Rattle.answer.specs.Mark.{markOf}
 use Rattle.answer.specs.declared.Answer.{Answer}
 use Rattle.answer.specs.declared.Answer.the-variants as answer
 use Rattle.answer.specs.declared.Outcome.the-variants as outcome
 use Rattle.answer.specs.declared.Tally.{Tally}
-use Rattle.supersaw.specs.Consts.{seven}
+use Rattle.supersaw.specs.Consts.{nPorts, seven}
 use Rattle.supersaw.specs.Voices.{at, sawOf, subDtOf, voicesOf}
 use Rattle.supersaw.specs.declared.Supersaw.{Supersaw}
 use Rattle.supersaw.specs.declared.SupersawControls.{SupersawControls}
@@ -43,9 +44,13 @@ supersawRefusalOf s =
     (cond (phasesOk (s .phases) && phaseOk (s .«sub_phase»)) 0 2)
     1
 
--- t, unless n refuses, which leaves s
+-- and a rate change: 1 on the new rate and on the old, then 2
+unfoldable pub supersawRateRefusalOf : Supersaw → Hertz → ℕ
+supersawRateRefusalOf s r = cond (rateOk r) (supersawRefusalOf s) 1
+
+-- `new`, unless n refuses, which leaves `old`
 unfoldable pub madeUnless : ℕ → Supersaw → Supersaw → SupersawMade
-madeUnless n s t = cond (eqb n 0) (record { outcome = outcome.Done; supersaw = t }) (record { outcome = outcome.Refused n; supersaw = s })
+madeUnless n old new = cond (eqb n 0) (record { outcome = outcome.Done; supersaw = new }) (record { outcome = outcome.Refused n; supersaw = old })
 
 -- 1 on the rate: refused, the state has it, and so refuses every call
 unfoldable pub supersawNewOf : Hertz → SupersawMade
@@ -63,7 +68,7 @@ supersawSoundOf s c =
     let sub_dt = subDtOf (memo .val) (s .«sample_rate») .0 in
     let next = add binary64 (s .«sub_phase» .0) sub_dt in
     record {
-      answer = markOf (record { p10 = output; p11 = sawOf (s .«sub_phase» .0) sub_dt; p12 = zer; p13 = zer; p14 = zer }) false true (v .finite && isFin next);
+      answer = markOf (volts2 output (sawOf (s .«sub_phase» .0) sub_dt)) false true (v .finite && isFin next);
       supersaw = record { phases = v .phases; «sub_phase» = turns (wrapOf next); «sample_rate» = s .«sample_rate»; «freq_memo» = memo };
     }
 
@@ -73,15 +78,16 @@ supersawTickOf s c =
     let n = supersawRefusalOf s in
     cond (eqb n 0) (supersawSoundOf s c) (record { answer = answer.Refused n; supersaw = s })
 
--- a block of as many ticks with these controls as there are marks: two samples a tick
-abbrev pub supersawAnswerOf : SupersawControls → Supersaw → Answer
-supersawAnswerOf c s = supersawTickOf s c .answer
+-- what a tick with these controls answers, and what it leaves
+abbrev pub supersawToldOf : SupersawControls → Supersaw → Answer
+supersawToldOf c s = supersawTickOf s c .answer
 
 abbrev pub supersawNextOf : SupersawControls → Supersaw → Supersaw
 supersawNextOf c s = supersawTickOf s c .supersaw
 
+-- a block of as many such ticks as there are marks
 unfoldable pub supersawBlockOf : Supersaw → SupersawControls → Tally → List Float → List ℕ → Block Supersaw
-supersawBlockOf s c t o m = blockOf 2 (supersawRefusalOf s) (supersawAnswerOf c) (supersawNextOf c) s t o m
+supersawBlockOf s c t o m = blockOf nPorts (supersawRefusalOf s) (supersawToldOf c) (supersawNextOf c) s t o m
 
 -- reset: the rate and the memo stay
 abbrev pub restarted : Supersaw → Supersaw
@@ -94,6 +100,5 @@ supersawResetOf s = madeUnless (supersawRefusalOf s) s (restarted s)
 abbrev pub rated : Supersaw → Hertz → Supersaw
 rated s r = record { phases = s .phases; «sub_phase» = s .«sub_phase»; «sample_rate» = r; «freq_memo» = s .«freq_memo» }
 
--- 1 on the new rate and on the old, then 2
 unfoldable pub supersawSetSampleRateOf : Supersaw → Hertz → SupersawMade
-supersawSetSampleRateOf s r = madeUnless (cond (rateOk r) (supersawRefusalOf s) 1) s (rated s r)
+supersawSetSampleRateOf s r = madeUnless (supersawRateRefusalOf s r) s (rated s r)

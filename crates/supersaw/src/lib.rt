@@ -5,7 +5,6 @@
 use answer::Answer;
 use answer::Outcome;
 use answer::Tally;
-use answer::Volts;
 use common::Hertz;
 use common::Memo1;
 use common::Turns;
@@ -16,18 +15,16 @@ ghost use mathlib.Core.List.{List};
 ghost use Prim.Native.Nat.{_<_, _*_};
 ghost use lib.Dec.{eqb};
 ghost use lib.Ieee.{Float};
-ghost use lib.ListN.{length, set};
-ghost use lib.Seq.{sets};
+ghost use lib.ListN.{length};
 ghost use Rattle.laws.specs.Float.{isFin};
 ghost use Rattle.laws.specs.Lists.{tab};
-ghost use Rattle.answer.specs.Answer.{hostNumber, voltsOf};
-ghost use Rattle.answer.specs.Block.{afterTicks, portsOf, joined, block, markAt, frameAt};
-ghost use Rattle.supersaw.specs.Voices.{freqOf, sawOf, subDtOf};
-ghost use Rattle.supersaw.specs.Supersaw.{startPhases, phasesOk, supersawRefusalOf, supersawNewOf, supersawSoundOf};
-ghost use Rattle.supersaw.specs.Supersaw.{supersawTickOf, supersawAnswerOf, supersawNextOf, supersawBlockOf, supersawResetOf, supersawSetSampleRateOf};
-ghost use Rattle.supersaw.specs.Lanes.{lanesOf, incsOf, sawsOf, rampsOf, sumsOf, wrapsOf, lanesFinite, steadyOf};
-ghost use Rattle.supersaw.specs.Lanes.{lanesSteady, mixTo, blendOf, movedOf, steppedOf, rampedOf, quietOf, advancedOf};
-ghost use Rattle.supersaw.specs.Held.{heldAnswer, heldNext};
+ghost use Rattle.answer.specs.Block.{afterTicks, joined, block, markAt, frameAt};
+ghost use Rattle.supersaw.specs.Consts.{nPorts};
+ghost use Rattle.supersaw.specs.Voices.{at, freqOf, sawOf, subDtOf};
+ghost use Rattle.supersaw.specs.Supersaw.{startPhases, phasesOk, supersawRefusalOf, supersawRateRefusalOf, supersawNewOf, supersawSoundOf};
+ghost use Rattle.supersaw.specs.Supersaw.{supersawTickOf, supersawToldOf, supersawNextOf, supersawBlockOf, supersawResetOf, supersawSetSampleRateOf};
+ghost use Rattle.supersaw.specs.Shortcuts.{lanesOf, incsOf, sawsOf, rampsOf, sumsOf, wrapsOf, lanesFinite, steadyOf};
+ghost use Rattle.supersaw.specs.Shortcuts.{lanesSteady, mixTo, blendOf, movedOf, steppedOf, rampedOf, quietOf, heldTold, heldNext};
 
 pub struct Supersaw {
     pub phases: [f64; 7],
@@ -55,11 +52,14 @@ pub struct SupersawBlock {
     pub tally: Tally,
 }
 
-// A refused new hands out the state with its bad rate, which refuses every call; any other refused call the state as it stood.
+// What a call without samples leaves: a refused one the old state, and a refused `new` a state that refuses every call.
 pub struct SupersawMade {
     pub outcome: Outcome,
     pub supersaw: Supersaw,
 }
+
+// How many outputs there are.
+const PORTS: usize = 2;
 
 // A tick of the eight oscillators: what it answers, and the phases after it.
 struct Moved {
@@ -121,6 +121,13 @@ fn lanes(phases: [f64; 7], sub_phase: Turns) -> [f64; 8]
         phases[6],
         sub_phase.0,
     ]
+}
+
+// And the seven of the voices back from them.
+fn voices(t: [f64; 8]) -> [f64; 7]
+    ensures { λ r. ⌜ r ≡ tab (at t) 7 ⌝ }
+{
+    [t[0], t[1], t[2], t[3], t[4], t[5], t[6]]
 }
 
 fn saws(t: [f64; 8], dt: [f64; 8]) -> [f64; 8]
@@ -209,41 +216,10 @@ fn all_steady(t: [f64; 8], dt: [f64; 8]) -> bool
 fn answered(out: f64, sub: f64, finite: bool, phases: [f64; 8]) -> Moved
     ensures { λ r. ⌜ r ≡ movedOf out sub finite phases ⌝ }
 {
-    let volts = Volts {
-        p10: out,
-        p11: sub,
-        p12: 0.0,
-        p13: 0.0,
-        p14: 0.0,
-    };
     Moved {
-        answer: answer::mark(volts, false, true, finite),
+        answer: answer::mark(answer::volts2(out, sub), false, true, finite),
         phases,
     }
-}
-
-// Whether a block has two samples for each of n marks. A product could be too large.
-fn fits(samples: usize, n: usize) -> bool
-    ensures { λ r. ⌜ r ≡ eqb samples (2 * n) ⌝ }
-{
-    if samples % 2 == 0 {
-        samples / 2 == n
-    } else {
-        false
-    }
-}
-
-// What tick i of a block answers.
-fn put(a: Answer, i: usize, samples: &mut [f64], marks: &mut [u32])
-    requires { ⌜ (i < length (now marks)) × (length (now samples) ≡ 2 * length (now marks)) ⌝ }
-    ensures { λ _. ⌜ now (samples .exit) ≡ sets (now (samples .entry)) (2 * i) (portsOf 2 (voltsOf a)) ⌝ }
-    ensures { λ _. ⌜ now (marks .exit) ≡ set (now (marks .entry)) i (hostNumber a) ⌝ }
-{
-    let v = answer::samples(a);
-    let at = 2 * i;
-    samples[at] = v.p10;
-    samples[at + 1] = v.p11;
-    marks[i] = answer::host_number(a);
 }
 
 impl Supersaw {
@@ -370,13 +346,7 @@ impl Supersaw {
         let sub_next = Turns(sub_phase.0 + sub_dt.0);
         supersaw.sub_phase = common::wrap_phase(sub_next);
         supersaw.freq_memo = freq_memo;
-        let volts = Volts {
-            p10: output,
-            p11: sub,
-            p12: 0.0,
-            p13: 0.0,
-            p14: 0.0,
-        };
+        let volts = answer::volts2(output, sub);
         SupersawTicked {
             answer: answer::mark(volts, false, true, still_finite(finite, sub_next)),
             supersaw,
@@ -446,25 +416,6 @@ impl Supersaw {
         }
     }
 
-    // The state after a tick that leaves the phases at t.
-    fn advanced(self, t: [f64; 8], freq_memo: Memo1) -> Supersaw
-        ensures { λ r. ⌜ r ≡ advancedOf self t «freq_memo» ⌝ }
-    {
-        let sample_rate = self.sample_rate;
-        let mut phases = self.phases;
-        let mut i = 0;
-        while i < 7 {
-            phases[i] = t[i];
-            i += 1;
-        }
-        Supersaw {
-            phases,
-            sub_phase: Turns(t[7]),
-            sample_rate,
-            freq_memo,
-        }
-    }
-
     // A quiet tick: no residual, and no wrap.
     fn ramped(t: [f64; 8], dt: [f64; 8], mix: f64) -> Moved
         ensures { λ r. ⌜ r ≡ rampedOf t dt mix ⌝ }
@@ -504,17 +455,18 @@ impl Supersaw {
         marks: &mut [u32],
     ) -> [f64; 8]
         requires { ⌜ ((t : List Float) → quietOf «base_freq» t dt ≡ true → rampedOf t dt mix ≡ steppedOf t dt mix) ⌝ }
-        requires { ⌜ length (now samples) ≡ 2 * length (now marks) ⌝ }
+        requires { ⌜ length (now samples) ≡ nPorts * length (now marks) ⌝ }
         ensures { λ r. ⌜ r ≡ afterTicks (heldNext dt mix) (length (now (marks .entry))) first ⌝ }
-        ensures { λ r. ⌜ now (samples .exit) ≡ joined (frameAt 2 (heldAnswer dt mix) (heldNext dt mix) first) (length (now (marks .entry))) ⌝ }
-        ensures { λ r. ⌜ now (marks .exit) ≡ tab (markAt (heldAnswer dt mix) (heldNext dt mix) first) (length (now (marks .entry))) ⌝ }
+        ensures { λ r. ⌜ now (samples .exit)
+            ≡ joined (frameAt nPorts (heldTold dt mix) (heldNext dt mix) first) (length (now (marks .entry))) ⌝ }
+        ensures { λ r. ⌜ now (marks .exit) ≡ tab (markAt (heldTold dt mix) (heldNext dt mix) first) (length (now (marks .entry))) ⌝ }
     {
         let mut t = first;
         let mut i = 0;
         while i < marks.len() {
             let moved = Self::turn(base_freq, t, dt, mix);
             let heard = moved.answer;
-            put(heard, i, &mut *samples, &mut *marks);
+            answer::put(heard, PORTS, i, &mut *samples, &mut *marks);
             t = moved.phases;
             i += 1;
         }
@@ -523,10 +475,11 @@ impl Supersaw {
 
     // The ticks of a block: the memo holds from the first on.
     fn run(self, c: SupersawControls, samples: &mut [f64], marks: &mut [u32]) -> Self
-        requires { ⌜ (supersawRefusalOf self ≡ 0) × (0 < length (now marks)) × (length (now samples) ≡ 2 * length (now marks)) ⌝ }
+        requires { ⌜ (supersawRefusalOf self ≡ 0) × (0 < length (now marks)) × (length (now samples) ≡ nPorts * length (now marks)) ⌝ }
         ensures { λ r. ⌜ r ≡ afterTicks (supersawNextOf c) (length (now (marks .entry))) self ⌝ }
-        ensures { λ r. ⌜ now (samples .exit) ≡ joined (frameAt 2 (supersawAnswerOf c) (supersawNextOf c) self) (length (now (marks .entry))) ⌝ }
-        ensures { λ r. ⌜ now (marks .exit) ≡ tab (markAt (supersawAnswerOf c) (supersawNextOf c) self) (length (now (marks .entry))) ⌝ }
+        ensures { λ r. ⌜ now (samples .exit)
+            ≡ joined (frameAt nPorts (supersawToldOf c) (supersawNextOf c) self) (length (now (marks .entry))) ⌝ }
+        ensures { λ r. ⌜ now (marks .exit) ≡ tab (markAt (supersawToldOf c) (supersawNextOf c) self) (length (now (marks .entry))) ⌝ }
     {
         let phases = self.phases;
         let sub_phase = self.sub_phase;
@@ -534,12 +487,17 @@ impl Supersaw {
         let memo = self.freq_memo;
         let detune = numeric::clamp(c.detune, 0.0, 1.0);
         let mix = numeric::clamp(c.mix, 0.0, 1.0);
-        let freq_memo = memo.voct_to_hz(c.voct);
-        let base_freq = freq_memo.val;
+        let recalled = memo.voct_to_hz(c.voct);
+        let base_freq = recalled.val;
         let first = lanes(phases, sub_phase);
         let dt = Self::increments(detune, base_freq, sample_rate);
         let last = Self::glide(base_freq, first, dt, mix, samples, marks);
-        self.advanced(last, freq_memo)
+        Supersaw {
+            phases: voices(last),
+            sub_phase: Turns(last[7]),
+            sample_rate,
+            freq_memo: recalled,
+        }
     }
 
     // As many ticks with these controls as there are marks. Their samples come one tick after another.
@@ -550,10 +508,11 @@ impl Supersaw {
         samples: &mut [f64],
         marks: &mut [u32],
     ) -> SupersawBlock
-        ensures { λ r. ⌜ block (r .refused) (r .supersaw) (r .tally) (now (samples .exit)) (now (marks .exit)) ≡ supersawBlockOf self c tally (now (samples .entry)) (now (marks .entry)) ⌝ }
+        ensures { λ r. ⌜ block (r .refused) (r .supersaw) (r .tally) (now (samples .exit)) (now (marks .exit))
+            ≡ supersawBlockOf self c tally (now (samples .entry)) (now (marks .entry)) ⌝ }
     {
         let n = marks.len();
-        let refused = answer::block_refusal(fits(samples.len(), n), self.refusal(), tally, n);
+        let refused = answer::block_refusal(PORTS, samples.len(), self.refusal(), tally, n);
         if refused == 0 {
             if n == 0 {
                 SupersawBlock {
@@ -604,33 +563,37 @@ impl Supersaw {
         }
     }
 
+    // What refuses a rate change: 1 the new rate or the old, then 2.
+    fn rate_refusal(self, sample_rate: Hertz) -> u32
+        ensures { λ r. ⌜ r ≡ supersawRateRefusalOf self «sample_rate» ⌝ }
+    {
+        if common::rate_ok(sample_rate) {
+            self.refusal()
+        } else {
+            1
+        }
+    }
+
     pub fn set_sample_rate(self, sample_rate: Hertz) -> SupersawMade
         ensures { λ r. ⌜ r ≡ supersawSetSampleRateOf self «sample_rate» ⌝ }
     {
-        if common::rate_ok(sample_rate) {
-            let n = self.refusal();
-            if n == 0 {
-                let phases = self.phases;
-                let sub_phase = self.sub_phase;
-                let freq_memo = self.freq_memo;
-                SupersawMade {
-                    outcome: Outcome::Done,
-                    supersaw: Supersaw {
-                        phases,
-                        sub_phase,
-                        sample_rate,
-                        freq_memo,
-                    },
-                }
-            } else {
-                SupersawMade {
-                    outcome: Outcome::Refused(n),
-                    supersaw: self,
-                }
+        let n = self.rate_refusal(sample_rate);
+        if n == 0 {
+            let phases = self.phases;
+            let sub_phase = self.sub_phase;
+            let freq_memo = self.freq_memo;
+            SupersawMade {
+                outcome: Outcome::Done,
+                supersaw: Supersaw {
+                    phases,
+                    sub_phase,
+                    sample_rate,
+                    freq_memo,
+                },
             }
         } else {
             SupersawMade {
-                outcome: Outcome::Refused(1),
+                outcome: Outcome::Refused(n),
                 supersaw: self,
             }
         }

@@ -1,7 +1,5 @@
-use borrow.Author.Tests.{eq-eqb, ne-eqb}
 use mathlib.Core.Path.{_∙_}
-use Rattle.answer.proofs.Flat.{tick-sized}
-use Rattle.answer.specs.Flat.{heardSized}
+use Rattle.boundary.proofs.Flat.{tick-sized, heard-done, heard-refused}
 use Rattle.exports_noise_generator.specs.Calls.{noiseGeneratorTickAt}
 use borrow.Author.Needs.{needs}
 use Rattle.exports_noise_generator.proofs.gruttisol_noise_generator_tick.Statement.{statement}
@@ -23,7 +21,7 @@ tick-requires c κs = search needs
 
 put-ticked-requires : tie.Need-put-ticked-requires
 put-ticked-requires c κs =
-    let tested = c .before .before .before .before .before .before .before .before in
+    let ticked = c .before .before .before in let tested = ticked .before .before .before .before .before in
     tick-sized _ _ _ _ _ _ _ (tested .before .tick-sizes .ensures) (tested .if1 .taken)
 
 same-length : tie.Need-same-length
@@ -36,22 +34,15 @@ same-length-3 : tie.Need-same-length-3
 same-length-3 c = search needs
 
 returns : tie.Need-returns
-unfolding noiseGeneratorTickAt heardSized
+unfolding noiseGeneratorTickAt
 returns c =
-    let put = c .before .before .before .before .before .before in
+    let given-back = c .before .before in let put = given-back .before .before .before .before in
     let ticked = put .before .before .before .before in
     let loaded = ticked .before in
     let chosen = loaded .before .before .before in
     let tested = chosen .before in
-    let measured = tested .before in
-    put .put-ticked .ensures
-    ∙ simp (
-      ← measured .tick-sizes .ensures,
-      eq-eqb _ _ (tested .if1 .taken),
-      ticked .tick .ensures,
-      loaded .state .ensures,
-      chosen .controls .ensures,
-    )
+    heard-done _ _ _ _ _ _ _ (tested .before .tick-sizes .ensures) (tested .if1 .taken) _ _
+    (put .put-ticked .ensures ∙ simp (ticked .tick .ensures, loaded .state .ensures, chosen .controls .ensures))
 
 same-length-4 : tie.Need-same-length-4
 same-length-4 c = search needs
@@ -63,8 +54,8 @@ same-length-6 : tie.Need-same-length-6
 same-length-6 c = search needs
 
 returns-2 : tie.Need-returns-2
-unfolding noiseGeneratorTickAt heardSized
-returns-2 c = simp (← c .before .tick-sizes .ensures, ne-eqb _ _ (c .if1 .left))
+unfolding noiseGeneratorTickAt
+returns-2 c = heard-refused _ _ _ _ _ _ _ (c .before .tick-sizes .ensures) (c .if1 .left) _
 
 pub gruttisol-noise-generator-tick-spec : {M : Type 1} → statement M
 gruttisol-noise-generator-tick-spec =

@@ -1,5 +1,5 @@
 use borrow.Author.Tests.{eq-eqb, ne-eqb}
-use Rattle.answer.specs.Flat.{countsPut, playedOf}
+use Rattle.boundary.specs.Flat.{countsPut, playedOf}
 use borrow.Author.Needs.{needs}
 use Rattle.exports_noise_generator.proofs.put_block.Statement.{statement}
 use Rattle.exports_noise_generator.proofs.put_block.Tie as tie
@@ -23,7 +23,7 @@ returns : tie.Need-returns
 unfolding playedOf countsPut
 returns c =
     let counted = c .before .before in
-    let put = counted .before .before .before .before .before .before in
+    let lent = counted .before .before in let put = lent .before .before .before .before in
     let tested = put .before .before .before .before .before in
     let start = tested .before .before .before .before in
     λ o m. simp (

@@ -1,7 +1,7 @@
 use native.Mathlib.Omega.{arith}
 use lib.ListN.{length-set}
 use Rattle.answer.specs.Answer.{voltsOf}
-use Rattle.answer.specs.Flat.{heardOf}
+use Rattle.boundary.specs.Flat.{heardOf}
 use Rattle.laws.proofs.Slices.{stored}
 use Rattle.exports_noise_generator.specs.State.{samplesOf}
 use borrow.Author.Needs.{needs}

@@ -18,7 +18,7 @@ slice-write-floats c = search needs
 put-rows-requires-2 : tie.Need-put-rows-requires-2
 put-rows-requires-2 c κs =
     let put = c .before .before .before in
-    let start = put .before .before .before .before .before .before .before .before in
+    let ready = put .before .before .before in let start = ready .before .before .before .before .before in
     let a = start .args in
     first-kept (a .floats .now) (put .put-rows .last .1 .1 .0) 16 33 (a .s .pink .«running_sum») (start .pre .0) (put .put-rows .kept .1 .1 .0) (lit≤ tt)
 
@@ -26,7 +26,7 @@ slice-write-floats-2 : tie.Need-slice-write-floats-2
 slice-write-floats-2 c =
     let put2 = c .before .before in
     let put = put2 .before .before .before .before in
-    let start = put .before .before .before .before .before .before .before .before in
+    let ready = put .before .before .before in let start = ready .before .before .before .before .before in
     let a = start .args in
     let m = put .put-rows .last .1 .1 .0 in
     let k = put2 .put-rows2 .last .1 .1 .0 in
@@ -37,7 +37,7 @@ slice-write-floats-3 : tie.Need-slice-write-floats-3
 slice-write-floats-3 c =
     let put2 = c .before .before in
     let put = put2 .before .before .before .before in
-    let start = put .before .before .before .before .before .before .before .before in
+    let ready = put .before .before .before in let start = ready .before .before .before .before .before in
     let a = start .args in
     let m = put .put-rows .last .1 .1 .0 in
     let k = put2 .put-rows2 .last .1 .1 .0 in
@@ -48,7 +48,7 @@ slice-write-floats-4 : tie.Need-slice-write-floats-4
 slice-write-floats-4 c =
     let put2 = c .before .before in
     let put = put2 .before .before .before .before in
-    let start = put .before .before .before .before .before .before .before .before in
+    let ready = put .before .before .before in let start = ready .before .before .before .before .before in
     let a = start .args in
     let m = put .put-rows .last .1 .1 .0 in
     let k = put2 .put-rows2 .last .1 .1 .0 in
@@ -71,7 +71,7 @@ same-length : tie.Need-same-length
 same-length c =
     let put2 = c .before .before .before .before in
     let put = put2 .before .before .before .before in
-    let start = put .before .before .before .before .before .before .before .before in
+    let ready = put .before .before .before in let start = ready .before .before .before .before .before in
     let a = start .args in
     let m = put .put-rows .last .1 .1 .0 in
     let k = put2 .put-rows2 .last .1 .1 .0 in
@@ -86,7 +86,7 @@ unfolding floatsOf wholesOf
 returns c =
     let put2 = c .before .before .before .before in
     let put = put2 .before .before .before .before in
-    let start = put .before .before .before .before .before .before .before .before in
+    let ready = put .before .before .before in let start = ready .before .before .before .before .before in
     let a = start .args in
     let h1 : length (a .s .pink .rows) ≡ 16 = search (needs, start .good .0 .1 .1 .0) in
     let e2 = put2 .put-rows2 .ensures in

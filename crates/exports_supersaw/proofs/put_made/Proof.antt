@@ -1,4 +1,4 @@
-use Rattle.answer.specs.Flat.{keptBy}
+use Rattle.boundary.specs.Flat.{keptBy}
 use borrow.Author.Needs.{needs}
 use Rattle.exports_supersaw.proofs.put_made.Statement.{statement}
 use Rattle.exports_supersaw.proofs.put_made.Tie as tie
@@ -20,7 +20,9 @@ same-length-2 c = search needs
 
 returns : tie.Need-returns
 unfolding keptBy
-returns c = simp (c .before .before .before .before .before .before .before .enum-told .given .1, c .before .before .before .before .store .ensures .0, c .before .before .before .before .store .ensures .1)
+returns c =
+    let stored = c .before .before .before .before in
+    simp (stored .before .before .before .enum-told .given .1, stored .store .ensures .0, stored .store .ensures .1)
 
 returns-2 : tie.Need-returns-2
 unfolding keptBy

@@ -75,7 +75,11 @@ same-length-2 c = search needs
 
 returns : tie.Need-returns
 unfolding floatsOf wholesOf tab
-returns c = (stored (c .before .before .before .before .before .before .args .floats .now) (floatsOf (c .before .before .before .before .before .before .args .s)) (c .before .before .before .before .before .before .pre .0), simp byte (stored (c .before .before .before .before .before .before .args .wholes .now) (wholesOf (c .before .before .before .before .before .before .args .s)) (c .before .before .before .before .before .before .pre .1)))
+returns c =
+    let ready = c .before in let entered = ready .before .before .before .before .before in (
+      stored (entered .args .floats .now) (floatsOf (entered .args .s)) (entered .pre .0),
+      simp byte (stored (entered .args .wholes .now) (wholesOf (entered .args .s)) (entered .pre .1)),
+    )
 
 pub store-spec : {M : Type 1} → statement M
 store-spec =

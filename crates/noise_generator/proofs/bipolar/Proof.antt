@@ -1,7 +1,7 @@
 use mathlib.Core.Path.{ap}
 use native.Mathlib.Nat.{le-of-lt}
 use lib.Dec.{le→leb}
-use lib.Ieee.{Float, binary64, inFloat, ofBits, sub}
+use lib.Ieee.{Float, binary64, inFloat, sub}
 use Rattle.laws.specs.Float.{one}
 use Rattle.numeric.proofs.DrawLaws.{twice-once}
 use Rattle.numeric.specs.Draw.{bipolarOf}

@@ -1,5 +1,6 @@
+use mathlib.Core.Path.{_∙_}
 use native.Mathlib.Omega.{arith}
-use Rattle.noise_generator.proofs.PinkLaws.{changed-few, changed-all}
+use Rattle.noise_generator.proofs.PinkLaws.{changed-min}
 use borrow.Author.Needs.{needs}
 use Rattle.noise_generator.proofs.changed.Statement.{statement}
 use Rattle.noise_generator.proofs.changed.Tie as tie
@@ -13,13 +14,13 @@ trailing-ones-requires c κs = search needs
 cast-changed-bits : tie.Need-cast-changed-bits
 cast-changed-bits c = search needs
 
-returns : tie.Need-returns
-returns c = changed-few _ _ _ (omega arith) (c .before .before .wrapping-sub-u32 .ensures) (c .before .trailing-ones .ensures) (c .if1 .taken)
+least-requires : tie.Need-least-requires
+least-requires c κs = search needs
 
-returns-2 : tie.Need-returns-2
-returns-2 c = changed-all _ _ _ (omega arith) (c .before .before .wrapping-sub-u32 .ensures) (c .before .trailing-ones .ensures) (c .if1 .left)
+returns : tie.Need-returns
+returns c = c .least .ensures ∙ changed-min _ _ _ (omega arith) (c .before .before .wrapping-sub-u32 .ensures) (c .before .trailing-ones .ensures)
 
 pub changed-spec : {M : Type 1} → statement M
 changed-spec =
     tie.close
-    (tie.spec wrapping-sub-u32-requires trailing-ones-requires cast-changed-bits returns returns-2)
+    (tie.spec wrapping-sub-u32-requires trailing-ones-requires cast-changed-bits least-requires returns)

@@ -2,7 +2,7 @@ use mathlib.Core.Path.{_≡_}
 use Prim.Native.Nat.{_≤_, _-_, _+_, _*_}
 use native.Mathlib.Nat.{le-antisymm}
 use native.Mathlib.Omega.{arith}
-use Rattle.noise_generator.specs.Climbed.{climbedOf}
+use Rattle.noise_generator.specs.Shortcuts.{climbedOf}
 use Rattle.noise_generator.proofs.CountLaws.{climbed-none, climbed-more, climbed-done}
 use Rattle.noise_generator.proofs.climbed.Statement.{statement}
 use Rattle.noise_generator.proofs.climbed.Tie as tie

@@ -7,7 +7,7 @@ use Rattle.laws.specs.Lists.{all}
 use Rattle.laws.proofs.All.{all-more, all-stops, all-done}
 use Rattle.laws.specs.Float.{isFin}
 use Rattle.supersaw.specs.Voices.{at}
-use Rattle.supersaw.specs.Lanes.{lanesFinite}
+use Rattle.supersaw.specs.Shortcuts.{lanesFinite}
 use Rattle.supersaw.proofs.all_finite.Statement.{statement}
 use Rattle.supersaw.proofs.all_finite.Tie as tie
 

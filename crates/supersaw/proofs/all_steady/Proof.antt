@@ -6,7 +6,7 @@ use native.Mathlib.Omega.{arith}
 use Rattle.laws.specs.Lists.{all}
 use Rattle.laws.proofs.All.{all-more, all-stops, all-done}
 use Rattle.supersaw.specs.Voices.{at}
-use Rattle.supersaw.specs.Lanes.{steadyOf, lanesSteady}
+use Rattle.supersaw.specs.Shortcuts.{steadyOf, lanesSteady}
 use Rattle.supersaw.proofs.all_steady.Statement.{statement}
 use Rattle.supersaw.proofs.all_steady.Tie as tie
 

@@ -1,6 +1,6 @@
 use mathlib.Core.Path.{refl}
 use Rattle.laws.specs.Lists.{tab}
-use Rattle.supersaw.specs.Lanes.{lanesOf}
+use Rattle.supersaw.specs.Shortcuts.{lanesOf}
 use borrow.Author.Needs.{needs}
 use Rattle.supersaw.proofs.lanes.Statement.{statement}
 use Rattle.supersaw.proofs.lanes.Tie as tie

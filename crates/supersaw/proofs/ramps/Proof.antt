@@ -8,7 +8,7 @@ use Rattle.laws.specs.Lists.{over}
 use lib.Ieee.{binary64, sub, mul}
 use Rattle.laws.specs.Float.{zer, one, two}
 use Rattle.supersaw.specs.Voices.{at}
-use Rattle.supersaw.specs.Lanes.{rampsOf}
+use Rattle.supersaw.specs.Shortcuts.{rampsOf}
 use borrow.Author.Needs.{needs}
 use Rattle.supersaw.proofs.ramps.Statement.{statement}
 use Rattle.supersaw.proofs.ramps.Tie as tie

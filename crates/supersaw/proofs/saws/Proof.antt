@@ -6,7 +6,7 @@ use lib.ListN.{length}
 use Rattle.laws.proofs.Over.{over-done, over-none, over-more}
 use Rattle.laws.specs.Lists.{over}
 use Rattle.supersaw.specs.Voices.{at, sawOf}
-use Rattle.supersaw.specs.Lanes.{sawsOf}
+use Rattle.supersaw.specs.Shortcuts.{sawsOf}
 use borrow.Author.Needs.{needs}
 use Rattle.supersaw.proofs.saws.Statement.{statement}
 use Rattle.supersaw.proofs.saws.Tie as tie

@@ -7,7 +7,7 @@ use Rattle.laws.proofs.Over.{over-done, over-none, over-more}
 use Rattle.laws.specs.Lists.{over}
 use lib.Ieee.{binary64, add}
 use Rattle.supersaw.specs.Voices.{at}
-use Rattle.supersaw.specs.Lanes.{sumsOf}
+use Rattle.supersaw.specs.Shortcuts.{sumsOf}
 use borrow.Author.Needs.{needs}
 use Rattle.supersaw.proofs.sums.Statement.{statement}
 use Rattle.supersaw.proofs.sums.Tie as tie

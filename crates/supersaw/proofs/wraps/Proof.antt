@@ -8,7 +8,7 @@ use Rattle.laws.specs.Lists.{over}
 use Rattle.common.specs.Phase.{wrapOf}
 use Rattle.common.specs.declared.Turns.{Turns}
 use Rattle.supersaw.specs.Voices.{at}
-use Rattle.supersaw.specs.Lanes.{wrapsOf}
+use Rattle.supersaw.specs.Shortcuts.{wrapsOf}
 use borrow.Author.Needs.{needs}
 use Rattle.supersaw.proofs.wraps.Statement.{statement}
 use Rattle.supersaw.proofs.wraps.Tie as tie
@@ -44,7 +44,11 @@ loop-less : tie.Need-loop-less Inv-loop μ-loop
 loop-less c = omega arith
 
 loop-again : tie.Need-loop-again Inv-loop μ-loop
-loop-again c = (omega arith, c .before .before .loop .inv .1, over-more _ _ _ _ _ (omega arith) (c .before .before .loop .inv .2) (ap (λ (z : Turns). z .0) (c .wrap-phase .ensures)))
+loop-again c = (
+  omega arith,
+  c .before .before .loop .inv .1,
+  over-more _ _ _ _ _ (omega arith) (c .before .before .loop .inv .2) (ap (λ (z : Turns). z .0) (c .wrap-phase .ensures)),
+)
 
 returns : tie.Need-returns Inv-loop μ-loop
 unfolding wrapsOf

@@ -2,7 +2,6 @@ use mathlib.Core.Bool.{false≢true}
 use mathlib.Core.Path.{subst}
 use borrow.Author.Needs.{needs}
 use Rattle.laws.specs.Float.{InUnit}
-use Rattle.noise_generator.specs.Apart.{Calm}
 use Rattle.noise_generator.proofs.NoiseGenerator.calm.Statement.{statement}
 use Rattle.noise_generator.proofs.NoiseGenerator.calm.Tie as tie
 

@@ -18,7 +18,7 @@ clamp-requires-2 c κs = search needs
 
 returns : tie.Need-returns
 unfolding correlationOf givenOr ofBits
-returns c = simp (c .clamp .ensures, c .before .known-told .given, c .before .before .input .given .1)
+returns c = simp (c .clamp .ensures, c .before .before .input .given .1)
 
 returns-2 : tie.Need-returns-2
 unfolding correlationOf givenOr ofBits

@@ -1,6 +1,7 @@
-use mathlib.Core.Path.{sym, _∙_}
-use Rattle.noise_generator.proofs.Clean.{marked-clean}
-use Rattle.noise_generator.specs.NoiseGenerator.{noiseVoltsOf}
+use mathlib.Core.Path.{_∙_}
+use Rattle.answer.proofs.Laws.{mark-known}
+use Rattle.noise_generator.specs.NoiseGenerator.{noiseGeneratorVoltsOf}
+use mathlib.Core.Bool.{true, false}
 use borrow.Author.Needs.{needs}
 use Rattle.noise_generator.proofs.NoiseGenerator.heard.Statement.{statement}
 use Rattle.noise_generator.proofs.NoiseGenerator.heard.Tie as tie
@@ -23,16 +24,24 @@ out-requires-3 c κs = search needs
 out-requires-4 : tie.Need-out-requires-4
 out-requires-4 c κs = search needs
 
+volts4-requires : tie.Need-volts4-requires
+volts4-requires c κs = search needs
+
+marked-requires : tie.Need-marked-requires
+marked-requires c κs = search needs
+
 mark-requires : tie.Need-mark-requires
 mark-requires c κs = search needs
 
 returns : tie.Need-returns
-unfolding noiseVoltsOf
+unfolding noiseGeneratorVoltsOf
 returns c =
-    let outs = c .before in
+    let wired = c .before .before in
+    let outs = wired .before in
     let mixes = outs .before .before .before .before in
-    let s = mixes .before .before in
-    simp (
+    c .marked .ensures
+    ∙ simp (
+      wired .volts4 .ensures,
       outs .out4 .ensures,
       outs .before .out3 .ensures,
       outs .before .before .out2 .ensures,
@@ -40,15 +49,17 @@ returns c =
       mixes .mix2 .ensures,
       mixes .before .mix .ensures,
     )
-    (sym (marked-clean _ (s .pre (c .if1 .taken))))
+    (mark-known _ false true (mixes .before .before .pre (c .before .if1 .taken)))
 
 returns-2 : tie.Need-returns-2
-unfolding noiseVoltsOf
+unfolding noiseGeneratorVoltsOf
 returns-2 c =
-    let outs = c .before .before in
+    let wired = c .before .before in
+    let outs = wired .before in
     let mixes = outs .before .before .before .before in
     c .mark .ensures
     ∙ simp (
+      wired .volts4 .ensures,
       outs .out4 .ensures,
       outs .before .out3 .ensures,
       outs .before .before .out2 .ensures,
@@ -67,6 +78,8 @@ heard-spec =
     out-requires-2
     out-requires-3
     out-requires-4
+    volts4-requires
+    marked-requires
     mark-requires
     returns
     returns-2)

@@ -1,6 +1,6 @@
 use borrow.Author.Needs.{needs}
 use lib.Ieee.{ofBits}
-use Rattle.noise_generator.specs.NoiseGenerator.{noiseGeneratorResetOf}
+use Rattle.noise_generator.specs.NoiseGenerator.{restarted}
 use Rattle.noise_generator.proofs.NoiseGenerator.reset.Statement.{statement}
 use Rattle.noise_generator.proofs.NoiseGenerator.reset.Tie as tie
 
@@ -11,7 +11,7 @@ new-requires-2 : tie.Need-new-requires-2
 new-requires-2 c κs = search needs
 
 returns : tie.Need-returns
-unfolding noiseGeneratorResetOf ofBits
+unfolding restarted ofBits
 returns c = simp (c .new2 .ensures, c .before .new .ensures)
 
 pub reset-spec : {M : Type 1} → statement M

@@ -1,18 +1,20 @@
-use mathlib.Core.Path.{_≡_, refl, ap, _∙_}
-use Prim.Native.Nat.{_≤_, _+_, _-_}
+use mathlib.Core.Path.{_≡_, refl, sym, ap, _∙_, subst}
+use Prim.Native.Nat.{_≤_, _+_, _-_, _*_}
 use native.Mathlib.Nat.{le-antisymm}
 use native.Mathlib.Omega.{arith}
-use lib.ListN.{length, length-set}
-use lib.Seq.{sets, length-sets}
+use lib.ListN.{length}
+use lib.Seq.{sets}
 use borrow.Author.Needs.{needs}
 use Rattle.laws.proofs.Over.{over-none}
 use Rattle.laws.specs.Lists.{over}
 use Rattle.answer.proofs.Blocks.{four-ports, joined-none, frames-more, frames-done, marks-more, marks-done}
 use Rattle.answer.specs.Block.{afterTicks, markAt, frameAt, joined}
-use Rattle.noise_generator.specs.Apart.{whole, neededAt}
-use Rattle.noise_generator.specs.NoiseGenerator.{neededOf, changedBy, neededBy, correlationOf, drawing, noiseGeneratorAnswerOf, noiseGeneratorNextOf}
+use Rattle.noise_generator.specs.Consts.{nPorts}
+use Rattle.noise_generator.specs.Shortcuts.{whole, neededAt}
+use Rattle.noise_generator.specs.NoiseGenerator.{neededOf, changedBy, neededBy, correlationOf}
+use Rattle.noise_generator.specs.NoiseGenerator.{drawing, noiseGeneratorToldOf, noiseGeneratorNextOf}
 use Rattle.noise_generator.proofs.CalmLaws.{ahead-taken, ahead-finite}
-use Rattle.noise_generator.proofs.TickLaws.{drawingAt, ticks-at, heard, moved, advanced, reaches}
+use Rattle.noise_generator.proofs.TickLaws.{drawingAt, heard, moved, advanced, reaches}
 use Rattle.noise_generator.proofs.TurnLaws.{turn-there}
 use Rattle.noise_generator.proofs.NoiseGenerator.run.Statement.{statement}
 use Rattle.noise_generator.proofs.NoiseGenerator.run.Tie as tie
@@ -20,12 +22,13 @@ use Rattle.noise_generator.proofs.NoiseGenerator.run.Tie as tie
 abbrev Inv-loop : tie.InvT-loop
 Inv-loop self c wanted draws samples₀ marks₀ rows₀ rows2₀ rest₀ last-white₀ calm at₀ i₀ samples marks rows rows2 rest last-white at i =
     (i ≤ length marks₀)
-    × (length samples ≡ length samples₀)
+    × (length samples ≡ nPorts * length marks₀)
     × (length marks ≡ length marks₀)
-    × (samples ≡ sets samples₀ 0 (joined (frameAt 4 (noiseGeneratorAnswerOf c wanted) (noiseGeneratorNextOf c wanted) (drawing self draws)) i))
-    × (marks ≡ over (markAt (noiseGeneratorAnswerOf c wanted) (noiseGeneratorNextOf c wanted) (drawing self draws)) i marks₀)
+    × (samples ≡ sets samples₀ 0 (joined (frameAt nPorts (noiseGeneratorToldOf c wanted) (noiseGeneratorNextOf c wanted) (drawing self draws)) i))
+    × (marks ≡ over (markAt (noiseGeneratorToldOf c wanted) (noiseGeneratorNextOf c wanted) (drawing self draws)) i marks₀)
     × (whole rows rows2 rest (self .correlation) last-white ≡ drawingAt self c wanted draws i .noise)
     × (at ≡ neededBy self i)
+    × (at ≤ length draws)
 
 abbrev μ-loop : tie.MeasureT-loop
 μ-loop self c wanted draws samples₀ marks₀ rows₀ rows2₀ rest₀ last-white₀ calm at₀ i₀ samples marks rows rows2 rest last-white at i = length marks₀ - i
@@ -35,72 +38,52 @@ calm-requires c κs = search needs
 
 loop-holds : tie.Need-loop-holds Inv-loop μ-loop
 unfolding afterTicks neededBy changedBy
-loop-holds c = (omega arith, refl, refl, joined-none _ _, over-none _ _, refl, refl)
+loop-holds c =
+    let apart = c .before .before .before .before .before in
+    (omega arith, apart .before .before .before .pre .1, refl, joined-none _ _, over-none _ _, refl, refl, omega arith)
 
 clamped-requires : tie.Need-clamped-requires Inv-loop μ-loop
 clamped-requires c κs = search needs
 
 mul-turn : tie.Need-mul-turn Inv-loop μ-loop
-mul-turn c =
-    let l = c .before .before .before .before .loop in
-    let begun = c .before .before .before .before .before .before .before .before .before .before .before .before .before in
-    let a = begun .args in
-    let h = ticks-at (a .self) (a .c) (a .wanted) (a .draws .now) _ (begun .pre .0) (l .i) (l .inv .0) .fits in
-    let p = l .inv .6 in
-    omega arith
+mul-turn c = omega arith
 
 sub-turn : tie.Need-sub-turn Inv-loop μ-loop
-sub-turn c =
-    let l = c .before .before .before .before .loop in
-    let begun = c .before .before .before .before .before .before .before .before .before .before .before .before .before in
-    let a = begun .args in
-    let h = ticks-at (a .self) (a .c) (a .wanted) (a .draws .now) _ (begun .pre .0) (l .i) (l .inv .0) .fits in
-    let p = l .inv .6 in
-    omega arith
+sub-turn c = omega arith
 
 part-turn-start : tie.Need-part-turn-start Inv-loop μ-loop
-part-turn-start c =
-    let l = c .before .before .before .before .loop in
-    let begun = c .before .before .before .before .before .before .before .before .before .before .before .before .before in
-    let a = begun .args in
-    let h = ticks-at (a .self) (a .c) (a .wanted) (a .draws .now) _ (begun .pre .0) (l .i) (l .inv .0) .fits in
-    let p = l .inv .6 in
-    omega arith
+part-turn-start c = omega arith
 
 part-turn-end : tie.Need-part-turn-end Inv-loop μ-loop
-part-turn-end c =
-    let l = c .before .before .before .before .loop in
-    let begun = c .before .before .before .before .before .before .before .before .before .before .before .before .before in
-    let a = begun .args in
-    let h = ticks-at (a .self) (a .c) (a .wanted) (a .draws .now) _ (begun .pre .0) (l .i) (l .inv .0) .fits in
-    let p = l .inv .6 in
-    omega arith
+part-turn-end c = omega arith
 
 turn-requires : tie.Need-turn-requires Inv-loop μ-loop
 unfolding neededAt neededOf
 turn-requires c κs =
-    let a = c .before .before .before .before .before .before .before .before .before .before .before .before .before .before .args in
-    let h = c .before .before .before .before .before .before .before .before .before .before .before .before .before .before .pre .0 in
-    let good = c .before .before .before .before .before .before .before .before .before .before .before .before .before .before .good .0 .1 in
-    let l = c .before .before .before .before .before .loop in
+    let clamped = c .before .before .before in
+    let calmed = clamped .before .before .before in
+    let begun = calmed .before .before .before .before .before .before .before .before in
+    let a = begun .args in
+    let good = begun .good .0 .1 .1 in
+    let l = clamped .before .before .loop in
     let x = whole (l .rows) (l .rows2) (l .rest) (a .self .correlation) (l .last-white) in (
-      ahead-taken (a .self) (a .c) (a .wanted) (a .draws .now) _ h (l .i) (omega arith) x (l .at) (l .inv .5) (l .inv .6),
+      ahead-taken (a .self) (a .c) (a .wanted) (a .draws .now) _ (begun .pre .0) (l .i) (omega arith) x (l .at) (l .inv .5) (l .inv .6),
       λ e.
-          ahead-finite (a .self) (a .c) (a .wanted) (a .draws .now) _ h (search (needs, good .0)) (search (needs, good .1 .1 .0))
-          (c .before .before .before .before .before .before .calm .ensures e) (l .i) (omega arith) _ x (l .at) (c .before .before .before .clamped .ensures) (l .inv .5) (l .inv .6),
+          ahead-finite (a .self) (a .c) (a .wanted) (a .draws .now) _ (begun .pre .0) (search (needs, good .0)) (search (needs, good .1 .0))
+          (calmed .calm .ensures e) (l .i) (omega arith) _ x (l .at) (clamped .clamped .ensures) (l .inv .5) (l .inv .6),
     )
 
 put-requires : tie.Need-put-requires Inv-loop μ-loop
-put-requires c κs = (omega arith, omega arith)
+put-requires c κs = search needs
 
 add-at : tie.Need-add-at Inv-loop μ-loop
 unfolding neededAt neededOf
 add-at c =
-    let turned = c .before .before .before .before .before .before .before .before .before in
+    let given-back = c .before .before .before .before in let turned = given-back .before .before .before .before .before in
     let tested = turned .before .before .before .before .before in
+    let apart = tested .before .before .before .before .before in let begun = apart .before .before .before .before .before in
     let t = tested .loop-test .taken in
     let l = tested .before .loop in
-    let begun = tested .before .before .before .before .before .before .before .before .before .before in
     let a = begun .args in
     let x = whole (l .rows) (l .rows2) (l .rest) (a .self .correlation) (l .last-white) in
     let h = reaches (a .self) (a .c) (a .wanted) (a .draws .now) _ (begun .pre .0) (l .i) (omega arith) x (l .at) _ (l .inv .5) (l .inv .6) refl in
@@ -110,11 +93,13 @@ add-at c =
 
 add-i : tie.Need-add-i Inv-loop μ-loop
 add-i c =
-    let tested = c .before .before .before .before .before .before .before .before .before .before .before .before .before .before in
+    let turned = c .before .before .before .before .before .before .before .before .before in
+    let tested = turned .before .before .before .before .before in
+    let apart = tested .before .before .before .before .before in
     let t = tested .loop-test .taken in
     let s = tested .before .loop .inv in
-    let g = tested .before .before .before .before .before .before .before .before .before .before .good in
-    omega arith
+    let g = apart .before .before .before .before .before .good in
+    omega (arith, t, s, g)
 
 loop-less : tie.Need-loop-less Inv-loop μ-loop
 loop-less c = omega arith
@@ -122,12 +107,12 @@ loop-less c = omega arith
 loop-again : tie.Need-loop-again Inv-loop μ-loop
 unfolding neededAt neededOf
 loop-again c =
-    let put = c .before .before .before .before .before .before in
+    let given-back = c .before .before in let put = given-back .before .before .before .before in
     let turned = put .before .before .before in
     let asked = turned .before .before .before .before in
     let tested = asked .before in
+    let apart = tested .before .before .before .before .before in let begun = apart .before .before .before .before .before in
     let s = tested .before .loop in
-    let begun = tested .before .before .before .before .before .before .before .before .before .before in
     let a = begun .args in
     let h = begun .pre .0 in
     let t = tested .loop-test .taken in
@@ -138,30 +123,34 @@ loop-again c =
     turn-there _ (correlationOf (a .self) (a .c)) x (a .wanted) (s .at) (a .draws .now) _ (asked .clamped .ensures)
     (r .0 (a .self .correlation) (s .last-white)) in
     let told = heard (a .self) (a .c) (a .wanted) (a .draws .now) _ h (s .i) (omega arith) x (s .at) _ (s .inv .5) (s .inv .6) e in
-    let place = advanced (a .self) (a .c) (a .wanted) (a .draws .now) _ h (s .i) (omega arith) x (s .at) _ (s .inv .5) (s .inv .6) e in (
+    let place = advanced (a .self) (a .c) (a .wanted) (a .draws .now) _ h (s .i) (omega arith) x (s .at) _ (s .inv .5) (s .inv .6) e in
+    let reach = reaches (a .self) (a .c) (a .wanted) (a .draws .now) _ h (s .i) (omega arith) x (s .at) _ (s .inv .5) (s .inv .6) e in (
       omega arith,
-      simp (p .0, length-sets) (s .inv .1),
-      simp (p .1, length-set) (s .inv .2),
-      rw (p .0) (frames-more 4 four-ports _ _ _ _ _ _ _ (s .inv .3) told),
-      rw (p .1) (marks-more 4 four-ports _ _ _ _ _ _ _ (omega arith) (s .inv .4) told),
+      put .put .kept .1 .1 .1 .0 ∙ s .inv .1,
+      put .put .kept .1 .1 .1 .1 .0 ∙ s .inv .2,
+      rw (p .0) (frames-more nPorts four-ports _ _ _ _ (length (a .marks .now)) _ _ _ (omega arith) (s .inv .1) (s .inv .3) told),
+      rw (p .1) (marks-more nPorts four-ports _ _ _ _ _ _ _ (omega arith) (s .inv .4) told),
       moved (a .self) (a .c) (a .wanted) (a .draws .now) _ h (s .i) (omega arith) x (s .at) _ (s .inv .5) (s .inv .6) e,
       ap (λ k. s .at + k) (r .1) ∙ place,
+      subst (λ k. s .at + k ≤ length (a .draws .now)) (sym (r .1)) reach,
     )
 
 same-length : tie.Need-same-length Inv-loop μ-loop
-same-length c = c .before .loop .inv .1
+same-length c =
+    let calmed = c .before .before in let apart = calmed .before .before .before .before .before in
+    c .before .loop .inv .1 ∙ sym (apart .before .before .before .pre .1)
 
 same-length-2 : tie.Need-same-length-2 Inv-loop μ-loop
 same-length-2 c = c .before .loop .inv .2
 
 returns : tie.Need-returns Inv-loop μ-loop
 returns c =
+    let apart = c .before .before .before .before .before in let begun = apart .before .before .before .before .before in
     let s = c .before .loop in
-    let begun = c .before .before .before .before .before .before .before .before .before .before in
     let a = begun .args in
     let n = le-antisymm (s .inv .0) (omega arith) in (
       s .inv .5 ∙ ap (λ k. drawingAt (a .self) (a .c) (a .wanted) (a .draws .now) k .noise) n,
-      (frames-done 4 four-ports _ _ _ _ _ _ _ n (begun .pre .1) (s .inv .3), marks-done 4 four-ports _ _ _ _ _ _ _ n refl (s .inv .4)),
+      (frames-done nPorts four-ports _ _ _ _ _ _ _ n (begun .pre .1) (s .inv .3), marks-done nPorts four-ports _ _ _ _ _ _ _ n refl (s .inv .4)),
     )
 
 pub run-spec : {M : Type 1} → statement M

@@ -1,6 +1,6 @@
 use mathlib.Core.Bool.{false≢true}
 use mathlib.Core.Path.{ap, _∙_}
-use Rattle.noise_generator.specs.Apart.{neededAt}
+use Rattle.noise_generator.specs.Shortcuts.{neededAt}
 use Rattle.noise_generator.specs.NoiseGenerator.{neededOf, turnOf}
 use borrow.Author.Needs.{needs}
 use Rattle.noise_generator.proofs.NoiseGenerator.sound.Statement.{statement}
@@ -11,13 +11,17 @@ clamped-requires c κs = search needs
 
 turn-requires : tie.Need-turn-requires
 unfolding neededAt neededOf
-turn-requires c κs = (c .before .before .before .before .before .before .before .before .pre, λ e. absurd (false≢true e))
+turn-requires c κs =
+    let apart = c .before .before .before .before .before in
+    (apart .before .before .before .pre, λ e. absurd (false≢true e))
 
 returns : tie.Need-returns
 returns c =
-    let a = c .before .before .before .before .before .before .before .before .before .before .args in
+    let clamped = c .before .before .before .before in
+    let apart = clamped .before .before .before .before .before in
+    let a = apart .before .args in
     c .before .turn .ensures .0 (a .self .correlation) (a .self .«last_white»)
-    ∙ ap (λ k. turnOf k (a .self) (a .wanted) (a .draws .now)) (c .before .before .before .before .clamped .ensures)
+    ∙ ap (λ k. turnOf k (a .self) (a .wanted) (a .draws .now)) (clamped .clamped .ensures)
 
 pub sound-spec : {M : Type 1} → statement M
 sound-spec = tie.close (tie.spec clamped-requires turn-requires returns)

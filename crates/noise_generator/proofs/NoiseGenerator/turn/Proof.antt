@@ -23,19 +23,25 @@ changed-requires-2 c κs = search needs
 
 shared-slice-read-bipolar : tie.Need-shared-slice-read-bipolar
 shared-slice-read-bipolar c =
-    let h = needed-two _ _ _ (draws-enough _ _ (c .before .before .before .before .before .before .pre .0)) in
+    let counted = c .before .before .before .before in
+    let h = needed-two _ _ _ (draws-enough _ _ (counted .before .before .pre .0)) in
     omega arith
 
 bipolar-requires : tie.Need-bipolar-requires
-bipolar-requires c κs = fine-there _ _ 0 (c .before .before .before .before .before .before .pre .0) (needed-some _ _ 0 (lit< tt))
+bipolar-requires c κs =
+    let counted = c .before .before .before .before in
+    fine-there _ _ 0 (counted .before .before .pre .0) (needed-some _ _ 0 (lit< tt))
 
 shared-slice-read-bipolar-2 : tie.Need-shared-slice-read-bipolar-2
 shared-slice-read-bipolar-2 c =
-    let h = needed-two _ _ _ (draws-enough _ _ (c .before .before .before .before .before .before .before .before .pre .0)) in
+    let counted = c .before .before .before .before .before in
+    let h = needed-two _ _ _ (draws-enough _ _ (counted .before .before .before .pre .0)) in
     omega arith
 
 bipolar-requires-2 : tie.Need-bipolar-requires-2
-bipolar-requires-2 c κs = fine-there _ _ 1 (c .before .before .before .before .before .before .before .before .pre .0) (needed-some _ _ 1 (lit< tt))
+bipolar-requires-2 c κs =
+    let counted = c .before .before .before .before .before in
+    fine-there _ _ 1 (counted .before .before .before .pre .0) (needed-some _ _ 1 (lit< tt))
 
 sample-requires : tie.Need-sample-requires
 sample-requires c κs =
@@ -52,14 +58,14 @@ sample-requires c κs =
 
 add-sample : tie.Need-add-sample
 add-sample c =
-    let called = c .before .before .before .before .before .before .before .before in
+    let drawn = c .before .before .before in let called = drawn .before .before .before .before .before in
     let m = changed-most (called .before .before .next-index .result) in
     let e = called .changed .ensures in
     omega arith
 
 sample-requires-2 : tie.Need-sample-requires-2
 sample-requires-2 c κs =
-    let called = c .before .before .before .before .before .before .before in
+    let drawn = c .before .before .before in let called = drawn .before .before .before .before in
     let begun = called .before .before .before .before .before in
     let i = called .before .before .before .next-index in
     let j = called .before .before .next-index2 in
@@ -87,14 +93,14 @@ heard-requires c κs calm =
 
 add-t21 : tie.Need-add-t21
 add-t21 c =
-    let called = c .before .before .before .before .before .before .before .before .before .before in
+    let drawn = c .before .before .before .before .before in let called = drawn .before .before .before .before .before in
     let m = changed-most (called .before .before .next-index .result) in
     let e = called .changed .ensures in
     omega arith
 
 add-t26 : tie.Need-add-t26
 add-t26 c =
-    let called = c .before .before .before .before .before .before .before .before .before in
+    let drawn = c .before .before .before .before .before in let called = drawn .before .before .before .before in
     let m = changed-most (called .before .before .before .next-index .result) in
     let k = changed-most (called .before .before .next-index2 .result) in
     let e = called .before .changed .ensures in

@@ -2,7 +2,7 @@ use mathlib.Core.Bool.{false≢true}
 use lib.Ieee.{le, neg, ofBits}
 use borrow.Author.Needs.{needs}
 use Rattle.laws.proofs.Tests.{of-true}
-use Rattle.noise_generator.specs.Promises.{Bounded, top}
+use Rattle.noise_generator.specs.Promises.{top}
 use Rattle.noise_generator.proofs.PinkNoiseState.bounded.Statement.{statement}
 use Rattle.noise_generator.proofs.PinkNoiseState.bounded.Tie as tie
 
@@ -12,10 +12,11 @@ rows-in-unit-requires c κs = search needs
 returns : tie.Need-returns
 unfolding neg ofBits
 returns c e =
-    let sum = c .before .before .before .before .before .before .args .self .«running_sum» in
+    let tested = c .before .before .before in
+    let sum = tested .before .before .before .args .self .«running_sum» in
     record {
       rows = c .rows-in-unit .ensures e;
-      low = of-true (le (neg top) sum) (c .before .before .before .if1 .taken);
+      low = of-true (le (neg top) sum) (tested .if1 .taken);
       high = of-true (le sum top) (c .before .if2 .taken);
     }
 

@@ -1,4 +1,4 @@
-use Rattle.supersaw.specs.Lanes.{blendOf}
+use Rattle.supersaw.specs.Shortcuts.{blendOf}
 use borrow.Author.Needs.{needs}
 use Rattle.supersaw.proofs.Supersaw.blend.Statement.{statement}
 use Rattle.supersaw.proofs.Supersaw.blend.Tie as tie

@@ -7,7 +7,7 @@ use lib.ListN.{replicate}
 use Rattle.laws.proofs.Over.{over-none}
 use Rattle.laws.specs.Lists.{over}
 use Rattle.supersaw.specs.Voices.{dtOf, subDtOf}
-use Rattle.supersaw.specs.Lanes.{incsOf}
+use Rattle.supersaw.specs.Shortcuts.{incsOf}
 use Rattle.supersaw.proofs.Supersaw.increments.Statement.{statement}
 use Rattle.supersaw.proofs.Supersaw.increments.Tie as tie
 

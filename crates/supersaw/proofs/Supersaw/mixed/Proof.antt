@@ -3,7 +3,7 @@ use Prim.Native.Nat.{_≤_, _-_}
 use native.Mathlib.Nat.{le-antisymm}
 use native.Mathlib.Numerals.{add-one}
 use native.Mathlib.Omega.{arith}
-use Rattle.supersaw.specs.Lanes.{mixTo}
+use Rattle.supersaw.specs.Shortcuts.{mixTo}
 use Rattle.supersaw.proofs.Supersaw.mixed.Statement.{statement}
 use Rattle.supersaw.proofs.Supersaw.mixed.Tie as tie
 

@@ -1,4 +1,4 @@
-use Rattle.supersaw.specs.Lanes.{quietOf}
+use Rattle.supersaw.specs.Shortcuts.{quietOf}
 use borrow.Author.Needs.{needs}
 use Rattle.supersaw.proofs.Supersaw.quiet.Statement.{statement}
 use Rattle.supersaw.proofs.Supersaw.quiet.Tie as tie

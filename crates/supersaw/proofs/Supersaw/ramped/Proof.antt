@@ -1,5 +1,5 @@
 use borrow.Author.Needs.{needs}
-use Rattle.supersaw.specs.Lanes.{rampedOf}
+use Rattle.supersaw.specs.Shortcuts.{rampedOf}
 use Rattle.supersaw.proofs.Supersaw.ramped.Statement.{statement}
 use Rattle.supersaw.proofs.Supersaw.ramped.Tie as tie
 

@@ -2,6 +2,7 @@ use mathlib.Core.Path.{sym, _∙_}
 use lib.ListN.{length}
 use borrow.Author.Needs.{needs}
 use Rattle.answer.proofs.Blocks.{held-after, held-marks, held-frames}
+use Rattle.supersaw.specs.Consts.{nPorts}
 use Rattle.supersaw.proofs.Held.{holds, quiet-held}
 use Rattle.supersaw.proofs.Supersaw.run.Statement.{statement}
 use Rattle.supersaw.proofs.Supersaw.run.Tie as tie
@@ -23,12 +24,16 @@ increments-requires c κs = search needs
 
 glide-requires : tie.Need-glide-requires
 glide-requires c κs =
-    let clamped = c .before .before .before .before .before .before .before in
-    let begun = clamped .before .before .before .before .before .before .before in
-    (quiet-held (begun .args .self) (begun .args .c) _ _ _ _ (begun .pre .0) (clamped .clamp .ensures) (c .before .before .increments .ensures), begun .pre .2)
+    let ready = c .before .before in
+    let clamped = ready .before .before .before .before .before in
+    let apart = clamped .before .before .before .before .before in let begun = apart .before .before in
+    (quiet-held (begun .args .self) (begun .args .c) _ _ _ _ (begun .pre .0) (clamped .clamp .ensures) (ready .increments .ensures), begun .pre .2)
 
-advanced-requires : tie.Need-advanced-requires
-advanced-requires c κs = search needs
+voices-requires : tie.Need-voices-requires
+voices-requires c κs = search needs
+
+array-read-t24 : tie.Need-array-read-t24
+array-read-t24 c = search needs
 
 same-length : tie.Need-same-length
 same-length c = search needs
@@ -41,35 +46,21 @@ returns c =
     let glided = c .before .before .before .before .before in
     let ready = glided .before .before .before in
     let pitch = ready .before .before .before in
-    let begun = pitch .before .before .before .before .before .before .before .before .before in
+    let clamped = pitch .before .before in
+    let apart = clamped .before .before .before .before .before in let begun = apart .before .before in
     let a = begun .args in
     let g = glided .glide .ensures in
     let n = length (a .marks .now) in
-    let w = holds (a .self) (a .c) (begun .pre .0) (ready .before .lanes .ensures .1) in (
-      simp (
-        c .advanced .ensures,
-        g .0,
-        ready .increments .ensures,
-        ready .before .lanes .ensures .0,
-        pitch .voct-to-hz .ensures,
-        pitch .before .clamp2 .ensures,
-        pitch .before .before .clamp .ensures,
-      ) (sym (held-after _ _ _ _ _ _ _ _ w n (begun .pre .1))),
+    let w = holds (a .self) (a .c) (begun .pre .0) (ready .before .lanes .ensures .1) in
+    let step = ready .increments .ensures in
+    let at = ready .before .lanes .ensures .0 in
+    let memo = pitch .voct-to-hz .ensures in
+    let mix = pitch .before .clamp2 .ensures in
+    let detune = clamped .clamp .ensures in (
+      simp (c .voices .ensures, g .0, step, at, memo, mix, detune) (sym (held-after _ _ _ _ _ _ _ _ w n (begun .pre .1))),
       (
-        g .1 .0 ∙ simp (
-          ready .increments .ensures,
-          ready .before .lanes .ensures .0,
-          pitch .voct-to-hz .ensures,
-          pitch .before .clamp2 .ensures,
-          pitch .before .before .clamp .ensures,
-        ) (sym (held-frames _ _ _ _ _ _ _ _ w 2 n)),
-        g .1 .1 ∙ simp (
-          ready .increments .ensures,
-          ready .before .lanes .ensures .0,
-          pitch .voct-to-hz .ensures,
-          pitch .before .clamp2 .ensures,
-          pitch .before .before .clamp .ensures,
-        ) (sym (held-marks _ _ _ _ _ _ _ _ w n)),
+        g .1 .0 ∙ simp (step, at, memo, mix, detune) (sym (held-frames _ _ _ _ _ _ _ _ w nPorts n)),
+        g .1 .1 ∙ simp (step, at, memo, mix, detune) (sym (held-marks _ _ _ _ _ _ _ _ w n)),
       ),
     )
 
@@ -83,7 +74,8 @@ run-spec =
     lanes-requires
     increments-requires
     glide-requires
-    advanced-requires
+    voices-requires
+    array-read-t24
     same-length
     same-length-2
     returns)

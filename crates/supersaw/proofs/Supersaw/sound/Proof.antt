@@ -109,6 +109,9 @@ saw-requires-2 c κs = search needs
 wrap-phase-requires-2 : tie.Need-wrap-phase-requires-2 Inv-loop μ-loop
 wrap-phase-requires-2 c κs = search needs
 
+volts2-requires : tie.Need-volts2-requires Inv-loop μ-loop
+volts2-requires c κs = search needs
+
 still-finite-requires-2 : tie.Need-still-finite-requires-2 Inv-loop μ-loop
 still-finite-requires-2 c κs = search needs
 
@@ -117,20 +120,23 @@ mark-requires c κs = search needs
 
 returns : tie.Need-returns Inv-loop μ-loop
 returns c =
-    let low = c .before .before .before .before .before in
-    let l = low .before .before .before .loop in
+    let output = c .before .before in
+    let low = output .before .before .before .before in
     let pitch = low .before .before .before .before .before in
-    let a = pitch .before .before .before .before .before .before .args in
+    let clamped = pitch .before .before in
+    let l = low .before .before .before .loop in
+    let a = clamped .before .before .before .before .args in
     simp (
       c .mark .ensures,
       c .before .still-finite2 .ensures,
-      c .before .before .wrap-phase2 .ensures,
+      output .volts2 .ensures,
+      output .before .wrap-phase2 .ensures,
       low .saw2 .ensures,
       low .before .sub-increment .ensures,
       l .inv .2,
     )
     (sound-done (a .self) (a .c) (l .supersaw) _ _ _ (l .sum) (l .total-mix) (l .center-saw) (l .finite) (l .i)
-    (pitch .before .before .clamp .ensures) (pitch .before .clamp2 .ensures) (pitch .voct-to-hz .ensures)
+    (clamped .clamp .ensures) (pitch .before .clamp2 .ensures) (pitch .voct-to-hz .ensures)
     (l .inv .0) (low .before .before .loop-test .left) (l .inv .3))
 
 pub sound-spec : {M : Type 1} → statement M
@@ -163,6 +169,7 @@ sound-spec =
     sub-increment-requires
     saw-requires-2
     wrap-phase-requires-2
+    volts2-requires
     still-finite-requires-2
     mark-requires
     returns)

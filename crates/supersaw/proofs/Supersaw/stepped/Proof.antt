@@ -1,5 +1,5 @@
 use borrow.Author.Needs.{needs}
-use Rattle.supersaw.specs.Lanes.{steppedOf}
+use Rattle.supersaw.specs.Shortcuts.{steppedOf}
 use Rattle.supersaw.proofs.Supersaw.stepped.Statement.{statement}
 use Rattle.supersaw.proofs.Supersaw.stepped.Tie as tie
 
@@ -26,7 +26,16 @@ answered-requires c κs = search needs
 
 returns : tie.Need-returns
 unfolding steppedOf
-returns c = simp (c .answered .ensures, c .before .wraps .ensures, c .before .before .all-finite .ensures, c .before .before .before .blend .ensures, c .before .before .before .before .sums .ensures, c .before .before .before .before .before .saws .ensures)
+returns c =
+    let blended = c .before .before .before in
+    simp (
+      c .answered .ensures,
+      c .before .wraps .ensures,
+      c .before .before .all-finite .ensures,
+      blended .blend .ensures,
+      blended .before .sums .ensures,
+      blended .before .before .saws .ensures,
+    )
 
 pub stepped-spec : {M : Type 1} → statement M
 stepped-spec =

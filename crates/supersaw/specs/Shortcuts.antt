@@ -1,19 +1,20 @@
--- What a block's code does for eight oscillators at once, the seven voices and the sub oscillator. The public contracts don't
--- cite it: they cite Supersaw.antt, and proofs/LaneLaws.antt has that the two agree.
+-- Shortcuts of the code: no public contract and no promise cites them, so nobody need believe them; proofs/LaneLaws.antt and
+-- proofs/Held.antt show that they are what the definitions say. A block's code does each line of the loop for eight oscillators at once,
+-- the seven voices and the sub oscillator.
 use mathlib.Core.Bool.{Bool, true, false, _&&_}
 use mathlib.Core.List.{List, [], _∷_, _++_}
 use Prim.Native.Nat.{ℕ, zero, suc}
 use lib.Ieee.{Float, binary64, add, sub, mul, div, lt, ofBits, fits}
 use Rattle.laws.specs.Float.{zer, one, two, isFin}
 use Rattle.laws.specs.Lists.{all, tab}
-use Rattle.common.specs.Phase.{turns, wrapOf}
+use Rattle.common.specs.Phase.{wrapOf}
 use Rattle.common.specs.declared.Hertz.{Hertz}
-use Rattle.common.specs.declared.Memo1.{Memo1}
 use Rattle.common.specs.declared.Turns.{Turns}
+use Rattle.answer.specs.Answer.{volts2}
 use Rattle.answer.specs.Mark.{markOf}
+use Rattle.answer.specs.declared.Answer.{Answer}
 use Rattle.supersaw.specs.Consts.{mixLevels}
 use Rattle.supersaw.specs.Voices.{at, dtOf, sawOf, subDtOf}
-use Rattle.supersaw.specs.declared.Supersaw.{Supersaw}
 use Rattle.supersaw.specs.declared.Moved.{Moved}
 
 -- the phases
@@ -50,7 +51,7 @@ blendOf s mix = add binary64 (mul binary64 (at s 3) (sub binary64 one mix)) (mul
 
 -- a tick's answer from both outputs and whether the phases were finite before their wrap, beside the phases after it
 unfoldable pub movedOf : Float → Float → Bool → List Float → Moved
-movedOf out low finite t = record { answer = markOf (record { p10 = out; p11 = low; p12 = zer; p13 = zer; p14 = zer }) false true finite; phases = t }
+movedOf out low finite t = record { answer = markOf (volts2 out low) false true finite; phases = t }
 
 -- an accepted tick
 unfoldable pub steppedOf : List Float → List Float → Float → Moved
@@ -59,9 +60,12 @@ steppedOf t dt mix =
     let next = sumsOf t dt in
     movedOf (blendOf saws mix) (at saws 7) (lanesFinite next) (wrapsOf next)
 
--- the state with these phases and this memo
-unfoldable pub advancedOf : Supersaw → List Float → Memo1 → Supersaw
-advancedOf s t memo = record { phases = tab (at t) 7; «sub_phase» = turns (at t 7); «sample_rate» = s .«sample_rate»; «freq_memo» = memo }
+-- a tick whose controls stand still: the memo holds, so only the phases move
+abbrev pub heldTold : List Float → Float → List Float → Answer
+heldTold dt mix t = steppedOf t dt mix .answer
+
+abbrev pub heldNext : List Float → Float → List Float → List Float
+heldNext dt mix t = steppedOf t dt mix .phases
 
 -- ---- the tick in which no oscillator comes near its step
 -- more than an increment above its step, and more than one below the next; every f64 fits
