@@ -115,7 +115,7 @@ same-refused k s l m t u e = record { out = refl; line = e }
 
 alike-sounded : (rising : Bool) (k : ℕ) (s t : KarplusStrong) (p b d c : Float) (draws : List ℕ) (l m : List Float)
     → Alike (s .len) l m → Alike (t .len) l m → t .«write_pos» < t .len → t .len ≤ length l → struckLen p ≤ length l
-    → SameTick (tickUnless k s l (stepOf (strikeIf rising t p b draws l .out) p d c (strikeIf rising t p b draws l .line))) (tickUnless k s m (stepOf (strikeIf rising t p b draws m .out) p d c (strikeIf rising t p b draws m .line)))
+    → SameTick (tickUnless k s l (stepOf (strikeIf rising t p b draws l .string) p d c (strikeIf rising t p b draws l .line))) (tickUnless k s m (stepOf (strikeIf rising t p b draws m .string) p d c (strikeIf rising t p b draws m .line)))
 alike-sounded rising (suc k) s t p b d c draws l m e a h g r = same-refused k s l m _ _ e
 alike-sounded false zero s t p b d c draws l m e a h g r = unfold tickUnless strikeIf in alike-step t p d c l m h g a
 alike-sounded true zero s t p b d c draws l m e a h g r = unfold tickUnless strikeIf strikeOf in alike-struck-step t p b d c draws l m r (a .size)

@@ -17,7 +17,7 @@ use Rattle.laws.specs.Float.{F64, one}
 use Rattle.std.proofs.num.Truncating.{two-to, at-least-one, is-no-nan, down-by, cut-down}
 use Rattle.numeric.specs.Basic.{wholeOf}
 use Rattle.numeric.proofs.RangeLaws.{whole-monotone}
-use Rattle.karplus_strong.specs.Ranges.{Cut}
+use Rattle.karplus_strong.specs.Shortcuts.{Cut}
 
 abbrev top : Float
 top = ofBits binary64 0x4330000000000000

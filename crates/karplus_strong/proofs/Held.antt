@@ -1,7 +1,7 @@
 -- A block's ticks are turns of the loop alone: its trigger and its controls stand still.
 use mathlib.Core.Bool.{Bool, true, false, cond, not}
 use mathlib.Core.List.{List}
-use mathlib.Core.Path.{_≡_, refl, sym, ap, _∙_}
+use mathlib.Core.Path.{_≡_, refl, sym, ap, _∙_, subst}
 use Prim.Native.Nat.{ℕ, _+_, _≤_, _<_}
 use native.Mathlib.Nat.{mod-lt}
 use native.Mathlib.Numerals.{add-one}
@@ -11,29 +11,29 @@ use lib.Ieee.{Float, binary64, mul, neg, isNan}
 use lib.ListN.{length, length-set}
 use borrow.Author.Tests.{le-leb, eqb-true, eqb-false, ne-eqb}
 use Rattle.laws.specs.Float.{zer, one, isFin}
+use Rattle.laws.specs.Lists.{tab}
 use Rattle.numeric.specs.Basic.{clampOf, wholeOf}
 use Rattle.common.specs.Consts.{half}
-use Rattle.common.specs.Edge.{risingOf, risingAboveOf}
+use Rattle.common.specs.Edge.{risingOf}
 use Rattle.common.specs.Memo.{recall1, voctToHzAt}
 use Rattle.common.specs.Tests.{drawsRefusalOf}
-use Rattle.common.proofs.EdgeLaws.{rises-once}
+use Rattle.common.proofs.EdgeLaws.{rising-once}
 use Rattle.common.proofs.MemoLaws.{recall1-again}
-use Rattle.common.specs.declared.Hertz.{Hertz}
 use Rattle.common.specs.declared.Memo1.{Memo1}
 use Rattle.common.specs.declared.Risen.{Risen}
-use Rattle.answer.specs.Block.{afterTicks, answerAt}
-use Rattle.answer.proofs.Blocks.{Holds}
-use Rattle.karplus_strong.specs.Consts.{loopLeak}
+use Rattle.answer.specs.Block.{afterTicks, answerAt, joined, markAt, frameAt}
+use Rattle.answer.specs.declared.Answer.{Answer}
+use Rattle.answer.proofs.Blocks.{Holds, held-after, held-marks, held-frames}
+use Rattle.karplus_strong.specs.Consts.{nPorts, loopLeak}
 use Rattle.karplus_strong.specs.Step.{filteredOf, stretchedOf, wroteOf, clearedOf, Ticking}
-use Rattle.karplus_strong.specs.KarplusStrong.{maxLenOf, roomOf, karplusStrongRefusalOf, finiteOr, periodOf, struckLen, Striking, strikeOf, strikeIf, heardString, tickUnless, karplusStrongTickOf, Strung, strung}
-use Rattle.karplus_strong.specs.Held.{tuningOf, tapAt, turnOf, heldAnswer, heldNext}
-use Rattle.karplus_strong.specs.Blocks.{triggerRefusalOf, firstRefusalOf, karplusStrongAnswerOf, karplusStrongNextOf}
-use Rattle.karplus_strong.specs.Promises.{periodAt, risesAt}
+use Rattle.karplus_strong.specs.KarplusStrong.{maxLenOf, roomOf, karplusStrongRefusalOf, finiteOr, periodOf, struckLen, Strung, strikeOf, strikeIf, heardString, tickUnless, karplusStrongTickOf, strung, triggerRefusalOf, firstRefusalOf, karplusStrongToldOf, karplusStrongNextOf}
+use Rattle.karplus_strong.specs.Shortcuts.{tuningOf, tapAt, turnOf, heldAnswer, heldNext}
+use Rattle.karplus_strong.specs.Promises.{periodAt, taken}
 use Rattle.karplus_strong.specs.declared.KarplusStrong.{KarplusStrong}
 use Rattle.karplus_strong.specs.declared.KarplusStrongControls.{KarplusStrongControls}
 use Rattle.karplus_strong.specs.declared.KarplusStrongTicked.{KarplusStrongTicked}
 use Rattle.karplus_strong.specs.declared.Tuning.{Tuning}
-use Rattle.karplus_strong.proofs.Parts.{Sound, sound-line, accepted, memo-number, period-range, turn-is}
+use Rattle.karplus_strong.proofs.Parts.{Parts-of, Sound, sound-line, accepted, memo-number, period-range, turn-is}
 use Rattle.karplus_strong.proofs.Alike.{length-blank, length-struck}
 use Rattle.karplus_strong.proofs.Ticks.{struckStep, tick-is}
 
@@ -73,8 +73,8 @@ abbrev pub tuneOf : KarplusStrong → KarplusStrongControls → Tuning
 tuneOf s c = tuningOf (periodAt s c) (clampOf (finiteOr (c .damping) half) zer one) (clampOf (finiteOr (c .stretch) zer) (neg one) one)
 
 -- what the first turn starts from
-abbrev pub struckBy : KarplusStrong → KarplusStrongControls → List ℕ → List Float → Striking
-struckBy s c draws l = strikeIf (risesAt s c) (heardString s (risingOf (s .«trigger_edge») (c .trigger) .edge) (memoOf s c)) (periodAt s c) (clampOf (finiteOr (c .brightness) half) zer one) draws l
+abbrev pub struckBy : KarplusStrong → KarplusStrongControls → List ℕ → List Float → Strung
+struckBy s c draws l = strikeIf (taken s c) (heardString s (risingOf (s .«trigger_edge») (c .trigger) .edge) (memoOf s c)) (periodAt s c) (clampOf (finiteOr (c .brightness) half) zer one) draws l
 
 -- a string in a block from s on: refusals 1 to 3 let it pass, and its trigger and pitch are the block's
 pub record Held (s : KarplusStrong) (c : KarplusStrongControls) (x : Strung) : Type 0 where
@@ -128,13 +128,11 @@ tick-steps s c draws l h k = tick-is s c draws l ∙ simp (h, k)
 
 -- in such a string a tick takes no edge and finds its pitch in the memo
 module _ (s : KarplusStrong) (c : KarplusStrongControls) (x : Strung) (h : Held s c x) where
-  no-edge : risesAt (x .string) c ≡ false
-  unfolding risingOf risingAboveOf
-  no-edge = simp (h .edge, rises-once)
+  no-edge : risingOf (x .string .«trigger_edge») (c .trigger) ≡ record { edge = x .string .«trigger_edge»; rising = false }
+  no-edge = rw (h .edge) (rising-once (s .«trigger_edge») (c .trigger))
 
-  same-edge : risingOf (x .string .«trigger_edge») (c .trigger) .edge ≡ x .string .«trigger_edge»
-  unfolding risingOf risingAboveOf
-  same-edge = sym (h .edge)
+  not-taken : taken (x .string) c ≡ false
+  not-taken = ap (λ (r : Risen). r .rising) no-edge
 
   same-memo : memoOf (x .string) c ≡ x .string .«freq_memo»
   same-memo = rw (h .memo) (recall1-again voctToHzAt (s .«freq_memo») (finiteOr (c .voct .0) zer))
@@ -142,25 +140,25 @@ module _ (s : KarplusStrong) (c : KarplusStrongControls) (x : Strung) (h : Held 
   same-tune : tuneOf (x .string) c ≡ tuneOf s c
   same-tune = (λ i. tuningOf (periodOf (h .rate i) ((same-memo ∙ h .memo) i .val)) (clampOf (finiteOr (c .damping) half) zer one) (clampOf (finiteOr (c .stretch) zer) (neg one) one))
 
-  not-struck : (draws : List ℕ) → struckBy (x .string) c draws (x .line) ≡ record { out = x .string; line = x .line }
+  not-struck : (draws : List ℕ) → struckBy (x .string) c draws (x .line) ≡ strung (x .string) (x .line)
   unfolding strikeIf
-  not-struck draws = simp (no-edge, same-edge, same-memo)
+  not-struck draws = simp (not-taken, no-edge, same-memo)
 
   untriggered : (draws : List ℕ) → triggerRefusalOf (x .string) c draws ≡ 0
   unfolding triggerRefusalOf
-  untriggered draws = simp no-edge
+  untriggered draws = simp not-taken
 
-struck-turn : (s : KarplusStrong) (c : KarplusStrongControls) (draws : List ℕ) (l : List Float) → struckStep s c draws l ≡ turnOf (struckBy s c draws l .out) (tuneOf s c) (struckBy s c draws l .line)
+struck-turn : (s : KarplusStrong) (c : KarplusStrongControls) (draws : List ℕ) (l : List Float) → struckStep s c draws l ≡ turnOf (struckBy s c draws l .string) (tuneOf s c) (struckBy s c draws l .line)
 unfolding struckStep
 struck-turn s c draws l = sym (turn-is _ _ _ _ _)
 
 held-tick : (s : KarplusStrong) (c : KarplusStrongControls) (draws : List ℕ) (x : Strung) → Held s c x → karplusStrongTickOf (x .string) c draws (x .line) ≡ turnOf (x .string) (tuneOf s c) (x .line)
 held-tick s c draws x h =
     tick-steps (x .string) c draws (x .line) (none-refused (x .string) (length (x .line)) (h .sound) (h .room)) (untriggered s c x h draws) ∙ struck-turn (x .string) c draws (x .line)
-    ∙ ap (λ (u : Striking). turnOf (u .out) (tuneOf (x .string) c) (u .line)) (not-struck s c x h draws) ∙ ap (λ (t : Tuning). turnOf (x .string) t (x .line)) (same-tune s c x h)
+    ∙ ap (λ (u : Strung). turnOf (u .string) (tuneOf (x .string) c) (u .line)) (not-struck s c x h draws) ∙ ap (λ (t : Tuning). turnOf (x .string) t (x .line)) (same-tune s c x h)
 
-struck-held : (s : KarplusStrong) (c : KarplusStrongControls) (draws : List ℕ) (l : List Float) → Sound s → maxLenOf (s .«sample_rate») + 2 ≤ length l → Held s c (strung (struckBy s c draws l .out) (struckBy s c draws l .line))
-struck-held s c draws l a h = go (risesAt s c)
+struck-held : (s : KarplusStrong) (c : KarplusStrongControls) (draws : List ℕ) (l : List Float) → Sound s → maxLenOf (s .«sample_rate») + 2 ≤ length l → Held s c (struckBy s c draws l)
+struck-held s c draws l a h = go (taken s c)
   where
     t : KarplusStrong
     t = heardString s (risingOf (s .«trigger_edge») (c .trigger) .edge) (memoOf s c)
@@ -183,7 +181,7 @@ struck-held s c draws l a h = go (risesAt s c)
     most : struckLen p ≤ maxLenOf (s .«sample_rate») + 1
     most = unfold struckLen in omega (arith, w .1)
 
-    go : (b : Bool) → Held s c (strung (strikeIf b t p bright draws l .out) (strikeIf b t p bright draws l .line))
+    go : (b : Bool) → Held s c (strung (strikeIf b t p bright draws l .string) (strikeIf b t p bright draws l .line))
     go false = unfold strikeIf in record { sound = record { rate = a .rate; least = a .least; most = a .most; place = a .place; value = number }; room = h; rate = refl; edge = refl; memo = refl }
     go true = unfold strikeIf strikeOf in record { sound = record { rate = a .rate; least = least; most = most; place = omega (arith, least); value = number }; room = rw (length-struck (struckLen p) bright draws l (omega (arith, most, h))) h; rate = refl; edge = refl; memo = refl }
 
@@ -196,24 +194,26 @@ gone : (t : Tuning) (x : Strung) (u : Ticking) → u ≡ turnOf (x .string) t (x
 unfolding heldNext
 gone t x u e = ap (λ (w : Ticking). strung (w .out .«karplus_strong») (w .line)) e
 
-first-tick : (s : KarplusStrong) (c : KarplusStrongControls) (draws : List ℕ) (l : List Float) → karplusStrongRefusalOf s (length l) ≡ 0 → triggerRefusalOf s c draws ≡ 0 → karplusStrongTickOf s c draws l ≡ turnOf (struckBy s c draws l .out) (tuneOf s c) (struckBy s c draws l .line)
+first-tick : (s : KarplusStrong) (c : KarplusStrongControls) (draws : List ℕ) (l : List Float) → karplusStrongRefusalOf s (length l) ≡ 0 → triggerRefusalOf s c draws ≡ 0 → karplusStrongTickOf s c draws l ≡ turnOf (struckBy s c draws l .string) (tuneOf s c) (struckBy s c draws l .line)
 first-tick s c draws l h k = tick-steps s c draws l h k ∙ struck-turn s c draws l
 
 pub holds : (s : KarplusStrong) (c : KarplusStrongControls) (draws : List ℕ) (l : List Float) → karplusStrongRefusalOf s (length l) ≡ 0 → triggerRefusalOf s c draws ≡ 0
-    → Holds (karplusStrongAnswerOf c draws) (karplusStrongNextOf c draws) (heldAnswer (tuneOf s c)) (heldNext (tuneOf s c)) (λ (x : Strung). x) (Held s c) (strung s l) (strung (struckBy s c draws l .out) (struckBy s c draws l .line))
+    → Holds (karplusStrongToldOf c draws) (karplusStrongNextOf c draws) (heldAnswer (tuneOf s c)) (heldNext (tuneOf s c)) (λ (x : Strung). x) (Held s c) (strung s l) (struckBy s c draws l)
 holds s c draws l h k =
     record {
       good = struck-held s c draws l (accepted s (length l) h .0) (accepted s (length l) h .1);
-      first = told (tuneOf s c) (strung (struckBy s c draws l .out) (struckBy s c draws l .line)) (karplusStrongTickOf s c draws l) (first-tick s c draws l h k);
-      second = gone (tuneOf s c) (strung (struckBy s c draws l .out) (struckBy s c draws l .line)) (karplusStrongTickOf s c draws l) (first-tick s c draws l h k);
+      first = told (tuneOf s c) (struckBy s c draws l) (karplusStrongTickOf s c draws l) (first-tick s c draws l h k);
+      second = gone (tuneOf s c) (struckBy s c draws l) (karplusStrongTickOf s c draws l) (first-tick s c draws l h k);
       stays = λ x g. turn-held s c (tuneOf s c) x g;
       answers = λ x g. told (tuneOf s c) x (karplusStrongTickOf (x .string) c draws (x .line)) (held-tick s c draws x g);
       moves = λ x g. gone (tuneOf s c) x (karplusStrongTickOf (x .string) c draws (x .line)) (held-tick s c draws x g);
     }
 
 -- ---- what the code has worked out
-pub freq-number : (m : Memo1) (v x : Float) (f : Hertz) → T (not (isNan (m .val .0))) → x ≡ finiteOr v zer → f ≡ recall1 voctToHzAt m x .val → T (not (isNan (f .0)))
-freq-number m v x f h ex ef = rw ef (memo-number m v x (recall1 voctToHzAt m x) h ex refl)
+-- n ticks from x on leave y, with these samples and marks
+abbrev pub Rings : (Strung → Answer) → (Strung → Strung) → Strung → ℕ → Strung → List Float → List ℕ → Type 0
+Rings answer next x n y o m =
+    (y ≡ afterTicks next n x) × ((o ≡ joined (frameAt nPorts answer next x) n) × (m ≡ tab (markAt answer next x) n))
 
 module _ (s : KarplusStrong) (c : KarplusStrongControls) (d : List ℕ) (l : List Float) (voct : Float) (memo : Memo1) (period : Float) (risen : Risen)
     (ev : voct ≡ finiteOr (c .voct .0) zer) (em : memo ≡ recall1 voctToHzAt (s .«freq_memo») voct) (ep : period ≡ periodOf (s .«sample_rate») (memo .val)) (er : risen ≡ risingOf (s .«trigger_edge») (c .trigger)) where
@@ -221,10 +221,21 @@ module _ (s : KarplusStrong) (c : KarplusStrongControls) (d : List ℕ) (l : Lis
   unfolding triggerRefusalOf
   trigger-by = rw (er, ep, em, ev)
 
-  pub run-by : (damping stretch : Float) (heard struck : KarplusStrong) (x : List Float) (t : Tuning) → damping ≡ clampOf (finiteOr (c .damping) half) zer one → stretch ≡ clampOf (finiteOr (c .stretch) zer) (neg one) one
-      → heard ≡ heardString s (risen .edge) memo → struck ≡ strikeIf (risen .rising) heard period (clampOf (finiteOr (c .brightness) half) zer one) d l .out → x ≡ strikeIf (risen .rising) heard period (clampOf (finiteOr (c .brightness) half) zer one) d l .line
-      → t ≡ tuningOf period damping stretch → (strung struck x ≡ strung (struckBy s c d l .out) (struckBy s c d l .line)) × (t ≡ tuneOf s c)
-  run-by damping stretch heard struck x t ed es eh et ex eu = (rw (et, ex, eh, er, ep, em, ev), rw (eu, ed, es, ep, em, ev))
+  -- the ring of a string that was struck, if its trigger was taken
+  pub run-by : karplusStrongRefusalOf s (length l) ≡ 0 → triggerRefusalOf s c d ≡ 0 → (damping stretch bright : Float) (u : KarplusStrong)
+      (x : List Float) (t : Tuning) → damping ≡ clampOf (finiteOr (c .damping) half) zer one → stretch ≡ clampOf (finiteOr (c .stretch) zer) (neg one) one
+      → bright ≡ clampOf (finiteOr (c .brightness) half) zer one
+      → Parts-of (strikeIf (risen .rising) (heardString s (risen .edge) memo) period bright d l) u x → t ≡ tuningOf period damping stretch
+      → (n : ℕ) → 0 < n → (y : Strung) (o : List Float) (m : List ℕ) → Rings (heldAnswer t) (heldNext t) (strung u x) n y o m
+      → Rings (karplusStrongToldOf c d) (karplusStrongNextOf c d) (strung s l) n y o m
+  run-by h k damping stretch bright u x t ed es eb et eu n z y o m r =
+      let w = holds s c d l h k in
+      let a : strung u x ≡ struckBy s c d l = (λ i. strung (et .0 i) (et .1 i)) ∙ rw (eb, er, ep, em, ev) refl in
+      let b : t ≡ tuneOf s c = rw (eu, ed, es, ep, em, ev) refl in
+      let q : Rings (heldAnswer (tuneOf s c)) (heldNext (tuneOf s c)) (struckBy s c d l) n y o m =
+      subst (λ (v : Tuning). Rings (heldAnswer v) (heldNext v) (struckBy s c d l) n y o m) b
+      (subst (λ (v : Strung). Rings (heldAnswer t) (heldNext t) v n y o m) a r) in
+      (q .0 ∙ sym (held-after _ _ _ _ _ _ _ _ w n z), (q .1 .0 ∙ sym (held-frames _ _ _ _ _ _ _ _ w nPorts n), q .1 .1 ∙ sym (held-marks _ _ _ _ _ _ _ _ w n)))
 
 pub first-none : (s : KarplusStrong) (c : KarplusStrongControls) (d : List ℕ) (cells n : ℕ) → firstRefusalOf s c d cells n ≡ 0 → (n ≡ 0 → ⊥) → (karplusStrongRefusalOf s cells ≡ 0) × (triggerRefusalOf s c d ≡ 0)
 unfolding firstRefusalOf

@@ -9,20 +9,21 @@ use lib.Dec.{eqb}
 use lib.Ieee.{Float, binary64, mul, neg}
 use lib.ListN.{length}
 use borrow.Author.Tests.{le-leb}
-use Rattle.answer.specs.Answer.{markNumber, voltsOf, refusalOf, accepted}
+use Rattle.answer.specs.Answer.{volts1, answerOf, cleared, clean, markNumber, voltsOf, refusalOf, accepted}
+use Rattle.answer.specs.Mark.{markedOf, ruleOf}
 use Rattle.common.specs.Consts.{half}
 use Rattle.common.specs.Edge.{risingOf}
 use Rattle.common.specs.Memo.{recall1, voctToHzAt}
 use Rattle.laws.specs.Float.{zer, one, isFin}
 use Rattle.numeric.specs.Basic.{clampOf}
 use types.Kit.{pick}
-use Rattle.karplus_strong.proofs.Parts.{sound-line, heard-clean, heard-cleared}
+use Rattle.karplus_strong.proofs.Parts.{zer-fin, sound-line, heard-known}
 use Rattle.karplus_strong.proofs.Reached.{Good}
 use Rattle.karplus_strong.specs.Consts.{loopLeak}
-use Rattle.karplus_strong.specs.Blocks.{triggerRefusalOf, firstRefusalOf}
+use Rattle.karplus_strong.specs.KarplusStrong.{triggerRefusalOf, firstRefusalOf}
 use Rattle.karplus_strong.specs.KarplusStrong.{maxLenOf, roomOf, karplusStrongRefusalOf, finiteOr, strikeIf, heardString, tickUnless, karplusStrongSoundOf, karplusStrongTickOf}
-use Rattle.karplus_strong.specs.Promises.{periodAt, risesAt}
-use Rattle.karplus_strong.specs.Step.{filterCoefOf, apCoefOf, targetDelayOf, tapOf, filteredOf, stretchedOf, Ticking, outOf, wroteOf, clearedOf, stepOf}
+use Rattle.karplus_strong.specs.Promises.{periodAt, taken}
+use Rattle.karplus_strong.specs.Step.{filterCoefOf, apCoefOf, targetDelayOf, tapOf, filteredOf, stretchedOf, Ticking, wroteOf, clearedOf, stepOf}
 use Rattle.answer.specs.declared.Answer.{Answer}
 use Rattle.answer.specs.declared.Answer.the-variants as answer
 use Rattle.karplus_strong.specs.declared.KarplusStrong.{KarplusStrong}
@@ -31,7 +32,7 @@ use Rattle.karplus_strong.specs.declared.KarplusStrongControls.{KarplusS
 -- ---- what a step answers
 -- an accepted answer: clean and finite, or cleared and 0.0
 abbrev pub Heard : Answer → Type 0
-Heard a = ((markNumber a ≡ 4) × (isFin (voltsOf a .p10) ≡ true)) ⊎ ((markNumber a ≡ 1) × (voltsOf a ≡ outOf zer))
+Heard a = ((markNumber a ≡ clean) × (isFin (voltsOf a .p10) ≡ true)) ⊎ ((markNumber a ≡ cleared) × (voltsOf a ≡ volts1 zer))
 
 pub step-heard : (s : KarplusStrong) (p d t : Float) (l : List Float) → Heard (stepOf s p d t l .out .answer)
 unfolding stepOf
@@ -47,8 +48,8 @@ step-heard s p d t l = go v refl
     v = mul binary64 z loopLeak
 
     pick : (b : Bool) (v : Float) → isFin v ≡ b → Heard (cond b (wroteOf s y z v l) (clearedOf s l) .out .answer)
-    pick true v e = subst Heard (heard-clean v e) (inl (unfold markNumber in refl, unfold voltsOf in e))
-    pick false v e = subst Heard heard-cleared (inr (unfold markNumber in refl, unfold voltsOf in refl))
+    pick true v e = subst Heard (heard-known v false e) (unfold markedOf ruleOf answerOf markNumber voltsOf in inl (refl, e))
+    pick false v e = subst Heard (heard-known zer true zer-fin) (unfold markedOf ruleOf answerOf markNumber voltsOf in inr (refl, refl))
 
     go : (x : Float) → v ≡ x → Heard (cond (isFin x) (wroteOf s y z x l) (clearedOf s l) .out .answer)
     go x e = pick (isFin x) x refl
@@ -74,8 +75,8 @@ heard-accepted (answer.Refused n) (inr h) = absurd (let q = h .0 in omega arith)
 -- ---- what a tick answers: the step's, unless it is refused
 unfoldable pub struckStep : KarplusStrong → KarplusStrongControls → List ℕ → List Float → Ticking
 struckStep s c draws l =
-    let struck = strikeIf (risesAt s c) (heardString s (risingOf (s .«trigger_edge») (c .trigger) .edge) (recall1 voctToHzAt (s .«freq_memo») (finiteOr (c .voct .0) zer))) (periodAt s c) (clampOf (finiteOr (c .brightness) half) zer one) draws l in
-    stepOf (struck .out) (periodAt s c) (clampOf (finiteOr (c .damping) half) zer one) (clampOf (finiteOr (c .stretch) zer) (neg one) one) (struck .line)
+    let struck = strikeIf (taken s c) (heardString s (risingOf (s .«trigger_edge») (c .trigger) .edge) (recall1 voctToHzAt (s .«freq_memo») (finiteOr (c .voct .0) zer))) (periodAt s c) (clampOf (finiteOr (c .brightness) half) zer one) draws l in
+    stepOf (struck .string) (periodAt s c) (clampOf (finiteOr (c .damping) half) zer one) (clampOf (finiteOr (c .stretch) zer) (neg one) one) (struck .line)
 
 pub sound-is : (s : KarplusStrong) (c : KarplusStrongControls) (draws : List ℕ) (l : List Float) → karplusStrongSoundOf s c draws l ≡ tickUnless (triggerRefusalOf s c draws) s l (struckStep s c draws l)
 unfolding karplusStrongSoundOf triggerRefusalOf struckStep
@@ -84,8 +85,8 @@ sound-is s c draws l = refl
 pub struck-heard : (s : KarplusStrong) (c : KarplusStrongControls) (draws : List ℕ) (l : List Float) → Heard (struckStep s c draws l .out .answer)
 unfolding struckStep
 struck-heard s c draws l =
-    let struck = strikeIf (risesAt s c) (heardString s (risingOf (s .«trigger_edge») (c .trigger) .edge) (recall1 voctToHzAt (s .«freq_memo») (finiteOr (c .voct .0) zer))) (periodAt s c) (clampOf (finiteOr (c .brightness) half) zer one) draws l in
-    step-heard (struck .out) (periodAt s c) (clampOf (finiteOr (c .damping) half) zer one) (clampOf (finiteOr (c .stretch) zer) (neg one) one) (struck .line)
+    let struck = strikeIf (taken s c) (heardString s (risingOf (s .«trigger_edge») (c .trigger) .edge) (recall1 voctToHzAt (s .«freq_memo») (finiteOr (c .voct .0) zer))) (periodAt s c) (clampOf (finiteOr (c .brightness) half) zer one) draws l in
+    step-heard (struck .string) (periodAt s c) (clampOf (finiteOr (c .damping) half) zer one) (clampOf (finiteOr (c .stretch) zer) (neg one) one) (struck .line)
 
 pub unless-number : (k : ℕ) (s : KarplusStrong) (l : List Float) (t : Ticking) → refusalOf (t .out .answer) ≡ 0 → refusalOf (tickUnless k s l t .out .answer) ≡ k
 unfolding tickUnless refusalOf

@@ -30,27 +30,26 @@ use Rattle.numeric.specs.Basic.{clampOf, maxOf, wholeOf, realOf}
 use Rattle.numeric.specs.Draw.{bipolarOf}
 use Rattle.common.proofs.DrawLaws.{draw-below, draws-fine}
 use Rattle.common.specs.Consts.{half}
-use Rattle.common.specs.Edge.{newEdge, risingOf}
+use Rattle.common.specs.Edge.{risingOf}
 use Rattle.common.specs.Memo.{recall1, voctToHzAt}
 use Rattle.common.specs.Tests.{rateOk, drawsOk, drawsRefusalOf}
 use Rattle.common.specs.declared.Hertz.{Hertz}
 use Rattle.common.specs.declared.Memo1.{Memo1}
 use Rattle.answer.proofs.Blocks.{ticks-keep, block-keeps, block-refusal, block-fits}
 use Rattle.answer.specs.Block.{afterTicks, answerAt}
-use Rattle.answer.specs.Answer.{markNumber, accepted}
+use Rattle.answer.specs.Answer.{answerOf, clean, markNumber, accepted}
+use Rattle.answer.specs.Mark.{markedOf, ruleOf}
 use Rattle.answer.specs.declared.Answer.{Answer}
-use Rattle.karplus_strong.specs.Consts.{loopLeak}
+use Rattle.karplus_strong.specs.Consts.{nPorts, loopLeak}
 use Rattle.karplus_strong.specs.Line.{blankAt, blankOf, impulseOf, pulseOf, excitedAt, excitedOf, sumTo, meanOf, levelAt, levelOf, struckOf}
 use Rattle.karplus_strong.specs.Step.{filterCoefOf, apCoefOf, filterDelayOf, apDelayOf, targetDelayOf, offsetOne, offsetTwo, tapOf, filteredOf, stretchedOf, Ticking, restOf, stepOf}
-use Rattle.karplus_strong.specs.Blocks.{triggerRefusalOf, firstRefusalOf, karplusStrongNextOf, karplusStrongBlockOf}
-use Rattle.karplus_strong.specs.KarplusStrong.{maxLenOf, karplusStrongRefusalOf, roomOf, rateRefusalOf, madeOr, madeUnless, karplusStrongResetOf, resizedString, karplusStrongSetSampleRateOf, finiteOr, periodOf, struckLen, strikeOf, strikeIf, heardString, tickUnless, karplusStrongTickOf, Strung, strung}
+use Rattle.karplus_strong.specs.KarplusStrong.{triggerRefusalOf, firstRefusalOf, karplusStrongNextOf, karplusStrongBlockOf, maxLenOf, roomOf, madeUnless, karplusStrongResetOf, karplusStrongSetSampleRateOf, finiteOr, periodOf, struckLen, strikeOf, strikeIf, heardString, tickUnless, karplusStrongTickOf, Strung, strung}
 use Rattle.karplus_strong.specs.Calls.{Call, Tick, Play, Reset, SetSampleRate, Lend, strungAfter, lentOf, after, FitCall, First}
-use Rattle.karplus_strong.specs.Promises.{periodAt, risesAt, NoStretch, Unstretched, Never-cleared, Block-never-cleared}
+use Rattle.karplus_strong.specs.Promises.{periodAt, taken, NoStretch, Unstretched, Never-cleared, Block-never-cleared}
 use Rattle.karplus_strong.specs.declared.KarplusStrong.{KarplusStrong}
 use Rattle.karplus_strong.specs.declared.KarplusStrongControls.{KarplusStrongControls}
-use Rattle.karplus_strong.specs.declared.KarplusStrongMade.the-variants as made
 use Rattle.karplus_strong.proofs.Alike.{getD-over, length-struck}
-use Rattle.karplus_strong.proofs.Parts.{Sound, damped, delay-range, heard-clean, memo-number, struck-room}
+use Rattle.karplus_strong.proofs.Parts.{Sound, damped, delay-range, made-either, heard-known, memo-number, struck-room}
 use Rattle.karplus_strong.proofs.Promised.{struck-short, block-accepts}
 use Rattle.karplus_strong.proofs.Reached.{Good, tick-good, first-is, first-good, after-good}
 use Rattle.karplus_strong.proofs.Ticks.{struckStep, good-tick}
@@ -142,7 +141,7 @@ record Calm (s : KarplusStrong) (l : List Float) : Type 0 where
 
 record CalmTick (t : Ticking) : Type 0 where
   calm : Calm (t .out .«karplus_strong») (t .line)
-  mark : accepted (t .out .answer) ≡ true → markNumber (t .out .answer) ≡ 4
+  mark : accepted (t .out .answer) ≡ true → markNumber (t .out .answer) ≡ clean
 
 -- a delay that both taps can be read at
 record Delay (x : Float) : Type 0 where
@@ -210,7 +209,7 @@ step-calm s p d bend l flat h k lo hi g c =
     rw settled
     (record {
       calm = record { cells = λ i q. cell i q (ℕ-discrete i (s .«write_pos»)); lp = filtered; x1 = filtered; y1 = bent };
-      mark = λ e. subst (λ (a : Answer). markNumber a ≡ 4) (heard-clean v settled) (unfold markNumber in refl);
+      mark = λ e. subst (λ (a : Answer). markNumber a ≡ clean) (heard-known v false settled) (unfold markedOf ruleOf answerOf markNumber in refl);
     })
   where
     x : Float
@@ -287,7 +286,7 @@ struck-calm : (rising : Bool) (t : KarplusStrong) (p b d bend : Float) (draws : 
     → eq bend zer ≡ true → _≡_ {A = ℕ} (cond rising (drawsRefusalOf (struckLen p) draws) 0) 0 → struckLen p ≤ length l → struckLen p ≤ 9611
     → t .«write_pos» < t .len → t .len ≤ length l → T (le zer b) → T (le b one) → T (le zer d) → T (le d one)
     → Delay (targetDelayOf p (filterCoefOf d) (apCoefOf bend)) → Calm t l
-    → CalmTick (stepOf (strikeIf rising t p b draws l .out) p d bend (strikeIf rising t p b draws l .line))
+    → CalmTick (stepOf (strikeIf rising t p b draws l .string) p d bend (strikeIf rising t p b draws l .line))
 struck-calm false t p b d bend draws l flat e r n h k bl bh dl dh g c = unfold strikeIf in step-calm t p d bend l flat h k dl dh g c
 struck-calm true t p b d bend draws l flat e r n h k bl bh dl dh g c =
     unfold strikeIf strikeOf in
@@ -300,7 +299,7 @@ sound-calm : (s : KarplusStrong) (c : KarplusStrongControls) (draws : List ℕ) 
     → triggerRefusalOf s c draws ≡ 0 → Calm s l → CalmTick (struckStep s c draws l)
 unfolding struckStep triggerRefusalOf
 sound-calm s c draws l g z e k =
-    struck-calm (risesAt s c) (heardString s (risingOf (s .«trigger_edge») (c .trigger) .edge) memo) (periodAt s c)
+    struck-calm (taken s c) (heardString s (risingOf (s .«trigger_edge») (c .trigger) .edge) memo) (periodAt s c)
     (clampOf (finiteOr (c .brightness) half) zer one) (clampOf (finiteOr (c .damping) half) zer one) (clampOf (finiteOr (c .stretch) zer) (neg one) one) draws l z e
     (struck-room (s .«sample_rate») (memo .val) (periodAt s c) (length l) refl (a .rate) number (g .room)) (struck-short s c a) (a .place)
     (let q = a .most in let r = g .room in omega arith)
@@ -334,10 +333,9 @@ blank-within a n l h i q = subst (Within 3) (sym (getD-over (blankAt a l) n l i 
     go true e = h i (ltb-true i a e)
     go false e = zero-within
 
-made-calm : (k : ℕ) (s t : KarplusStrong) (l m : List Float) → Calm s l → Calm t m → let x = strungAfter s (madeUnless k (record { out = made.Made t; line = m }) l) in Calm (x .string) (x .line)
-unfolding madeUnless madeOr
-made-calm zero s t l m c d = d
-made-calm (suc k) s t l m c d = c
+made-calm : (k : ℕ) (x y : Strung) → Calm (x .string) (x .line) → Calm (y .string) (y .line)
+    → let z = strungAfter (madeUnless k x y) in Calm (z .string) (z .line)
+made-calm k x y c d = made-either (λ m. Calm (m .out .«karplus_strong») (m .line)) k x y (λ z. d) (λ n. c)
 
 lent-calm : (s : KarplusStrong) (l m : List Float) → Calm s l → Calm s (lentOf (strung s l) m)
 unfolding lentOf
@@ -360,12 +358,12 @@ tick-quiet c draws f z y q =
 after-calm : (x : Strung) (c : Call) → Good (x .string) (length (x .line)) → Unstretched c → Calm (x .string) (x .line) → Calm (after x c .string) (after x c .line)
 unfolding after karplusStrongResetOf karplusStrongSetSampleRateOf
 after-calm x (Tick c draws) g f k = tick-calm (x .string) c draws (x .line) g (f .1) k .calm
-after-calm x (Play c draws t o m) g f k = unfold karplusStrongBlockOf in block-keeps 1 _ _ _ Quiet (tick-quiet c draws (f .0) (f .1)) x (g, k) t o m .1
+after-calm x (Play c draws t o m) g f k = unfold karplusStrongBlockOf in block-keeps nPorts _ _ _ Quiet (tick-quiet c draws (f .0) (f .1)) x (g, k) t o m .1
 after-calm x Reset g f k =
-    made-calm (karplusStrongRefusalOf (x .string) (length (x .line))) (x .string) (restOf (x .string) (x .string .len) newEdge) (x .line) (blankOf 0 (x .string .len) (x .line)) k
+    made-calm _ x _ k
     (record { cells = blank-within 0 (x .string .len) (x .line) (λ i q. absurd (not-suc-le-zero q)); lp = zero-within; x1 = zero-within; y1 = zero-within })
 after-calm x (SetSampleRate r) g f k =
-    made-calm (rateRefusalOf (x .string) r (length (x .line))) (x .string) (resizedString (x .string) r (maxLenOf r)) (x .line) (blankOf (min (x .string .len) (maxLenOf r)) (maxLenOf r) (x .line)) k
+    made-calm _ x _ k
     (record { cells = blank-within (min (x .string .len) (maxLenOf r)) (maxLenOf r) (x .line) (λ i q. k .cells i (omega arith)); lp = k .lp; x1 = k .x1; y1 = k .y1 })
 after-calm x (Lend l) g f k = go (eqb (roomOf (x .string .«sample_rate») (length l)) 0)
   where
@@ -399,4 +397,4 @@ block-never-cleared x h c draws t o m f e i q =
     tick-calm (y .string) c draws (y .line) (k .0) (f .1) (k .1) .mark (unfold answerAt in block-accepts x c draws (length m) (omega arith) first i)
   where
     first : firstRefusalOf (x .string) c draws (length (x .line)) (length m) ≡ 0
-    first = unfold karplusStrongBlockOf in block-fits 1 _ t o m _ refl (sym (block-refusal 1 _ _ _ x t o m) ∙ e) .1
+    first = unfold karplusStrongBlockOf in block-fits nPorts _ t o m _ refl (sym (block-refusal nPorts _ _ _ x t o m) ∙ e) .1

@@ -17,21 +17,19 @@ use Rattle.common.proofs.DrawLaws.{refusal-draws}
 use Rattle.common.specs.Consts.{half}
 use Rattle.common.specs.Edge.{risingOf}
 use Rattle.common.specs.Memo.{recall1, voctToHzAt}
-use Rattle.common.specs.Tests.{rateOk, drawsRefusalOf}
+use Rattle.common.specs.Tests.{drawsRefusalOf}
 use Rattle.answer.specs.Block.{Block, block, blockOf, blockRefusalOf, ticksOf, afterTicks}
 use Rattle.answer.specs.declared.Tally.{Tally}
 use Rattle.answer.proofs.Blocks.{ticks-keep, held-after, block-fits}
-use Rattle.karplus_strong.specs.Consts.{loopLeak}
+use Rattle.karplus_strong.specs.Consts.{nPorts, loopLeak}
 use Rattle.karplus_strong.specs.Line.{blankAt, blankOf, excitedAt, excitedOf, meanOf, levelAt, levelOf, struckOf}
 use Rattle.karplus_strong.specs.Step.{filterCoefOf, apCoefOf, targetDelayOf, tapOf, filteredOf, stretchedOf, Ticking, restOf, wroteOf, clearedOf, stepOf}
-use Rattle.karplus_strong.specs.Held.{tuningOf, turnOf, heldNext}
-use Rattle.karplus_strong.specs.Blocks.{triggerRefusalOf, firstRefusalOf, karplusStrongAnswerOf, karplusStrongNextOf, karplusStrongBlockOf}
-use Rattle.karplus_strong.specs.KarplusStrong.{maxLenOf, roomOf, karplusStrongRefusalOf, rateRefusalOf, madeUnless, newKarplusStrong, karplusStrongNewOf, karplusStrongResetOf, resizedString, karplusStrongSetSampleRateOf, finiteOr, struckLen, strikeOf, strikeIf, heardString, tickUnless, karplusStrongSoundOf, karplusStrongTickOf, Strung, strung}
-use Rattle.karplus_strong.specs.Promises.{periodAt, risesAt, SamePast, Past-untouched, Only-its-draws}
+use Rattle.karplus_strong.specs.Shortcuts.{tuningOf, turnOf, heldNext}
+use Rattle.karplus_strong.specs.KarplusStrong.{triggerRefusalOf, firstRefusalOf, karplusStrongToldOf, karplusStrongNextOf, karplusStrongBlockOf, maxLenOf, karplusStrongRefusalOf, madeUnless, karplusStrongNewOf, karplusStrongResetOf, karplusStrongSetSampleRateOf, finiteOr, struckLen, strikeOf, strikeIf, heardString, tickUnless, karplusStrongSoundOf, karplusStrongTickOf, Strung, strung, noString}
+use Rattle.karplus_strong.specs.Promises.{periodAt, taken, SamePast, Past-untouched, Only-its-draws}
 use Rattle.karplus_strong.specs.declared.KarplusStrong.{KarplusStrong}
 use Rattle.karplus_strong.specs.declared.KarplusStrongControls.{KarplusStrongControls}
-use Rattle.karplus_strong.specs.declared.KarplusStrongMade.the-variants as made
-use Rattle.karplus_strong.proofs.Parts.{Sound, accepted, rate-accepted, memo-number, struck-room, turn-is}
+use Rattle.karplus_strong.proofs.Parts.{made-either, Sound, accepted, rate-accepted, memo-number, struck-room, turn-is}
 use Rattle.karplus_strong.proofs.Held.{Held, tuneOf, struckBy, holds, turned-ready, first-none}
 use Rattle.karplus_strong.proofs.Reached.{new-taken}
 use Rattle.karplus_strong.proofs.Ticks.{struckStep, tick-is}
@@ -110,7 +108,7 @@ past-struck-step t p b d c draws l h =
     wider k e a = rw e a
 
 past-sounded : (rising : Bool) (k : ℕ) (s t : KarplusStrong) (p b d c : Float) (draws : List ℕ) (l : List Float) → t .«write_pos» < t .len → t .len ≤ length l → struckLen p ≤ length l
-    → PastTick l (tickUnless k s l (stepOf (strikeIf rising t p b draws l .out) p d c (strikeIf rising t p b draws l .line)))
+    → PastTick l (tickUnless k s l (stepOf (strikeIf rising t p b draws l .string) p d c (strikeIf rising t p b draws l .line)))
 past-sounded rising (suc k) s t p b d c draws l h g r = unfold tickUnless in past-none (s .len) l
 past-sounded false zero s t p b d c draws l h g r = unfold tickUnless strikeIf in past-step t p d c l h g
 past-sounded true zero s t p b d c draws l h g r = unfold tickUnless strikeIf strikeOf in past-struck-step t p b d c draws l r
@@ -135,7 +133,7 @@ past-tick s c draws l = pick (karplusStrongRefusalOf s (length l)) refl
 
 -- ---- the block
 past-strike : (rising : Bool) (t : KarplusStrong) (p b : Float) (draws : List ℕ) (l : List Float) → let u = strikeIf rising t p b draws l in
-    u .out .len ≤ length l → SamePast (u .out .len) l (u .line)
+    u .string .len ≤ length l → SamePast (u .string .len) l (u .line)
 unfolding strikeIf strikeOf
 past-strike true t p b draws l h = past-struck (struckLen p) b draws l h
 past-strike false t p b draws l h = past-none (t .len) l
@@ -146,7 +144,7 @@ turn-past s p d t l h k = subst (PastTick l) (sym (turn-is s p d t l)) (past-ste
 module _ (s : KarplusStrong) (c : KarplusStrongControls) (draws : List ℕ) (l : List Float)
     (h : karplusStrongRefusalOf s (length l) ≡ 0) (k : triggerRefusalOf s c draws ≡ 0) where
   abbrev start : Strung
-  start = strung (struckBy s c draws l .out) (struckBy s c draws l .line)
+  start = struckBy s c draws l
 
   -- from its first turn on the string's length stays
   record Ringing (y : Strung) : Type 0 where
@@ -155,7 +153,7 @@ module _ (s : KarplusStrong) (c : KarplusStrongControls) (draws : List ℕ) (l :
     past : SamePast (start .string .len) l (y .line)
 
   first-ringing : Ringing start
-  first-ringing = record { held = g; len = refl; past = past-strike (risesAt s c) _ _ _ draws l room }
+  first-ringing = record { held = g; len = refl; past = past-strike (taken s c) _ _ _ draws l room }
     where
       g : Held s c start
       g = holds s c draws l h k .good
@@ -201,29 +199,31 @@ past-block x c draws t o m = go (eqb n 0) (eqb-true n 0)
     number = firstRefusalOf (x .string) c draws (length (x .line)) (length m)
 
     n : ℕ
-    n = blockRefusalOf (eqb (length o) (1 * length m)) number t (length m)
+    n = blockRefusalOf (eqb (length o) (nPorts * length m)) number t (length m)
 
     ticks : Block Strung
-    ticks = ticksOf 1 (karplusStrongAnswerOf c draws) (karplusStrongNextOf c draws) (length m) x t
+    ticks = ticksOf nPorts (karplusStrongToldOf c draws) (karplusStrongNextOf c draws) (length m) x t
 
     go : (b : Bool) → (b ≡ true → n ≡ 0) → let y = cond b ticks (block n x t o m) .state in SamePast (y .string .len) (x .line) (y .line)
-    go true h = unfold ticksOf in past-ticks x c draws (length m) (block-fits 1 number t o m n refl (h refl) .1)
+    go true h = unfold ticksOf in past-ticks x c draws (length m) (block-fits nPorts number t o m n refl (h refl) .1)
     go false h = past-none (x .string .len) (x .line)
 
 -- ---- the other calls
-past-made : (k n : ℕ) (t : KarplusStrong) (l m : List Float) → (k ≡ 0 → SamePast n l m) → SamePast n l (madeUnless k (record { out = made.Made t; line = m }) l .line)
-unfolding madeUnless
-past-made zero n t l m h = h refl
-past-made (suc k) n t l m h = past-none n l
+past-made : (k n : ℕ) (x y : Strung) → (k ≡ 0 → SamePast n (x .line) (y .line)) → SamePast n (x .line) (madeUnless k x y .line)
+past-made k n x y h = made-either (λ m. SamePast n (x .line) (m .line)) k x y h (λ z. past-none n (x .line))
 
 pub past-untouched : Past-untouched
 past-untouched =
     record {
-      new = λ rate l. unfold karplusStrongNewOf in past-made (cond (rateOk rate) (roomOf rate (length l)) 1) (maxLenOf rate) (newKarplusStrong rate) l (blankOf 0 (maxLenOf rate) l) (λ e. let h = new-taken rate (length l) e .1 in past-blank 0 (maxLenOf rate) l (omega arith));
+      new = λ rate l. unfold karplusStrongNewOf in
+          past-made _ (maxLenOf rate) (strung (noString rate) l) _ (λ e. let h = new-taken rate (length l) e .1 in past-blank 0 (maxLenOf rate) l (omega arith));
       tick = past-tick;
       block = past-block;
-      reset = λ s l. unfold karplusStrongResetOf in past-made (karplusStrongRefusalOf s (length l)) (s .len) _ l (blankOf 0 (s .len) l) (λ e. let a = accepted s (length l) e in let q = a .0 .most in let h = a .1 in past-blank 0 (s .len) l (omega arith));
-      «set_sample_rate» = λ s rate l. unfold karplusStrongSetSampleRateOf in past-made (rateRefusalOf s rate (length l)) (maxLenOf rate) (resizedString s rate (maxLenOf rate)) l (blankOf (min (s .len) (maxLenOf rate)) (maxLenOf rate) l) (λ e. let h = rate-accepted s rate (length l) e .2 in past-blank (min (s .len) (maxLenOf rate)) (maxLenOf rate) l (omega arith));
+      reset = λ s l. unfold karplusStrongResetOf in
+          past-made _ (s .len) (strung s l) _ (λ e. let a = accepted s (length l) e in past-blank 0 (s .len) l (omega (arith, a .0 .most, a .1)));
+      «set_sample_rate» = λ s rate l. unfold karplusStrongSetSampleRateOf in
+          past-made _ (maxLenOf rate) (strung s l) _
+          (λ e. let h = rate-accepted s rate (length l) e .2 in past-blank (min (s .len) (maxLenOf rate)) (maxLenOf rate) l (omega arith));
     }
 
 -- ---- draws

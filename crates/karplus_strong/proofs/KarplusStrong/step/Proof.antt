@@ -1,4 +1,4 @@
-use Rattle.karplus_strong.specs.Held.{tuningOf}
+use Rattle.karplus_strong.specs.Shortcuts.{tuningOf}
 use Rattle.karplus_strong.proofs.Parts.{turn-by}
 use borrow.Author.Needs.{needs}
 use Rattle.karplus_strong.proofs.KarplusStrong.step.Statement.{statement}
