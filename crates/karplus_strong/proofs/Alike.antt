@@ -1,7 +1,7 @@
 -- Two lines of one size that agree below the string's length stay so through a tick, and it answers alike.
 use mathlib.Core.Bool.{Bool, true, false, cond}
 use mathlib.Core.List.{List}
-use mathlib.Core.Path.{_≡_, refl, sym, ap, _∙_}
+use mathlib.Core.Path.{_≡_, refl, sym, ap, _∙_, subst}
 use Prim.Native.Nat.{ℕ, zero, suc, _+_, _%_, _≤_, _<_}
 use native.Mathlib.Decide.{ℕ-discrete}
 use native.Mathlib.Nat.{mod-lt, not-suc-le-zero}
@@ -9,24 +9,22 @@ use native.Mathlib.Omega.{arith}
 use lib.Dec.{ltb}
 use lib.ListN.{length, getD, drop, set, length-set, List·getD-append}
 use lib.Seq.{getD-set-same, getD-set-other}
-use lib.Ieee.{Float, nan, binary64, mul, div, neg}
+use lib.Ieee.{Float, nan, binary64, mul, div}
 use borrow.Author.Tests.{ltb-true}
 use Rattle.laws.proofs.Over.{length-tab, length-over, getD-tab}
-use Rattle.laws.specs.Float.{zer, one, isFin}
+use Rattle.laws.specs.Float.{zer, isFin}
 use Rattle.laws.specs.Lists.{tab, over}
-use Rattle.numeric.specs.Basic.{clampOf, wholeOf, realOf}
-use Rattle.common.specs.Consts.{half}
-use Rattle.common.specs.Edge.{risingOf}
-use Rattle.common.specs.Memo.{recall1, voctToHzAt}
-use Rattle.common.specs.Tests.{drawsRefusalOf}
+use Rattle.numeric.specs.Basic.{wholeOf, realOf}
 use Rattle.karplus_strong.specs.Consts.{loopLeak}
 use Rattle.karplus_strong.specs.Line.{blankAt, blankOf, excitedAt, excitedOf, sumTo, meanOf, levelAt, levelOf, struckOf}
 use Rattle.karplus_strong.specs.Step.{filterCoefOf, apCoefOf, targetDelayOf, offsetOne, offsetTwo, tapOf, filteredOf, stretchedOf, Ticking, restOf, wroteOf, clearedOf, stepOf}
-use Rattle.karplus_strong.specs.KarplusStrong.{maxLenOf, karplusStrongRefusalOf, finiteOr, struckLen, strikeOf, strikeIf, heardString, tickUnless, karplusStrongSoundOf, karplusStrongTickOf}
-use Rattle.karplus_strong.specs.Promises.{Alike, SameTick, Only-its-cells, periodAt}
+use Rattle.karplus_strong.specs.KarplusStrong.{maxLenOf, karplusStrongRefusalOf, struckLen, strikeOf, strikeIf, tickUnless, karplusStrongSoundOf, karplusStrongTickOf, dampingOf, brightnessOf, stretchOf, periodAt, triggerRefusalOf}
+use Rattle.karplus_strong.specs.Shortcuts.{tuningOf, turnOf}
+use Rattle.karplus_strong.specs.declared.Tuning.{Tuning}
+use Rattle.karplus_strong.specs.Promises.{Alike, SameTick, Only-its-cells}
 use Rattle.karplus_strong.specs.declared.KarplusStrong.{KarplusStrong}
 use Rattle.karplus_strong.specs.declared.KarplusStrongControls.{KarplusStrongControls}
-use Rattle.karplus_strong.proofs.Parts.{Sound, accepted, memo-number, struck-room}
+use Rattle.karplus_strong.proofs.Parts.{Sound, struck-fits, accepted, turn-is, turn-either}
 
 -- ---- lengths
 pub length-blank : (a n : ℕ) (l : List Float) → n ≤ length l → length (blankOf a n l) ≡ length l
@@ -38,6 +36,57 @@ unfolding struckOf levelOf excitedOf
 length-struck n b d l h =
     let q : length (over (excitedAt n b d) n l) ≡ length l = length-over (excitedAt n b d) n l h in
     length-over (levelAt (meanOf n (over (excitedAt n b d) n l)) (over (excitedAt n b d) n l)) n (over (excitedAt n b d) n l) (omega arith) ∙ q
+
+-- ---- what a strike and a turn keep
+pub record Keeps (s u : KarplusStrong) : Type 0 where
+  pub rate : u .«sample_rate» ≡ s .«sample_rate»
+  pub edge : u .«trigger_edge» ≡ s .«trigger_edge»
+  pub memo : u .«freq_memo» ≡ s .«freq_memo»
+
+module _ (s : KarplusStrong) (p b : Float) (d : List ℕ) (l : List Float) where
+  pub strike-keeps : (rising : Bool) → Keeps s (strikeIf rising s p b d l .string)
+  unfolding strikeIf strikeOf
+  strike-keeps true = record { rate = refl; edge = refl; memo = refl }
+  strike-keeps false = record { rate = refl; edge = refl; memo = refl }
+
+  pub strike-size : (rising : Bool) → struckLen p ≤ length l → length (strikeIf rising s p b d l .line) ≡ length l
+  unfolding strikeIf strikeOf
+  strike-size true h = length-struck (struckLen p) b d l h
+  strike-size false h = refl
+
+pub record Turned (s : KarplusStrong) (l : List Float) (u : Ticking) : Type 0 where
+  pub keeps : Keeps s (u .out .«karplus_strong»)
+  pub len : u .out .«karplus_strong» .len ≡ s .len
+  pub place : s .«write_pos» < s .len → u .out .«karplus_strong» .«write_pos» < u .out .«karplus_strong» .len
+  pub size : s .len ≤ length l → length (u .line) ≡ length l
+
+pub turned : (s : KarplusStrong) (t : Tuning) (l : List Float) → Turned s l (turnOf s t l)
+turned s t l =
+    turn-either (Turned s l) s t l
+    (λ y z v e. record {
+      keeps = record { rate = refl; edge = refl; memo = refl };
+      len = refl;
+      place = λ h. mod-lt (s .«write_pos» + 1) {m = s .len} (omega arith);
+      size = λ h. length-set l (s .«write_pos») v;
+    })
+    (record {
+      keeps = record { rate = refl; edge = refl; memo = refl };
+      len = refl;
+      place = λ h. omega arith;
+      size = λ h. length-blank 0 (s .len) l h;
+    })
+
+pub stepped : (s : KarplusStrong) (p d t : Float) (l : List Float) → Turned s l (stepOf s p d t l)
+stepped s p d t l = subst (Turned s l) (turn-is s p d t l) (turned s (tuningOf p d t) l)
+
+pub turned-sound : (s : KarplusStrong) (l : List Float) (u : Ticking) → Turned s l u → Sound s → Sound (u .out .«karplus_strong»)
+turned-sound s l u w a = record {
+  rate = rw (w .keeps .rate) (a .rate);
+  least = rw (w .len) (a .least);
+  most = rw (w .len, w .keeps .rate) (a .most);
+  place = w .place (a .place);
+  value = rw (w .keeps .memo) (a .value);
+}
 
 -- ---- the passes
 pub getD-over : (f : ℕ → Float) (n : ℕ) (l : List Float) (i : ℕ) → i < n → getD (over f n l) i nan ≡ f i
@@ -127,15 +176,13 @@ alike-sounded true zero s t p b d c draws l m e a h g r = unfold tickUnless stri
         let z : 0 < struckLen p = unfold struckLen in omega arith in
         alike-step (restOf t (struckLen p) (t .«trigger_edge»)) p d c (struckOf (struckLen p) b draws l) (struckOf (struckLen p) b draws m) z (omega arith) (alike-struck (struckLen p) b draws l m r e)
 
-alike-sound : (s : KarplusStrong) (c : KarplusStrongControls) (draws : List ℕ) (l m : List Float) → Sound s → maxLenOf (s .«sample_rate») + 2 ≤ length l → Alike (s .len) l m → SameTick (karplusStrongSoundOf s c draws l) (karplusStrongSoundOf s c draws m)
+alike-sound : (s : KarplusStrong) (c : KarplusStrongControls) (draws : List ℕ) (l m : List Float) → Sound s → maxLenOf (s .«sample_rate») + 2 ≤ length l
+    → Alike (s .len) l m → SameTick (karplusStrongSoundOf s c draws l) (karplusStrongSoundOf s c draws m)
 unfolding karplusStrongSoundOf
 alike-sound s c draws l m a r e =
-    let memo = recall1 voctToHzAt (s .«freq_memo») (finiteOr (c .voct .0) zer) in
-    let risen = risingOf (s .«trigger_edge») (c .trigger) in
     let q = a .most in
-    alike-sounded (risen .rising) (cond (risen .rising) (drawsRefusalOf (struckLen (periodAt s c)) draws) 0) s (heardString s (risen .edge) memo) (periodAt s c) (clampOf (finiteOr (c .brightness) half) zer one) (clampOf (finiteOr (c .damping) half) zer one) (clampOf (finiteOr (c .stretch) zer) (neg one) one) draws l m
-    e e (a .place) (omega arith)
-    (struck-room (s .«sample_rate») (memo .val) (periodAt s c) (length l) refl (a .rate) (memo-number (s .«freq_memo») (c .voct .0) (finiteOr (c .voct .0) zer) memo (a .value) refl refl) r)
+    alike-sounded _ (triggerRefusalOf s c draws) s _ (periodAt s c) (brightnessOf c) (dampingOf c) (stretchOf c) draws l m e e (a .place) (omega arith)
+    (struck-fits s c a (length l) r)
 
 pub only-its-cells : Only-its-cells
 unfolding karplusStrongTickOf tickUnless

@@ -6,12 +6,10 @@ use Prim.Native.Nat.{ℕ, zero, suc, _*_, _≤_, _<_}
 use native.Mathlib.Omega.{arith}
 use lib.Dec.{eqb}
 use lib.ListN.{length}
-use lib.Ieee.{Float, neg}
-use Rattle.laws.specs.Float.{zer, one}
-use Rattle.numeric.specs.Basic.{clampOf}
+use lib.Ieee.{Float}
+use Rattle.laws.specs.Float.{zer}
 use Rattle.common.proofs.EdgeLaws.{rising-like}
 use Rattle.common.proofs.MemoLaws.{recall1-is}
-use Rattle.common.specs.Consts.{half}
 use Rattle.common.specs.Edge.{resetOf, risingOf}
 use Rattle.common.specs.Memo.{recall1, voctToHzAt}
 use Rattle.common.specs.declared.Risen.{Risen}
@@ -22,12 +20,12 @@ use Rattle.answer.proofs.Blocks.{block-refusal}
 use Rattle.karplus_strong.specs.Consts.{nPorts}
 use Rattle.karplus_strong.specs.Line.{struckOf}
 use Rattle.karplus_strong.specs.Step.{Ticking, restOf, stepOf}
-use Rattle.karplus_strong.specs.KarplusStrong.{triggerRefusalOf, firstRefusalOf, karplusStrongBlockOf, finiteOr, struckLen, strikeOf, strikeIf, heardString, tickUnless, karplusStrongTickOf, Strung}
+use Rattle.karplus_strong.specs.KarplusStrong.{triggerRefusalOf, firstRefusalOf, karplusStrongBlockOf, finiteOr, struckLen, strikeOf, strikeIf, heardString, tickUnless, karplusStrongTickOf, Strung, dampingOf, brightnessOf, stretchOf, memoAt, periodAt}
 use Rattle.karplus_strong.specs.Calls.{Call, Tick, Play, Ticked, after, reply, Fit, ReachedKarplusStrong}
-use Rattle.karplus_strong.specs.Promises.{periodAt, taken, Strikes, Fresh, Forgotten, Forgets, Block-forgets, SameTick}
+use Rattle.karplus_strong.specs.Promises.{taken, Strikes, Fresh, Forgotten, Forgets, Block-forgets, SameTick}
 use Rattle.karplus_strong.specs.declared.KarplusStrong.{KarplusStrong}
 use Rattle.karplus_strong.specs.declared.KarplusStrongControls.{KarplusStrongControls}
-use Rattle.karplus_strong.proofs.Parts.{struck-room, memo-number}
+use Rattle.karplus_strong.proofs.Parts.{struck-fits}
 use Rattle.karplus_strong.proofs.Alike.{alike-struck, alike-step, length-struck}
 use Rattle.karplus_strong.proofs.Promised.{like-size, new-there}
 use Rattle.karplus_strong.proofs.Reached.{Good, fits-or, first-good, reached-good}
@@ -47,7 +45,7 @@ positive p = omega arith
 -- two strings of one rate that hear the same pitch and take the same edge
 record Alike-heard (s n : KarplusStrong) (c : KarplusStrongControls) : Type 0 where
   rate : s .«sample_rate» ≡ n .«sample_rate»
-  memo : recall1 voctToHzAt (s .«freq_memo») (finiteOr (c .voct .0) zer) ≡ recall1 voctToHzAt (n .«freq_memo») (finiteOr (c .voct .0) zer)
+  memo : memoAt s c ≡ memoAt n c
   risen : risingOf (s .«trigger_edge») (c .trigger) ≡ risingOf (n .«trigger_edge») (c .trigger)
   edge : taken s c ≡ true
 
@@ -64,11 +62,11 @@ module _ (s n : KarplusStrong) (c : KarplusStrongControls) (draws : List ℕ) (a
   unfolding struckStep strikeIf strikeOf
   struck-same l m h e =
       rw (a .edge, edge-y, ← (a .risen), ← (a .rate), ← (a .memo))
-      (go (periodAt s c) (clampOf (finiteOr (c .brightness) half) zer one) (clampOf (finiteOr (c .damping) half) zer one)
-      (clampOf (finiteOr (c .stretch) zer) (neg one) one) h)
+      (go (periodAt s c) (brightnessOf c) (dampingOf c)
+      (stretchOf c) h)
     where
       t : KarplusStrong
-      t = heardString s (risingOf (s .«trigger_edge») (c .trigger) .edge) (recall1 voctToHzAt (s .«freq_memo») (finiteOr (c .voct .0) zer))
+      t = heardString s (risingOf (s .«trigger_edge») (c .trigger) .edge) (memoAt s c)
 
       go : (p b d x : Float) → struckLen p ≤ length l → let u = restOf t (struckLen p) (t .«trigger_edge») in
           SameTick (stepOf u p d x (struckOf (struckLen p) b draws l)) (stepOf u p d x (struckOf (struckLen p) b draws m))
@@ -124,10 +122,7 @@ module _ (x : Strung) (h : ReachedKarplusStrong x) (c : KarplusStrongControls) (
   ky = sym (sounds-y s (y .string) c draws heard) ∙ ks
 
   r : struckLen (periodAt s c) ≤ length (x .line)
-  r =
-      let memo = recall1 voctToHzAt (s .«freq_memo») v in
-      let number = memo-number (s .«freq_memo») (c .voct .0) v memo (g .sound .value) refl refl in
-      struck-room (s .«sample_rate») (memo .val) (periodAt s c) (length (x .line)) refl (g .sound .rate) number (g .room)
+  r = struck-fits s c (g .sound) (length (x .line)) (g .room)
 
   both : SameTick (karplusStrongTickOf s c draws (x .line)) (karplusStrongTickOf (y .string) c draws (y .line))
   both =

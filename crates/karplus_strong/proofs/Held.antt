@@ -1,19 +1,16 @@
 -- A block's ticks are turns of the loop alone: its trigger and its controls stand still.
-use mathlib.Core.Bool.{Bool, true, false, cond, not}
+use mathlib.Core.Bool.{Bool, true, false, cond}
 use mathlib.Core.List.{List}
 use mathlib.Core.Path.{_≡_, refl, sym, ap, _∙_, subst}
 use Prim.Native.Nat.{ℕ, _+_, _≤_, _<_}
-use native.Mathlib.Nat.{mod-lt}
 use native.Mathlib.Numerals.{add-one}
 use native.Mathlib.Omega.{arith}
-use lib.Dec.{T, eqb}
-use lib.Ieee.{Float, binary64, mul, neg, isNan}
-use lib.ListN.{length, length-set}
+use lib.Dec.{eqb}
+use lib.Ieee.{Float}
+use lib.ListN.{length}
 use borrow.Author.Tests.{le-leb, eqb-true, eqb-false, ne-eqb}
-use Rattle.laws.specs.Float.{zer, one, isFin}
+use Rattle.laws.specs.Float.{zer}
 use Rattle.laws.specs.Lists.{tab}
-use Rattle.numeric.specs.Basic.{clampOf, wholeOf}
-use Rattle.common.specs.Consts.{half}
 use Rattle.common.specs.Edge.{risingOf}
 use Rattle.common.specs.Memo.{recall1, voctToHzAt}
 use Rattle.common.specs.Tests.{drawsRefusalOf}
@@ -24,17 +21,17 @@ use Rattle.common.specs.declared.Risen.{Risen}
 use Rattle.answer.specs.Block.{afterTicks, answerAt, joined, markAt, frameAt}
 use Rattle.answer.specs.declared.Answer.{Answer}
 use Rattle.answer.proofs.Blocks.{Holds, held-after, held-marks, held-frames}
-use Rattle.karplus_strong.specs.Consts.{nPorts, loopLeak}
-use Rattle.karplus_strong.specs.Step.{filteredOf, stretchedOf, wroteOf, clearedOf, Ticking}
-use Rattle.karplus_strong.specs.KarplusStrong.{maxLenOf, roomOf, karplusStrongRefusalOf, finiteOr, periodOf, struckLen, Strung, strikeOf, strikeIf, heardString, tickUnless, karplusStrongTickOf, strung, triggerRefusalOf, firstRefusalOf, karplusStrongToldOf, karplusStrongNextOf}
-use Rattle.karplus_strong.specs.Shortcuts.{tuningOf, tapAt, turnOf, heldAnswer, heldNext}
-use Rattle.karplus_strong.specs.Promises.{periodAt, taken}
+use Rattle.karplus_strong.specs.Consts.{nPorts}
+use Rattle.karplus_strong.specs.Step.{Ticking}
+use Rattle.karplus_strong.specs.KarplusStrong.{maxLenOf, roomOf, karplusStrongRefusalOf, finiteOr, periodOf, struckLen, Strung, strikeIf, heardString, tickUnless, karplusStrongTickOf, strung, triggerRefusalOf, firstRefusalOf, karplusStrongToldOf, karplusStrongNextOf, dampingOf, brightnessOf, stretchOf, memoAt, periodAt}
+use Rattle.karplus_strong.specs.Shortcuts.{tuningOf, turnOf, heldAnswer, heldNext}
+use Rattle.karplus_strong.specs.Promises.{taken}
 use Rattle.karplus_strong.specs.declared.KarplusStrong.{KarplusStrong}
 use Rattle.karplus_strong.specs.declared.KarplusStrongControls.{KarplusStrongControls}
 use Rattle.karplus_strong.specs.declared.KarplusStrongTicked.{KarplusStrongTicked}
 use Rattle.karplus_strong.specs.declared.Tuning.{Tuning}
-use Rattle.karplus_strong.proofs.Parts.{Parts-of, Sound, sound-line, accepted, memo-number, period-range, turn-is}
-use Rattle.karplus_strong.proofs.Alike.{length-blank, length-struck}
+use Rattle.karplus_strong.proofs.Parts.{Parts-of, Sound, struck-fits, struck-sound, sound-line, accepted, turn-is}
+use Rattle.karplus_strong.proofs.Alike.{strike-keeps, strike-size, turned, turned-sound}
 use Rattle.karplus_strong.proofs.Ticks.{struckStep, tick-is}
 
 -- ---- a turn of the loop
@@ -48,33 +45,17 @@ unfolding afterTicks heldNext
 moved t x i s l m r e q z = rw add-one ((λ j. strung (e j .«karplus_strong») (q j)) ∙ ap (λ (y : Strung). let u = turnOf (y .string) t (y .line) in strung (u .out .«karplus_strong») (u .line)) z)
 
 -- its place stays in the line
-pub turned-ready : (s : KarplusStrong) (t : Tuning) (l : List Float) (r : KarplusStrongTicked) → r ≡ turnOf s t l .out → s .«write_pos» < s .len → (r .«karplus_strong» .«write_pos» < r .«karplus_strong» .len) × (r .«karplus_strong» .len ≡ s .len)
-unfolding turnOf
-turned-ready s t l r e h = rw e (go (isFin v) y z v)
-  where
-    y : Float
-    y = filteredOf s (tapAt l (s .«write_pos») (s .len) (t .delay) (t .fraction)) (t .«filter_coef»)
-
-    z : Float
-    z = stretchedOf s y (t .«ap_coef»)
-
-    v : Float
-    v = mul binary64 z loopLeak
-
-    go : (b : Bool) (y z v : Float) → let u = cond b (wroteOf s y z v l) (clearedOf s l) .out .«karplus_strong» in (u .«write_pos» < u .len) × (u .len ≡ s .len)
-    go true y z v = (mod-lt (s .«write_pos» + 1) {m = s .len} (omega arith), refl)
-    go false y z v = (omega arith, refl)
+pub turned-ready : (s : KarplusStrong) (t : Tuning) (l : List Float) (r : KarplusStrongTicked) → r ≡ turnOf s t l .out → s .«write_pos» < s .len
+    → (r .«karplus_strong» .«write_pos» < r .«karplus_strong» .len) × (r .«karplus_strong» .len ≡ s .len)
+turned-ready s t l r e h = let w = turned s t l in rw e (w .place h, w .len)
 
 -- ---- the whole
-abbrev pub memoOf : KarplusStrong → KarplusStrongControls → Memo1
-memoOf s c = recall1 voctToHzAt (s .«freq_memo») (finiteOr (c .voct .0) zer)
-
 abbrev pub tuneOf : KarplusStrong → KarplusStrongControls → Tuning
-tuneOf s c = tuningOf (periodAt s c) (clampOf (finiteOr (c .damping) half) zer one) (clampOf (finiteOr (c .stretch) zer) (neg one) one)
+tuneOf s c = tuningOf (periodAt s c) (dampingOf c) (stretchOf c)
 
 -- what the first turn starts from
 abbrev pub struckBy : KarplusStrong → KarplusStrongControls → List ℕ → List Float → Strung
-struckBy s c draws l = strikeIf (taken s c) (heardString s (risingOf (s .«trigger_edge») (c .trigger) .edge) (memoOf s c)) (periodAt s c) (clampOf (finiteOr (c .brightness) half) zer one) draws l
+struckBy s c draws l = strikeIf (taken s c) (heardString s (risingOf (s .«trigger_edge») (c .trigger) .edge) (memoAt s c)) (periodAt s c) (brightnessOf c) draws l
 
 -- a string in a block from s on: refusals 1 to 3 let it pass, and its trigger and pitch are the block's
 pub record Held (s : KarplusStrong) (c : KarplusStrongControls) (x : Strung) : Type 0 where
@@ -82,41 +63,22 @@ pub record Held (s : KarplusStrong) (c : KarplusStrongControls) (x : Strung) : T
   pub room : maxLenOf (x .string .«sample_rate») + 2 ≤ length (x .line)
   pub rate : x .string .«sample_rate» ≡ s .«sample_rate»
   pub edge : x .string .«trigger_edge» ≡ risingOf (s .«trigger_edge») (c .trigger) .edge
-  pub memo : x .string .«freq_memo» ≡ memoOf s c
+  pub memo : x .string .«freq_memo» ≡ memoAt s c
 
 turn-held : (s : KarplusStrong) (c : KarplusStrongControls) (t : Tuning) (x : Strung) → Held s c x → Held s c (heldNext t x)
-unfolding heldNext turnOf
-turn-held s c t x h = go (isFin v) y z v
-  where
-    y : Float
-    y = filteredOf (x .string) (tapAt (x .line) (x .string .«write_pos») (x .string .len) (t .delay) (t .fraction)) (t .«filter_coef»)
-
-    z : Float
-    z = stretchedOf (x .string) y (t .«ap_coef»)
-
-    v : Float
-    v = mul binary64 z loopLeak
-
-    a : Sound (x .string)
-    a = h .sound
-
-    go : (b : Bool) (y z v : Float) → Held s c (let u = cond b (wroteOf (x .string) y z v (x .line)) (clearedOf (x .string) (x .line)) in strung (u .out .«karplus_strong») (u .line))
-    go true y z v =
-        record {
-          sound = record { rate = a .rate; least = a .least; most = a .most; place = mod-lt (x .string .«write_pos» + 1) {m = x .string .len} (let q = a .least in omega arith); value = a .value };
-          room = rw (length-set (x .line) (x .string .«write_pos») v) (h .room);
-          rate = h .rate;
-          edge = h .edge;
-          memo = h .memo;
-        }
-    go false y z v =
-        record {
-          sound = record { rate = a .rate; least = a .least; most = a .most; place = (let q = a .least in omega arith); value = a .value };
-          room = rw (length-blank 0 (x .string .len) (x .line) (let q = a .most in let r = h .room in omega arith)) (h .room);
-          rate = h .rate;
-          edge = h .edge;
-          memo = h .memo;
-        }
+unfolding heldNext
+turn-held s c t x h =
+    let w = turned (x .string) t (x .line) in
+    let k = w .keeps in
+    let most = h .sound .most in
+    let room = h .room in
+    record {
+      sound = turned-sound (x .string) (x .line) _ w (h .sound);
+      room = rw (k .rate, w .size (omega arith)) room;
+      rate = k .rate ∙ h .rate;
+      edge = k .edge ∙ h .edge;
+      memo = k .memo ∙ h .memo;
+    }
 
 none-refused : (s : KarplusStrong) (n : ℕ) → Sound s → maxLenOf (s .«sample_rate») + 2 ≤ n → karplusStrongRefusalOf s n ≡ 0
 unfolding karplusStrongRefusalOf roomOf
@@ -134,11 +96,11 @@ module _ (s : KarplusStrong) (c : KarplusStrongControls) (x : Strung) (h : Held 
   not-taken : taken (x .string) c ≡ false
   not-taken = ap (λ (r : Risen). r .rising) no-edge
 
-  same-memo : memoOf (x .string) c ≡ x .string .«freq_memo»
+  same-memo : memoAt (x .string) c ≡ x .string .«freq_memo»
   same-memo = rw (h .memo) (recall1-again voctToHzAt (s .«freq_memo») (finiteOr (c .voct .0) zer))
 
   same-tune : tuneOf (x .string) c ≡ tuneOf s c
-  same-tune = (λ i. tuningOf (periodOf (h .rate i) ((same-memo ∙ h .memo) i .val)) (clampOf (finiteOr (c .damping) half) zer one) (clampOf (finiteOr (c .stretch) zer) (neg one) one))
+  same-tune = (λ i. tuningOf (periodOf (h .rate i) ((same-memo ∙ h .memo) i .val)) (dampingOf c) (stretchOf c))
 
   not-struck : (draws : List ℕ) → struckBy (x .string) c draws (x .line) ≡ strung (x .string) (x .line)
   unfolding strikeIf
@@ -158,32 +120,11 @@ held-tick s c draws x h =
     ∙ ap (λ (u : Strung). turnOf (u .string) (tuneOf (x .string) c) (u .line)) (not-struck s c x h draws) ∙ ap (λ (t : Tuning). turnOf (x .string) t (x .line)) (same-tune s c x h)
 
 struck-held : (s : KarplusStrong) (c : KarplusStrongControls) (draws : List ℕ) (l : List Float) → Sound s → maxLenOf (s .«sample_rate») + 2 ≤ length l → Held s c (struckBy s c draws l)
-struck-held s c draws l a h = go (taken s c)
-  where
-    t : KarplusStrong
-    t = heardString s (risingOf (s .«trigger_edge») (c .trigger) .edge) (memoOf s c)
-
-    p : Float
-    p = periodAt s c
-
-    bright : Float
-    bright = clampOf (finiteOr (c .brightness) half) zer one
-
-    number : T (not (isNan (memoOf s c .val .0)))
-    number = memo-number (s .«freq_memo») (c .voct .0) (finiteOr (c .voct .0) zer) (memoOf s c) (a .value) refl refl
-
-    w : (2 ≤ wholeOf p) × (wholeOf p + 1 ≤ maxLenOf (s .«sample_rate»))
-    w = period-range (s .«sample_rate») (memoOf s c .val) (a .rate) number
-
-    least : 4 ≤ struckLen p
-    least = unfold struckLen in omega (arith, w .0)
-
-    most : struckLen p ≤ maxLenOf (s .«sample_rate») + 1
-    most = unfold struckLen in omega (arith, w .1)
-
-    go : (b : Bool) → Held s c (strung (strikeIf b t p bright draws l .string) (strikeIf b t p bright draws l .line))
-    go false = unfold strikeIf in record { sound = record { rate = a .rate; least = a .least; most = a .most; place = a .place; value = number }; room = h; rate = refl; edge = refl; memo = refl }
-    go true = unfold strikeIf strikeOf in record { sound = record { rate = a .rate; least = least; most = most; place = omega (arith, least); value = number }; room = rw (length-struck (struckLen p) bright draws l (omega (arith, most, h))) h; rate = refl; edge = refl; memo = refl }
+struck-held s c draws l a h =
+    let heard = heardString s (risingOf (s .«trigger_edge») (c .trigger) .edge) (memoAt s c) in
+    let k = strike-keeps heard (periodAt s c) (brightnessOf c) draws l (taken s c) in
+    let size = strike-size heard (periodAt s c) (brightnessOf c) draws l (taken s c) (struck-fits s c a (length l) h) in
+    record { sound = struck-sound s c a (taken s c) _ (brightnessOf c) draws l; room = rw (size, k .rate) h; rate = k .rate; edge = k .edge; memo = k .memo }
 
 -- a tick that is a turn
 told : (t : Tuning) (x : Strung) (u : Ticking) → u ≡ turnOf (x .string) t (x .line) → u .out .answer ≡ heldAnswer t x
@@ -223,8 +164,8 @@ module _ (s : KarplusStrong) (c : KarplusStrongControls) (d : List ℕ) (l : Lis
 
   -- the ring of a string that was struck, if its trigger was taken
   pub run-by : karplusStrongRefusalOf s (length l) ≡ 0 → triggerRefusalOf s c d ≡ 0 → (damping stretch bright : Float) (u : KarplusStrong)
-      (x : List Float) (t : Tuning) → damping ≡ clampOf (finiteOr (c .damping) half) zer one → stretch ≡ clampOf (finiteOr (c .stretch) zer) (neg one) one
-      → bright ≡ clampOf (finiteOr (c .brightness) half) zer one
+      (x : List Float) (t : Tuning) → damping ≡ dampingOf c → stretch ≡ stretchOf c
+      → bright ≡ brightnessOf c
       → Parts-of (strikeIf (risen .rising) (heardString s (risen .edge) memo) period bright d l) u x → t ≡ tuningOf period damping stretch
       → (n : ℕ) → 0 < n → (y : Strung) (o : List Float) (m : List ℕ) → Rings (heldAnswer t) (heldNext t) (strung u x) n y o m
       → Rings (karplusStrongToldOf c d) (karplusStrongNextOf c d) (strung s l) n y o m

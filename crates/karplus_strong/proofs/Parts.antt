@@ -1,7 +1,7 @@
 -- How the parts of a call make up the whole, over plain values, and what an accepted call has.
 use mathlib.Core.Bool.{Bool, true, false, cond, not, _&&_, true≢false}
 use mathlib.Core.List.{List}
-use mathlib.Core.Path.{_≡_, refl, sym, ap, _∙_}
+use mathlib.Core.Path.{_≡_, refl, sym, ap, _∙_, subst}
 use Prim.Native.Nat.{ℕ, zero, suc, _+_, _-_, _%_, _≤_, _<_, min}
 use native.Mathlib.Nat.{le-trans}
 use native.Mathlib.Omega.{arith}
@@ -39,9 +39,9 @@ use Rattle.answer.specs.declared.Outcome.the-variants as outcome
 use Rattle.karplus_strong.specs.Consts.{twenty, loopLeak}
 use Rattle.karplus_strong.specs.Shortcuts.{Cut}
 use Rattle.karplus_strong.specs.Line.{blankOf, excitedOf, sumTo, meanOf, levelOf, struckOf}
-use Rattle.karplus_strong.specs.Step.{filterCoefOf, apCoefOf, filterDelayOf, apDelayOf, targetDelayOf, offsetOne, offsetTwo, tapOf, filteredOf, stretchedOf, heardOf, restOf, Ticking, stepOf}
+use Rattle.karplus_strong.specs.Step.{filterCoefOf, apCoefOf, filterDelayOf, apDelayOf, targetDelayOf, offsetOne, offsetTwo, tapOf, filteredOf, stretchedOf, heardOf, restOf, Ticking, wroteOf, clearedOf, stepOf}
 use Rattle.karplus_strong.specs.Shortcuts.{tuningOf, tapAt, turnOf}
-use Rattle.karplus_strong.specs.KarplusStrong.{maxLenOf, stringOf, noString, Strung, strung, lineOk, roomOf, karplusStrongRefusalOf, karplusStrongRateRefusalOf, Making, making, madeUnless, karplusStrongNewOf, karplusStrongResetOf, placeOf, karplusStrongSetSampleRateOf, finiteOr, periodOf, struckLen, strikeOf, strikeIf, heardString, refusedTick, tickUnless, karplusStrongSoundOf, karplusStrongTickOf}
+use Rattle.karplus_strong.specs.KarplusStrong.{maxLenOf, stringOf, noString, Strung, strung, lineOk, roomOf, karplusStrongRefusalOf, karplusStrongRateRefusalOf, Making, making, madeUnless, karplusStrongNewOf, karplusStrongResetOf, placeOf, karplusStrongSetSampleRateOf, finiteOr, periodOf, struckLen, strikeOf, strikeIf, heardString, refusedTick, tickUnless, karplusStrongSoundOf, karplusStrongTickOf, dampingOf, brightnessOf, stretchOf, memoAt, periodAt, triggerRefusalOf}
 use Rattle.karplus_strong.specs.declared.KarplusStrong.{KarplusStrong}
 use Rattle.karplus_strong.specs.declared.KarplusStrongControls.{KarplusStrongControls}
 use Rattle.karplus_strong.specs.declared.KarplusStrongTicked.{KarplusStrongTicked}
@@ -227,6 +227,32 @@ line-sound s e h = go (leb 4 (s .len)) (leb (s .len) (maxLenOf (s .«sample_rate
 pub sound-line : (s : KarplusStrong) → Sound s → lineOk s (maxLenOf (s .«sample_rate»)) ≡ true
 unfolding lineOk
 sound-line s a = simp (le-leb 4 (s .len) (a .least), le-leb (s .len) (maxLenOf (s .«sample_rate») + 1) (a .most), lt-ltb (s .«write_pos») (s .len) (a .place), is-false (isNan (s .«freq_memo» .val .0)) (a .value))
+
+-- what a tick of such a string hears is a number, and a length that its line can take
+module _ (s : KarplusStrong) (c : KarplusStrongControls) (a : Sound s) where
+  pub heard-number : T (not (isNan (memoAt s c .val .0)))
+  heard-number = memo-recalled (s .«freq_memo») (c .voct .0) (a .value)
+
+  pub struck-range : (4 ≤ struckLen (periodAt s c)) × (struckLen (periodAt s c) ≤ maxLenOf (s .«sample_rate») + 1)
+  unfolding struckLen
+  struck-range =
+      let w = period-range (s .«sample_rate») (memoAt s c .val) (a .rate) heard-number in
+      (omega (arith, w .0), omega (arith, w .1))
+
+  pub struck-fits : (n : ℕ) → maxLenOf (s .«sample_rate») + 2 ≤ n → struckLen (periodAt s c) ≤ n
+  struck-fits n h = omega (arith, struck-range .1)
+
+  pub struck-sound : (rising : Bool) (edge : EdgeDetector) (b : Float) (d : List ℕ) (l : List Float)
+      → Sound (strikeIf rising (heardString s edge (memoAt s c)) (periodAt s c) b d l .string)
+  unfolding strikeIf strikeOf
+  struck-sound true edge b d l = record {
+    rate = a .rate;
+    least = struck-range .0;
+    most = struck-range .1;
+    place = omega (arith, struck-range .0);
+    value = heard-number;
+  }
+  struck-sound false edge b d l = record { rate = a .rate; least = a .least; most = a .most; place = a .place; value = heard-number }
 
 pub room-of : (r : Hertz) (n : ℕ) → roomOf r n ≡ 0 → maxLenOf r + 2 ≤ n
 unfolding roomOf
@@ -450,6 +476,29 @@ pub turn-is : (s : KarplusStrong) (p d t : Float) (l : List Float) → turnOf s 
 unfolding turnOf tuningOf tapAt stepOf tapOf
 turn-is s p d t l = refl
 
+-- what holds of both ends of a turn holds of it
+pub turn-either : (P : Ticking → Type 0) (s : KarplusStrong) (t : Tuning) (l : List Float)
+    → ((y z v : Float) → isFin v ≡ true → P (wroteOf s y z v l)) → P (clearedOf s l) → P (turnOf s t l)
+unfolding turnOf
+turn-either P s t l h k = pick (isFin v) refl
+  where
+    y : Float
+    y = filteredOf s (tapAt l (s .«write_pos») (s .len) (t .delay) (t .fraction)) (t .«filter_coef»)
+
+    z : Float
+    z = stretchedOf s y (t .«ap_coef»)
+
+    v : Float
+    v = mul binary64 z loopLeak
+
+    pick : (b : Bool) → isFin v ≡ b → P (cond b (wroteOf s y z v l) (clearedOf s l))
+    pick true e = h y z v e
+    pick false e = k
+
+pub step-either : (P : Ticking → Type 0) (s : KarplusStrong) (p d t : Float) (l : List Float)
+    → ((y z v : Float) → isFin v ≡ true → P (wroteOf s y z v l)) → P (clearedOf s l) → P (stepOf s p d t l)
+step-either P s p d t l h k = subst P (turn-is s p d t l) (turn-either P s (tuningOf p d t) l h k)
+
 pub tuning-by : (p d t c a x : Float) (w : ℕ) → c ≡ filterCoefOf d → a ≡ apCoefOf t → x ≡ targetDelayOf p c a → w ≡ wholeOf x → record { «filter_coef» = c; «ap_coef» = a; delay = w; fraction = sub binary64 x (realOf w) } ≡ tuningOf p d t
 unfolding tuningOf
 tuning-by p d t c a x w ec ea ex ew = rw (ew, ex, ec, ea)
@@ -467,14 +516,14 @@ module _ (s : KarplusStrong) (c : KarplusStrongControls) (d : List ℕ) (l : Lis
     (ev : voct ≡ finiteOr (c .voct .0) zer) (em : memo ≡ recall1 voctToHzAt (s .«freq_memo») voct) (ep : period ≡ periodOf (s .«sample_rate») (memo .val))
     (er : risen ≡ risingOf (s .«trigger_edge») (c .trigger)) (ek : k ≡ cond (risen .rising) (drawsRefusalOf (struckLen period) d) 0) where
   pub sound-no : (k ≡ 0 → ⊥) → record { out = refusedTick s k; line = l } ≡ karplusStrongSoundOf s c d l
-  unfolding karplusStrongSoundOf
+  unfolding karplusStrongSoundOf triggerRefusalOf
   sound-no h = rw (← ev, ← em, ← ep, ← er, ← ek) (tick-no k s l _ h)
 
-  module _ (z : k ≡ 0) (damping stretch : Float) (u : KarplusStrong) (x : List Float) (ed : damping ≡ clampOf (finiteOr (c .damping) half) zer one)
-      (es : stretch ≡ clampOf (finiteOr (c .stretch) zer) (neg one) one)
-      (et : Parts-of (strikeIf (risen .rising) (heardString s (risen .edge) memo) period (clampOf (finiteOr (c .brightness) half) zer one) d l) u x) where
+  module _ (z : k ≡ 0) (damping stretch : Float) (u : KarplusStrong) (x : List Float) (ed : damping ≡ dampingOf c)
+      (es : stretch ≡ stretchOf c)
+      (et : Parts-of (strikeIf (risen .rising) (heardString s (risen .edge) memo) period (brightnessOf c) d l) u x) where
     sound-step : stepOf u period damping stretch x ≡ karplusStrongSoundOf s c d l
-    unfolding karplusStrongSoundOf tickUnless
+    unfolding karplusStrongSoundOf triggerRefusalOf tickUnless
     sound-step = rw (← ev, ← em, ← ep, ← er, ← ek, z, et .0, et .1, ed, es)
 
     pub sound-by : (r : KarplusStrongTicked) (y : List Float) → r ≡ stepOf u period damping stretch x .out → y ≡ stepOf u period damping stretch x .line

@@ -30,11 +30,8 @@ use Rattle.numeric.specs.Basic.{clampOf, maxOf, wholeOf, realOf}
 use Rattle.numeric.specs.Draw.{bipolarOf}
 use Rattle.common.proofs.DrawLaws.{draw-below, draws-fine}
 use Rattle.common.specs.Consts.{half}
-use Rattle.common.specs.Edge.{risingOf}
-use Rattle.common.specs.Memo.{recall1, voctToHzAt}
 use Rattle.common.specs.Tests.{rateOk, drawsOk, drawsRefusalOf}
 use Rattle.common.specs.declared.Hertz.{Hertz}
-use Rattle.common.specs.declared.Memo1.{Memo1}
 use Rattle.answer.proofs.Blocks.{ticks-keep, block-keeps, block-refusal, block-fits}
 use Rattle.answer.specs.Block.{afterTicks, answerAt}
 use Rattle.answer.specs.Answer.{answerOf, clean, markNumber, accepted}
@@ -43,13 +40,13 @@ use Rattle.answer.specs.declared.Answer.{Answer}
 use Rattle.karplus_strong.specs.Consts.{nPorts, loopLeak}
 use Rattle.karplus_strong.specs.Line.{blankAt, blankOf, impulseOf, pulseOf, excitedAt, excitedOf, sumTo, meanOf, levelAt, levelOf, struckOf}
 use Rattle.karplus_strong.specs.Step.{filterCoefOf, apCoefOf, filterDelayOf, apDelayOf, targetDelayOf, offsetOne, offsetTwo, tapOf, filteredOf, stretchedOf, Ticking, restOf, stepOf}
-use Rattle.karplus_strong.specs.KarplusStrong.{triggerRefusalOf, firstRefusalOf, karplusStrongNextOf, karplusStrongBlockOf, maxLenOf, roomOf, madeUnless, karplusStrongResetOf, karplusStrongSetSampleRateOf, finiteOr, periodOf, struckLen, strikeOf, strikeIf, heardString, tickUnless, karplusStrongTickOf, Strung, strung}
+use Rattle.karplus_strong.specs.KarplusStrong.{triggerRefusalOf, firstRefusalOf, karplusStrongNextOf, karplusStrongBlockOf, maxLenOf, roomOf, madeUnless, karplusStrongResetOf, karplusStrongSetSampleRateOf, finiteOr, periodOf, struckLen, strikeOf, strikeIf, tickUnless, karplusStrongTickOf, Strung, strung, dampingOf, brightnessOf, stretchOf, memoAt, periodAt}
 use Rattle.karplus_strong.specs.Calls.{Call, Tick, Play, Reset, SetSampleRate, Lend, strungAfter, lentOf, after, FitCall, First}
-use Rattle.karplus_strong.specs.Promises.{periodAt, taken, NoStretch, Unstretched, Never-cleared, Block-never-cleared}
+use Rattle.karplus_strong.specs.Promises.{taken, NoStretch, Unstretched, Never-cleared, Block-never-cleared}
 use Rattle.karplus_strong.specs.declared.KarplusStrong.{KarplusStrong}
 use Rattle.karplus_strong.specs.declared.KarplusStrongControls.{KarplusStrongControls}
 use Rattle.karplus_strong.proofs.Alike.{getD-over, length-struck}
-use Rattle.karplus_strong.proofs.Parts.{Sound, damped, delay-range, made-either, heard-known, memo-number, struck-room}
+use Rattle.karplus_strong.proofs.Parts.{Sound, damped, delay-range, made-either, heard-known, heard-number, struck-fits}
 use Rattle.karplus_strong.proofs.Promised.{struck-short, block-accepts}
 use Rattle.karplus_strong.proofs.Reached.{Good, tick-good, first-is, first-good, after-good}
 use Rattle.karplus_strong.proofs.Ticks.{struckStep, good-tick}
@@ -299,22 +296,15 @@ sound-calm : (s : KarplusStrong) (c : KarplusStrongControls) (draws : List ℕ) 
     → triggerRefusalOf s c draws ≡ 0 → Calm s l → CalmTick (struckStep s c draws l)
 unfolding struckStep triggerRefusalOf
 sound-calm s c draws l g z e k =
-    struck-calm (taken s c) (heardString s (risingOf (s .«trigger_edge») (c .trigger) .edge) memo) (periodAt s c)
-    (clampOf (finiteOr (c .brightness) half) zer one) (clampOf (finiteOr (c .damping) half) zer one) (clampOf (finiteOr (c .stretch) zer) (neg one) one) draws l z e
-    (struck-room (s .«sample_rate») (memo .val) (periodAt s c) (length l) refl (a .rate) number (g .room)) (struck-short s c a) (a .place)
+    struck-calm (taken s c) _ (periodAt s c) (brightnessOf c) (dampingOf c) (stretchOf c) draws l z e
+    (struck-fits s c a (length l) (g .room)) (struck-short s c a) (a .place)
     (let q = a .most in let r = g .room in omega arith)
     (damped (c .brightness) .0) (damped (c .brightness) .1) (damped (c .damping) .0) (damped (c .damping) .1)
-    (delay-fine (s .«sample_rate») (memo .val) (c .damping) (c .stretch) (a .rate) number)
+    (delay-fine (s .«sample_rate») (memoAt s c .val) (c .damping) (c .stretch) (a .rate) (heard-number s c a))
     (record { cells = k .cells; lp = k .lp; x1 = k .x1; y1 = k .y1 })
   where
     a : Sound s
     a = g .sound
-
-    memo : Memo1
-    memo = recall1 voctToHzAt (s .«freq_memo») (finiteOr (c .voct .0) zer)
-
-    number : T (not (isNan (memo .val .0)))
-    number = memo-number (s .«freq_memo») (c .voct .0) (finiteOr (c .voct .0) zer) memo (a .value) refl refl
 
 tick-calm : (s : KarplusStrong) (c : KarplusStrongControls) (draws : List ℕ) (l : List Float) → Good s (length l) → NoStretch c → Calm s l
     → CalmTick (karplusStrongTickOf s c draws l)

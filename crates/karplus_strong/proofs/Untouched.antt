@@ -7,29 +7,24 @@ use native.Mathlib.Omega.{arith}
 use lib.Dec.{eqb}
 use lib.ListN.{length, getD, drop, length-set}
 use lib.Seq.{getD-append-add, getD-drop, getD-set-other}
-use lib.Ieee.{Float, nan, binary64, mul, neg}
+use lib.Ieee.{Float, nan}
 use borrow.Author.Tests.{eqb-true}
 use Rattle.laws.proofs.Over.{length-tab, length-over, tab-ext}
-use Rattle.laws.specs.Float.{zer, one, isFin}
 use Rattle.laws.specs.Lists.{tab, over}
-use Rattle.numeric.specs.Basic.{clampOf}
 use Rattle.common.proofs.DrawLaws.{refusal-draws}
-use Rattle.common.specs.Consts.{half}
-use Rattle.common.specs.Edge.{risingOf}
-use Rattle.common.specs.Memo.{recall1, voctToHzAt}
-use Rattle.common.specs.Tests.{drawsRefusalOf}
 use Rattle.answer.specs.Block.{Block, block, blockOf, blockRefusalOf, ticksOf, afterTicks}
 use Rattle.answer.specs.declared.Tally.{Tally}
 use Rattle.answer.proofs.Blocks.{ticks-keep, held-after, block-fits}
-use Rattle.karplus_strong.specs.Consts.{nPorts, loopLeak}
+use Rattle.karplus_strong.specs.Consts.{nPorts}
 use Rattle.karplus_strong.specs.Line.{blankAt, blankOf, excitedAt, excitedOf, meanOf, levelAt, levelOf, struckOf}
-use Rattle.karplus_strong.specs.Step.{filterCoefOf, apCoefOf, targetDelayOf, tapOf, filteredOf, stretchedOf, Ticking, restOf, wroteOf, clearedOf, stepOf}
+use Rattle.karplus_strong.specs.Step.{Ticking, restOf, stepOf}
 use Rattle.karplus_strong.specs.Shortcuts.{tuningOf, turnOf, heldNext}
-use Rattle.karplus_strong.specs.KarplusStrong.{triggerRefusalOf, firstRefusalOf, karplusStrongToldOf, karplusStrongNextOf, karplusStrongBlockOf, maxLenOf, karplusStrongRefusalOf, madeUnless, karplusStrongNewOf, karplusStrongResetOf, karplusStrongSetSampleRateOf, finiteOr, struckLen, strikeOf, strikeIf, heardString, tickUnless, karplusStrongSoundOf, karplusStrongTickOf, Strung, strung, noString}
-use Rattle.karplus_strong.specs.Promises.{periodAt, taken, SamePast, Past-untouched, Only-its-draws}
+use Rattle.karplus_strong.specs.KarplusStrong.{triggerRefusalOf, firstRefusalOf, karplusStrongToldOf, karplusStrongNextOf, karplusStrongBlockOf, maxLenOf, karplusStrongRefusalOf, madeUnless, karplusStrongNewOf, karplusStrongResetOf, karplusStrongSetSampleRateOf, struckLen, strikeOf, strikeIf, tickUnless, karplusStrongSoundOf, karplusStrongTickOf, Strung, strung, noString, dampingOf, brightnessOf, stretchOf, periodAt}
+use Rattle.karplus_strong.specs.Promises.{taken, SamePast, Past-untouched, Only-its-draws}
 use Rattle.karplus_strong.specs.declared.KarplusStrong.{KarplusStrong}
 use Rattle.karplus_strong.specs.declared.KarplusStrongControls.{KarplusStrongControls}
-use Rattle.karplus_strong.proofs.Parts.{made-either, Sound, accepted, rate-accepted, memo-number, struck-room, turn-is}
+use Rattle.karplus_strong.proofs.Parts.{made-either, Sound, struck-fits, accepted, rate-accepted, turn-is, step-either}
+use Rattle.karplus_strong.proofs.Alike.{stepped}
 use Rattle.karplus_strong.proofs.Held.{Held, tuneOf, struckBy, holds, turned-ready, first-none}
 use Rattle.karplus_strong.proofs.Reached.{new-taken}
 use Rattle.karplus_strong.proofs.Ticks.{struckStep, tick-is}
@@ -68,24 +63,16 @@ abbrev PastTick : List Float → Ticking → Type 0
 PastTick l t = SamePast (t .out .«karplus_strong» .len) l (t .line)
 
 past-step : (s : KarplusStrong) (p d t : Float) (l : List Float) → s .«write_pos» < s .len → s .len ≤ length l → PastTick l (stepOf s p d t l)
-unfolding stepOf
-past-step s p d t l h k = go (isFin v) y z v
+past-step s p d t l h k =
+    step-either (PastTick l) s p d t l
+    (λ y z v e. record {
+      size = length-set l (s .«write_pos») v;
+      cells = λ i q. getD-set-other l (s .«write_pos») i v nan (behind i (s .«write_pos») (s .len) h q);
+    })
+    (past-blank 0 (s .len) l k)
   where
-    y : Float
-    y = filteredOf s (tapOf l (s .«write_pos») (s .len) (targetDelayOf p (filterCoefOf d) (apCoefOf t))) (filterCoefOf d)
-
-    z : Float
-    z = stretchedOf s y (apCoefOf t)
-
-    v : Float
-    v = mul binary64 z loopLeak
-
     behind : (i j n : ℕ) → j < n → n ≤ i → i ≡ j → ⊥
     behind i j n h k e = omega arith
-
-    go : (b : Bool) (y z v : Float) → PastTick l (cond b (wroteOf s y z v l) (clearedOf s l))
-    go true y z v = record { size = length-set l (s .«write_pos») v; cells = λ i q. getD-set-other l (s .«write_pos») i v nan (behind i (s .«write_pos») (s .len) h q) }
-    go false y z v = past-blank 0 (s .len) l k
 
 past-struck-step : (t : KarplusStrong) (p b d c : Float) (draws : List ℕ) (l : List Float) → struckLen p ≤ length l → PastTick l (stepOf (restOf t (struckLen p) (t .«trigger_edge»)) p d c (struckOf (struckLen p) b draws l))
 past-struck-step t p b d c draws l h =
@@ -95,15 +82,8 @@ past-struck-step t p b d c draws l h =
     let e = a .size in
     let z : 0 < struckLen p = unfold struckLen in omega arith in
     let w : PastTick m (stepOf u p d c m) = past-step u p d c m z (omega arith) in
-    past-both (stepOf u p d c m .out .«karplus_strong» .len) l m (stepOf u p d c m .line) (wider (stepOf u p d c m .out .«karplus_strong» .len) (step-len u p d c m) a) w
+    past-both (stepOf u p d c m .out .«karplus_strong» .len) l m (stepOf u p d c m .line) (wider (stepOf u p d c m .out .«karplus_strong» .len) (stepped u p d c m .len) a) w
   where
-    step-len : (s : KarplusStrong) (p d t : Float) (l : List Float) → stepOf s p d t l .out .«karplus_strong» .len ≡ s .len
-    step-len s p d t l = unfold stepOf in pick (isFin (mul binary64 (stretchedOf s (filteredOf s (tapOf l (s .«write_pos») (s .len) (targetDelayOf p (filterCoefOf d) (apCoefOf t))) (filterCoefOf d)) (apCoefOf t)) loopLeak)) _ _ _
-      where
-        pick : (b : Bool) (y z v : Float) → cond b (wroteOf s y z v l) (clearedOf s l) .out .«karplus_strong» .len ≡ s .len
-        pick true y z v = refl
-        pick false y z v = refl
-
     wider : {l m : List Float} {n : ℕ} (k : ℕ) → k ≡ n → SamePast n l m → SamePast k l m
     wider k e a = rw e a
 
@@ -113,15 +93,13 @@ past-sounded rising (suc k) s t p b d c draws l h g r = unfold tickUnless in pas
 past-sounded false zero s t p b d c draws l h g r = unfold tickUnless strikeIf in past-step t p d c l h g
 past-sounded true zero s t p b d c draws l h g r = unfold tickUnless strikeIf strikeOf in past-struck-step t p b d c draws l r
 
-past-sound : (s : KarplusStrong) (c : KarplusStrongControls) (draws : List ℕ) (l : List Float) → Sound s → maxLenOf (s .«sample_rate») + 2 ≤ length l → PastTick l (karplusStrongSoundOf s c draws l)
+past-sound : (s : KarplusStrong) (c : KarplusStrongControls) (draws : List ℕ) (l : List Float) → Sound s → maxLenOf (s .«sample_rate») + 2 ≤ length l
+    → PastTick l (karplusStrongSoundOf s c draws l)
 unfolding karplusStrongSoundOf
 past-sound s c draws l a r =
-    let memo = recall1 voctToHzAt (s .«freq_memo») (finiteOr (c .voct .0) zer) in
-    let risen = risingOf (s .«trigger_edge») (c .trigger) in
     let q = a .most in
-    past-sounded (risen .rising) (cond (risen .rising) (drawsRefusalOf (struckLen (periodAt s c)) draws) 0) s (heardString s (risen .edge) memo) (periodAt s c) (clampOf (finiteOr (c .brightness) half) zer one) (clampOf (finiteOr (c .damping) half) zer one) (clampOf (finiteOr (c .stretch) zer) (neg one) one) draws l
-    (a .place) (omega arith)
-    (struck-room (s .«sample_rate») (memo .val) (periodAt s c) (length l) refl (a .rate) (memo-number (s .«freq_memo») (c .voct .0) (finiteOr (c .voct .0) zer) memo (a .value) refl refl) r)
+    past-sounded _ (triggerRefusalOf s c draws) s _ (periodAt s c) (brightnessOf c) (dampingOf c) (stretchOf c) draws l (a .place) (omega arith)
+    (struck-fits s c a (length l) r)
 
 past-tick : (s : KarplusStrong) (c : KarplusStrongControls) (draws : List ℕ) (l : List Float) → PastTick l (karplusStrongTickOf s c draws l)
 unfolding karplusStrongTickOf tickUnless
@@ -238,6 +216,6 @@ tick-draws s c d e l h k = rw (tick-is s c d l, tick-is s c e l, h, k)
 pub only-its-draws : Only-its-draws
 only-its-draws =
     record {
-      struck = λ s c d e l h g k. tick-draws s c d e l (unfold triggerRefusalOf in rw (refusal-draws (struckLen (periodAt s c)) d e h g k)) (unfold struckStep strikeIf strikeOf in rw (struck-draws (struckLen (periodAt s c)) (clampOf (finiteOr (c .brightness) half) zer one) d e l k));
+      struck = λ s c d e l h g k. tick-draws s c d e l (unfold triggerRefusalOf in rw (refusal-draws (struckLen (periodAt s c)) d e h g k)) (unfold struckStep strikeIf strikeOf in rw (struck-draws (struckLen (periodAt s c)) (brightnessOf c) d e l k));
       unstruck = λ s c d e l h. tick-draws s c d e l (unfold triggerRefusalOf in rw h) (unfold struckStep strikeIf in rw h);
     }

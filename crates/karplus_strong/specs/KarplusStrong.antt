@@ -150,19 +150,33 @@ unfoldable pub tickUnless : ℕ → KarplusStrong → List Float → Ticking →
 tickUnless zero s l t = t
 tickUnless (suc n) s l t = record { out = refusedTick s (suc n); line = l }
 
+-- the controls: finite, or their default, and in their range
+abbrev pub dampingOf : KarplusStrongControls → Float
+dampingOf c = clampOf (finiteOr (c .damping) half) zer one
+
+abbrev pub brightnessOf : KarplusStrongControls → Float
+brightnessOf c = clampOf (finiteOr (c .brightness) half) zer one
+
+abbrev pub stretchOf : KarplusStrongControls → Float
+stretchOf c = clampOf (finiteOr (c .stretch) zer) (neg one) one
+
+-- the pitch, and its period in samples
+abbrev pub memoAt : KarplusStrong → KarplusStrongControls → Memo1
+memoAt s c = recall1 voctToHzAt (s .«freq_memo») (finiteOr (c .voct .0) zer)
+
+abbrev pub periodAt : KarplusStrong → KarplusStrongControls → Float
+periodAt s c = periodOf (s .«sample_rate») (memoAt s c .val)
+
+-- 5 and 6, asked of a tick that takes its trigger
+unfoldable pub triggerRefusalOf : KarplusStrong → KarplusStrongControls → List ℕ → ℕ
+triggerRefusalOf s c draws = cond (risingOf (s .«trigger_edge») (c .trigger) .rising) (drawsRefusalOf (struckLen (periodAt s c)) draws) 0
+
 -- a tick of a state and a line that refusals 1 to 3 let pass: edge, strike if it is taken, step
 unfoldable pub karplusStrongSoundOf : KarplusStrong → KarplusStrongControls → List ℕ → List Float → Ticking
 karplusStrongSoundOf s c draws l =
-    let voct = finiteOr (c .voct .0) zer in
-    let damping = clampOf (finiteOr (c .damping) half) zer one in
-    let brightness = clampOf (finiteOr (c .brightness) half) zer one in
-    let stretch = clampOf (finiteOr (c .stretch) zer) (neg one) one in
-    let memo = recall1 voctToHzAt (s .«freq_memo») voct in
-    let period = periodOf (s .«sample_rate») (memo .val) in
     let risen = risingOf (s .«trigger_edge») (c .trigger) in
-    let struck = strikeIf (risen .rising) (heardString s (risen .edge) memo) period brightness draws l in
-    tickUnless (cond (risen .rising) (drawsRefusalOf (struckLen period) draws) 0) s l
-    (stepOf (struck .string) period damping stretch (struck .line))
+    let struck = strikeIf (risen .rising) (heardString s (risen .edge) (memoAt s c)) (periodAt s c) (brightnessOf c) draws l in
+    tickUnless (triggerRefusalOf s c draws) s l (stepOf (struck .string) (periodAt s c) (dampingOf c) (stretchOf c) (struck .line))
 
 unfoldable pub karplusStrongTickOf : KarplusStrong → KarplusStrongControls → List ℕ → List Float → Ticking
 karplusStrongTickOf s c draws l = tickUnless (karplusStrongRefusalOf s (length l)) s l (karplusStrongSoundOf s c draws l)
@@ -174,12 +188,6 @@ karplusStrongToldOf c draws x = karplusStrongTickOf (x .string) c draws (x .line
 
 abbrev pub karplusStrongNextOf : KarplusStrongControls → List ℕ → Strung → Strung
 karplusStrongNextOf c draws x = let t = karplusStrongTickOf (x .string) c draws (x .line) in strung (t .out .«karplus_strong») (t .line)
-
--- 5 and 6, asked of a tick that takes its trigger
-unfoldable pub triggerRefusalOf : KarplusStrong → KarplusStrongControls → List ℕ → ℕ
-triggerRefusalOf s c draws =
-    let period = periodOf (s .«sample_rate») (recall1 voctToHzAt (s .«freq_memo») (finiteOr (c .voct .0) zer) .val) in
-    cond (risingOf (s .«trigger_edge») (c .trigger) .rising) (drawsRefusalOf (struckLen period) draws) 0
 
 -- what refuses the first of n ticks over a line of so many cells; of none only the state's own numbers, 1, 2 and 3
 unfoldable pub firstRefusalOf : KarplusStrong → KarplusStrongControls → List ℕ → ℕ → ℕ → ℕ

@@ -6,13 +6,11 @@ use mathlib.Core.Path.{_≡_}
 use Prim.Native.Nat.{ℕ, _*_, _≤_, _<_, min}
 use lib.Dec.{eqb, leb}
 use lib.ListN.{length, getD}
-use lib.Ieee.{Float, nan, eq, le, neg}
-use Rattle.laws.specs.Float.{zer, one, isFin}
+use lib.Ieee.{Float, nan, eq, le}
+use Rattle.laws.specs.Float.{zer, isFin}
 use Rattle.laws.specs.Machine.{Reached, replies, Settles}
-use Rattle.numeric.specs.Basic.{clampOf}
 use Rattle.common.specs.Consts.{five}
 use Rattle.common.specs.Edge.{thresholdOf, risingOf}
-use Rattle.common.specs.Memo.{recall1, voctToHzAt}
 use Rattle.common.specs.Tests.{rateOk, drawsOk}
 use Rattle.common.specs.declared.Hertz.{Hertz}
 use Rattle.answer.specs.Answer.{volts1, cleared, clean, markNumber, voltsOf, refusalOf, accepted, outcomeNumber}
@@ -22,18 +20,20 @@ use Rattle.answer.specs.declared.Tally.{Tally}
 use Rattle.karplus_strong.specs.Consts.{nPorts}
 use Rattle.karplus_strong.specs.Step.{Ticking}
 use Rattle.karplus_strong.specs.KarplusStrong.{maxLenOf, Strung, strung, newStrung, newLike, roomOf, karplusStrongRefusalOf, karplusStrongCellsOf}
-use Rattle.karplus_strong.specs.KarplusStrong.{Making, karplusStrongNewOf, finiteOr, periodOf, struckLen, karplusStrongTickOf, karplusStrongToldOf}
+use Rattle.karplus_strong.specs.KarplusStrong.{Making, karplusStrongNewOf, struckLen, stretchOf, periodAt, karplusStrongTickOf, karplusStrongToldOf}
 use Rattle.karplus_strong.specs.KarplusStrong.{karplusStrongNextOf, triggerRefusalOf, firstRefusalOf, karplusStrongBlockOf, karplusStrongResetOf}
 use Rattle.karplus_strong.specs.KarplusStrong.{karplusStrongSetSampleRateOf}
 use Rattle.karplus_strong.specs.Calls.{Call, Tick, Play, Reset, SetSampleRate, Lend, Told, strungAfter, after, reply, Fit, First, ReachedKarplusStrong}
 use Rattle.karplus_strong.specs.declared.KarplusStrong.{KarplusStrong}
 use Rattle.karplus_strong.specs.declared.KarplusStrongControls.{KarplusStrongControls}
 
--- ---- no call refuses but for its own input
--- the period of the pitch that a tick is given
-abbrev pub periodAt : KarplusStrong → KarplusStrongControls → Float
-periodAt s c = periodOf (s .«sample_rate») (recall1 voctToHzAt (s .«freq_memo») (finiteOr (c .voct .0) zer) .val)
+-- ---- new refuses a bad rate and a line without room alone: at each other rate, in each other line, there is a first string
+abbrev pub New-accepts : Type 0
+New-accepts = (rate : Hertz) (l : List Float)
+    → (outcomeNumber (karplusStrongNewOf rate l .out .outcome) ≡ cond (rateOk rate) (roomOf rate (length l)) 1)
+    × (rateOk rate ≡ true → roomOf rate (length l) ≡ 0 → First (newStrung rate l))
 
+-- ---- no call refuses but for its own input
 -- whether it takes the trigger's edge
 abbrev pub taken : KarplusStrong → KarplusStrongControls → Bool
 taken s c = risingOf (s .«trigger_edge») (c .trigger) .rising
@@ -94,11 +94,7 @@ Block-forgets = (x : Strung) → ReachedKarplusStrong x → (c : KarplusStrongCo
     → (t : Tally) (o : List Float) (m : List ℕ) → 0 < length m → karplusStrongBlockOf x c draws t o m .refused ≡ 0
     → (y : Strung) → Fresh x y → Forgotten x y (Play c draws t o m)
 
--- new makes a string at each rate that isn't refused, in each line that has room for it
-abbrev pub First-there : Type 0
-First-there = (rate : Hertz) (l : List Float) → rateOk rate ≡ true → roomOf rate (length l) ≡ 0 → First (newStrung rate l)
-
--- so it makes one like each reached string, in each line of its line's size
+-- and new makes one like each reached string, in each line of its line's size
 abbrev pub New-there : Type 0
 New-there = (x : Strung) → ReachedKarplusStrong x → (y : Strung) → Fresh x y → First y
 
@@ -162,7 +158,7 @@ Clean-or-cleared = (s : KarplusStrong) (c : KarplusStrongControls) (draws : List
 -- and while its stretch counts as 0.0 or -0.0 a string is never cleared, whatever its other controls do. With another it may be: at
 -- 48,000 Hz, voct 0.0 and damping 1.0, a stretch of -1.0 and 1.0 by turns drives the loop up until it overflows
 abbrev pub NoStretch : KarplusStrongControls → Type 0
-NoStretch c = eq (clampOf (finiteOr (c .stretch) zer) (neg one) one) zer ≡ true
+NoStretch c = eq (stretchOf c) zer ≡ true
 
 abbrev pub Unstretched : Call → Type 0
 Unstretched (Tick c draws) = Fit c × NoStretch c

@@ -66,8 +66,7 @@ ring-requires-2 c κs =
     let number = memo-number _ _ _ _ (good .0 .value) (c .before .before .before .before .before .before .before .before .before .before .finite-or .ensures) (c .before .before .before .before .before .before .before .before .before .voct-to-hz .ensures) in
     let most = good .0 .most in
     let room = good .1 in
-    let delay = delay-range _ _ _ _ (good .0 .rate) number in
-    (good .0 .place, omega arith, rw (c .before .before .before .before .tuned .ensures, c .before .before .before .before .before .before .before .before .before .before .before .before .within .ensures, c .before .before .before .before .before .before .before .before .before .before .before .within2 .ensures, c .before .before .before .before .before .before .before .period-of .ensures) delay, c .before .before .before .before .before .before .before .before .before .before .before .before .before .before .before .before .before .before .before .before .before .pre .3)
+    (good .0 .place, omega arith, rw (c .before .before .before .before .tuned .ensures, c .before .before .before .before .before .before .before .before .before .before .before .before .within .ensures, c .before .before .before .before .before .before .before .before .before .before .before .within2 .ensures, c .before .before .before .before .before .before .before .period-of .ensures) (delay-range _ _ _ _ (good .0 .rate) number), c .before .before .before .before .before .before .before .before .before .before .before .before .before .before .before .before .before .before .before .before .before .pre .3)
 
 same-length : tie.Need-same-length
 same-length c = search needs
