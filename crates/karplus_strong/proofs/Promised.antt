@@ -24,7 +24,7 @@ use Rattle.karplus_strong.proofs.Held.{tuneOf, holds, first-none}
 use Rattle.karplus_strong.specs.Shortcuts.{heldAnswer}
 use Rattle.karplus_strong.specs.Calls.{First, ReachedKarplusStrong, after, reply, Tick, Reset, SetSampleRate, Told}
 use Rattle.karplus_strong.specs.Consts.{nPorts}
-use Rattle.karplus_strong.specs.KarplusStrong.{triggerRefusalOf, karplusStrongBlockOf, maxLenOf, roomOf, karplusStrongCellsOf, karplusStrongRefusalOf, karplusStrongRateRefusalOf, madeUnless, karplusStrongNewOf, karplusStrongResetOf, karplusStrongSetSampleRateOf, struckLen, heardString, tickUnless, karplusStrongTickOf, Strung, newLike, memoAt, periodAt}
+use Rattle.karplus_strong.specs.KarplusStrong.{newStrung, triggerRefusalOf, karplusStrongBlockOf, maxLenOf, roomOf, karplusStrongCellsOf, karplusStrongRefusalOf, karplusStrongRateRefusalOf, madeUnless, karplusStrongNewOf, karplusStrongResetOf, karplusStrongSetSampleRateOf, struckLen, heardString, tickUnless, karplusStrongTickOf, Strung, newLike, memoAt, periodAt}
 use Rattle.karplus_strong.specs.Promises.{taken, Never-refused, New-accepts, New-there, Cells-enough, Edge-comes, Clean-or-cleared, Refused-leaves, Keeps-rate, Block-accepts, Block-tallies}
 use Rattle.karplus_strong.specs.Step.{Ticking}
 use Rattle.common.specs.declared.Hertz.{Hertz}
