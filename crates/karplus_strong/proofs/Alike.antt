@@ -17,8 +17,10 @@ use Rattle.laws.specs.Lists.{tab, over}
 use Rattle.numeric.specs.Basic.{wholeOf, realOf}
 use Rattle.karplus_strong.specs.Consts.{loopLeak}
 use Rattle.karplus_strong.specs.Line.{blankAt, blankOf, excitedAt, excitedOf, sumTo, meanOf, levelAt, levelOf, struckOf}
-use Rattle.karplus_strong.specs.Step.{filterCoefOf, apCoefOf, targetDelayOf, offsetOne, offsetTwo, tapOf, filteredOf, stretchedOf, Ticking, restOf, wroteOf, clearedOf, stepOf}
-use Rattle.karplus_strong.specs.KarplusStrong.{maxLenOf, karplusStrongRefusalOf, struckLen, strikeOf, strikeIf, tickUnless, karplusStrongSoundOf, karplusStrongTickOf, dampingOf, brightnessOf, stretchOf, periodAt, triggerRefusalOf}
+use Rattle.karplus_strong.specs.Step.{filterCoefOf, apCoefOf, targetDelayOf, offsetOne, offsetTwo, tapOf}
+use Rattle.karplus_strong.specs.Step.{filteredOf, stretchedOf, Ticking, restOf, wroteOf, clearedOf, stepOf}
+use Rattle.karplus_strong.specs.KarplusStrong.{maxLenOf, karplusStrongRefusalOf, struckLen, strikeOf, strikeIf, tickUnless, karplusStrongSoundOf}
+use Rattle.karplus_strong.specs.KarplusStrong.{karplusStrongTickOf, dampingOf, brightnessOf, stretchOf, periodAt, triggerRefusalOf}
 use Rattle.karplus_strong.specs.Shortcuts.{tuningOf, turnOf}
 use Rattle.karplus_strong.specs.declared.Tuning.{Tuning}
 use Rattle.karplus_strong.specs.Promises.{Alike, SameTick, Only-its-cells}
@@ -95,7 +97,8 @@ getD-over f n l i h =
     let q : length (tab f n) ≡ n = length-tab f n in
     List·getD-append (tab f n) (drop n l) nan i (omega arith) ∙ getD-tab nan f n i h
 
-alike-over : (f g : ℕ → Float) (n : ℕ) (l m : List Float) → n ≤ length l → length l ≡ length m → ((i : ℕ) → i < n → f i ≡ g i) → Alike n (over f n l) (over g n m)
+alike-over : (f g : ℕ → Float) (n : ℕ) (l m : List Float) → n ≤ length l → length l ≡ length m → ((i : ℕ) → i < n → f i ≡ g i)
+    → Alike n (over f n l) (over g n m)
 alike-over f g n l m h e k = record {
   size = length-over f n l h ∙ e ∙ sym (length-over g n m (omega arith));
   cells = λ i q. getD-over f n l i q ∙ k i q ∙ sym (getD-over g n m i q);
@@ -126,14 +129,20 @@ alike-struck n b d l m h e =
     let y = over (excitedAt n b d) n m in
     let a : Alike n x y = alike-over (excitedAt n b d) (excitedAt n b d) n l m h e (λ i q. refl) in
     let lx : length x ≡ length l = length-over (excitedAt n b d) n l h in
-    let me : div binary64 (sumTo x n) (realOf n) ≡ div binary64 (sumTo y n) (realOf n) = ap (λ (t : Float). div binary64 t (realOf n)) (sum-alike x y n (a .cells)) in
-    alike-over (levelAt (div binary64 (sumTo x n) (realOf n)) x) (levelAt (div binary64 (sumTo y n) (realOf n)) y) n x y (omega arith) (a .size) (λ i q. rw (me, a .cells i q))
+    let me : div binary64 (sumTo x n) (realOf n) ≡ div binary64 (sumTo y n) (realOf n) =
+    ap (λ (t : Float). div binary64 t (realOf n)) (sum-alike x y n (a .cells)) in
+    alike-over (levelAt (div binary64 (sumTo x n) (realOf n)) x) (levelAt (div binary64 (sumTo y n) (realOf n)) y) n x y (omega arith) (a .size)
+    (λ i q. rw (me, a .cells i q))
 
 -- ---- the step
-tap-alike : (l m : List Float) (from len : ℕ) (x : Float) → from < len → ((i : ℕ) → i < len → getD l i nan ≡ getD m i nan) → tapOf l from len x ≡ tapOf m from len x
+tap-alike : (l m : List Float) (from len : ℕ) (x : Float) → from < len → ((i : ℕ) → i < len → getD l i nan ≡ getD m i nan)
+    → tapOf l from len x ≡ tapOf m from len x
 unfolding tapOf
 tap-alike l m from len x h k =
-    rw (k ((from + offsetOne len (wholeOf x)) % len) (mod-lt (from + offsetOne len (wholeOf x)) {m = len} (omega arith)), k ((from + offsetTwo len (wholeOf x)) % len) (mod-lt (from + offsetTwo len (wholeOf x)) {m = len} (omega arith)))
+    rw (
+      k ((from + offsetOne len (wholeOf x)) % len) (mod-lt (from + offsetOne len (wholeOf x)) {m = len} (omega arith)),
+      k ((from + offsetTwo len (wholeOf x)) % len) (mod-lt (from + offsetTwo len (wholeOf x)) {m = len} (omega arith)),
+    )
 
 alike-set : (n i : ℕ) (v : Float) (l m : List Float) → i < length l → Alike n l m → Alike n (set l i v) (set m i v)
 alike-set n i v l m h k = record {
@@ -145,36 +154,43 @@ alike-set n i v l m h k = record {
     go j q (yes e) = rw e (getD-set-same l i v nan h ∙ sym (getD-set-same m i v nan (let z = k .size in omega arith)))
     go j q (no e) = getD-set-other l i j v nan e ∙ k .cells j q ∙ sym (getD-set-other m i j v nan e)
 
-pub alike-step : (s : KarplusStrong) (p d t : Float) (l m : List Float) → s .«write_pos» < s .len → s .len ≤ length l → Alike (s .len) l m → SameTick (stepOf s p d t l) (stepOf s p d t m)
+pub alike-step : (s : KarplusStrong) (p d t : Float) (l m : List Float) → s .«write_pos» < s .len → s .len ≤ length l → Alike (s .len) l m
+    → SameTick (stepOf s p d t l) (stepOf s p d t m)
 unfolding stepOf
-alike-step s p d t l m h k e = rw (tap-alike l m (s .«write_pos») (s .len) (targetDelayOf p (filterCoefOf d) (apCoefOf t)) h (e .cells)) (go (tapOf m (s .«write_pos») (s .len) (targetDelayOf p (filterCoefOf d) (apCoefOf t))))
+alike-step s p d t l m h k e = rw (tap-alike l m (s .«write_pos») (s .len) (targetDelayOf p (filterCoefOf d) (apCoefOf t)) h (e .cells))
+    (go (tapOf m (s .«write_pos») (s .len) (targetDelayOf p (filterCoefOf d) (apCoefOf t))))
   where
     go : (x : Float) → let y = filteredOf s x (filterCoefOf d) in let z = stretchedOf s y (apCoefOf t) in let v = mul binary64 z loopLeak in
         SameTick (cond (isFin v) (wroteOf s y z v l) (clearedOf s l)) (cond (isFin v) (wroteOf s y z v m) (clearedOf s m))
-    go x = pick (isFin (mul binary64 (stretchedOf s (filteredOf s x (filterCoefOf d)) (apCoefOf t)) loopLeak)) (filteredOf s x (filterCoefOf d)) (stretchedOf s (filteredOf s x (filterCoefOf d)) (apCoefOf t)) (mul binary64 (stretchedOf s (filteredOf s x (filterCoefOf d)) (apCoefOf t)) loopLeak)
+    go x = pick (isFin (mul binary64 (stretchedOf s (filteredOf s x (filterCoefOf d)) (apCoefOf t)) loopLeak)) (filteredOf s x (filterCoefOf d))
+        (stretchedOf s (filteredOf s x (filterCoefOf d)) (apCoefOf t)) (mul binary64 (stretchedOf s (filteredOf s x (filterCoefOf d)) (apCoefOf t)) loopLeak)
       where
         pick : (b : Bool) (y z v : Float) → SameTick (cond b (wroteOf s y z v l) (clearedOf s l)) (cond b (wroteOf s y z v m) (clearedOf s m))
         pick true y z v = record { out = refl; line = alike-set (s .len) (s .«write_pos») v l m (omega arith) e }
         pick false y z v = record { out = refl; line = alike-blank 0 (s .len) l m k (e .size) (λ i q. absurd (not-suc-le-zero q)) }
 
 -- ---- the tick
-pub same-refused : (k : ℕ) (s : KarplusStrong) (l m : List Float) (t u : Ticking) → Alike (s .len) l m → SameTick (tickUnless (suc k) s l t) (tickUnless (suc k) s m u)
+pub same-refused : (k : ℕ) (s : KarplusStrong) (l m : List Float) (t u : Ticking) → Alike (s .len) l m
+    → SameTick (tickUnless (suc k) s l t) (tickUnless (suc k) s m u)
 unfolding tickUnless
 same-refused k s l m t u e = record { out = refl; line = e }
 
 alike-sounded : (rising : Bool) (k : ℕ) (s t : KarplusStrong) (p b d c : Float) (draws : List ℕ) (l m : List Float)
     → Alike (s .len) l m → Alike (t .len) l m → t .«write_pos» < t .len → t .len ≤ length l → struckLen p ≤ length l
-    → SameTick (tickUnless k s l (stepOf (strikeIf rising t p b draws l .string) p d c (strikeIf rising t p b draws l .line))) (tickUnless k s m (stepOf (strikeIf rising t p b draws m .string) p d c (strikeIf rising t p b draws m .line)))
+    → SameTick (tickUnless k s l (stepOf (strikeIf rising t p b draws l .string) p d c (strikeIf rising t p b draws l .line)))
+    (tickUnless k s m (stepOf (strikeIf rising t p b draws m .string) p d c (strikeIf rising t p b draws m .line)))
 alike-sounded rising (suc k) s t p b d c draws l m e a h g r = same-refused k s l m _ _ e
 alike-sounded false zero s t p b d c draws l m e a h g r = unfold tickUnless strikeIf in alike-step t p d c l m h g a
 alike-sounded true zero s t p b d c draws l m e a h g r = unfold tickUnless strikeIf strikeOf in alike-struck-step t p b d c draws l m r (a .size)
   where
     alike-struck-step : (t : KarplusStrong) (p b d c : Float) (draws : List ℕ) (l m : List Float) → struckLen p ≤ length l → length l ≡ length m
-        → SameTick (stepOf (restOf t (struckLen p) (t .«trigger_edge»)) p d c (struckOf (struckLen p) b draws l)) (stepOf (restOf t (struckLen p) (t .«trigger_edge»)) p d c (struckOf (struckLen p) b draws m))
+        → SameTick (stepOf (restOf t (struckLen p) (t .«trigger_edge»)) p d c (struckOf (struckLen p) b draws l))
+        (stepOf (restOf t (struckLen p) (t .«trigger_edge»)) p d c (struckOf (struckLen p) b draws m))
     alike-struck-step t p b d c draws l m r e =
         let q = length-struck (struckLen p) b draws l r in
         let z : 0 < struckLen p = unfold struckLen in omega arith in
-        alike-step (restOf t (struckLen p) (t .«trigger_edge»)) p d c (struckOf (struckLen p) b draws l) (struckOf (struckLen p) b draws m) z (omega arith) (alike-struck (struckLen p) b draws l m r e)
+        alike-step (restOf t (struckLen p) (t .«trigger_edge»)) p d c (struckOf (struckLen p) b draws l) (struckOf (struckLen p) b draws m) z (omega arith)
+        (alike-struck (struckLen p) b draws l m r e)
 
 alike-sound : (s : KarplusStrong) (c : KarplusStrongControls) (draws : List ℕ) (l m : List Float) → Sound s → maxLenOf (s .«sample_rate») + 2 ≤ length l
     → Alike (s .len) l m → SameTick (karplusStrongSoundOf s c draws l) (karplusStrongSoundOf s c draws m)
@@ -188,6 +204,7 @@ pub only-its-cells : Only-its-cells
 unfolding karplusStrongTickOf tickUnless
 only-its-cells s c draws l m e = rw (← (e .size)) (pick (karplusStrongRefusalOf s (length l)) refl)
   where
-    pick : (k : ℕ) → karplusStrongRefusalOf s (length l) ≡ k → SameTick (tickUnless k s l (karplusStrongSoundOf s c draws l)) (tickUnless k s m (karplusStrongSoundOf s c draws m))
+    pick : (k : ℕ) → karplusStrongRefusalOf s (length l) ≡ k
+        → SameTick (tickUnless k s l (karplusStrongSoundOf s c draws l)) (tickUnless k s m (karplusStrongSoundOf s c draws m))
     pick zero z = let a = accepted s (length l) z in alike-sound s c draws l m (a .0) (a .1) e
     pick (suc k) z = same-refused k s l m (karplusStrongSoundOf s c draws l) (karplusStrongSoundOf s c draws m) e

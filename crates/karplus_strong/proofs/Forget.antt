@@ -20,7 +20,8 @@ use Rattle.answer.proofs.Blocks.{block-refusal}
 use Rattle.karplus_strong.specs.Consts.{nPorts}
 use Rattle.karplus_strong.specs.Line.{struckOf}
 use Rattle.karplus_strong.specs.Step.{Ticking, restOf, stepOf}
-use Rattle.karplus_strong.specs.KarplusStrong.{triggerRefusalOf, firstRefusalOf, karplusStrongBlockOf, finiteOr, struckLen, strikeOf, strikeIf, heardString, tickUnless, karplusStrongTickOf, Strung, dampingOf, brightnessOf, stretchOf, memoAt, periodAt}
+use Rattle.karplus_strong.specs.KarplusStrong.{triggerRefusalOf, firstRefusalOf, karplusStrongBlockOf, finiteOr, struckLen, strikeOf, strikeIf}
+use Rattle.karplus_strong.specs.KarplusStrong.{heardString, tickUnless, karplusStrongTickOf, Strung, dampingOf, brightnessOf, stretchOf, memoAt, periodAt}
 use Rattle.karplus_strong.specs.Calls.{Call, Tick, Play, Ticked, after, reply, Fit, ReachedKarplusStrong}
 use Rattle.karplus_strong.specs.Promises.{taken, Strikes, Fresh, Forgotten, Forgets, Block-forgets, SameTick}
 use Rattle.karplus_strong.specs.declared.KarplusStrong.{KarplusStrong}
@@ -75,7 +76,8 @@ module _ (s n : KarplusStrong) (c : KarplusStrongControls) (draws : List ℕ) (a
           let z : 0 < struckLen p = positive p in
           alike-step _ p d x _ _ z (omega arith) (alike-struck (struckLen p) b draws l m r e)
 
-struck-tick : (s : KarplusStrong) (c : KarplusStrongControls) (draws : List ℕ) (l : List Float) → Good s (length l) → triggerRefusalOf s c draws ≡ 0 → karplusStrongTickOf s c draws l ≡ struckStep s c draws l
+struck-tick : (s : KarplusStrong) (c : KarplusStrongControls) (draws : List ℕ) (l : List Float) → Good s (length l) → triggerRefusalOf s c draws ≡ 0
+    → karplusStrongTickOf s c draws l ≡ struckStep s c draws l
 unfolding tickUnless
 struck-tick s c draws l g e = good-tick s c draws l g ∙ ap (λ (k : ℕ). tickUnless k s l (struckStep s c draws l)) e
 

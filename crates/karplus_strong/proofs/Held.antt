@@ -23,7 +23,9 @@ use Rattle.answer.specs.declared.Answer.{Answer}
 use Rattle.answer.proofs.Blocks.{Holds, held-after, held-marks, held-frames}
 use Rattle.karplus_strong.specs.Consts.{nPorts}
 use Rattle.karplus_strong.specs.Step.{Ticking}
-use Rattle.karplus_strong.specs.KarplusStrong.{maxLenOf, roomOf, karplusStrongRefusalOf, finiteOr, periodOf, struckLen, Strung, strikeIf, heardString, tickUnless, karplusStrongTickOf, strung, triggerRefusalOf, firstRefusalOf, karplusStrongToldOf, karplusStrongNextOf, dampingOf, brightnessOf, stretchOf, memoAt, periodAt}
+use Rattle.karplus_strong.specs.KarplusStrong.{maxLenOf, roomOf, karplusStrongRefusalOf, finiteOr, periodOf, struckLen, Strung, strikeIf}
+use Rattle.karplus_strong.specs.KarplusStrong.{heardString, tickUnless, karplusStrongTickOf, strung, triggerRefusalOf, firstRefusalOf}
+use Rattle.karplus_strong.specs.KarplusStrong.{karplusStrongToldOf, karplusStrongNextOf, dampingOf, brightnessOf, stretchOf, memoAt, periodAt}
 use Rattle.karplus_strong.specs.Shortcuts.{tuningOf, turnOf, heldAnswer, heldNext}
 use Rattle.karplus_strong.specs.Promises.{taken}
 use Rattle.karplus_strong.specs.declared.KarplusStrong.{KarplusStrong}
@@ -35,14 +37,17 @@ use Rattle.karplus_strong.proofs.Alike.{strike-keeps, strike-size, turn
 use Rattle.karplus_strong.proofs.Ticks.{struckStep, tick-is}
 
 -- ---- a turn of the loop
-pub heard : (t : Tuning) (x : Strung) (i : ℕ) (s : KarplusStrong) (l : List Float) (r : KarplusStrongTicked) → r ≡ turnOf s t l .out → strung s l ≡ afterTicks (heldNext t) i x → r .answer ≡ answerAt (heldAnswer t) (heldNext t) x i
+pub heard : (t : Tuning) (x : Strung) (i : ℕ) (s : KarplusStrong) (l : List Float) (r : KarplusStrongTicked) → r ≡ turnOf s t l .out
+    → strung s l ≡ afterTicks (heldNext t) i x → r .answer ≡ answerAt (heldAnswer t) (heldNext t) x i
 unfolding answerAt heldAnswer
 heard t x i s l r e z = ap (λ (u : KarplusStrongTicked). u .answer) e ∙ ap (λ (y : Strung). turnOf (y .string) t (y .line) .out .answer) z
 
-pub moved : (t : Tuning) (x : Strung) (i : ℕ) (s : KarplusStrong) (l m : List Float) (r : KarplusStrongTicked) → r ≡ turnOf s t l .out → m ≡ turnOf s t l .line → strung s l ≡ afterTicks (heldNext t) i x
+pub moved : (t : Tuning) (x : Strung) (i : ℕ) (s : KarplusStrong) (l m : List Float) (r : KarplusStrongTicked) → r ≡ turnOf s t l .out → m ≡ turnOf s t l .line
+    → strung s l ≡ afterTicks (heldNext t) i x
     → strung (r .«karplus_strong») m ≡ afterTicks (heldNext t) (i + 1) x
 unfolding afterTicks heldNext
-moved t x i s l m r e q z = rw add-one ((λ j. strung (e j .«karplus_strong») (q j)) ∙ ap (λ (y : Strung). let u = turnOf (y .string) t (y .line) in strung (u .out .«karplus_strong») (u .line)) z)
+moved t x i s l m r e q z = rw add-one
+    ((λ j. strung (e j .«karplus_strong») (q j)) ∙ ap (λ (y : Strung). let u = turnOf (y .string) t (y .line) in strung (u .out .«karplus_strong») (u .line)) z)
 
 -- its place stays in the line
 pub turned-ready : (s : KarplusStrong) (t : Tuning) (l : List Float) (r : KarplusStrongTicked) → r ≡ turnOf s t l .out → s .«write_pos» < s .len
@@ -55,7 +60,8 @@ tuneOf s c = tuningOf (periodAt s c) (dampingOf c) (stretchOf c)
 
 -- what the first turn starts from
 abbrev pub struckBy : KarplusStrong → KarplusStrongControls → List ℕ → List Float → Strung
-struckBy s c draws l = strikeIf (taken s c) (heardString s (risingOf (s .«trigger_edge») (c .trigger) .edge) (memoAt s c)) (periodAt s c) (brightnessOf c) draws l
+struckBy s c draws l =
+    strikeIf (taken s c) (heardString s (risingOf (s .«trigger_edge») (c .trigger) .edge) (memoAt s c)) (periodAt s c) (brightnessOf c) draws l
 
 -- a string in a block from s on: refusals 1 to 3 let it pass, and its trigger and pitch are the block's
 pub record Held (s : KarplusStrong) (c : KarplusStrongControls) (x : Strung) : Type 0 where
@@ -84,7 +90,8 @@ none-refused : (s : KarplusStrong) (n : ℕ) → Sound s → maxLenOf (s .«samp
 unfolding karplusStrongRefusalOf roomOf
 none-refused s n a h = simp (a .rate, sound-line s a, le-leb (maxLenOf (s .«sample_rate») + 2) n h)
 
-tick-steps : (s : KarplusStrong) (c : KarplusStrongControls) (draws : List ℕ) (l : List Float) → karplusStrongRefusalOf s (length l) ≡ 0 → triggerRefusalOf s c draws ≡ 0 → karplusStrongTickOf s c draws l ≡ struckStep s c draws l
+tick-steps : (s : KarplusStrong) (c : KarplusStrongControls) (draws : List ℕ) (l : List Float) → karplusStrongRefusalOf s (length l) ≡ 0
+    → triggerRefusalOf s c draws ≡ 0 → karplusStrongTickOf s c draws l ≡ struckStep s c draws l
 unfolding tickUnless
 tick-steps s c draws l h k = tick-is s c draws l ∙ simp (h, k)
 
@@ -110,16 +117,21 @@ module _ (s : KarplusStrong) (c : KarplusStrongControls) (x : Strung) (h : Held 
   unfolding triggerRefusalOf
   untriggered draws = simp not-taken
 
-struck-turn : (s : KarplusStrong) (c : KarplusStrongControls) (draws : List ℕ) (l : List Float) → struckStep s c draws l ≡ turnOf (struckBy s c draws l .string) (tuneOf s c) (struckBy s c draws l .line)
+struck-turn : (s : KarplusStrong) (c : KarplusStrongControls) (draws : List ℕ) (l : List Float)
+    → struckStep s c draws l ≡ turnOf (struckBy s c draws l .string) (tuneOf s c) (struckBy s c draws l .line)
 unfolding struckStep
 struck-turn s c draws l = sym (turn-is _ _ _ _ _)
 
-held-tick : (s : KarplusStrong) (c : KarplusStrongControls) (draws : List ℕ) (x : Strung) → Held s c x → karplusStrongTickOf (x .string) c draws (x .line) ≡ turnOf (x .string) (tuneOf s c) (x .line)
+held-tick : (s : KarplusStrong) (c : KarplusStrongControls) (draws : List ℕ) (x : Strung) → Held s c x
+    → karplusStrongTickOf (x .string) c draws (x .line) ≡ turnOf (x .string) (tuneOf s c) (x .line)
 held-tick s c draws x h =
-    tick-steps (x .string) c draws (x .line) (none-refused (x .string) (length (x .line)) (h .sound) (h .room)) (untriggered s c x h draws) ∙ struck-turn (x .string) c draws (x .line)
-    ∙ ap (λ (u : Strung). turnOf (u .string) (tuneOf (x .string) c) (u .line)) (not-struck s c x h draws) ∙ ap (λ (t : Tuning). turnOf (x .string) t (x .line)) (same-tune s c x h)
+    tick-steps (x .string) c draws (x .line) (none-refused (x .string) (length (x .line)) (h .sound) (h .room)) (untriggered s c x h draws)
+    ∙ struck-turn (x .string) c draws (x .line)
+    ∙ ap (λ (u : Strung). turnOf (u .string) (tuneOf (x .string) c) (u .line)) (not-struck s c x h draws)
+    ∙ ap (λ (t : Tuning). turnOf (x .string) t (x .line)) (same-tune s c x h)
 
-struck-held : (s : KarplusStrong) (c : KarplusStrongControls) (draws : List ℕ) (l : List Float) → Sound s → maxLenOf (s .«sample_rate») + 2 ≤ length l → Held s c (struckBy s c draws l)
+struck-held : (s : KarplusStrong) (c : KarplusStrongControls) (draws : List ℕ) (l : List Float) → Sound s → maxLenOf (s .«sample_rate») + 2 ≤ length l
+    → Held s c (struckBy s c draws l)
 struck-held s c draws l a h =
     let heard = heardString s (risingOf (s .«trigger_edge») (c .trigger) .edge) (memoAt s c) in
     let k = strike-keeps heard (periodAt s c) (brightnessOf c) draws l (taken s c) in
@@ -135,11 +147,14 @@ gone : (t : Tuning) (x : Strung) (u : Ticking) → u ≡ turnOf (x .string) t (x
 unfolding heldNext
 gone t x u e = ap (λ (w : Ticking). strung (w .out .«karplus_strong») (w .line)) e
 
-first-tick : (s : KarplusStrong) (c : KarplusStrongControls) (draws : List ℕ) (l : List Float) → karplusStrongRefusalOf s (length l) ≡ 0 → triggerRefusalOf s c draws ≡ 0 → karplusStrongTickOf s c draws l ≡ turnOf (struckBy s c draws l .string) (tuneOf s c) (struckBy s c draws l .line)
+first-tick : (s : KarplusStrong) (c : KarplusStrongControls) (draws : List ℕ) (l : List Float) → karplusStrongRefusalOf s (length l) ≡ 0
+    → triggerRefusalOf s c draws ≡ 0 → karplusStrongTickOf s c draws l ≡ turnOf (struckBy s c draws l .string) (tuneOf s c) (struckBy s c draws l .line)
 first-tick s c draws l h k = tick-steps s c draws l h k ∙ struck-turn s c draws l
 
-pub holds : (s : KarplusStrong) (c : KarplusStrongControls) (draws : List ℕ) (l : List Float) → karplusStrongRefusalOf s (length l) ≡ 0 → triggerRefusalOf s c draws ≡ 0
-    → Holds (karplusStrongToldOf c draws) (karplusStrongNextOf c draws) (heldAnswer (tuneOf s c)) (heldNext (tuneOf s c)) (λ (x : Strung). x) (Held s c) (strung s l) (struckBy s c draws l)
+pub holds : (s : KarplusStrong) (c : KarplusStrongControls) (draws : List ℕ) (l : List Float) → karplusStrongRefusalOf s (length l) ≡ 0
+    → triggerRefusalOf s c draws ≡ 0
+    → Holds (karplusStrongToldOf c draws) (karplusStrongNextOf c draws) (heldAnswer (tuneOf s c)) (heldNext (tuneOf s c)) (λ (x : Strung). x) (Held s c)
+    (strung s l) (struckBy s c draws l)
 holds s c draws l h k =
     record {
       good = struck-held s c draws l (accepted s (length l) h .0) (accepted s (length l) h .1);
@@ -157,7 +172,8 @@ Rings answer next x n y o m =
     (y ≡ afterTicks next n x) × ((o ≡ joined (frameAt nPorts answer next x) n) × (m ≡ tab (markAt answer next x) n))
 
 module _ (s : KarplusStrong) (c : KarplusStrongControls) (d : List ℕ) (l : List Float) (voct : Float) (memo : Memo1) (period : Float) (risen : Risen)
-    (ev : voct ≡ finiteOr (c .voct .0) zer) (em : memo ≡ recall1 voctToHzAt (s .«freq_memo») voct) (ep : period ≡ periodOf (s .«sample_rate») (memo .val)) (er : risen ≡ risingOf (s .«trigger_edge») (c .trigger)) where
+    (ev : voct ≡ finiteOr (c .voct .0) zer) (em : memo ≡ recall1 voctToHzAt (s .«freq_memo») voct) (ep : period ≡ periodOf (s .«sample_rate») (memo .val))
+    (er : risen ≡ risingOf (s .«trigger_edge») (c .trigger)) where
   pub trigger-by : cond (risen .rising) (drawsRefusalOf (struckLen period) d) 0 ≡ triggerRefusalOf s c d
   unfolding triggerRefusalOf
   trigger-by = rw (er, ep, em, ev)
@@ -178,7 +194,8 @@ module _ (s : KarplusStrong) (c : KarplusStrongControls) (d : List ℕ) (l : Lis
       (subst (λ (v : Strung). Rings (heldAnswer t) (heldNext t) v n y o m) a r) in
       (q .0 ∙ sym (held-after _ _ _ _ _ _ _ _ w n z), (q .1 .0 ∙ sym (held-frames _ _ _ _ _ _ _ _ w nPorts n), q .1 .1 ∙ sym (held-marks _ _ _ _ _ _ _ _ w n)))
 
-pub first-none : (s : KarplusStrong) (c : KarplusStrongControls) (d : List ℕ) (cells n : ℕ) → firstRefusalOf s c d cells n ≡ 0 → (n ≡ 0 → ⊥) → (karplusStrongRefusalOf s cells ≡ 0) × (triggerRefusalOf s c d ≡ 0)
+pub first-none : (s : KarplusStrong) (c : KarplusStrongControls) (d : List ℕ) (cells n : ℕ) → firstRefusalOf s c d cells n ≡ 0 → (n ≡ 0 → ⊥)
+    → (karplusStrongRefusalOf s cells ≡ 0) × (triggerRefusalOf s c d ≡ 0)
 unfolding firstRefusalOf
 first-none s c d cells n e z = go (eqb k 0) (eqb-true k 0) (eqb-false k 0) (rw (ne-eqb n 0 z) at e)
   where

@@ -12,7 +12,8 @@ use Rattle.laws.specs.Machine.{more}
 use Rattle.answer.specs.Answer.{outcomeNumber}
 use Rattle.common.specs.Tests.{rateOk}
 use Rattle.common.specs.declared.Hertz.{Hertz}
-use Rattle.karplus_strong.specs.KarplusStrong.{maxLenOf, roomOf, karplusStrongRateRefusalOf, madeUnless, karplusStrongSetSampleRateOf, Strung, strung, rated, ratedLine}
+use Rattle.karplus_strong.specs.KarplusStrong.{maxLenOf, roomOf, karplusStrongRateRefusalOf, madeUnless}
+use Rattle.karplus_strong.specs.KarplusStrong.{karplusStrongSetSampleRateOf, Strung, strung, rated, ratedLine}
 use Rattle.karplus_strong.specs.Calls.{SetSampleRate, Lend, strungAfter, lentOf, after, ReachedKarplusStrong}
 use Rattle.karplus_strong.specs.Promises.{Any-line, Rate-line}
 use Rattle.karplus_strong.specs.declared.KarplusStrong.{KarplusStrong}

@@ -39,9 +39,14 @@ use Rattle.answer.specs.declared.Outcome.the-variants as outcome
 use Rattle.karplus_strong.specs.Consts.{twenty, loopLeak}
 use Rattle.karplus_strong.specs.Shortcuts.{Cut}
 use Rattle.karplus_strong.specs.Line.{blankOf, excitedOf, sumTo, meanOf, levelOf, struckOf}
-use Rattle.karplus_strong.specs.Step.{filterCoefOf, apCoefOf, filterDelayOf, apDelayOf, targetDelayOf, offsetOne, offsetTwo, tapOf, filteredOf, stretchedOf, heardOf, restOf, Ticking, wroteOf, clearedOf, stepOf}
+use Rattle.karplus_strong.specs.Step.{filterCoefOf, apCoefOf, filterDelayOf, apDelayOf, targetDelayOf, offsetOne, offsetTwo}
+use Rattle.karplus_strong.specs.Step.{tapOf, filteredOf, stretchedOf, heardOf, restOf, Ticking, wroteOf, clearedOf, stepOf}
 use Rattle.karplus_strong.specs.Shortcuts.{tuningOf, tapAt, turnOf}
-use Rattle.karplus_strong.specs.KarplusStrong.{maxLenOf, stringOf, noString, Strung, strung, lineOk, roomOf, karplusStrongRefusalOf, karplusStrongRateRefusalOf, Making, making, madeUnless, karplusStrongNewOf, karplusStrongResetOf, placeOf, karplusStrongSetSampleRateOf, finiteOr, periodOf, struckLen, strikeOf, strikeIf, heardString, refusedTick, tickUnless, karplusStrongSoundOf, karplusStrongTickOf, dampingOf, brightnessOf, stretchOf, memoAt, periodAt, triggerRefusalOf}
+use Rattle.karplus_strong.specs.KarplusStrong.{maxLenOf, stringOf, noString, Strung, strung, lineOk, roomOf, karplusStrongRefusalOf}
+use Rattle.karplus_strong.specs.KarplusStrong.{karplusStrongRateRefusalOf, Making, making, madeUnless, karplusStrongNewOf}
+use Rattle.karplus_strong.specs.KarplusStrong.{karplusStrongResetOf, placeOf, karplusStrongSetSampleRateOf, finiteOr, periodOf}
+use Rattle.karplus_strong.specs.KarplusStrong.{struckLen, strikeOf, strikeIf, heardString, refusedTick, tickUnless, karplusStrongSoundOf}
+use Rattle.karplus_strong.specs.KarplusStrong.{karplusStrongTickOf, dampingOf, brightnessOf, stretchOf, memoAt, periodAt, triggerRefusalOf}
 use Rattle.karplus_strong.specs.declared.KarplusStrong.{KarplusStrong}
 use Rattle.karplus_strong.specs.declared.KarplusStrongControls.{KarplusStrongControls}
 use Rattle.karplus_strong.specs.declared.KarplusStrongTicked.{KarplusStrongTicked}
@@ -77,11 +82,15 @@ two-number : T (not (isNan two))
 unfolding isNan ofBits
 two-number = tt
 
-pub period-high : (r f : Hertz) → rateOk r ≡ true → le twenty (f .0) ≡ true → le two (div binary64 (r .0) (f .0)) ≡ true → div binary64 (r .0) (f .0) ≡ periodOf r f
+pub period-high : (r f : Hertz) → rateOk r ≡ true → le twenty (f .0) ≡ true → le two (div binary64 (r .0) (f .0)) ≡ true
+    → div binary64 (r .0) (f .0) ≡ periodOf r f
 unfolding periodOf clampOf maxLenOf
 period-high r f e h k =
     let l = rate-ends r e in
-    simp (lt-false (div binary64 (r .0) (f .0)) two (of-true (le two (div binary64 (r .0) (f .0))) k), high-period (r .0) (f .0) (l .0) (l .1) (of-true (le twenty (f .0)) h))
+    simp (
+      lt-false (div binary64 (r .0) (f .0)) two (of-true (le two (div binary64 (r .0) (f .0))) k),
+      high-period (r .0) (f .0) (l .0) (l .1) (of-true (le twenty (f .0)) h),
+    )
 
 pub period-two : (r f : Hertz) → rateOk r ≡ true → T (not (isNan (f .0))) → le two (div binary64 (r .0) (f .0)) ≡ false → two ≡ periodOf r f
 unfolding periodOf clampOf
@@ -91,8 +100,11 @@ pub period-cut : (r f : Hertz) → rateOk r ≡ true → T (not (isNan (f .0))) 
 unfolding periodOf maxLenOf
 period-cut r f e q =
     let l = rate-ends r e in
-    let c = clamped-cut (div binary64 (r .0) (f .0)) (wholeOf (div binary64 (r .0) twenty)) (rate-whole (r .0) (l .0) (l .1) .1) (quotient r f e q) in
-    (float-le-trans one two (clampOf (div binary64 (r .0) (f .0)) two (sub binary64 (realOf (wholeOf (div binary64 (r .0) twenty) + 10)) one)) (unfold le lt eq ofBits in tt) (c .0), c .1)
+    let c = clamped-cut (div binary64 (r .0) (f .0)) (wholeOf (div binary64 (r .0) twenty)) (rate-whole (r .0) (l .0) (l .1) .1) (quotient r f e q) in (
+      float-le-trans one two (clampOf (div binary64 (r .0) (f .0)) two (sub binary64 (realOf (wholeOf (div binary64 (r .0) twenty) + 10)) one))
+          (unfold le lt eq ofBits in tt) (c .0),
+      c .1,
+    )
 
 pub period-range : (r f : Hertz) → rateOk r ≡ true → T (not (isNan (f .0))) → (2 ≤ wholeOf (periodOf r f)) × (wholeOf (periodOf r f) + 1 ≤ maxLenOf r)
 unfolding periodOf
@@ -104,8 +116,11 @@ period-range r f e q =
 pub period-fits : (r f : Hertz) → F64 (periodOf r f)
 unfolding periodOf clampOf
 period-fits r f =
-    cond-fits binary64 (lt (div binary64 (r .0) (f .0)) two) two (cond (lt (sub binary64 (realOf (maxLenOf r)) one) (div binary64 (r .0) (f .0))) (sub binary64 (realOf (maxLenOf r)) one) (div binary64 (r .0) (f .0))) (unfold fits ofBits in tt)
-    (cond-fits binary64 (lt (sub binary64 (realOf (maxLenOf r)) one) (div binary64 (r .0) (f .0))) (sub binary64 (realOf (maxLenOf r)) one) (div binary64 (r .0) (f .0)) (sub-fits binary64 (realOf (maxLenOf r)) one) (div-fits binary64 (r .0) (f .0)))
+    cond-fits binary64 (lt (div binary64 (r .0) (f .0)) two) two
+    (cond (lt (sub binary64 (realOf (maxLenOf r)) one) (div binary64 (r .0) (f .0))) (sub binary64 (realOf (maxLenOf r)) one) (div binary64 (r .0) (f .0)))
+    (unfold fits ofBits in tt)
+    (cond-fits binary64 (lt (sub binary64 (realOf (maxLenOf r)) one) (div binary64 (r .0) (f .0))) (sub binary64 (realOf (maxLenOf r)) one)
+    (div binary64 (r .0) (f .0)) (sub-fits binary64 (realOf (maxLenOf r)) one) (div-fits binary64 (r .0) (f .0)))
 
 -- ---- controls in their range
 finite-number : (x d : Float) → isFin d ≡ true → T (not (isNan (finiteOr x d)))
@@ -148,9 +163,11 @@ delay-range r f d s e q =
     let a = damped d in
     let b = stretched s in
     let u = filter-unit (clampOf (finiteOr d half) zer one) (a .0) (a .1) in
-    let h = left-below (periodOf r f) (filterDelayOf (filterCoefOf (clampOf (finiteOr d half) zer one))) (apDelayOf (apCoefOf (clampOf (finiteOr s zer) (neg one) one))) (period-fits r f) (period-cut r f e q .0)
+    let h = left-below (periodOf r f) (filterDelayOf (filterCoefOf (clampOf (finiteOr d half) zer one)))
+    (apDelayOf (apCoefOf (clampOf (finiteOr s zer) (neg one) one))) (period-fits r f) (period-cut r f e q .0)
     (filter-delay (filterCoefOf (clampOf (finiteOr d half) zer one)) (u .0) (u .1)) (allpass-delay (clampOf (finiteOr s zer) (neg one) one) (b .0) (b .1)) in
-    let w = whole-monotone (maxOf (sub binary64 (sub binary64 (periodOf r f) (filterDelayOf (filterCoefOf (clampOf (finiteOr d half) zer one)))) (apDelayOf (apCoefOf (clampOf (finiteOr s zer) (neg one) one)))) one) (periodOf r f) h in
+    let w = whole-monotone (maxOf (sub binary64 (sub binary64 (periodOf r f) (filterDelayOf (filterCoefOf (clampOf (finiteOr d half) zer one))))
+    (apDelayOf (apCoefOf (clampOf (finiteOr s zer) (neg one) one)))) one) (periodOf r f) h in
     le-trans w (small (wholeOf (periodOf r f)) (maxLenOf r) (period-range r f e q .1) (max-len-range r e .1))
   where
     small : (w m : ℕ) → w + 1 ≤ m → m ≤ 9610 → w ≤ 9610
@@ -161,7 +178,9 @@ hz-number : (v : Float) → T (not (isNan v)) → T (not (isNan (voctToHzAt v .0
 unfolding voctToHz
 hz-number v q =
     simp (float-mul-comm c4 (exp2Of (clampOf v (neg maxVoct) maxVoct)))
-    (mul-number (exp2Of (clampOf v (neg maxVoct) maxVoct)) c4 (unfold ofBits in tt) (exp2-number (clampOf v (neg maxVoct) maxVoct) (le-numbers (clampOf v (neg maxVoct) maxVoct) maxVoct (clamp-range v (neg maxVoct) maxVoct (unfold le lt eq neg ofBits in tt) q .1) .0)))
+    (mul-number (exp2Of (clampOf v (neg maxVoct) maxVoct)) c4 (unfold ofBits in tt)
+    (exp2-number (clampOf v (neg maxVoct) maxVoct)
+    (le-numbers (clampOf v (neg maxVoct) maxVoct) maxVoct (clamp-range v (neg maxVoct) maxVoct (unfold le lt eq neg ofBits in tt) q .1) .0)))
 
 memo-recalled : (m : Memo1) (v : Float) → T (not (isNan (m .val .0))) → T (not (isNan (recall1 voctToHzAt m (finiteOr v zer) .val .0)))
 unfolding recall1 filled1
@@ -171,7 +190,8 @@ memo-recalled m v h = go (hits1 m (finiteOr v zer))
     go true = h
     go false = hz-number (finiteOr v zer) (finite-number v zer zer-fin)
 
-pub memo-number : (m : Memo1) (v x : Float) (r : Memo1) → T (not (isNan (m .val .0))) → x ≡ finiteOr v zer → r ≡ recall1 voctToHzAt m x → T (not (isNan (r .val .0)))
+pub memo-number : (m : Memo1) (v x : Float) (r : Memo1) → T (not (isNan (m .val .0))) → x ≡ finiteOr v zer → r ≡ recall1 voctToHzAt m x
+    → T (not (isNan (r .val .0)))
 memo-number m v x r h ex er = rw (er, ex) (memo-recalled m v h)
 
 -- ---- refusals
@@ -184,7 +204,8 @@ module _ (s : KarplusStrong) (n : ℕ) where
   unfolding karplusStrongRefusalOf
   refusal-line m e q h = rw (e, ← q, h)
 
-  pub refusal-room : (m k : ℕ) → rateOk (s .«sample_rate») ≡ true → m ≡ maxLenOf (s .«sample_rate») → lineOk s m ≡ true → k ≡ roomOf (s .«sample_rate») n → k ≡ karplusStrongRefusalOf s n
+  pub refusal-room : (m k : ℕ) → rateOk (s .«sample_rate») ≡ true → m ≡ maxLenOf (s .«sample_rate») → lineOk s m ≡ true → k ≡ roomOf (s .«sample_rate») n
+      → k ≡ karplusStrongRefusalOf s n
   unfolding karplusStrongRefusalOf
   refusal-room m k e q h g = rw (e, ← q, h) g
 
@@ -197,11 +218,13 @@ module _ (s : KarplusStrong) (r : Hertz) (n : ℕ) where
   unfolding karplusStrongRateRefusalOf
   rate-new e q = rw (e, q)
 
-  pub rate-line : (m : ℕ) → rateOk (s .«sample_rate») ≡ true → rateOk r ≡ true → m ≡ maxLenOf (s .«sample_rate») → lineOk s m ≡ false → 2 ≡ karplusStrongRateRefusalOf s r n
+  pub rate-line : (m : ℕ) → rateOk (s .«sample_rate») ≡ true → rateOk r ≡ true → m ≡ maxLenOf (s .«sample_rate») → lineOk s m ≡ false
+      → 2 ≡ karplusStrongRateRefusalOf s r n
   unfolding karplusStrongRateRefusalOf
   rate-line m e f q h = rw (e, f, ← q, h)
 
-  pub rate-room : (m k : ℕ) → rateOk (s .«sample_rate») ≡ true → rateOk r ≡ true → m ≡ maxLenOf (s .«sample_rate») → lineOk s m ≡ true → k ≡ roomOf r n → k ≡ karplusStrongRateRefusalOf s r n
+  pub rate-room : (m k : ℕ) → rateOk (s .«sample_rate») ≡ true → rateOk r ≡ true → m ≡ maxLenOf (s .«sample_rate») → lineOk s m ≡ true → k ≡ roomOf r n
+      → k ≡ karplusStrongRateRefusalOf s r n
   unfolding karplusStrongRateRefusalOf
   rate-room m k e f q h g = rw (e, f, ← q, h) g
 
@@ -215,18 +238,31 @@ pub record Sound (s : KarplusStrong) : Type 0 where
 
 line-sound : (s : KarplusStrong) → rateOk (s .«sample_rate») ≡ true → lineOk s (maxLenOf (s .«sample_rate»)) ≡ true → Sound s
 unfolding lineOk
-line-sound s e h = go (leb 4 (s .len)) (leb (s .len) (maxLenOf (s .«sample_rate») + 1)) (ltb (s .«write_pos») (s .len)) (isNan (s .«freq_memo» .val .0)) refl refl refl refl h
+line-sound s e h =
+    go (leb 4 (s .len)) (leb (s .len) (maxLenOf (s .«sample_rate») + 1)) (ltb (s .«write_pos») (s .len)) (isNan (s .«freq_memo» .val .0)) refl refl refl refl h
   where
-    go : (a b c d : Bool) → leb 4 (s .len) ≡ a → leb (s .len) (maxLenOf (s .«sample_rate») + 1) ≡ b → ltb (s .«write_pos») (s .len) ≡ c → isNan (s .«freq_memo» .val .0) ≡ d → (a && (b && (c && not d))) ≡ true → Sound s
+    go : (a b c d : Bool) → leb 4 (s .len) ≡ a → leb (s .len) (maxLenOf (s .«sample_rate») + 1) ≡ b → ltb (s .«write_pos») (s .len) ≡ c
+        → isNan (s .«freq_memo» .val .0) ≡ d → (a && (b && (c && not d))) ≡ true → Sound s
     go false b c d p q t u w = absurd (true≢false (sym w))
     go true false c d p q t u w = absurd (true≢false (sym w))
     go true true false d p q t u w = absurd (true≢false (sym w))
     go true true true true p q t u w = absurd (true≢false (sym w))
-    go true true true false p q t u w = record { rate = e; least = leb-true 4 (s .len) p; most = leb-true (s .len) (maxLenOf (s .«sample_rate») + 1) q; place = ltb-true (s .«write_pos») (s .len) t; value = of-false (isNan (s .«freq_memo» .val .0)) u }
+    go true true true false p q t u w = record {
+      rate = e;
+      least = leb-true 4 (s .len) p;
+      most = leb-true (s .len) (maxLenOf (s .«sample_rate») + 1) q;
+      place = ltb-true (s .«write_pos») (s .len) t;
+      value = of-false (isNan (s .«freq_memo» .val .0)) u;
+    }
 
 pub sound-line : (s : KarplusStrong) → Sound s → lineOk s (maxLenOf (s .«sample_rate»)) ≡ true
 unfolding lineOk
-sound-line s a = simp (le-leb 4 (s .len) (a .least), le-leb (s .len) (maxLenOf (s .«sample_rate») + 1) (a .most), lt-ltb (s .«write_pos») (s .len) (a .place), is-false (isNan (s .«freq_memo» .val .0)) (a .value))
+sound-line s a = simp (
+  le-leb 4 (s .len) (a .least),
+  le-leb (s .len) (maxLenOf (s .«sample_rate») + 1) (a .most),
+  lt-ltb (s .«write_pos») (s .len) (a .place),
+  is-false (isNan (s .«freq_memo» .val .0)) (a .value),
+)
 
 -- what a tick of such a string hears is a number, and a length that its line can take
 module _ (s : KarplusStrong) (c : KarplusStrongControls) (a : Sound s) where
@@ -266,7 +302,8 @@ pub accepted : (s : KarplusStrong) (n : ℕ) → karplusStrongRefusalOf s n ≡ 
 unfolding karplusStrongRefusalOf
 accepted s n e = go (rateOk (s .«sample_rate»)) (lineOk s (maxLenOf (s .«sample_rate»))) refl refl e
   where
-    go : (a b : Bool) → rateOk (s .«sample_rate») ≡ a → lineOk s (maxLenOf (s .«sample_rate»)) ≡ b → _≡_ {A = ℕ} (cond a (cond b (roomOf (s .«sample_rate») n) 2) 1) 0 → Sound s × (maxLenOf (s .«sample_rate») + 2 ≤ n)
+    go : (a b : Bool) → rateOk (s .«sample_rate») ≡ a → lineOk s (maxLenOf (s .«sample_rate»)) ≡ b
+        → _≡_ {A = ℕ} (cond a (cond b (roomOf (s .«sample_rate») n) 2) 1) 0 → Sound s × (maxLenOf (s .«sample_rate») + 2 ≤ n)
     go false b p q h = absurd (omega arith)
     go true false p q h = absurd (omega arith)
     go true true p q h = (line-sound s p q, room-of (s .«sample_rate») n h)
@@ -275,7 +312,8 @@ pub rate-accepted : (s : KarplusStrong) (r : Hertz) (n : ℕ) → karplusStrongR
 unfolding karplusStrongRateRefusalOf
 rate-accepted s r n e = go (rateOk (s .«sample_rate»)) (rateOk r) (lineOk s (maxLenOf (s .«sample_rate»))) refl refl refl e
   where
-    go : (a b c : Bool) → rateOk (s .«sample_rate») ≡ a → rateOk r ≡ b → lineOk s (maxLenOf (s .«sample_rate»)) ≡ c → _≡_ {A = ℕ} (cond (a && b) (cond c (roomOf r n) 2) 1) 0 → Sound s × (rateOk r ≡ true) × (maxLenOf r + 2 ≤ n)
+    go : (a b c : Bool) → rateOk (s .«sample_rate») ≡ a → rateOk r ≡ b → lineOk s (maxLenOf (s .«sample_rate»)) ≡ c
+        → _≡_ {A = ℕ} (cond (a && b) (cond c (roomOf r n) 2) 1) 0 → Sound s × (rateOk r ≡ true) × (maxLenOf r + 2 ≤ n)
     go false b c p q t h = absurd (omega arith)
     go true false c p q t h = absurd (omega arith)
     go true true false p q t h = absurd (omega arith)
@@ -366,7 +404,8 @@ pub cut-room : (p : Float) (w n : ℕ) → w ≡ wholeOf p → struckLen p ≤ n
 unfolding struckLen
 cut-room p w n e h = rw e h
 
-pub struck-by : (n : ℕ) (b : Float) (d : List ℕ) (l x y : List Float) (t r : Float) → x ≡ excitedOf n b d l → t ≡ sumTo x n → r ≡ realOf n → y ≡ levelOf n (div binary64 t r) x → y ≡ struckOf n b d l
+pub struck-by : (n : ℕ) (b : Float) (d : List ℕ) (l x y : List Float) (t r : Float) → x ≡ excitedOf n b d l → t ≡ sumTo x n → r ≡ realOf n
+    → y ≡ levelOf n (div binary64 t r) x → y ≡ struckOf n b d l
 unfolding struckOf meanOf
 struck-by n b d l x y t r ex et er ey = rw (ey, et, er, ex)
 
@@ -390,7 +429,8 @@ unfolding strikeIf
 strike-none rising s p b d l e = rw e (refl, refl)
 
 -- the line and its place after it
-pub struck-ready : (rising : Bool) (s : KarplusStrong) (p b : Float) (d : List ℕ) (l : List Float) (n : ℕ) → s .«write_pos» < s .len → s .len ≤ n → struckLen p ≤ n
+pub struck-ready : (rising : Bool) (s : KarplusStrong) (p b : Float) (d : List ℕ) (l : List Float) (n : ℕ) → s .«write_pos» < s .len → s .len ≤ n
+    → struckLen p ≤ n
     → (strikeIf rising s p b d l .string .«write_pos» < strikeIf rising s p b d l .string .len) × (strikeIf rising s p b d l .string .len ≤ n)
 unfolding strikeIf strikeOf struckLen
 struck-ready true s p b d l n h k g = (omega arith, g)
@@ -499,11 +539,13 @@ pub step-either : (P : Ticking → Type 0) (s : KarplusStrong) (p d t : Float) (
     → ((y z v : Float) → isFin v ≡ true → P (wroteOf s y z v l)) → P (clearedOf s l) → P (stepOf s p d t l)
 step-either P s p d t l h k = subst P (turn-is s p d t l) (turn-either P s (tuningOf p d t) l h k)
 
-pub tuning-by : (p d t c a x : Float) (w : ℕ) → c ≡ filterCoefOf d → a ≡ apCoefOf t → x ≡ targetDelayOf p c a → w ≡ wholeOf x → record { «filter_coef» = c; «ap_coef» = a; delay = w; fraction = sub binary64 x (realOf w) } ≡ tuningOf p d t
+pub tuning-by : (p d t c a x : Float) (w : ℕ) → c ≡ filterCoefOf d → a ≡ apCoefOf t → x ≡ targetDelayOf p c a → w ≡ wholeOf x
+    → record { «filter_coef» = c; «ap_coef» = a; delay = w; fraction = sub binary64 x (realOf w) } ≡ tuningOf p d t
 unfolding tuningOf
 tuning-by p d t c a x w ec ea ex ew = rw (ew, ex, ec, ea)
 
-pub turn-by : (s : KarplusStrong) (p d t : Float) (l m : List Float) (u : Tuning) (r : KarplusStrongTicked) → u ≡ tuningOf p d t → r ≡ turnOf s u l .out → m ≡ turnOf s u l .line → (r ≡ stepOf s p d t l .out) × (m ≡ stepOf s p d t l .line)
+pub turn-by : (s : KarplusStrong) (p d t : Float) (l m : List Float) (u : Tuning) (r : KarplusStrongTicked) → u ≡ tuningOf p d t → r ≡ turnOf s u l .out
+    → m ≡ turnOf s u l .line → (r ≡ stepOf s p d t l .out) × (m ≡ stepOf s p d t l .line)
 turn-by s p d t l m u r e a b = let k = ticked-parts (ap (λ x. turnOf s x l) e ∙ turn-is s p d t l) in (a ∙ k .0, b ∙ k .1)
 
 -- ---- the tick

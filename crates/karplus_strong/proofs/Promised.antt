@@ -19,23 +19,32 @@ use Rattle.common.specs.Tests.{rateOk, drawsOk}
 use Rattle.karplus_strong.proofs.Alike.{length-blank, Keeps, strike-keeps, stepped}
 use Rattle.karplus_strong.proofs.Parts.{made-says, max-len-range, Sound, struck-range, sound-line, turn-is}
 use Rattle.karplus_strong.proofs.Reached.{Good, after-good, reached-good}
-use Rattle.karplus_strong.proofs.Ticks.{step-heard, heard-none, heard-accepted, struckStep, struck-heard, unless-number, twice-heard, twice-left, tick-is, good-refusal, good-room, good-none, good-first, good-tick}
+use Rattle.karplus_strong.proofs.Ticks.{step-heard, heard-none, heard-accepted, struckStep, struck-heard, unless-number}
+use Rattle.karplus_strong.proofs.Ticks.{twice-heard, twice-left, tick-is, good-refusal, good-room, good-none, good-first, good-tick}
 use Rattle.karplus_strong.proofs.Held.{tuneOf, holds, first-none}
 use Rattle.karplus_strong.specs.Shortcuts.{heldAnswer}
 use Rattle.karplus_strong.specs.Calls.{First, ReachedKarplusStrong, after, reply, Tick, Reset, SetSampleRate, Told}
 use Rattle.karplus_strong.specs.Consts.{nPorts}
-use Rattle.karplus_strong.specs.KarplusStrong.{newStrung, triggerRefusalOf, karplusStrongBlockOf, maxLenOf, roomOf, karplusStrongCellsOf, karplusStrongRefusalOf, karplusStrongRateRefusalOf, madeUnless, karplusStrongNewOf, karplusStrongResetOf, karplusStrongSetSampleRateOf, struckLen, heardString, tickUnless, karplusStrongTickOf, Strung, newLike, memoAt, periodAt}
-use Rattle.karplus_strong.specs.Promises.{taken, Never-refused, New-accepts, New-there, Cells-enough, Edge-comes, Clean-or-cleared, Refused-leaves, Keeps-rate, Block-accepts, Block-tallies}
+use Rattle.karplus_strong.specs.KarplusStrong.{newStrung, triggerRefusalOf, karplusStrongBlockOf, maxLenOf, roomOf}
+use Rattle.karplus_strong.specs.KarplusStrong.{karplusStrongCellsOf, karplusStrongRefusalOf, karplusStrongRateRefusalOf}
+use Rattle.karplus_strong.specs.KarplusStrong.{madeUnless, karplusStrongNewOf, karplusStrongResetOf, karplusStrongSetSampleRateOf}
+use Rattle.karplus_strong.specs.KarplusStrong.{struckLen, heardString, tickUnless, karplusStrongTickOf, Strung, newLike, memoAt, periodAt}
+use Rattle.karplus_strong.specs.Promises.{taken, Never-refused, New-accepts, New-there, Cells-enough, Edge-comes}
+use Rattle.karplus_strong.specs.Promises.{Clean-or-cleared, Refused-leaves, Keeps-rate, Block-accepts, Block-tallies}
 use Rattle.karplus_strong.specs.Step.{Ticking}
 use Rattle.common.specs.declared.Hertz.{Hertz}
 use Rattle.karplus_strong.specs.declared.KarplusStrong.{KarplusStrong}
 use Rattle.karplus_strong.specs.declared.KarplusStrongControls.{KarplusStrongControls}
 
 pub clean-or-cleared : Clean-or-cleared
-clean-or-cleared s c draws l e = rw (tick-is s c draws l) (twice-heard (karplusStrongRefusalOf s (length l)) (triggerRefusalOf s c draws) s l (struckStep s c draws l) (struck-heard s c draws l) (rw (tick-is s c draws l) at e))
+clean-or-cleared s c draws l e = rw (tick-is s c draws l)
+    (twice-heard (karplusStrongRefusalOf s (length l)) (triggerRefusalOf s c draws) s l (struckStep s c draws l) (struck-heard s c draws l)
+    (rw (tick-is s c draws l) at e))
 
 pub refused-leaves : Refused-leaves
-refused-leaves s c draws l e = rw (tick-is s c draws l) (twice-left (karplusStrongRefusalOf s (length l)) (triggerRefusalOf s c draws) s l (struckStep s c draws l) (struck-heard s c draws l) (rw (tick-is s c draws l) at e))
+refused-leaves s c draws l e = rw (tick-is s c draws l)
+    (twice-left (karplusStrongRefusalOf s (length l)) (triggerRefusalOf s c draws) s l (struckStep s c draws l) (struck-heard s c draws l)
+    (rw (tick-is s c draws l) at e))
 
 -- ---- a reached string is ready
 good-number : (s : KarplusStrong) (c : KarplusStrongControls) (draws : List ℕ) (l : List Float) → Good s (length l)
@@ -101,9 +110,12 @@ cells-enough rate l = made-says _ _ _ ∙ go (rateOk rate)
     go false = refl
 
 -- ---- an edge
-good-accepted : (s : KarplusStrong) (c : KarplusStrongControls) (draws : List ℕ) (l : List Float) → Good s (length l) → triggerRefusalOf s c draws ≡ 0 → accepted (karplusStrongTickOf s c draws l .out .answer) ≡ true
+good-accepted : (s : KarplusStrong) (c : KarplusStrongControls) (draws : List ℕ) (l : List Float) → Good s (length l) → triggerRefusalOf s c draws ≡ 0
+    → accepted (karplusStrongTickOf s c draws l .out .answer) ≡ true
 unfolding tickUnless
-good-accepted s c draws l g e = ap (λ (t : Ticking). accepted (t .out .answer)) (good-tick s c draws l g ∙ ap (λ (k : ℕ). tickUnless k s l (struckStep s c draws l)) e) ∙ heard-accepted (struckStep s c draws l .out .answer) (struck-heard s c draws l)
+good-accepted s c draws l g e = ap (λ (t : Ticking). accepted (t .out .answer))
+    (good-tick s c draws l g ∙ ap (λ (k : ℕ). tickUnless k s l (struckStep s c draws l)) e)
+    ∙ heard-accepted (struckStep s c draws l .out .answer) (struck-heard s c draws l)
 
 -- the step leaves the rate, and the edge record of the tick's trigger
 struck-step-keeps : (s : KarplusStrong) (c : KarplusStrongControls) (draws : List ℕ) (l : List Float)
@@ -114,16 +126,19 @@ struck-step-keeps s c draws l =
     let b = strike-keeps _ _ _ draws l _ in
     record { rate = a .rate ∙ b .rate; edge = a .edge ∙ b .edge; memo = a .memo ∙ b .memo }
 
-twice-rate : (k j : ℕ) (s : KarplusStrong) (l : List Float) (t : Ticking) → t .out .«karplus_strong» .«sample_rate» ≡ s .«sample_rate» → tickUnless k s l (tickUnless j s l t) .out .«karplus_strong» .«sample_rate» ≡ s .«sample_rate»
+twice-rate : (k j : ℕ) (s : KarplusStrong) (l : List Float) (t : Ticking) → t .out .«karplus_strong» .«sample_rate» ≡ s .«sample_rate»
+    → tickUnless k s l (tickUnless j s l t) .out .«karplus_strong» .«sample_rate» ≡ s .«sample_rate»
 unfolding tickUnless
 twice-rate zero zero s l t h = h
 twice-rate zero (suc j) s l t h = refl
 twice-rate (suc k) j s l t h = refl
 
 pub keeps-rate : Keeps-rate
-keeps-rate s c draws l = rw (tick-is s c draws l) (twice-rate (karplusStrongRefusalOf s (length l)) (triggerRefusalOf s c draws) s l (struckStep s c draws l) (struck-step-keeps s c draws l .rate))
+keeps-rate s c draws l = rw (tick-is s c draws l)
+    (twice-rate (karplusStrongRefusalOf s (length l)) (triggerRefusalOf s c draws) s l (struckStep s c draws l) (struck-step-keeps s c draws l .rate))
 
-good-edge : (s : KarplusStrong) (c : KarplusStrongControls) (draws : List ℕ) (l : List Float) → Good s (length l) → triggerRefusalOf s c draws ≡ 0 → karplusStrongTickOf s c draws l .out .«karplus_strong» .«trigger_edge» ≡ risingOf (s .«trigger_edge») (c .trigger) .edge
+good-edge : (s : KarplusStrong) (c : KarplusStrongControls) (draws : List ℕ) (l : List Float) → Good s (length l) → triggerRefusalOf s c draws ≡ 0
+    → karplusStrongTickOf s c draws l .out .«karplus_strong» .«trigger_edge» ≡ risingOf (s .«trigger_edge») (c .trigger) .edge
 unfolding tickUnless
 good-edge s c draws l g e =
     ap (λ (t : Ticking). t .out .«karplus_strong» .«trigger_edge») (good-tick s c draws l g ∙ ap (λ (k : ℕ). tickUnless k s l (struckStep s c draws l)) e)
@@ -137,7 +152,8 @@ low-sounds s c draws e = simp (rising-not (s .«trigger_edge») (c .trigger) e)
 pub struck-short : (s : KarplusStrong) (c : KarplusStrongControls) → Sound s → struckLen (periodAt s c) ≤ 9611
 struck-short s c a = let k = max-len-range (s .«sample_rate») (a .rate) .1 in omega (arith, struck-range s c a .1)
 
-high-sounds : (s : KarplusStrong) (c : KarplusStrongControls) (draws : List ℕ) → Sound s → taken s c ≡ true → 9611 ≤ length draws → drawsOk draws 9611 ≡ true → triggerRefusalOf s c draws ≡ 0
+high-sounds : (s : KarplusStrong) (c : KarplusStrongControls) (draws : List ℕ) → Sound s → taken s c ≡ true → 9611 ≤ length draws → drawsOk draws 9611 ≡ true
+    → triggerRefusalOf s c draws ≡ 0
 unfolding triggerRefusalOf
 high-sounds s c draws a e h k =
     let n = struckLen (periodAt s c) in
@@ -145,7 +161,10 @@ high-sounds s c draws a e h k =
     simp (e, draws-taken n draws (le-trans q h) (draws-less draws 9611 n q k))
 
 pub edge-comes : Edge-comes
-edge-comes x h low high none draws f el eh n ok = (good-accepted (x .string) low none (x .line) g r, record { is-accepted = good-accepted (y .string) high draws (y .line) k (high-sounds (y .string) high draws (k .sound) e n ok); edge = e })
+edge-comes x h low high none draws f el eh n ok = (
+  good-accepted (x .string) low none (x .line) g r,
+  record { is-accepted = good-accepted (y .string) high draws (y .line) k (high-sounds (y .string) high draws (k .sound) e n ok); edge = e },
+)
   where
     g : Good (x .string) (length (x .line))
     g = reached-good x h

@@ -23,8 +23,13 @@ use Rattle.common.specs.declared.Hertz.{Hertz}
 use Rattle.karplus_strong.specs.Consts.{nPorts}
 use Rattle.karplus_strong.specs.Line.{blankOf}
 use Rattle.karplus_strong.specs.Step.{Ticking, stepOf}
-use Rattle.karplus_strong.specs.KarplusStrong.{maxLenOf, newKarplusStrong, newStrung, roomOf, karplusStrongRefusalOf, Making, madeUnless, karplusStrongNewOf, restarted, karplusStrongResetOf, placeOf, rated, ratedLine, karplusStrongSetSampleRateOf, finiteOr, strikeIf, heardString, tickUnless, karplusStrongSoundOf, karplusStrongTickOf, karplusStrongBlockOf, Strung, dampingOf, brightnessOf, stretchOf, memoAt, periodAt, triggerRefusalOf}
-use Rattle.karplus_strong.specs.Calls.{Call, Tick, Play, Reset, SetSampleRate, Lend, strungAfter, lentOf, takenLine, after, Fit, FitCall, First, ReachedKarplusStrong}
+use Rattle.karplus_strong.specs.KarplusStrong.{maxLenOf, newKarplusStrong, newStrung, roomOf, karplusStrongRefusalOf, Making}
+use Rattle.karplus_strong.specs.KarplusStrong.{madeUnless, karplusStrongNewOf, restarted, karplusStrongResetOf, placeOf, rated}
+use Rattle.karplus_strong.specs.KarplusStrong.{ratedLine, karplusStrongSetSampleRateOf, finiteOr, strikeIf, heardString}
+use Rattle.karplus_strong.specs.KarplusStrong.{tickUnless, karplusStrongSoundOf, karplusStrongTickOf, karplusStrongBlockOf}
+use Rattle.karplus_strong.specs.KarplusStrong.{Strung, dampingOf, brightnessOf, stretchOf, memoAt, periodAt, triggerRefusalOf}
+use Rattle.karplus_strong.specs.Calls.{Call, Tick, Play, Reset, SetSampleRate, Lend, strungAfter, lentOf}
+use Rattle.karplus_strong.specs.Calls.{takenLine, after, Fit, FitCall, First, ReachedKarplusStrong}
 use Rattle.karplus_strong.specs.Promises.{taken}
 use Rattle.karplus_strong.specs.declared.KarplusStrong.{KarplusStrong}
 use Rattle.karplus_strong.specs.declared.KarplusStrongControls.{KarplusStrongControls}
@@ -133,7 +138,17 @@ rate-good s r l g e h =
     let a = g .sound in
     let m = max-len-range r e in
     let z : length (ratedLine s r l) ≡ length l = length-blank (min (s .len) (maxLenOf r)) (maxLenOf r) l (omega arith) in
-    record { sound = record { rate = e; least = omega arith; most = omega arith; place = place-in (s .«write_pos») (maxLenOf r) (omega arith); value = a .value }; room = omega arith; memo = g .memo }
+    record {
+      sound = record {
+        rate = e;
+        least = omega arith;
+        most = omega arith;
+        place = place-in (s .«write_pos») (maxLenOf r) (omega arith);
+        value = a .value;
+      };
+      room = omega arith;
+      memo = g .memo;
+    }
 
 -- a line that is taken has room, and the string's cells
 lent-length : (x : Strung) (l : List Float) (n : ℕ) → Good (x .string) n → maxLenOf (x .string .«sample_rate») + 2 ≤ length l → length (lentOf x l) ≡ length l

@@ -18,7 +18,9 @@ use Rattle.answer.specs.declared.Answer.{Answer}
 use Rattle.answer.specs.declared.Tally.{Tally}
 use Rattle.karplus_strong.specs.Consts.{nPorts}
 use Rattle.karplus_strong.specs.Line.{blankOf}
-use Rattle.karplus_strong.specs.KarplusStrong.{maxLenOf, roomOf, karplusStrongRefusalOf, karplusStrongRateRefusalOf, Making, madeUnless, karplusStrongResetOf, karplusStrongSetSampleRateOf, karplusStrongTickOf, Strung, strung, firstRefusalOf, karplusStrongToldOf, karplusStrongNextOf, karplusStrongBlockOf, restarted, rated, ratedLine}
+use Rattle.karplus_strong.specs.KarplusStrong.{maxLenOf, roomOf, karplusStrongRefusalOf, karplusStrongRateRefusalOf, Making, madeUnless}
+use Rattle.karplus_strong.specs.KarplusStrong.{karplusStrongResetOf, karplusStrongSetSampleRateOf, karplusStrongTickOf, Strung, strung, firstRefusalOf}
+use Rattle.karplus_strong.specs.KarplusStrong.{karplusStrongToldOf, karplusStrongNextOf, karplusStrongBlockOf, restarted, rated, ratedLine}
 use Rattle.karplus_strong.specs.Calls.{Call, Tick, Play, Reset, SetSampleRate, Lend, Ticked, Played, Told, strungAfter, lentOf, unstrung, after, reply}
 use Rattle.karplus_strong.specs.Promises.{Alike, SameTick, Same, Same-replies}
 use Rattle.karplus_strong.specs.declared.KarplusStrong.{KarplusStrong}

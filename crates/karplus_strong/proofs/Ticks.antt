@@ -16,7 +16,8 @@ use Rattle.laws.specs.Float.{zer, isFin}
 use Rattle.karplus_strong.proofs.Parts.{zer-fin, sound-line, heard-known, step-either}
 use Rattle.karplus_strong.proofs.Reached.{Good}
 use Rattle.karplus_strong.specs.KarplusStrong.{triggerRefusalOf, firstRefusalOf, dampingOf, brightnessOf, stretchOf, memoAt, periodAt}
-use Rattle.karplus_strong.specs.KarplusStrong.{maxLenOf, roomOf, karplusStrongRefusalOf, strikeIf, heardString, tickUnless, karplusStrongSoundOf, karplusStrongTickOf}
+use Rattle.karplus_strong.specs.KarplusStrong.{maxLenOf, roomOf, karplusStrongRefusalOf, strikeIf, heardString}
+use Rattle.karplus_strong.specs.KarplusStrong.{tickUnless, karplusStrongSoundOf, karplusStrongTickOf}
 use Rattle.karplus_strong.specs.Promises.{taken}
 use Rattle.karplus_strong.specs.Step.{Ticking, stepOf}
 use Rattle.answer.specs.declared.Answer.{Answer}
@@ -60,7 +61,8 @@ struckStep s c draws l =
     let struck = strikeIf (taken s c) (heardString s (risingOf (s .«trigger_edge») (c .trigger) .edge) (memoAt s c)) (periodAt s c) (brightnessOf c) draws l in
     stepOf (struck .string) (periodAt s c) (dampingOf c) (stretchOf c) (struck .line)
 
-pub sound-is : (s : KarplusStrong) (c : KarplusStrongControls) (draws : List ℕ) (l : List Float) → karplusStrongSoundOf s c draws l ≡ tickUnless (triggerRefusalOf s c draws) s l (struckStep s c draws l)
+pub sound-is : (s : KarplusStrong) (c : KarplusStrongControls) (draws : List ℕ) (l : List Float)
+    → karplusStrongSoundOf s c draws l ≡ tickUnless (triggerRefusalOf s c draws) s l (struckStep s c draws l)
 unfolding karplusStrongSoundOf triggerRefusalOf struckStep
 sound-is s c draws l = refl
 
@@ -70,26 +72,31 @@ struck-heard s c draws l =
     let struck = strikeIf (taken s c) (heardString s (risingOf (s .«trigger_edge») (c .trigger) .edge) (memoAt s c)) (periodAt s c) (brightnessOf c) draws l in
     step-heard (struck .string) (periodAt s c) (dampingOf c) (stretchOf c) (struck .line)
 
-pub unless-number : (k : ℕ) (s : KarplusStrong) (l : List Float) (t : Ticking) → refusalOf (t .out .answer) ≡ 0 → refusalOf (tickUnless k s l t .out .answer) ≡ k
+pub unless-number : (k : ℕ) (s : KarplusStrong) (l : List Float) (t : Ticking) → refusalOf (t .out .answer) ≡ 0
+    → refusalOf (tickUnless k s l t .out .answer) ≡ k
 unfolding tickUnless refusalOf
 unless-number zero s l t h = h
 unless-number (suc k) s l t h = refl
 
 -- an accepted tick went on to the step, and a refused one leaves everything
-pub twice-heard : (k j : ℕ) (s : KarplusStrong) (l : List Float) (t : Ticking) → Heard (t .out .answer) → accepted (tickUnless k s l (tickUnless j s l t) .out .answer) ≡ true → Heard (tickUnless k s l (tickUnless j s l t) .out .answer)
+pub twice-heard : (k j : ℕ) (s : KarplusStrong) (l : List Float) (t : Ticking) → Heard (t .out .answer)
+    → accepted (tickUnless k s l (tickUnless j s l t) .out .answer) ≡ true → Heard (tickUnless k s l (tickUnless j s l t) .out .answer)
 unfolding tickUnless accepted
 twice-heard zero zero s l t h e = h
 twice-heard zero (suc j) s l t h e = absurd (true≢false (sym e))
 twice-heard (suc k) j s l t h e = absurd (true≢false (sym e))
 
-pub twice-left : (k j : ℕ) (s : KarplusStrong) (l : List Float) (t : Ticking) → Heard (t .out .answer) → accepted (tickUnless k s l (tickUnless j s l t) .out .answer) ≡ false
+pub twice-left : (k j : ℕ) (s : KarplusStrong) (l : List Float) (t : Ticking) → Heard (t .out .answer)
+    → accepted (tickUnless k s l (tickUnless j s l t) .out .answer) ≡ false
     → (tickUnless k s l (tickUnless j s l t) .out .«karplus_strong» ≡ s) × (tickUnless k s l (tickUnless j s l t) .line ≡ l)
 unfolding tickUnless
 twice-left zero zero s l t h e = absurd (true≢false (sym (heard-accepted (t .out .answer) h) ∙ e))
 twice-left zero (suc j) s l t h e = (refl, refl)
 twice-left (suc k) j s l t h e = (refl, refl)
 
-pub tick-is : (s : KarplusStrong) (c : KarplusStrongControls) (draws : List ℕ) (l : List Float) → karplusStrongTickOf s c draws l ≡ tickUnless (karplusStrongRefusalOf s (length l)) s l (tickUnless (triggerRefusalOf s c draws) s l (struckStep s c draws l))
+pub tick-is : (s : KarplusStrong) (c : KarplusStrongControls) (draws : List ℕ) (l : List Float)
+    → karplusStrongTickOf s c draws l
+    ≡ tickUnless (karplusStrongRefusalOf s (length l)) s l (tickUnless (triggerRefusalOf s c draws) s l (struckStep s c draws l))
 unfolding karplusStrongTickOf
 tick-is s c draws l = ap (tickUnless (karplusStrongRefusalOf s (length l)) s l) (sound-is s c draws l)
 
@@ -105,9 +112,11 @@ good-room s n g = simp (le-leb (maxLenOf (s .«sample_rate») + 2) n (g .room))
 pub good-none : (s : KarplusStrong) (n : ℕ) → Good s n → karplusStrongRefusalOf s n ≡ 0
 good-none s n g = good-refusal s n n g ∙ good-room s n g
 
-pub good-tick : (s : KarplusStrong) (c : KarplusStrongControls) (draws : List ℕ) (l : List Float) → Good s (length l) → karplusStrongTickOf s c draws l ≡ tickUnless (triggerRefusalOf s c draws) s l (struckStep s c draws l)
+pub good-tick : (s : KarplusStrong) (c : KarplusStrongControls) (draws : List ℕ) (l : List Float) → Good s (length l)
+    → karplusStrongTickOf s c draws l ≡ tickUnless (triggerRefusalOf s c draws) s l (struckStep s c draws l)
 unfolding tickUnless
-good-tick s c draws l g = tick-is s c draws l ∙ ap (λ (k : ℕ). tickUnless k s l (tickUnless (triggerRefusalOf s c draws) s l (struckStep s c draws l))) (good-none s (length l) g)
+good-tick s c draws l g =
+    tick-is s c draws l ∙ ap (λ (k : ℕ). tickUnless k s l (tickUnless (triggerRefusalOf s c draws) s l (struckStep s c draws l))) (good-none s (length l) g)
 
 -- and so is a block's first
 pub good-first : (s : KarplusStrong) (c : KarplusStrongControls) (draws : List ℕ) (n k : ℕ) → Good s n

@@ -19,7 +19,10 @@ use Rattle.karplus_strong.specs.Consts.{nPorts}
 use Rattle.karplus_strong.specs.Line.{blankAt, blankOf, excitedAt, excitedOf, meanOf, levelAt, levelOf, struckOf}
 use Rattle.karplus_strong.specs.Step.{Ticking, restOf, stepOf}
 use Rattle.karplus_strong.specs.Shortcuts.{tuningOf, turnOf, heldNext}
-use Rattle.karplus_strong.specs.KarplusStrong.{triggerRefusalOf, firstRefusalOf, karplusStrongToldOf, karplusStrongNextOf, karplusStrongBlockOf, maxLenOf, karplusStrongRefusalOf, madeUnless, karplusStrongNewOf, karplusStrongResetOf, karplusStrongSetSampleRateOf, struckLen, strikeOf, strikeIf, tickUnless, karplusStrongSoundOf, karplusStrongTickOf, Strung, strung, noString, dampingOf, brightnessOf, stretchOf, periodAt}
+use Rattle.karplus_strong.specs.KarplusStrong.{triggerRefusalOf, firstRefusalOf, karplusStrongToldOf, karplusStrongNextOf, karplusStrongBlockOf}
+use Rattle.karplus_strong.specs.KarplusStrong.{maxLenOf, karplusStrongRefusalOf, madeUnless, karplusStrongNewOf, karplusStrongResetOf}
+use Rattle.karplus_strong.specs.KarplusStrong.{karplusStrongSetSampleRateOf, struckLen, strikeOf, strikeIf, tickUnless, karplusStrongSoundOf}
+use Rattle.karplus_strong.specs.KarplusStrong.{karplusStrongTickOf, Strung, strung, noString, dampingOf, brightnessOf, stretchOf, periodAt}
 use Rattle.karplus_strong.specs.Promises.{taken, SamePast, Past-untouched, Only-its-draws}
 use Rattle.karplus_strong.specs.declared.KarplusStrong.{KarplusStrong}
 use Rattle.karplus_strong.specs.declared.KarplusStrongControls.{KarplusStrongControls}
@@ -36,7 +39,8 @@ getD-past f n l i h =
     let q : length (tab f n) ≡ n = length-tab f n in
     let e : i ≡ length (tab f n) + (i - n) = omega arith in
     let d : n + (i - n) ≡ i = omega arith in
-    ap (λ (j : ℕ). getD (tab f n ++ drop n l) j nan) e ∙ getD-append-add (tab f n) (drop n l) (i - n) nan ∙ getD-drop n l (i - n) nan ∙ ap (λ (j : ℕ). getD l j nan) d
+    ap (λ (j : ℕ). getD (tab f n ++ drop n l) j nan) e ∙ getD-append-add (tab f n) (drop n l) (i - n) nan ∙ getD-drop n l (i - n) nan
+    ∙ ap (λ (j : ℕ). getD l j nan) d
 
 past-over : (f : ℕ → Float) (n : ℕ) (l : List Float) → n ≤ length l → SamePast n l (over f n l)
 past-over f n l h = record { size = length-over f n l h; cells = λ i q. getD-past f n l i q }
@@ -74,7 +78,8 @@ past-step s p d t l h k =
     behind : (i j n : ℕ) → j < n → n ≤ i → i ≡ j → ⊥
     behind i j n h k e = omega arith
 
-past-struck-step : (t : KarplusStrong) (p b d c : Float) (draws : List ℕ) (l : List Float) → struckLen p ≤ length l → PastTick l (stepOf (restOf t (struckLen p) (t .«trigger_edge»)) p d c (struckOf (struckLen p) b draws l))
+past-struck-step : (t : KarplusStrong) (p b d c : Float) (draws : List ℕ) (l : List Float) → struckLen p ≤ length l
+    → PastTick l (stepOf (restOf t (struckLen p) (t .«trigger_edge»)) p d c (struckOf (struckLen p) b draws l))
 past-struck-step t p b d c draws l h =
     let u = restOf t (struckLen p) (t .«trigger_edge») in
     let m = struckOf (struckLen p) b draws l in
@@ -82,12 +87,14 @@ past-struck-step t p b d c draws l h =
     let e = a .size in
     let z : 0 < struckLen p = unfold struckLen in omega arith in
     let w : PastTick m (stepOf u p d c m) = past-step u p d c m z (omega arith) in
-    past-both (stepOf u p d c m .out .«karplus_strong» .len) l m (stepOf u p d c m .line) (wider (stepOf u p d c m .out .«karplus_strong» .len) (stepped u p d c m .len) a) w
+    past-both (stepOf u p d c m .out .«karplus_strong» .len) l m (stepOf u p d c m .line)
+    (wider (stepOf u p d c m .out .«karplus_strong» .len) (stepped u p d c m .len) a) w
   where
     wider : {l m : List Float} {n : ℕ} (k : ℕ) → k ≡ n → SamePast n l m → SamePast k l m
     wider k e a = rw e a
 
-past-sounded : (rising : Bool) (k : ℕ) (s t : KarplusStrong) (p b d c : Float) (draws : List ℕ) (l : List Float) → t .«write_pos» < t .len → t .len ≤ length l → struckLen p ≤ length l
+past-sounded : (rising : Bool) (k : ℕ) (s t : KarplusStrong) (p b d c : Float) (draws : List ℕ) (l : List Float) → t .«write_pos» < t .len → t .len ≤ length l
+    → struckLen p ≤ length l
     → PastTick l (tickUnless k s l (stepOf (strikeIf rising t p b draws l .string) p d c (strikeIf rising t p b draws l .line)))
 past-sounded rising (suc k) s t p b d c draws l h g r = unfold tickUnless in past-none (s .len) l
 past-sounded false zero s t p b d c draws l h g r = unfold tickUnless strikeIf in past-step t p d c l h g
@@ -194,7 +201,8 @@ pub past-untouched : Past-untouched
 past-untouched =
     record {
       new = λ rate l. unfold karplusStrongNewOf in
-          past-made _ (maxLenOf rate) (strung (noString rate) l) _ (λ e. let h = new-taken rate (length l) e .1 in past-blank 0 (maxLenOf rate) l (omega arith));
+          past-made _ (maxLenOf rate) (strung (noString rate) l) _
+          (λ e. let h = new-taken rate (length l) e .1 in past-blank 0 (maxLenOf rate) l (omega arith));
       tick = past-tick;
       block = past-block;
       reset = λ s l. unfold karplusStrongResetOf in
@@ -210,12 +218,14 @@ unfolding struckOf excitedOf excitedAt over
 struck-draws n b d e l k = rw (tab-ext (excitedAt n b d) (excitedAt n b e) n (λ i q. rw (k i q)))
 
 -- a tick's draws go to its refusal and its strike
-tick-draws : (s : KarplusStrong) (c : KarplusStrongControls) (d e : List ℕ) (l : List Float) → triggerRefusalOf s c d ≡ triggerRefusalOf s c e → struckStep s c d l ≡ struckStep s c e l → karplusStrongTickOf s c d l ≡ karplusStrongTickOf s c e l
+tick-draws : (s : KarplusStrong) (c : KarplusStrongControls) (d e : List ℕ) (l : List Float) → triggerRefusalOf s c d ≡ triggerRefusalOf s c e
+    → struckStep s c d l ≡ struckStep s c e l → karplusStrongTickOf s c d l ≡ karplusStrongTickOf s c e l
 tick-draws s c d e l h k = rw (tick-is s c d l, tick-is s c e l, h, k)
 
 pub only-its-draws : Only-its-draws
 only-its-draws =
     record {
-      struck = λ s c d e l h g k. tick-draws s c d e l (unfold triggerRefusalOf in rw (refusal-draws (struckLen (periodAt s c)) d e h g k)) (unfold struckStep strikeIf strikeOf in rw (struck-draws (struckLen (periodAt s c)) (brightnessOf c) d e l k));
+      struck = λ s c d e l h g k. tick-draws s c d e l (unfold triggerRefusalOf in rw (refusal-draws (struckLen (periodAt s c)) d e h g k))
+          (unfold struckStep strikeIf strikeOf in rw (struck-draws (struckLen (periodAt s c)) (brightnessOf c) d e l k));
       unstruck = λ s c d e l h. tick-draws s c d e l (unfold triggerRefusalOf in rw h) (unfold struckStep strikeIf in rw h);
     }

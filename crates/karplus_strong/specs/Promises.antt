@@ -137,7 +137,8 @@ pub record SamePast (n : ℕ) (l m : List Float) : Type 0 where
 -- n being the length after the call
 pub record Past-untouched : Type 0 where
   pub new : (rate : Hertz) (l : List Float) → SamePast (maxLenOf rate) l (karplusStrongNewOf rate l .line)
-  pub tick : (s : KarplusStrong) (c : KarplusStrongControls) (draws : List ℕ) (l : List Float) → SamePast (karplusStrongTickOf s c draws l .out .«karplus_strong» .len) l (karplusStrongTickOf s c draws l .line)
+  pub tick : (s : KarplusStrong) (c : KarplusStrongControls) (draws : List ℕ) (l : List Float)
+      → SamePast (karplusStrongTickOf s c draws l .out .«karplus_strong» .len) l (karplusStrongTickOf s c draws l .line)
   pub block : (x : Strung) (c : KarplusStrongControls) (draws : List ℕ) (t : Tally) (o : List Float) (m : List ℕ)
       → let y = karplusStrongBlockOf x c draws t o m .state in SamePast (y .string .len) (x .line) (y .line)
   pub reset : (s : KarplusStrong) (l : List Float) → SamePast (s .len) l (karplusStrongResetOf s l .line)
@@ -145,13 +146,16 @@ pub record Past-untouched : Type 0 where
 
 -- ---- only the draws that fill the line count, and without an edge none
 pub record Only-its-draws : Type 0 where
-  pub struck : (s : KarplusStrong) (c : KarplusStrongControls) (d e : List ℕ) (l : List Float) → struckLen (periodAt s c) ≤ length d → struckLen (periodAt s c) ≤ length e → ((i : ℕ) → i < struckLen (periodAt s c) → getD d i 0 ≡ getD e i 0)
+  pub struck : (s : KarplusStrong) (c : KarplusStrongControls) (d e : List ℕ) (l : List Float) → struckLen (periodAt s c) ≤ length d
+      → struckLen (periodAt s c) ≤ length e → ((i : ℕ) → i < struckLen (periodAt s c) → getD d i 0 ≡ getD e i 0)
       → karplusStrongTickOf s c d l ≡ karplusStrongTickOf s c e l
-  pub unstruck : (s : KarplusStrong) (c : KarplusStrongControls) (d e : List ℕ) (l : List Float) → taken s c ≡ false → karplusStrongTickOf s c d l ≡ karplusStrongTickOf s c e l
+  pub unstruck : (s : KarplusStrong) (c : KarplusStrongControls) (d e : List ℕ) (l : List Float) → taken s c ≡ false
+      → karplusStrongTickOf s c d l ≡ karplusStrongTickOf s c e l
 
 -- ---- marks, for every state: clean with a finite sample, or cleared with 0.0
 abbrev pub Clean-or-cleared : Type 0
-Clean-or-cleared = (s : KarplusStrong) (c : KarplusStrongControls) (draws : List ℕ) (l : List Float) → accepted (karplusStrongTickOf s c draws l .out .answer) ≡ true
+Clean-or-cleared =
+    (s : KarplusStrong) (c : KarplusStrongControls) (draws : List ℕ) (l : List Float) → accepted (karplusStrongTickOf s c draws l .out .answer) ≡ true
     → ((markNumber (karplusStrongTickOf s c draws l .out .answer) ≡ clean) × (isFin (voltsOf (karplusStrongTickOf s c draws l .out .answer) .p10) ≡ true))
     ⊎ ((markNumber (karplusStrongTickOf s c draws l .out .answer) ≡ cleared) × (voltsOf (karplusStrongTickOf s c draws l .out .answer) ≡ volts1 zer))
 
@@ -179,19 +183,23 @@ Block-never-cleared = (x : Strung) → Reached First Unstretched after x → (c 
 
 -- a refused tick leaves string and line as they stood
 abbrev pub Refused-leaves : Type 0
-Refused-leaves = (s : KarplusStrong) (c : KarplusStrongControls) (draws : List ℕ) (l : List Float) → accepted (karplusStrongTickOf s c draws l .out .answer) ≡ false
+Refused-leaves =
+    (s : KarplusStrong) (c : KarplusStrongControls) (draws : List ℕ) (l : List Float) → accepted (karplusStrongTickOf s c draws l .out .answer) ≡ false
     → (karplusStrongTickOf s c draws l .out .«karplus_strong» ≡ s) × (karplusStrongTickOf s c draws l .line ≡ l)
 
 -- and every tick the rate
 abbrev pub Keeps-rate : Type 0
-Keeps-rate = (s : KarplusStrong) (c : KarplusStrongControls) (draws : List ℕ) (l : List Float) → karplusStrongTickOf s c draws l .out .«karplus_strong» .«sample_rate» ≡ s .«sample_rate»
+Keeps-rate = (s : KarplusStrong) (c : KarplusStrongControls) (draws : List ℕ) (l : List Float)
+    → karplusStrongTickOf s c draws l .out .«karplus_strong» .«sample_rate» ≡ s .«sample_rate»
 
 -- ---- no tick of a block is refused whose first isn't: its trigger and pitch stand still. And a tally with room takes each of their answers
 abbrev pub Block-accepts : Type 0
-Block-accepts = (x : Strung) (c : KarplusStrongControls) (draws : List ℕ) (n : ℕ) → 0 < n → firstRefusalOf (x .string) c draws (length (x .line)) n ≡ 0 → AllAccepted (karplusStrongToldOf c draws) (karplusStrongNextOf c draws) x
+Block-accepts = (x : Strung) (c : KarplusStrongControls) (draws : List ℕ) (n : ℕ) → 0 < n → firstRefusalOf (x .string) c draws (length (x .line)) n ≡ 0
+    → AllAccepted (karplusStrongToldOf c draws) (karplusStrongNextOf c draws) x
 
 abbrev pub Block-tallies : Type 0
-Block-tallies = (x : Strung) (c : KarplusStrongControls) (draws : List ℕ) (n : ℕ) → 0 < n → firstRefusalOf (x .string) c draws (length (x .line)) n ≡ 0 → AllTaken (karplusStrongToldOf c draws) (karplusStrongNextOf c draws) x
+Block-tallies = (x : Strung) (c : KarplusStrongControls) (draws : List ℕ) (n : ℕ) → 0 < n → firstRefusalOf (x .string) c draws (length (x .line)) n ≡ 0
+    → AllTaken (karplusStrongToldOf c draws) (karplusStrongNextOf c draws) x
 
 -- ---- a line of so many cells is enough, and a shorter one isn't
 abbrev pub Cells-enough : Type 0
@@ -202,7 +210,11 @@ Cells-enough = (rate : Hertz) (l : List Float)
 pub record Settled : Type 0 where
   pub cells : (rate : Hertz) → Settles (λ (n : ℕ). n ≡ karplusStrongCellsOf rate)
   pub new : (rate : Hertz) (l : List Float) → Settles (λ (r : Making). (r .out ≡ karplusStrongNewOf rate l .out) × (r .line ≡ karplusStrongNewOf rate l .line))
-  pub tick : (s : KarplusStrong) (c : KarplusStrongControls) (draws : List ℕ) (l : List Float) → Settles (λ (r : Ticking). (r .out ≡ karplusStrongTickOf s c draws l .out) × (r .line ≡ karplusStrongTickOf s c draws l .line))
-  pub block : (x : Strung) (c : KarplusStrongControls) (draws : List ℕ) (t : Tally) (o : List Float) (m : List ℕ) → Settles (λ (b : Block Strung). b ≡ karplusStrongBlockOf x c draws t o m)
-  pub reset : (s : KarplusStrong) (l : List Float) → Settles (λ (r : Making). (r .out ≡ karplusStrongResetOf s l .out) × (r .line ≡ karplusStrongResetOf s l .line))
-  pub «set_sample_rate» : (s : KarplusStrong) (rate : Hertz) (l : List Float) → Settles (λ (r : Making). (r .out ≡ karplusStrongSetSampleRateOf s rate l .out) × (r .line ≡ karplusStrongSetSampleRateOf s rate l .line))
+  pub tick : (s : KarplusStrong) (c : KarplusStrongControls) (draws : List ℕ) (l : List Float)
+      → Settles (λ (r : Ticking). (r .out ≡ karplusStrongTickOf s c draws l .out) × (r .line ≡ karplusStrongTickOf s c draws l .line))
+  pub block : (x : Strung) (c : KarplusStrongControls) (draws : List ℕ) (t : Tally) (o : List Float) (m : List ℕ)
+      → Settles (λ (b : Block Strung). b ≡ karplusStrongBlockOf x c draws t o m)
+  pub reset : (s : KarplusStrong) (l : List Float)
+      → Settles (λ (r : Making). (r .out ≡ karplusStrongResetOf s l .out) × (r .line ≡ karplusStrongResetOf s l .line))
+  pub «set_sample_rate» : (s : KarplusStrong) (rate : Hertz) (l : List Float)
+      → Settles (λ (r : Making). (r .out ≡ karplusStrongSetSampleRateOf s rate l .out) × (r .line ≡ karplusStrongSetSampleRateOf s rate l .line))

@@ -17,11 +17,13 @@ block-refusal-requires c κs = search needs
 
 run-requires : tie.Need-run-requires
 run-requires c κs =
-    let a = c .before .before .before .before .before .before .before .before .before .before .before .args in
-    let judged = rw (c .before .before .before .before .before .before .first-refusal .ensures) at (c .before .before .before .before .before .block-refusal .ensures) in
-    let f = block-fits nPorts _ (a .tally) (a .samples .now) (a .marks .now) _ judged (c .before .before .before .before .if1 .taken) in
-    let k = first-none _ _ _ _ _ (f .1) (c .before .before .before .if2 .left) in
-    let z = c .before .before .before .if2 .left in
+    let passed-2 = c .before .before .before in
+    let judged-first = passed-2 .before .before .before in
+    let a = judged-first .before .before .before .before .before .args in
+    let judged = rw (judged-first .first-refusal .ensures) at (passed-2 .before .before .block-refusal .ensures) in
+    let f = block-fits nPorts _ (a .tally) (a .samples .now) (a .marks .now) _ judged (passed-2 .before .if1 .taken) in
+    let k = first-none _ _ _ _ _ (f .1) (passed-2 .if2 .left) in
+    let z = passed-2 .if2 .left in
     (k .0, k .1, omega arith, f .0)
 
 take-marks-requires : tie.Need-take-marks-requires
@@ -33,8 +35,9 @@ or-requires c κs = search needs
 returns : tie.Need-returns
 unfolding karplusStrongBlockOf
 returns c =
-    let a = c .before .before .before .before .before .before .before .before .args in
-    let judged = rw (c .before .before .before .first-refusal .ensures) at (c .before .before .block-refusal .ensures) in
+    let judged-first = c .before .before .before in
+    let a = judged-first .before .before .before .before .before .args in
+    let judged = rw (judged-first .first-refusal .ensures) at (c .before .before .block-refusal .ensures) in
     block-empty nPorts _ _ _ (strung (a .self) (a .line .now)) (a .tally) (a .samples .now) (a .marks .now) _ judged (c .before .if1 .taken) (c .if2 .taken)
 
 same-length : tie.Need-same-length
@@ -49,31 +52,25 @@ same-length-3 c = search needs
 returns-2 : tie.Need-returns-2
 unfolding karplusStrongBlockOf
 returns-2 c =
-    let a = c .before .before .before .before .before .before .before .before .before .before .before .before .before .before .before .before .before .before .before .before .before .args in
-    let r = c .before .before .before .before .before .before .before .before .before .run .ensures in
-    let judged = rw (c .before .before .before .before .before .before .before .before .before .before .before .before .before .before .before .before .first-refusal .ensures) at (c .before .before .before .before .before .before .before .before .before .before .before .before .before .before .before .block-refusal .ensures) in
-    block-done nPorts _ _ _ (strung (a .self) (a .line .now)) (a .tally) (a .samples .now) (a .marks .now) _ judged (c .before .before .before .before .before .before .before .before .before .before .before .before .before .before .if1 .taken)
+    let known-5 = c .before .before .before .before .before in let ran = known-5 .before .before .before .before in
+    let tested = ran .before .before .before .before .before in
+    let judged-first = tested .before .before in
+    let a = judged-first .before .before .before .before .before .args in
+    let r = ran .run .ensures in
+    let judged = rw (judged-first .first-refusal .ensures) at (tested .before .block-refusal .ensures) in
+    block-done nPorts _ _ _ (strung (a .self) (a .line .now)) (a .tally) (a .samples .now) (a .marks .now) _ judged (tested .if1 .taken)
     _ _ _ _ (r .0) (r .1 .0) (r .1 .1) (c .or .ensures ∙ ap (tallyOr (a .tally)) (c .before .take-marks .ensures))
 
 returns-3 : tie.Need-returns-3
 unfolding karplusStrongBlockOf
 returns-3 c =
-    let a = c .before .before .before .before .before .before .before .args in
-    let judged = rw (c .before .before .first-refusal .ensures) at (c .before .block-refusal .ensures) in
+    let judged-first = c .before .before in
+    let a = judged-first .before .before .before .before .before .args in
+    let judged = rw (judged-first .first-refusal .ensures) at (c .before .block-refusal .ensures) in
     block-refused nPorts _ _ _ (strung (a .self) (a .line .now)) (a .tally) (a .samples .now) (a .marks .now) _ judged (c .if1 .left)
 
 pub block-spec : {M : Type 1} → statement M
 block-spec =
     tie.close
-    (tie.spec
-    first-refusal-requires
-    block-refusal-requires
-    run-requires
-    take-marks-requires
-    or-requires
-    returns
-    same-length
-    same-length-2
-    same-length-3
-    returns-2
-    returns-3)
+    (tie.spec first-refusal-requires block-refusal-requires run-requires take-marks-requires or-requires returns same-length same-length-2 same-length-3
+    returns-2 returns-3)

@@ -20,13 +20,16 @@ rising-requires c κs = search needs
 
 period-of-requires : tie.Need-period-of-requires
 period-of-requires c κs =
-    let good = accepted _ _ (sym (c .before .before .before .before .before .before .refusal .ensures) ∙ c .before .before .before .before .before .if1 .taken) .0 in
+    let tested = c .before .before .before .before .before in
+    let good = accepted _ _ (sym (tested .before .refusal .ensures) ∙ tested .if1 .taken) .0 in
     (good .rate, memo-number _ _ _ _ (good .value) (c .before .before .before .finite-or .ensures) (c .before .before .voct-to-hz .ensures))
 
 draws-refusal-requires : tie.Need-draws-refusal-requires
 draws-refusal-requires c κs =
-    let good = accepted _ _ (sym (c .before .before .before .before .before .before .before .refusal .ensures) ∙ c .before .before .before .before .before .before .if1 .taken) .0 in
-    let number = memo-number _ _ _ _ (good .value) (c .before .before .before .before .finite-or .ensures) (c .before .before .before .voct-to-hz .ensures) in
+    let tuned = c .before .before .before in
+    let tested = tuned .before .before .before in
+    let good = accepted _ _ (sym (tested .before .refusal .ensures) ∙ tested .if1 .taken) .0 in
+    let number = memo-number _ _ _ _ (good .value) (tuned .before .finite-or .ensures) (tuned .voct-to-hz .ensures) in
     rw (c .period-of .ensures) (period-cut _ _ (good .rate) number)
 
 returns : tie.Need-returns
@@ -36,15 +39,17 @@ returns c = simp (← c .before .before .refusal .ensures, c .before .if1 .taken
 returns-2 : tie.Need-returns-2
 unfolding firstRefusalOf triggerRefusalOf
 returns-2 c =
+    let tuned = c .before .before .before .before in
+    let passed-2 = tuned .before .before in
     simp (
-      ← c .before .before .before .before .before .before .before .before .refusal .ensures,
-      c .before .before .before .before .before .before .before .if1 .taken,
-      ne-eqb _ _ (c .before .before .before .before .before .before .if2 .left),
+      ← passed-2 .before .before .refusal .ensures,
+      passed-2 .before .if1 .taken,
+      ne-eqb _ _ (passed-2 .if2 .left),
       c .draws-refusal .ensures,
       c .before .period-of .ensures,
       c .before .before .rising .ensures,
-      c .before .before .before .before .voct-to-hz .ensures,
-      c .before .before .before .before .before .finite-or .ensures,
+      tuned .voct-to-hz .ensures,
+      tuned .before .finite-or .ensures,
     )
 
 returns-3 : tie.Need-returns-3
@@ -54,13 +59,4 @@ returns-3 c = simp (← c .before .refusal .ensures, ne-eqb _ _ (c .if1 .left))
 pub first-refusal-spec : {M : Type 1} → statement M
 first-refusal-spec =
     tie.close
-    (tie.spec
-    refusal-requires
-    finite-or-requires
-    voct-to-hz-requires
-    rising-requires
-    period-of-requires
-    draws-refusal-requires
-    returns
-    returns-2
-    returns-3)
+    (tie.spec refusal-requires finite-or-requires voct-to-hz-requires rising-requires period-of-requires draws-refusal-requires returns returns-2 returns-3)

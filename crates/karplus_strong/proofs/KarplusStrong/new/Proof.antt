@@ -34,12 +34,16 @@ same-length c = search needs
 
 returns : tie.Need-returns
 returns c =
+    let sized = c .before .before .before .before .before in
+    let roomed = sized .before .before in
     made-parts
-    (new-made _ _ _ _ (c .string-of .ensures) _ (sym (c .before .before .before .before .before .before .before .before .before .rate-ok .ensures) ∙ c .before .before .before .before .before .before .before .before .if1 .taken) (c .before .before .before .before .before .before .before .room .ensures) (c .before .before .before .before .before .before .if2 .taken) (c .before .before .before .before .before .max-len-for .ensures) _ (c .before .before .before .blank .ensures))
+    (new-made _ _ _ _ (c .string-of .ensures) _ (sym (roomed .before .before .rate-ok .ensures) ∙ roomed .before .if1 .taken) (roomed .room .ensures)
+    (sized .before .if2 .taken) (sized .max-len-for .ensures) _ (c .before .before .before .blank .ensures))
 
 returns-2 : tie.Need-returns-2
 returns-2 c =
-    made-parts (new-room _ _ _ _ (c .string-of2 .ensures) _ (sym (c .before .before .before .before .rate-ok .ensures) ∙ c .before .before .before .if1 .taken) (c .before .before .room .ensures) (c .before .if2 .left) refl)
+    made-parts (new-room _ _ _ _ (c .string-of2 .ensures) _ (sym (c .before .before .before .before .rate-ok .ensures) ∙ c .before .before .before .if1 .taken)
+    (c .before .before .room .ensures) (c .before .if2 .left) refl)
 
 returns-3 : tie.Need-returns-3
 returns-3 c = made-parts (new-rate _ _ _ _ (c .string-of3 .ensures) (sym (c .before .before .rate-ok .ensures) ∙ c .before .if1 .left) refl)
@@ -47,15 +51,5 @@ returns-3 c = made-parts (new-rate _ _ _ _ (c .string-of3 .ensures) (sym (c .bef
 pub new-spec : {M : Type 1} → statement M
 new-spec =
     tie.close
-    (tie.spec
-    rate-ok-requires
-    room-requires
-    max-len-for-requires
-    blank-requires
-    string-of-requires
-    string-of-requires-2
-    string-of-requires-3
-    same-length
-    returns
-    returns-2
-    returns-3)
+    (tie.spec rate-ok-requires room-requires max-len-for-requires blank-requires string-of-requires string-of-requires-2 string-of-requires-3 same-length
+    returns returns-2 returns-3)

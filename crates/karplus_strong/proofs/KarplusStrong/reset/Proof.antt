@@ -10,7 +10,8 @@ refusal-requires c κs = search needs
 
 blank-requires : tie.Need-blank-requires
 blank-requires c κs =
-    let a = accepted _ _ (sym (c .before .before .before .before .before .refusal .ensures) ∙ c .before .before .before .before .if1 .taken) in
+    let tested = c .before .before .before .before in
+    let a = accepted _ _ (sym (tested .before .refusal .ensures) ∙ tested .if1 .taken) in
     let m = a .0 .most in
     let q = a .1 in
     (omega arith, omega arith)
@@ -22,12 +23,13 @@ same-length : tie.Need-same-length
 same-length c = search needs
 
 returns : tie.Need-returns
-returns c = made-parts (reset-made _ _ _ (c .before .before .before .before .before .before .before .before .before .refusal .ensures) (c .before .before .before .before .before .before .before .before .if1 .taken) _ _ (c .reset .ensures) (c .before .before .before .blank .ensures))
+returns c =
+    let at-blank = c .before .before .before in
+    let tested = at-blank .before .before .before .before .before in
+    made-parts (reset-made _ _ _ (tested .before .refusal .ensures) (tested .if1 .taken) _ _ (c .reset .ensures) (at-blank .blank .ensures))
 
 returns-2 : tie.Need-returns-2
 returns-2 c = made-parts (reset-no _ _ _ (c .before .refusal .ensures) (c .if1 .left))
 
 pub reset-spec : {M : Type 1} → statement M
-reset-spec =
-    tie.close
-    (tie.spec refusal-requires blank-requires reset-requires same-length returns returns-2)
+reset-spec = tie.close (tie.spec refusal-requires blank-requires reset-requires same-length returns returns-2)

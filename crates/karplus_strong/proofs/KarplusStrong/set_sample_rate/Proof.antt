@@ -16,7 +16,8 @@ least-requires c κs = search needs
 
 blank-requires : tie.Need-blank-requires
 blank-requires c κs =
-    let a = rate-accepted _ _ _ (sym (c .before .before .before .before .before .before .rate-refusal .ensures) ∙ c .before .before .before .before .before .if1 .taken) .2 in
+    let tested = c .before .before .before .before .before in
+    let a = rate-accepted _ _ _ (sym (tested .before .rate-refusal .ensures) ∙ tested .if1 .taken) .2 in
     let w = c .before .before .max-len-for .ensures in
     let m = c .least .ensures in
     (omega arith, omega arith)
@@ -29,8 +30,11 @@ same-length c = search needs
 
 returns : tie.Need-returns
 returns c =
+    let at-least = c .before .before .before .before in
+    let tested = at-least .before .before .before .before .before in
     made-parts
-    (rate-made _ _ _ _ (c .before .before .before .before .before .before .before .before .before .before .rate-refusal .ensures) (c .before .before .before .before .before .before .before .before .before .if1 .taken) _ _ _ _ (c .before .before .before .before .before .before .max-len-for .ensures) (c .before .before .before .before .least .ensures) (c .placed .ensures) (c .before .before .before .blank .ensures))
+    (rate-made _ _ _ _ (tested .before .rate-refusal .ensures) (tested .if1 .taken) _ _ _ _ (at-least .before .before .max-len-for .ensures)
+    (at-least .least .ensures) (c .placed .ensures) (c .before .before .before .blank .ensures))
 
 returns-2 : tie.Need-returns-2
 returns-2 c = made-parts (rate-no _ _ _ _ (c .before .rate-refusal .ensures) (c .if1 .left))
@@ -38,12 +42,4 @@ returns-2 c = made-parts (rate-no _ _ _ _ (c .before .rate-refusal .ensures) (c 
 pub set-sample-rate-spec : {M : Type 1} → statement M
 set-sample-rate-spec =
     tie.close
-    (tie.spec
-    rate-refusal-requires
-    max-len-for-requires
-    least-requires
-    blank-requires
-    placed-requires
-    same-length
-    returns
-    returns-2)
+    (tie.spec rate-refusal-requires max-len-for-requires least-requires blank-requires placed-requires same-length returns returns-2)

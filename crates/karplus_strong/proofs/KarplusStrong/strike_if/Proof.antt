@@ -8,13 +8,17 @@ within-requires : tie.Need-within-requires
 within-requires c κs = (zer-fin, one-fin)
 
 strike-requires : tie.Need-strike-requires
-strike-requires c κs = (c .before .before .before .before .before .pre .0, draws-enough _ _ (rw (c .before .before .if1 .taken) at (c .before .before .before .before .before .pre .1)), c .before .before .before .before .before .pre .2)
+strike-requires c κs =
+    let began = c .before .before .before .before .before in
+    (began .pre .0, draws-enough _ _ (rw (c .before .before .if1 .taken) at (began .pre .1)), began .pre .2)
 
 same-length : tie.Need-same-length
 same-length c = search needs
 
 returns : tie.Need-returns
-returns c = strike-taken _ _ _ _ _ _ _ _ _ (c .before .before .before .before .before .if1 .taken) (c .before .before .before .before .within .ensures) (c .before .before .strike .ensures)
+returns c =
+    let bounded = c .before .before .before .before in
+    strike-taken _ _ _ _ _ _ _ _ _ (bounded .before .if1 .taken) (bounded .within .ensures) (c .before .before .strike .ensures)
 
 returns-2 : tie.Need-returns-2
 returns-2 c = strike-none _ _ _ _ _ _ (c .if1 .left)

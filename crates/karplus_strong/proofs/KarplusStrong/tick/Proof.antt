@@ -14,7 +14,9 @@ same-length : tie.Need-same-length
 same-length c = search needs
 
 returns : tie.Need-returns
-returns c = tick-sound _ _ _ _ _ (c .before .before .before .before .before .refusal .ensures) (c .before .before .before .before .if1 .taken) _ _ (c .before .before .sound .ensures)
+returns c =
+    let tested = c .before .before .before .before in
+    tick-sound _ _ _ _ _ (tested .before .refusal .ensures) (tested .if1 .taken) _ _ (c .before .before .sound .ensures)
 
 returns-2 : tie.Need-returns-2
 returns-2 c = ticked-parts (tick-refused _ _ _ _ _ (c .before .refusal .ensures) (c .if1 .left))

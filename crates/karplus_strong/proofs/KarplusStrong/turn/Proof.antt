@@ -41,8 +41,11 @@ same-length c = search needs
 returns : tie.Need-returns
 unfolding filteredOf stretchedOf
 returns c =
+    let tested = c .before .before .before in
+    let tapped = tested .before .before .before .before .before in
     ticked-parts
-    (turn-clean _ _ _ _ (c .before .before .before .before .before .before .before .before .tap .ensures) (sym (c .before .before .before .before .is-settled .ensures) ∙ c .before .before .before .if1 .taken) _ _ _ (c .before .before .after .ensures) (c .before .volts1 .ensures) (c .marked .ensures))
+    (turn-clean _ _ _ _ (tapped .tap .ensures) (sym (tested .before .is-settled .ensures) ∙ tested .if1 .taken) _ _ _ (c .before .before .after .ensures)
+    (c .before .volts1 .ensures) (c .marked .ensures))
 
 same-length-2 : tie.Need-same-length-2
 same-length-2 c = search needs
@@ -50,24 +53,15 @@ same-length-2 c = search needs
 returns-2 : tie.Need-returns-2
 unfolding filteredOf stretchedOf
 returns-2 c =
+    let at-blank = c .before .before .before .before in
+    let passed = at-blank .before .before in
+    let tapped = passed .before .before .before .before .before in
     ticked-parts
-    (turn-cleared _ _ _ _ (c .before .before .before .before .before .before .before .before .before .before .before .tap .ensures) (sym (c .before .before .before .before .before .before .before .is-settled .ensures) ∙ c .before .before .before .before .before .before .if1 .left) _ _ _ (c .before .volts12 .ensures) (c .marked2 .ensures) (c .before .before .before .before .blank .ensures))
+    (turn-cleared _ _ _ _ (tapped .tap .ensures) (sym (passed .before .is-settled .ensures) ∙ passed .if1 .left) _ _ _ (c .before .volts12 .ensures)
+    (c .marked2 .ensures) (at-blank .blank .ensures))
 
 pub turn-spec : {M : Type 1} → statement M
 turn-spec =
     tie.close
-    (tie.spec
-    tap-requires
-    is-settled-requires
-    mul-line
-    slice-write-line
-    after-requires
-    volts1-requires
-    marked-requires
-    blank-requires
-    volts1-requires-2
-    marked-requires-2
-    same-length
-    returns
-    same-length-2
-    returns-2)
+    (tie.spec tap-requires is-settled-requires mul-line slice-write-line after-requires volts1-requires marked-requires blank-requires volts1-requires-2
+    marked-requires-2 same-length returns same-length-2 returns-2)
