@@ -5,9 +5,10 @@ use lib.Dec.{T}
 use lib.Ieee.{Float, lt, le, ofBits, eq}
 use lib.Ieee.Bits.{is-true}
 use Rattle.laws.specs.Float.{zer}
-use Rattle.laws.proofs.Order.{le-false}
+use Rattle.laws.proofs.Order.{le-false, lt-false}
+use Rattle.laws.proofs.Tests.{of-true}
 use Rattle.common.specs.Edge.{thresholdOf, resetOf, risesAbove, risingAboveOf, risingOf, crossedAboveOf, crossedOf}
-use Rattle.common.specs.Promises.{Rises-new, Rises-once, Rising-like, Crossed-is, Rising-once, Rising-comes}
+use Rattle.common.specs.Promises.{Rises-new, Rises-once, Rising-like, Crossed-is, Rising-once, Rising-comes, Rising-not}
 use Rattle.common.specs.declared.EdgeDetector.{EdgeDetector}
 
 rises-left : (a b c : Bool) → (a && b) ≡ true → c ≡ true → (a && c) ≡ true
@@ -46,3 +47,7 @@ rising-once e v = simp rises-once
 pub rising-comes : Rising-comes
 unfolding risingOf risingAboveOf risesAbove thresholdOf
 rising-comes e v h = rw h (unfold lt ofBits in refl)
+
+pub rising-not : Rising-not
+unfolding risingOf risingAboveOf risesAbove
+rising-not e v h = simp (lt-false (thresholdOf e) v (of-true (le v (thresholdOf e)) h))

@@ -52,6 +52,10 @@ Crossed-is = (e : EdgeDetector) (v : Float)
 abbrev pub Rising-comes : Type 0
 Rising-comes = (e : EdgeDetector) (v : Float) → le v (thresholdOf e) ≡ true → risingOf (risingOf e v .edge) five .rising ≡ true
 
+-- such a sample is none itself
+abbrev pub Rising-not : Type 0
+Rising-not = (e : EdgeDetector) (v : Float) → le v (thresholdOf e) ≡ true → risingOf e v .rising ≡ false
+
 -- a sample that stands still gives no second edge
 abbrev pub Rises-once : Type 0
 Rises-once = (threshold v : Float) → risesAbove threshold v v ≡ false

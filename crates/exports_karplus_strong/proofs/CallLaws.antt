@@ -1,76 +1,85 @@
--- How the parts of an exported call make up the whole, over plain values.
+-- An exported call with a line, as its code has it: boundary's laws, and the line beside them. n is what the lengths refuse.
 use mathlib.Core.List.{List}
-use mathlib.Core.Path.{_≡_, sym, ap, _∙_}
+use mathlib.Core.Path.{_≡_, refl, sym, ap, _∙_}
 use Prim.Native.Nat.{ℕ}
 use lib.Ieee.{Float, nan}
 use lib.ListN.{length, getD}
 use borrow.Author.Tests.{ne-eqb}
 use Rattle.answer.specs.Block.{Block}
-use Rattle.answer.specs.Flat.{sizesOf, tickSizesOf, Kept, kept, Heard, heard, heardOf, Played, played, playedOf, tallyFrom}
 use Rattle.answer.specs.declared.Tally.{Tally}
 use Rattle.answer.specs.declared.Tallied.{Tallied}
 use Rattle.answer.specs.declared.Tallied.the-variants as tallied
+use Rattle.boundary.proofs.Flat.{kept-done, kept-refused, heard-done, heard-refused, played-done, played-uncounted, played-refused}
+use Rattle.boundary.specs.Flat.{sizesOf, tickSizesOf, Kept, kept, Heard, heard, heardOf, Played, played, playedOf, tallyFrom}
 use Rattle.common.specs.declared.Hertz.{Hertz}
 use Rattle.karplus_strong.proofs.Promised.{keeps-rate}
 use Rattle.karplus_strong.specs.Step.{Ticking}
-use Rattle.karplus_strong.specs.KarplusStrong.{Making, karplusStrongNewOf, karplusStrongTickOf, karplusStrongResetOf, karplusStrongSetSampleRateOf, Strung, strung}
-use Rattle.karplus_strong.specs.Blocks.{karplusStrongBlockOf}
+use Rattle.karplus_strong.specs.KarplusStrong.{Making, karplusStrongTickOf, Strung}
 use Rattle.karplus_strong.specs.declared.KarplusStrong.{KarplusStrong}
 use Rattle.karplus_strong.specs.declared.KarplusStrongControls.{KarplusStrongControls}
-use Rattle.karplus_strong.specs.declared.KarplusStrongMade.{KarplusStrongMade}
 use Rattle.karplus_strong.specs.declared.KarplusStrongTicked.{KarplusStrongTicked}
-use Rattle.exports_karplus_strong.specs.State.{stateOf, floatsOf, wholesOf, samplesOf}
-use Rattle.exports_karplus_strong.specs.Calls.{left, keptOf, leftSized, karplusStrongNewAt, karplusStrongResetAt, karplusStrongSetSampleRateAt, sounded, soundedSized, controlsOf, karplusStrongTickAt, rung, strungFloats, strungWholes, rungFrom, karplusStrongBlockAt}
+use Rattle.exports_karplus_strong.specs.State.{nFloats, nWholes, nSamples, stateOf, floatsOf, wholesOf, samplesOf}
+use Rattle.exports_karplus_strong.specs.Calls.{lineSized, keptOf, left, leftSized, sounded, soundedSized}
+use Rattle.exports_karplus_strong.specs.Calls.{rung, strungFloats, strungWholes, lineFrom, rungSized}
 
--- ---- calls without samples
-module _ (f : List Float) (w : List ℕ) (l : List Float) (n : ℕ) (e : n ≡ sizesOf 6 4 (length f) (length w)) where
-  pub left-refused : (m : Making) → (n ≡ 0 → ⊥) → left (kept n f w) l ≡ leftSized m f w l
+module _ (n k : ℕ) (e : n ≡ k) (y l : List Float) where
+  line-done : n ≡ 0 → (x : List Float) → x ≡ y → x ≡ lineSized k y l
+  unfolding lineSized
+  line-done z x h = simp (← e, z) h
+
+  line-refused : (n ≡ 0 → ⊥) → l ≡ lineSized k y l
+  unfolding lineSized
+  line-refused z = simp (← e, ne-eqb n 0 z)
+
+module _ (f : List Float) (w : List ℕ) (l : List Float) (n : ℕ) (e : n ≡ sizesOf nFloats nWholes (length f) (length w)) where
+  -- ---- without samples
+  pub left-done : n ≡ 0 → (m : Making) (k : Kept) (x : List Float) → k ≡ keptOf (m .out) f w → x ≡ m .line → left k x ≡ leftSized m f w l
   unfolding leftSized
-  left-refused m h = simp (← e, ne-eqb n 0 h)
+  left-done z m k x ek ex = (λ i. left (kept-done nFloats nWholes f w n e z k _ ek i) (line-done n _ e (m .line) l z x ex i))
 
-  module _ (z : n ≡ 0) (t : KarplusStrongMade) (x : List Float) (k : Kept) (ek : k ≡ keptOf t f w) where
-    pub new-left : (rate : Float) → t ≡ karplusStrongNewOf (record { 0 = rate }) l .out → x ≡ karplusStrongNewOf (record { 0 = rate }) l .line → left k x ≡ karplusStrongNewAt rate f w l
-    unfolding karplusStrongNewAt leftSized
-    new-left rate et ex = rw (← e, z, ek, et, ex)
+  pub left-refused : (n ≡ 0 → ⊥) → (m : Making) → left (kept n f w) l ≡ leftSized m f w l
+  unfolding leftSized
+  left-refused z m = (λ i. left (kept-refused nFloats nWholes f w n e z (keptOf (m .out) f w) i) (line-refused n _ e (m .line) l z i))
 
-    pub reset-left : (s : KarplusStrong) → s ≡ stateOf f w → t ≡ karplusStrongResetOf s l .out → x ≡ karplusStrongResetOf s l .line → left k x ≡ karplusStrongResetAt f w l
-    unfolding karplusStrongResetAt leftSized
-    reset-left s es et ex = rw (← e, z, ek, et, ex, es)
+  -- ---- a block: x is the tally that its counts are
+  module _ (b : Tally → Block Strung) (k : List ℕ) (o : List Float) (m : List ℕ) where
+    abbrev ps : Tally → Played
+    ps t = playedOf strungFloats strungWholes (b t) f w k
 
-    pub rate-left : (rate : Float) (s : KarplusStrong) → s ≡ stateOf f w → t ≡ karplusStrongSetSampleRateOf s (record { 0 = rate }) l .out → x ≡ karplusStrongSetSampleRateOf s (record { 0 = rate }) l .line → left k x ≡ karplusStrongSetSampleRateAt rate f w l
-    unfolding karplusStrongSetSampleRateAt leftSized
-    rate-left rate s es et ex = rw (← e, z, ek, et, ex, es)
+    pub rung-done : n ≡ 0 → (x : Tallied) (t : Tally) (d : Block Strung) (p : Played) → x ≡ tallyFrom k → x ≡ tallied.Taken t → d ≡ b t
+        → p ≡ playedOf strungFloats strungWholes d f w k → rung p (d .state .line) ≡ rungSized b f w l k o m
+    unfolding rungSized lineFrom
+    rung-done z x t d p ex et ed ep =
+        let q : p ≡ ps t = rw (← ed) ep in
+        let y : d .state .line ≡ lineFrom (tallyFrom k) b l = rw (← ex, et, ed) refl in
+        (λ i. rung (played-done nFloats nWholes f w n e ps k o m z x t p ex et q i) (line-done n _ e _ l z _ y i))
 
--- ---- the tick
+    pub rung-uncounted : n ≡ 0 → (x : Tallied) (j : ℕ) → x ≡ tallyFrom k → x ≡ tallied.Refused j → rung (played j f w k o m) l ≡ rungSized b f w l k o m
+    unfolding rungSized lineFrom
+    rung-uncounted z x j ex ej =
+        let y : l ≡ lineFrom (tallyFrom k) b l = rw (← ex, ej) refl in
+        (λ i. rung (played-uncounted nFloats nWholes f w n e ps k o m z x j ex ej i) (line-done n _ e _ l z _ y i))
+
+    pub rung-refused : (n ≡ 0 → ⊥) → rung (played n f w k o m) l ≡ rungSized b f w l k o m
+    unfolding rungSized
+    rung-refused z = (λ i. rung (played-refused nFloats nWholes f w n e ps k o m z i) (line-refused n _ e (lineFrom (tallyFrom k) b l) l z i))
+
+-- ---- a tick
 -- its state's rate still stands in floats
-pub rate-stands : (f : List Float) (w : List ℕ) (l : List Float) (draws : List ℕ) (c : KarplusStrongControls) (s : KarplusStrong) (t : KarplusStrongTicked) → s ≡ stateOf f w → t ≡ karplusStrongTickOf s c draws l .out → getD f 0 nan ≡ t .«karplus_strong» .«sample_rate» .0
+pub rate-stands : (f : List Float) (w : List ℕ) (l : List Float) (draws : List ℕ) (c : KarplusStrongControls) (s : KarplusStrong) (t : KarplusStrongTicked)
+    → s ≡ stateOf f w → t ≡ karplusStrongTickOf s c draws l .out → getD f 0 nan ≡ t .«karplus_strong» .«sample_rate» .0
 unfolding stateOf
-rate-stands f w l draws c s t es et = rw et (sym (ap (λ (r : Hertz). r .0) (keeps-rate s c draws l ∙ ap (λ (s : KarplusStrong). s .«sample_rate») es)))
+rate-stands f w l draws c s t es et =
+    rw et (sym (ap (λ (r : Hertz). r .0) (keeps-rate s c draws l ∙ ap (λ (s : KarplusStrong). s .«sample_rate») es)))
 
-module _ (f : List Float) (w : List ℕ) (o l : List Float) (n : ℕ) (e : n ≡ tickSizesOf 6 4 1 (length f) (length w) (length o)) where
-  pub sounded-refused : (t : Ticking) → (n ≡ 0 → ⊥) → sounded (heard n f w o) l ≡ soundedSized t f w o l
+module _ (f : List Float) (w : List ℕ) (o l : List Float) (n : ℕ) (e : n ≡ tickSizesOf nFloats nWholes nSamples (length f) (length w) (length o)) where
+  pub sounded-done : n ≡ 0 → (t : Ticking) (h : Heard) (x : List Float)
+      → h ≡ heardOf floatsOf wholesOf samplesOf (t .out .answer) (t .out .«karplus_strong») f w o → x ≡ t .line → sounded h x ≡ soundedSized t f w o l
   unfolding soundedSized
-  sounded-refused t h = simp (← e, ne-eqb n 0 h)
+  sounded-done z t h x eh ex = (λ i. sounded (heard-done nFloats nWholes nSamples f w o n e z h _ eh i) (line-done n _ e (t .line) l z x ex i))
 
-  pub tick-sounded : (voct trigger damping brightness stretch : Float) (draws : List ℕ) (s : KarplusStrong) (t : KarplusStrongTicked) (x : List Float) (h : Heard)
-      → n ≡ 0 → s ≡ stateOf f w → let c = controlsOf voct trigger damping brightness stretch in
-      t ≡ karplusStrongTickOf s c draws l .out → x ≡ karplusStrongTickOf s c draws l .line
-      → h ≡ heardOf floatsOf wholesOf samplesOf (t .answer) (t .«karplus_strong») f w o
-      → sounded h x ≡ karplusStrongTickAt voct trigger damping brightness stretch f w l draws o
-  unfolding karplusStrongTickAt soundedSized
-  tick-sounded voct trigger damping brightness stretch draws s t x h z es et ex eh = rw (← e, z, eh, et, ex, es)
-
--- ---- the block
-module _ (f : List Float) (w : List ℕ) (l : List Float) (draws k : List ℕ) (o : List Float) (m : List ℕ)
-    (n : ℕ) (e : n ≡ sizesOf 6 4 (length f) (length w)) (x : Tallied) (ex : x ≡ tallyFrom k) where
-  pub block-rung : n ≡ 0 → (voct trigger damping brightness stretch : Float) (s : KarplusStrong) (t : Tally) (b : Block Strung) (p : Played)
-      → s ≡ stateOf f w → x ≡ tallied.Taken t
-      → b ≡ karplusStrongBlockOf (strung s l) (controlsOf voct trigger damping brightness stretch) draws t o m
-      → p ≡ playedOf strungFloats strungWholes b f w k → rung p (b .state .line) ≡ karplusStrongBlockAt voct trigger damping brightness stretch f w l draws k o m
-  unfolding karplusStrongBlockAt rungFrom
-  block-rung z voct trigger damping brightness stretch s t b p es et eb ep = rw (← e, z, ← ex, et, ep, eb, es)
-
-  pub counts-refused : n ≡ 0 → (voct trigger damping brightness stretch : Float) (r : ℕ) → x ≡ tallied.Refused r
-      → rung (played r f w k o m) l ≡ karplusStrongBlockAt voct trigger damping brightness stretch f w l draws k o m
-  unfolding karplusStrongBlockAt rungFrom
-  counts-refused z voct trigger damping brightness stretch r er = rw (← e, z, ← ex, er)
+  pub sounded-refused : (n ≡ 0 → ⊥) → (t : Ticking) → sounded (heard n f w o) l ≡ soundedSized t f w o l
+  unfolding soundedSized
+  sounded-refused z t =
+      let h = heardOf floatsOf wholesOf samplesOf (t .out .answer) (t .out .«karplus_strong») f w o in
+      (λ i. sounded (heard-refused nFloats nWholes nSamples f w o n e z h i) (line-refused n _ e (t .line) l z i))

@@ -7,26 +7,28 @@ use lib.Dec.{eqb}
 use lib.Ieee.{Float}
 use lib.ListN.{length}
 use Rattle.answer.specs.Block.{Block}
-use Rattle.answer.specs.Flat.{sizesOf, tickSizesOf, Kept, kept, Heard, heard, heardOf, Played, played, playedOf, tallyFrom}
-use Rattle.karplus_strong.specs.Step.{Ticking}
-use Rattle.karplus_strong.specs.KarplusStrong.{Making, karplusStrongCellsOf, karplusStrongNewOf, karplusStrongTickOf, karplusStrongResetOf, karplusStrongSetSampleRateOf, Strung, strung}
-use Rattle.karplus_strong.specs.Blocks.{karplusStrongBlockOf}
 use Rattle.answer.specs.declared.Tally.{Tally}
 use Rattle.answer.specs.declared.Tallied.{Tallied}
 use Rattle.answer.specs.declared.Tallied.the-variants as tallied
-use Rattle.exports_karplus_strong.specs.State.{stateOf, floatsOf, wholesOf, samplesOf}
+use Rattle.boundary.specs.Flat.{sizesOf, tickSizesOf, Kept, keptBy, keptSized, Heard, heardOf, heardSized, Played, playedOf, tallyFrom, playedSized}
+use Rattle.karplus_strong.specs.Step.{Ticking}
+use Rattle.karplus_strong.specs.KarplusStrong.{Making, karplusStrongCellsOf, karplusStrongNewOf, karplusStrongTickOf, karplusStrongBlockOf}
+use Rattle.karplus_strong.specs.KarplusStrong.{karplusStrongResetOf, karplusStrongSetSampleRateOf, Strung, strung}
+use Rattle.exports_karplus_strong.specs.State.{nFloats, nWholes, nSamples, stateOf, floatsOf, wholesOf, samplesOf}
 use Rattle.karplus_strong.specs.declared.KarplusStrongControls.{KarplusStrongControls}
 use Rattle.karplus_strong.specs.declared.KarplusStrongMade.{KarplusStrongMade}
-use Rattle.karplus_strong.specs.declared.KarplusStrongMade.the-variants as made
 
 -- the cells that a line needs at a rate
 unfoldable pub karplusStrongCellsAt : Float → ℕ
 karplusStrongCellsAt rate = karplusStrongCellsOf (record { 0 = rate })
 
+-- the line x that a call leaves, unless its lengths are refused, by n
+unfoldable pub lineSized : ℕ → List Float → List Float → List Float
+lineSized n x l = cond (eqb n 0) x l
+
 -- 0 and the new state, or what refused it
-unfoldable pub keptOf : KarplusStrongMade → List Float → List ℕ → Kept
-keptOf (made.Made s) f w = kept 0 (floatsOf s) (wholesOf s)
-keptOf (made.Refused n) f w = kept n f w
+abbrev pub keptOf : KarplusStrongMade → List Float → List ℕ → Kept
+keptOf m f w = keptBy floatsOf wholesOf (m .outcome) (m .«karplus_strong») f w
 
 -- with the line
 pub record Left : Type 0 where
@@ -36,9 +38,9 @@ pub record Left : Type 0 where
 abbrev pub left : Kept → List Float → Left
 left k l = record { state = k; line = l }
 
--- what was made, unless the lengths refuse
 unfoldable pub leftSized : Making → List Float → List ℕ → List Float → Left
-leftSized m f w l = let n = sizesOf 6 4 (length f) (length w) in cond (eqb n 0) (left (keptOf (m .out) f w) (m .line)) (left (kept n f w) l)
+leftSized m f w l =
+    left (keptSized nFloats nWholes (keptOf (m .out) f w) f w) (lineSized (sizesOf nFloats nWholes (length f) (length w)) (m .line) l)
 
 unfoldable pub karplusStrongNewAt : Float → List Float → List ℕ → List Float → Left
 karplusStrongNewAt rate f w l = leftSized (karplusStrongNewOf (record { 0 = rate }) l) f w l
@@ -59,17 +61,16 @@ sounded h l = record { heard = h; line = l }
 
 unfoldable pub soundedSized : Ticking → List Float → List ℕ → List Float → List Float → Sounded
 soundedSized t f w o l =
-    let n = tickSizesOf 6 4 1 (length f) (length w) (length o) in
-    cond (eqb n 0)
-    (sounded (heardOf floatsOf wholesOf samplesOf (t .out .answer) (t .out .«karplus_strong») f w o) (t .line))
-    (sounded (heard n f w o) l)
+    sounded (heardSized nFloats nWholes nSamples (heardOf floatsOf wholesOf samplesOf (t .out .answer) (t .out .«karplus_strong») f w o) f w o)
+    (lineSized (tickSizesOf nFloats nWholes nSamples (length f) (length w) (length o)) (t .line) l)
 
-abbrev pub controlsOf : Float → Float → Float → Float → Float → KarplusStrongControls
-controlsOf voct trigger damping brightness stretch = record { voct = record { 0 = voct }; trigger = trigger; damping = damping; brightness = brightness; stretch = stretch }
+abbrev pub controls : Float → Float → Float → Float → Float → KarplusStrongControls
+controls voct trigger damping brightness stretch =
+    record { voct = record { 0 = voct }; trigger = trigger; damping = damping; brightness = brightness; stretch = stretch }
 
 unfoldable pub karplusStrongTickAt : Float → Float → Float → Float → Float → List Float → List ℕ → List Float → List ℕ → List Float → Sounded
 karplusStrongTickAt voct trigger damping brightness stretch f w l draws o =
-    soundedSized (karplusStrongTickOf (stateOf f w) (controlsOf voct trigger damping brightness stretch) draws l) f w o l
+    soundedSized (karplusStrongTickOf (stateOf f w) (controls voct trigger damping brightness stretch) draws l) f w o l
 
 -- a block: 0, the state, the counts, the samples and the marks after it, or what refused it
 pub record Rung : Type 0 where
@@ -85,13 +86,16 @@ strungFloats x = floatsOf (x .string)
 abbrev pub strungWholes : Strung → List ℕ
 strungWholes x = wholesOf (x .string)
 
--- of the tally that the counts are, unless their number refuses
-unfoldable pub rungFrom : Tallied → (Tally → Block Strung) → List Float → List ℕ → List Float → List ℕ → List Float → List ℕ → Rung
-rungFrom (tallied.Taken t) b f w l k o m = rung (playedOf strungFloats strungWholes (b t) f w k) (b t .state .line)
-rungFrom (tallied.Refused n) b f w l k o m = rung (played n f w k o m) l
+-- its line, of the tally that the counts are, unless their number refuses
+unfoldable pub lineFrom : Tallied → (Tally → Block Strung) → List Float → List Float
+lineFrom (tallied.Taken t) b l = b t .state .line
+lineFrom (tallied.Refused n) b l = l
+
+unfoldable pub rungSized : (Tally → Block Strung) → List Float → List ℕ → List Float → List ℕ → List Float → List ℕ → Rung
+rungSized b f w l k o m =
+    rung (playedSized nFloats nWholes (λ t. playedOf strungFloats strungWholes (b t) f w k) f w k o m)
+    (lineSized (sizesOf nFloats nWholes (length f) (length w)) (lineFrom (tallyFrom k) b l) l)
 
 unfoldable pub karplusStrongBlockAt : Float → Float → Float → Float → Float → List Float → List ℕ → List Float → List ℕ → List ℕ → List Float → List ℕ → Rung
 karplusStrongBlockAt voct trigger damping brightness stretch f w l draws k o m =
-    let n = sizesOf 6 4 (length f) (length w) in
-    let b : Tally → Block Strung = λ t. karplusStrongBlockOf (strung (stateOf f w) l) (controlsOf voct trigger damping brightness stretch) draws t o m in
-    cond (eqb n 0) (rungFrom (tallyFrom k) b f w l k o m) (rung (played n f w k o m) l)
+    rungSized (λ t. karplusStrongBlockOf (strung (stateOf f w) l) (controls voct trigger damping brightness stretch) draws t o m) f w l k o m

@@ -1,12 +1,10 @@
 // The KarplusStrong for hosts, over lent slices. A state is floats [sample_rate, lp_state, ap_x1, ap_y1, trigger_edge.prev,
 // freq_memo.val] and wholes [len, write_pos, freq_memo.key, freq_memo.valid], the last 0 or not; samples are [out].
-// Each call but `cells` answers a number: 0 done; of an accepted tick 11 cleared, 14 clean (12 and 13 are other oscillators'); of a refused call
-// 1 to 7 as the scope has them, or 50, 51, 52, 53 where floats, wholes, samples or counts have another length. A refused
-// call writes nothing. A block answers 0, with the ticks' samples one after another, their marks by the same numbers, and the
-// tally's five counts: begun, finished, cleared, notfinite, lost.
+// Each call but `cells` answers a number: 0 done; of an accepted tick what its mark is told by; of a refused call 1 to 7 as the
+// scope has them, or 50, 51, 52, 53 where floats, wholes, samples or counts have another length. A refused call writes nothing. A
+// block answers 0, with the ticks' samples one after another, their marks by the same numbers, and the tally's counts.
+use answer::Outcome;
 use answer::Tallied;
-use answer::Tally;
-use common::EdgeDetector;
 use common::Hertz;
 use common::Memo1;
 use common::VoltsPerOctave;
@@ -21,20 +19,34 @@ ghost use Prim.Native.Nat.{ℕ};
 ghost use lib.Ieee.{Float, nan};
 ghost use lib.ListN.{length, getD};
 ghost use Rattle.answer.specs.Block.{block};
-ghost use Rattle.answer.specs.Flat.{kept, heard, heardOf, played, playedOf};
+ghost use Rattle.boundary.specs.Flat.{nCounts, kept, heard, heardOf, played, playedOf};
 ghost use Rattle.karplus_strong.specs.KarplusStrong.{strung};
-ghost use Rattle.exports_karplus_strong.specs.State.{stateOf, floatsOf, wholesOf, samplesOf};
-ghost use Rattle.exports_karplus_strong.specs.Calls.{left, sounded, rung, strungFloats, strungWholes, keptOf, karplusStrongCellsAt, karplusStrongNewAt, karplusStrongTickAt, karplusStrongBlockAt, karplusStrongResetAt, karplusStrongSetSampleRateAt};
+ghost use Rattle.exports_karplus_strong.specs.State.{nFloats, nWholes, nSamples, stateOf, floatsOf, wholesOf, samplesOf};
+ghost use Rattle.exports_karplus_strong.specs.Calls.{keptOf, left, sounded, rung, strungFloats, strungWholes, karplusStrongCellsAt};
+ghost use Rattle.exports_karplus_strong.specs.Calls.{karplusStrongNewAt, karplusStrongTickAt, karplusStrongBlockAt};
+ghost use Rattle.exports_karplus_strong.specs.Calls.{karplusStrongResetAt, karplusStrongSetSampleRateAt};
+
+// Where the edge record's floats begin, and what stands after them.
+const EDGE: usize = 4;
+
+const VAL: usize = EDGE + boundary::EDGE_FLOATS;
+
+// How many floats, wholes and samples there are.
+const FLOATS: usize = VAL + 1;
+
+const WHOLES: usize = 4;
+
+const SAMPLES: usize = 1;
 
 fn state(floats: &[f64], wholes: &[u64]) -> KarplusStrong
-    requires { ⌜ (length (now floats) ≡ 6) × (length (now wholes) ≡ 4) ⌝ }
+    requires { ⌜ (length (now floats) ≡ nFloats) × (length (now wholes) ≡ nWholes) ⌝ }
     ensures { λ r. ⌜ r ≡ stateOf (now (floats .entry)) (now (wholes .entry)) ⌝ }
 {
     let sample_rate = Hertz(floats[0]);
-    let trigger_edge = EdgeDetector { prev: floats[4] };
+    let trigger_edge = boundary::edge_at(floats, EDGE);
     let freq_memo = Memo1 {
         key: wholes[2],
-        val: Hertz(floats[5]),
+        val: Hertz(floats[VAL]),
         valid: wholes[3] != 0,
     };
     KarplusStrong {
@@ -52,7 +64,7 @@ fn state(floats: &[f64], wholes: &[u64]) -> KarplusStrong
 // A state whose rate stands in floats already. A tick keeps the rate, and one that isn't stored again can be read at once by
 // the next tick, before the filters beside it are worked out.
 fn store_kept(s: KarplusStrong, floats: &mut [f64], wholes: &mut [u64])
-    requires { ⌜ (length (now floats) ≡ 6) × (length (now wholes) ≡ 4) × (getD (now floats) 0 nan ≡ s .«sample_rate» .0) ⌝ }
+    requires { ⌜ (length (now floats) ≡ nFloats) × (length (now wholes) ≡ nWholes) × (getD (now floats) 0 nan ≡ s .«sample_rate» .0) ⌝ }
     ensures { λ _. ⌜ (now (floats .exit) ≡ floatsOf s) × (now (wholes .exit) ≡ wholesOf s) ⌝ }
 {
     let trigger_edge = s.trigger_edge;
@@ -61,8 +73,8 @@ fn store_kept(s: KarplusStrong, floats: &mut [f64], wholes: &mut [u64])
     floats[1] = s.lp_state;
     floats[2] = s.ap_x1;
     floats[3] = s.ap_y1;
-    floats[4] = trigger_edge.prev;
-    floats[5] = val.0;
+    boundary::put_edge(trigger_edge, &mut *floats, EDGE);
+    floats[VAL] = val.0;
     wholes[0] = s.len as u64;
     wholes[1] = s.write_pos as u64;
     wholes[2] = memo.key;
@@ -70,7 +82,7 @@ fn store_kept(s: KarplusStrong, floats: &mut [f64], wholes: &mut [u64])
 }
 
 fn store(s: KarplusStrong, floats: &mut [f64], wholes: &mut [u64])
-    requires { ⌜ (length (now floats) ≡ 6) × (length (now wholes) ≡ 4) ⌝ }
+    requires { ⌜ (length (now floats) ≡ nFloats) × (length (now wholes) ≡ nWholes) ⌝ }
     ensures { λ _. ⌜ (now (floats .exit) ≡ floatsOf s) × (now (wholes .exit) ≡ wholesOf s) ⌝ }
 {
     let sample_rate = s.sample_rate;
@@ -80,15 +92,17 @@ fn store(s: KarplusStrong, floats: &mut [f64], wholes: &mut [u64])
 
 // What a call without samples made.
 fn put_made(m: KarplusStrongMade, floats: &mut [f64], wholes: &mut [u64]) -> u32
-    requires { ⌜ (length (now floats) ≡ 6) × (length (now wholes) ≡ 4) ⌝ }
+    requires { ⌜ (length (now floats) ≡ nFloats) × (length (now wholes) ≡ nWholes) ⌝ }
     ensures { λ r. ⌜ kept r (now (floats .exit)) (now (wholes .exit)) ≡ keptOf m (now (floats .entry)) (now (wholes .entry)) ⌝ }
 {
-    match m {
-        KarplusStrongMade::Made(s) => {
+    let outcome = m.outcome;
+    let s = m.karplus_strong;
+    match outcome {
+        Outcome::Done => {
             store(s, floats, wholes);
             0
         }
-        KarplusStrongMade::Refused(n) => n,
+        Outcome::Refused(n) => n,
     }
 }
 
@@ -107,9 +121,10 @@ pub extern "C" fn gruttisol_karplus_strong_new(
     wholes: &mut [u64],
     line: &mut [f64],
 ) -> u32
-    ensures { λ r. ⌜ left (kept r (now (floats .exit)) (now (wholes .exit))) (now (line .exit)) ≡ karplusStrongNewAt «sample_rate» (now (floats .entry)) (now (wholes .entry)) (now (line .entry)) ⌝ }
+    ensures { λ r. ⌜ left (kept r (now (floats .exit)) (now (wholes .exit))) (now (line .exit))
+        ≡ karplusStrongNewAt «sample_rate» (now (floats .entry)) (now (wholes .entry)) (now (line .entry)) ⌝ }
 {
-    let n = answer::sizes(6, 4, floats, wholes);
+    let n = boundary::sizes(FLOATS, WHOLES, floats, wholes);
     if n == 0 {
         put_made(KarplusStrong::new(Hertz(sample_rate), line), floats, wholes)
     } else {
@@ -124,8 +139,10 @@ fn put_ticked(
     wholes: &mut [u64],
     samples: &mut [f64],
 ) -> u32
-    requires { ⌜ (length (now floats) ≡ 6) × (length (now wholes) ≡ 4) × (length (now samples) ≡ 1) × (getD (now floats) 0 nan ≡ t .«karplus_strong» .«sample_rate» .0) ⌝ }
-    ensures { λ r. ⌜ heard r (now (floats .exit)) (now (wholes .exit)) (now (samples .exit)) ≡ heardOf floatsOf wholesOf samplesOf (t .answer) (t .«karplus_strong») (now (floats .entry)) (now (wholes .entry)) (now (samples .entry)) ⌝ }
+    requires { ⌜ (length (now floats) ≡ nFloats) × (length (now wholes) ≡ nWholes) × (length (now samples) ≡ nSamples)
+        × (getD (now floats) 0 nan ≡ t .«karplus_strong» .«sample_rate» .0) ⌝ }
+    ensures { λ r. ⌜ heard r (now (floats .exit)) (now (wholes .exit)) (now (samples .exit))
+        ≡ heardOf floatsOf wholesOf samplesOf (t .answer) (t .«karplus_strong») (now (floats .entry)) (now (wholes .entry)) (now (samples .entry)) ⌝ }
 {
     let answer = t.answer;
     let code = answer::host_number(answer);
@@ -151,9 +168,11 @@ pub extern "C" fn gruttisol_karplus_strong_tick(
     draws: &[u64],
     samples: &mut [f64],
 ) -> u32
-    ensures { λ r. ⌜ sounded (heard r (now (floats .exit)) (now (wholes .exit)) (now (samples .exit))) (now (line .exit)) ≡ karplusStrongTickAt voct trigger damping brightness stretch (now (floats .entry)) (now (wholes .entry)) (now (line .entry)) (now (draws .entry)) (now (samples .entry)) ⌝ }
+    ensures { λ r. ⌜ sounded (heard r (now (floats .exit)) (now (wholes .exit)) (now (samples .exit))) (now (line .exit))
+        ≡ karplusStrongTickAt voct trigger damping brightness stretch (now (floats .entry)) (now (wholes .entry)) (now (line .entry))
+        (now (draws .entry)) (now (samples .entry)) ⌝ }
 {
-    let n = answer::tick_sizes(6, 4, 1, floats, wholes, samples);
+    let n = boundary::tick_sizes(FLOATS, WHOLES, SAMPLES, floats, wholes, samples);
     if n == 0 {
         let c = KarplusStrongControls {
             voct: VoltsPerOctave(voct),
@@ -180,15 +199,18 @@ fn put_block(
     wholes: &mut [u64],
     counts: &mut [u32],
 ) -> u32
-    requires { ⌜ (length (now floats) ≡ 6) × (length (now wholes) ≡ 4) × (length (now counts) ≡ 5) ⌝ }
-    ensures { λ r. ⌜ ((l o : List Float) → (m : List ℕ) → played r (now (floats .exit)) (now (wholes .exit)) (now (counts .exit)) o m ≡ playedOf strungFloats strungWholes (block (b .refused) (strung (b .«karplus_strong») l) (b .tally) o m) (now (floats .entry)) (now (wholes .entry)) (now (counts .entry))) ⌝ }
+    requires { ⌜ (length (now floats) ≡ nFloats) × (length (now wholes) ≡ nWholes) × (length (now counts) ≡ nCounts) ⌝ }
+    ensures { λ r. ⌜ ((l o : List Float) → (m : List ℕ)
+        → played r (now (floats .exit)) (now (wholes .exit)) (now (counts .exit)) o m
+        ≡ playedOf strungFloats strungWholes (block (b .refused) (strung (b .«karplus_strong») l) (b .tally) o m)
+        (now (floats .entry)) (now (wholes .entry)) (now (counts .entry))) ⌝ }
 {
     let refused = b.refused;
     if refused == 0 {
         let s = b.karplus_strong;
         let tally = b.tally;
         store(s, &mut *floats, &mut *wholes);
-        tally.put_counts(counts);
+        boundary::put_counts(tally, counts);
         0
     } else {
         refused
@@ -210,11 +232,13 @@ pub extern "C" fn gruttisol_karplus_strong_block(
     samples: &mut [f64],
     marks: &mut [u32],
 ) -> u32
-    ensures { λ r. ⌜ rung (played r (now (floats .exit)) (now (wholes .exit)) (now (counts .exit)) (now (samples .exit)) (now (marks .exit))) (now (line .exit)) ≡ karplusStrongBlockAt voct trigger damping brightness stretch (now (floats .entry)) (now (wholes .entry)) (now (line .entry)) (now (draws .entry)) (now (counts .entry)) (now (samples .entry)) (now (marks .entry)) ⌝ }
+    ensures { λ r. ⌜ rung (played r (now (floats .exit)) (now (wholes .exit)) (now (counts .exit)) (now (samples .exit)) (now (marks .exit))) (now (line .exit))
+        ≡ karplusStrongBlockAt voct trigger damping brightness stretch (now (floats .entry)) (now (wholes .entry)) (now (line .entry)) (now (draws .entry))
+        (now (counts .entry)) (now (samples .entry)) (now (marks .entry)) ⌝ }
 {
-    let n = answer::sizes(6, 4, floats, wholes);
+    let n = boundary::sizes(FLOATS, WHOLES, floats, wholes);
     if n == 0 {
-        let given = Tally::from_counts(counts);
+        let given = boundary::tally_of(counts);
         match given {
             Tallied::Taken(tally) => {
                 let c = KarplusStrongControls {
@@ -240,9 +264,10 @@ pub extern "C" fn gruttisol_karplus_strong_reset(
     wholes: &mut [u64],
     line: &mut [f64],
 ) -> u32
-    ensures { λ r. ⌜ left (kept r (now (floats .exit)) (now (wholes .exit))) (now (line .exit)) ≡ karplusStrongResetAt (now (floats .entry)) (now (wholes .entry)) (now (line .entry)) ⌝ }
+    ensures { λ r. ⌜ left (kept r (now (floats .exit)) (now (wholes .exit))) (now (line .exit))
+        ≡ karplusStrongResetAt (now (floats .entry)) (now (wholes .entry)) (now (line .entry)) ⌝ }
 {
-    let n = answer::sizes(6, 4, floats, wholes);
+    let n = boundary::sizes(FLOATS, WHOLES, floats, wholes);
     if n == 0 {
         put_made(state(floats, wholes).reset(line), floats, wholes)
     } else {
@@ -257,9 +282,10 @@ pub extern "C" fn gruttisol_karplus_strong_set_sample_rate(
     wholes: &mut [u64],
     line: &mut [f64],
 ) -> u32
-    ensures { λ r. ⌜ left (kept r (now (floats .exit)) (now (wholes .exit))) (now (line .exit)) ≡ karplusStrongSetSampleRateAt «sample_rate» (now (floats .entry)) (now (wholes .entry)) (now (line .entry)) ⌝ }
+    ensures { λ r. ⌜ left (kept r (now (floats .exit)) (now (wholes .exit))) (now (line .exit))
+        ≡ karplusStrongSetSampleRateAt «sample_rate» (now (floats .entry)) (now (wholes .entry)) (now (line .entry)) ⌝ }
 {
-    let n = answer::sizes(6, 4, floats, wholes);
+    let n = boundary::sizes(FLOATS, WHOLES, floats, wholes);
     if n == 0 {
         put_made(
             state(floats, wholes).set_sample_rate(Hertz(sample_rate), line),

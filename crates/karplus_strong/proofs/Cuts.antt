@@ -17,7 +17,7 @@ use Rattle.laws.specs.Float.{F64, one}
 use Rattle.std.proofs.num.Truncating.{two-to, at-least-one, is-no-nan, down-by, cut-down}
 use Rattle.numeric.specs.Basic.{wholeOf}
 use Rattle.numeric.proofs.RangeLaws.{whole-monotone}
-use Rattle.karplus_strong.specs.Ranges.{Cut}
+use Rattle.karplus_strong.specs.Shortcuts.{Cut}
 
 abbrev top : Float
 top = ofBits binary64 0x4330000000000000
@@ -50,10 +50,12 @@ low-field s (suc j) t p h = go (eqb (suc j) 2047) (eqb t 0) p h
     go true false p h = absurd p
     go false b p h =
         let e : s ≡ false = sign-clear v s ((2 ^ 52 + t) * 2 ^ j) (2 ^ 1074) p (odd-sign 53 s (2 ^ 52 + t) j 1074) in
-        let w : HasValue v false ((2 ^ 52 + t) * 2 ^ j) (2 ^ 1074) = subst (λ (z : Bool). HasValue v z ((2 ^ 52 + t) * 2 ^ j) (2 ^ 1074)) e (odd-sign 53 s (2 ^ 52 + t) j 1074) in
+        let w : HasValue v false ((2 ^ 52 + t) * 2 ^ j) (2 ^ 1074) =
+        subst (λ (z : Bool). HasValue v z ((2 ^ 52 + t) * 2 ^ j) (2 ^ 1074)) e (odd-sign 53 s (2 ^ 52 + t) j 1074) in
         let k : (2 ^ 52 + t) * 2 ^ j < 2 ^ 52 * 2 ^ 1074 =
         subst (λ (z : ℕ). z < 2 ^ 52 * 2 ^ 1074) (mul-one ((2 ^ 52 + t) * 2 ^ j))
-        (ltb→lt ((2 ^ 52 + t) * 2 ^ j * 1) (2 ^ 52 * 2 ^ 1074) (subst T (lt-by-values v top ((2 ^ 52 + t) * 2 ^ j) (2 ^ 1074) (2 ^ 52) 1 (pow-pos 1074) (lit< tt) w top-value) h)) in
+        (ltb→lt ((2 ^ 52 + t) * 2 ^ j * 1) (2 ^ 52 * 2 ^ 1074)
+        (subst T (lt-by-values v top ((2 ^ 52 + t) * 2 ^ j) (2 ^ 1074) (2 ^ 52) 1 (pow-pos 1074) (lit< tt) w top-value) h)) in
         (e, le-trans (shift-below (2 ^ 52 + t) j 1074 (le-add-right (2 ^ 52) t) k) (lit≤ tt))
 
 fields : (b : ℕ) → ofBits binary64 b ≡ ofFields binary64 (leb (2 ^ 63) b) (b % 2 ^ 63 / 2 ^ 52) (b % 2 ^ 52)
@@ -62,12 +64,15 @@ fields b = refl
 
 low-bits : (b : ℕ) → T (positive (ofBits binary64 b)) → T (lt (ofBits binary64 b) top) → b / 2 ^ 52 ≤ 1075
 low-bits b p h =
-    let f = low-field (leb (2 ^ 63) b) (b % 2 ^ 63 / 2 ^ 52) (b % 2 ^ 52) (subst (λ (z : Float). T (positive z)) (fields b) p) (subst (λ (z : Float). T (lt z top)) (fields b) h) in
+    let f = low-field (leb (2 ^ 63) b) (b % 2 ^ 63 / 2 ^ 52) (b % 2 ^ 52) (subst (λ (z : Float). T (positive z)) (fields b) p)
+    (subst (λ (z : Float). T (lt z top)) (fields b) h) in
     le-trans (le-of-eq (ap (λ (z : ℕ). z / 2 ^ 52) (sym (mod-eq-of-lt (nleb→lt (2 ^ 63) b (of-false (leb (2 ^ 63) b) (f .0))))))) (f .1)
 
 low-exponent : (x : Float) → F64 x → T (le one x) → T (lt x top) → toBits binary64 x / 2 ^ 52 ≤ 1075
 low-exponent x f l h =
-    low-bits (toBits binary64 x) (subst (λ (z : Float). T (positive z)) (sym (ofBits-toBits binary64 x f)) (between one x top (unfold ofBits in tt) (unfold ofBits in tt) l (le-of-lt-true x top h)))
+    low-bits (toBits binary64 x)
+    (subst (λ (z : Float). T (positive z)) (sym (ofBits-toBits binary64 x f))
+    (between one x top (unfold ofBits in tt) (unfold ofBits in tt) l (le-of-lt-true x top h)))
     (subst (λ (z : Float). T (lt z top)) (sym (ofBits-toBits binary64 x f)) h)
 
 -- what `whole` asks of such a number, and what it answers

@@ -45,13 +45,15 @@ half-more (fin false n d) l h =
     fits-in n d D h = (omega arith, omega arith, omega arith)
 half-more (fin true n d) l h =
     let r = fits-in (n * up d) (down d) (down-pos d) (le-below false true 0 n (pos 0) d l .1) in
-    subst (λ (z : Float). T (le (fin false 1 (negsuc 0)) z) × T (le z (fin false 1 (pos 0)))) (sym (sum-pos-neg (1 * down d) (n * up d * 2) (2 * down d) (r .3)))
+    subst (λ (z : Float). T (le (fin false 1 (negsuc 0)) z) × T (le z (fin false 1 (pos 0))))
+    (sym (sum-pos-neg (1 * down d) (n * up d * 2) (2 * down d) (r .3)))
     (half-up (1 * down d - n * up d * 2) (2 * down d) (r .0) (r .1) (r .2))
   where
     fits-in : (n d : ℕ) → 0 < d → n * 1 ≡ 0 → (0 < 2 * d) × (2 * d ≤ (1 * d - n * 2) * 2) × (1 * d - n * 2 ≤ 2 * d) × (n * 2 ≤ 1 * d)
     fits-in n d D h = (omega arith, omega arith, omega arith, omega arith)
 
-pub filter-unit : (d : Float) → T (le zer d) → T (le d one) → T (le half (add binary64 half (mul binary64 d spread))) × T (le (add binary64 half (mul binary64 d spread)) one)
+pub filter-unit : (d : Float) → T (le zer d) → T (le d one)
+    → T (le half (add binary64 half (mul binary64 d spread))) × T (le (add binary64 half (mul binary64 d spread)) one)
 filter-unit d l h =
     half-more (mul binary64 d spread)
     (float-le-trans zer (mul binary64 zer spread) (mul binary64 d spread) (unfold le lt eq mul ofBits in tt) (mul-le spread (unfold ofBits in tt) zer d l))
@@ -61,7 +63,8 @@ pub filter-delay : (c : Float) → T (le half c) → T (le c one) → Plus (div 
 filter-delay c l h = div-plus (sub binary64 one c) c (one-less c h) (above-plus c (is-true (lt zer c) (lt-le-trans zer half c (unfold lt ofBits in tt) l)))
 
 -- ---- the allpass: its coefficient lies in [-1, 1]
-pub allpass-delay : (s : Float) → T (le (neg one) s) → T (le s one) → Plus (div binary64 (sub binary64 one (mul binary64 (neg half) s)) (add binary64 one (mul binary64 (neg half) s)))
+pub allpass-delay : (s : Float) → T (le (neg one) s) → T (le s one)
+    → Plus (div binary64 (sub binary64 one (mul binary64 (neg half) s)) (add binary64 one (mul binary64 (neg half) s)))
 allpass-delay s l h = div-plus (sub binary64 one (mul binary64 (neg half) s)) (add binary64 one (mul binary64 (neg half) s)) (both .0) (both .1)
   where
     twice : (d : ℕ) → 0 < d → 0 < 2 * d
@@ -70,12 +73,17 @@ allpass-delay s l h = div-plus (sub binary64 one (mul binary64 (neg half) s)) (a
     room : (n d : ℕ) → n * 1 ≤ 1 * d → 1 * n ≤ 2 * d
     room n d h = omega arith
 
-    go : (s : Float) → T (le (neg one) s) → T (le s one) → Plus (sub binary64 one (mul binary64 (neg half) s)) × Plus (add binary64 one (mul binary64 (neg half) s))
+    go : (s : Float) → T (le (neg one) s) → T (le s one)
+        → Plus (sub binary64 one (mul binary64 (neg half) s)) × Plus (add binary64 one (mul binary64 (neg half) s))
     go nan l h = absurd (unfold le lt eq in h)
     go (inf true) l h = absurd (unfold le lt eq neg ofBits in l)
     go (inf false) l h = absurd (unfold le lt eq ofBits in h)
-    go (fin false n d) l h = unfold mul neg ofBits in one-round true (1 * (n * up d)) (2 * down d) (twice (down d) (down-pos d)) (room (n * up d) (down d) (le-below false false n 1 d (pos 0) (unfold ofBits in h)))
-    go (fin true n d) l h = unfold mul neg ofBits in one-round false (1 * (n * up d)) (2 * down d) (twice (down d) (down-pos d)) (room (n * up d) (down d) (le-below true true 1 n (pos 0) d (unfold neg ofBits in l)))
+    go (fin false n d) l h = unfold mul neg ofBits in
+        one-round true (1 * (n * up d)) (2 * down d) (twice (down d) (down-pos d))
+        (room (n * up d) (down d) (le-below false false n 1 d (pos 0) (unfold ofBits in h)))
+    go (fin true n d) l h = unfold mul neg ofBits in
+        one-round false (1 * (n * up d)) (2 * down d) (twice (down d) (down-pos d))
+        (room (n * up d) (down d) (le-below true true 1 n (pos 0) d (unfold neg ofBits in l)))
 
     both : Plus (sub binary64 one (mul binary64 (neg half) s)) × Plus (add binary64 one (mul binary64 (neg half) s))
     both = go s l h
@@ -101,5 +109,6 @@ left-below x y z f l p q = go (lt one d) refl
     go : (b : Bool) → lt one d ≡ b → T (le (cond b d (cond (isNan one) d one)) x)
     go true e =
         let n : T (not (isNan d)) = le-numbers one d (le-of-lt-true one d (of-true (lt one d) e)) .1 in
-        float-le-trans d (sub binary64 x y) x (sub-below (sub binary64 x y) z (sub-fits binary64 x y) q n) (sub-below x y f p (sub-number (sub binary64 x y) z n))
+        float-le-trans d (sub binary64 x y) x (sub-below (sub binary64 x y) z (sub-fits binary64 x y) q n)
+        (sub-below x y f p (sub-number (sub binary64 x y) z n))
     go false e = rw one-number l

@@ -6,73 +6,83 @@ use Prim.Native.Nat.{ℕ, zero, suc, _*_, _≤_, _<_}
 use native.Mathlib.Omega.{arith}
 use lib.Dec.{eqb}
 use lib.ListN.{length}
-use lib.Ieee.{Float, neg}
-use Rattle.laws.specs.Float.{zer, one}
-use Rattle.numeric.specs.Basic.{clampOf}
-use Rattle.common.proofs.EdgeLaws.{rises-new, gate-above}
+use lib.Ieee.{Float}
+use Rattle.laws.specs.Float.{zer}
+use Rattle.common.proofs.EdgeLaws.{rising-like}
 use Rattle.common.proofs.MemoLaws.{recall1-is}
-use Rattle.common.specs.Consts.{half, gateThreshold}
-use Rattle.common.specs.Edge.{newEdge, risingAboveOf, risingOf}
+use Rattle.common.specs.Edge.{resetOf, risingOf}
 use Rattle.common.specs.Memo.{recall1, voctToHzAt}
+use Rattle.common.specs.declared.Risen.{Risen}
 use Rattle.answer.specs.Answer.{accepted}
 use Rattle.answer.specs.Block.{blockRefusalOf, blockOf}
 use Rattle.answer.specs.declared.Tally.{Tally}
 use Rattle.answer.proofs.Blocks.{block-refusal}
+use Rattle.karplus_strong.specs.Consts.{nPorts}
 use Rattle.karplus_strong.specs.Line.{struckOf}
 use Rattle.karplus_strong.specs.Step.{Ticking, restOf, stepOf}
-use Rattle.karplus_strong.specs.Blocks.{triggerRefusalOf, firstRefusalOf, karplusStrongBlockOf}
-use Rattle.karplus_strong.specs.KarplusStrong.{finiteOr, struckLen, strikeOf, strikeIf, heardString, tickUnless, karplusStrongTickOf, Strung}
-use Rattle.karplus_strong.specs.Calls.{Call, Tick, Play, Ticked, after, reply, FitCall, ReachedString}
-use Rattle.karplus_strong.specs.Promises.{periodAt, risesAt, Strikes, Fresh, Forgotten, Forgets, Block-forgets, SameTick}
+use Rattle.karplus_strong.specs.KarplusStrong.{triggerRefusalOf, firstRefusalOf, karplusStrongBlockOf, finiteOr, struckLen, strikeOf, strikeIf}
+use Rattle.karplus_strong.specs.KarplusStrong.{heardString, tickUnless, karplusStrongTickOf, Strung, dampingOf, brightnessOf, stretchOf, memoAt, periodAt}
+use Rattle.karplus_strong.specs.Calls.{Call, Tick, Play, Ticked, after, reply, Fit, ReachedKarplusStrong}
+use Rattle.karplus_strong.specs.Promises.{taken, Strikes, Fresh, Forgotten, Forgets, Block-forgets, SameTick}
 use Rattle.karplus_strong.specs.declared.KarplusStrong.{KarplusStrong}
 use Rattle.karplus_strong.specs.declared.KarplusStrongControls.{KarplusStrongControls}
-use Rattle.karplus_strong.proofs.Parts.{struck-room, memo-number}
+use Rattle.karplus_strong.proofs.Parts.{struck-fits}
 use Rattle.karplus_strong.proofs.Alike.{alike-struck, alike-step, length-struck}
-use Rattle.karplus_strong.proofs.Reached.{Good, fits-or, first-is, first-good, reached-good}
+use Rattle.karplus_strong.proofs.Promised.{like-size, new-there}
+use Rattle.karplus_strong.proofs.Reached.{Good, fits-or, first-good, reached-good}
 use Rattle.karplus_strong.proofs.Same.{SameNext, SameBlock, SameCall, same-next, same-ticks, block-call, same-replies}
 use Rattle.karplus_strong.proofs.Ticks.{struckStep, good-tick, first-good-none}
 
 -- ---- the tick that takes the edge
-taken : (k : ℕ) (s : KarplusStrong) (l : List Float) (t : Ticking) → accepted (tickUnless k s l t .out .answer) ≡ true → k ≡ 0
+went-on : (k : ℕ) (s : KarplusStrong) (l : List Float) (t : Ticking) → accepted (tickUnless k s l t .out .answer) ≡ true → k ≡ 0
 unfolding tickUnless accepted
-taken zero s l t h = refl
-taken (suc k) s l t h = absurd (true≢false (sym h))
+went-on zero s l t h = refl
+went-on (suc k) s l t h = absurd (true≢false (sym h))
 
 positive : (p : Float) → 0 < struckLen p
 unfolding struckLen
 positive p = omega arith
 
--- after a strike nothing is left of the string but its rate
-struck-same : (s n : KarplusStrong) (c : KarplusStrongControls) (draws : List ℕ) (l m : List Float)
-    → s .«sample_rate» ≡ n .«sample_rate» → recall1 voctToHzAt (s .«freq_memo») (finiteOr (c .voct .0) zer) ≡ recall1 voctToHzAt (n .«freq_memo») (finiteOr (c .voct .0) zer) → risesAt s c ≡ true → risesAt n c ≡ true
-    → struckLen (periodAt s c) ≤ length l → length l ≡ length m → SameTick (struckStep s c draws l) (struckStep n c draws m)
-unfolding struckStep strikeIf strikeOf risingOf risingAboveOf
-struck-same s n c draws l m er em es en h e = rw (es, en, ← er, ← em) (go (periodAt s c) (clampOf (finiteOr (c .brightness) half) zer one) (clampOf (finiteOr (c .damping) half) zer one) (clampOf (finiteOr (c .stretch) zer) (neg one) one) h)
-  where
-    t : KarplusStrong
-    t = heardString s (record { prev = c .trigger }) (recall1 voctToHzAt (s .«freq_memo») (finiteOr (c .voct .0) zer))
+-- two strings of one rate that hear the same pitch and take the same edge
+record Alike-heard (s n : KarplusStrong) (c : KarplusStrongControls) : Type 0 where
+  rate : s .«sample_rate» ≡ n .«sample_rate»
+  memo : memoAt s c ≡ memoAt n c
+  risen : risingOf (s .«trigger_edge») (c .trigger) ≡ risingOf (n .«trigger_edge») (c .trigger)
+  edge : taken s c ≡ true
 
-    go : (p b d x : Float) → struckLen p ≤ length l → SameTick (stepOf (restOf t (struckLen p) (t .«trigger_edge»)) p d x (struckOf (struckLen p) b draws l)) (stepOf (restOf t (struckLen p) (t .«trigger_edge»)) p d x (struckOf (struckLen p) b draws m))
-    go p b d x r =
-        let q = length-struck (struckLen p) b draws l r in
-        let z : 0 < struckLen p = positive p in
-        alike-step (restOf t (struckLen p) (t .«trigger_edge»)) p d x (struckOf (struckLen p) b draws l) (struckOf (struckLen p) b draws m) z (omega arith) (alike-struck (struckLen p) b draws l m r e)
+module _ (s n : KarplusStrong) (c : KarplusStrongControls) (draws : List ℕ) (a : Alike-heard s n c) where
+  sounds-y : triggerRefusalOf s c draws ≡ triggerRefusalOf n c draws
+  unfolding triggerRefusalOf
+  sounds-y = rw (a .rate, a .memo, a .risen)
 
-rises-y : (s n : KarplusStrong) (c : KarplusStrongControls) → n .«trigger_edge» ≡ newEdge → risesAt s c ≡ true → risesAt n c ≡ true
-unfolding risingOf risingAboveOf
-rises-y s n c e h = rw e (rises-new gateThreshold (s .«trigger_edge» .prev) (c .trigger) gate-above h)
+  edge-y : taken n c ≡ true
+  edge-y = ap (λ (r : Risen). r .rising) (sym (a .risen)) ∙ a .edge
 
-sounds-y : (s n : KarplusStrong) (c : KarplusStrongControls) (draws : List ℕ) → s .«sample_rate» ≡ n .«sample_rate» → recall1 voctToHzAt (s .«freq_memo») (finiteOr (c .voct .0) zer) ≡ recall1 voctToHzAt (n .«freq_memo») (finiteOr (c .voct .0) zer)
-    → risesAt s c ≡ true → risesAt n c ≡ true → triggerRefusalOf s c draws ≡ triggerRefusalOf n c draws
-unfolding triggerRefusalOf
-sounds-y s n c draws er em es en = rw (es, en, er, em)
+  -- after a strike nothing is left of either but the rate
+  struck-same : (l m : List Float) → struckLen (periodAt s c) ≤ length l → length l ≡ length m → SameTick (struckStep s c draws l) (struckStep n c draws m)
+  unfolding struckStep strikeIf strikeOf
+  struck-same l m h e =
+      rw (a .edge, edge-y, ← (a .risen), ← (a .rate), ← (a .memo))
+      (go (periodAt s c) (brightnessOf c) (dampingOf c)
+      (stretchOf c) h)
+    where
+      t : KarplusStrong
+      t = heardString s (risingOf (s .«trigger_edge») (c .trigger) .edge) (memoAt s c)
 
-struck-tick : (s : KarplusStrong) (c : KarplusStrongControls) (draws : List ℕ) (l : List Float) → Good s (length l) → triggerRefusalOf s c draws ≡ 0 → karplusStrongTickOf s c draws l ≡ struckStep s c draws l
+      go : (p b d x : Float) → struckLen p ≤ length l → let u = restOf t (struckLen p) (t .«trigger_edge») in
+          SameTick (stepOf u p d x (struckOf (struckLen p) b draws l)) (stepOf u p d x (struckOf (struckLen p) b draws m))
+      go p b d x r =
+          let q = length-struck (struckLen p) b draws l r in
+          let z : 0 < struckLen p = positive p in
+          alike-step _ p d x _ _ z (omega arith) (alike-struck (struckLen p) b draws l m r e)
+
+struck-tick : (s : KarplusStrong) (c : KarplusStrongControls) (draws : List ℕ) (l : List Float) → Good s (length l) → triggerRefusalOf s c draws ≡ 0
+    → karplusStrongTickOf s c draws l ≡ struckStep s c draws l
 unfolding tickUnless
 struck-tick s c draws l g e = good-tick s c draws l g ∙ ap (λ (k : ℕ). tickUnless k s l (struckStep s c draws l)) e
 
 -- ---- from it on a string is a new one
-module _ (x : Strung) (h : ReachedString x) (c : KarplusStrongControls) (draws : List ℕ) (f : FitCall (Tick c draws)) (z : Strikes x c draws)
+module _ (x : Strung) (h : ReachedKarplusStrong x) (c : KarplusStrongControls) (draws : List ℕ) (f : Fit c) (z : Strikes x c draws)
     (y : Strung) (w : Fresh x y) where
   abbrev s : KarplusStrong
   s = x .string
@@ -84,32 +94,42 @@ module _ (x : Strung) (h : ReachedString x) (c : KarplusStrongControls) (draws :
   g = reached-good x h
 
   gy : Good (y .string) (length (y .line))
-  gy = first-good y (w .is-new)
+  gy = first-good y (new-there x h y w)
+
+  same-rate : s .«sample_rate» ≡ y .string .«sample_rate»
+  same-rate = sym (ap (λ (u : Strung). u .string .«sample_rate») (w .is-new))
+
+  same-size : length (x .line) ≡ length (y .line)
+  same-size = sym (ap (λ (u : Strung). length (u .line)) (w .is-new) ∙ like-size x h (w .lent) (w .size))
 
   em : recall1 voctToHzAt (s .«freq_memo») v ≡ recall1 voctToHzAt (y .string .«freq_memo») v
   em =
       recall1-is voctToHzAt (s .«freq_memo») (g .memo) v (fits-or (c .voct .0) f)
       ∙ sym (recall1-is voctToHzAt (y .string .«freq_memo») (gy .memo) v (fits-or (c .voct .0) f))
 
-  en : risesAt (y .string) c ≡ true
-  en = rises-y s (y .string) c (ap (λ (k : KarplusStrong). k .«trigger_edge») (first-is y (w .is-new) .2)) (z .edge)
+  -- its detector is a new one like this
+  en : risingOf (s .«trigger_edge») (c .trigger) ≡ risingOf (y .string .«trigger_edge») (c .trigger)
+  unfolding resetOf
+  en = sym (ap (λ (u : Strung). risingOf (u .string .«trigger_edge») (c .trigger)) (w .is-new) ∙ rising-like (s .«trigger_edge») (c .trigger) (z .edge))
+
+  heard : Alike-heard s (y .string) c
+  heard = record { rate = same-rate; memo = em; risen = en; edge = z .edge }
 
   ks : triggerRefusalOf s c draws ≡ 0
-  ks = taken (triggerRefusalOf s c draws) s (x .line) (struckStep s c draws (x .line)) (rw (good-tick s c draws (x .line) g) at (z .is-accepted))
+  ks =
+      went-on (triggerRefusalOf s c draws) s (x .line) (struckStep s c draws (x .line))
+      (sym (ap (λ (t : Ticking). accepted (t .out .answer)) (good-tick s c draws (x .line) g)) ∙ z .is-accepted)
 
   ky : triggerRefusalOf (y .string) c draws ≡ 0
-  ky = sym (sounds-y s (y .string) c draws (sym (w .rate)) em (z .edge) en) ∙ ks
+  ky = sym (sounds-y s (y .string) c draws heard) ∙ ks
 
   r : struckLen (periodAt s c) ≤ length (x .line)
-  r =
-      let memo = recall1 voctToHzAt (s .«freq_memo») v in
-      let number = memo-number (s .«freq_memo») (c .voct .0) v memo (g .sound .value) refl refl in
-      struck-room (s .«sample_rate») (memo .val) (periodAt s c) (length (x .line)) refl (g .sound .rate) number (g .room)
+  r = struck-fits s c (g .sound) (length (x .line)) (g .room)
 
   both : SameTick (karplusStrongTickOf s c draws (x .line)) (karplusStrongTickOf (y .string) c draws (y .line))
   both =
       rw (struck-tick s c draws (x .line) g ks, struck-tick (y .string) c draws (y .line) gy ky)
-      (struck-same s (y .string) c draws (x .line) (y .line) (sym (w .rate)) em (z .edge) en r (sym (w .size)))
+      (struck-same s (y .string) c draws heard (x .line) (y .line) r same-size)
 
   same : SameNext c draws x y
   same = same-next c draws x y both
@@ -126,10 +146,10 @@ module _ (x : Strung) (h : ReachedString x) (c : KarplusStrongControls) (draws :
     ey : firstRefusalOf (y .string) c draws (length (y .line)) (length m) ≡ 0
     ey = first-good-none (y .string) c draws (length (y .line)) (length m) gy ky
 
-    takes : blockRefusalOf (eqb (length o) (1 * length m)) 0 t (length m) ≡ 0
+    takes : blockRefusalOf (eqb (length o) (nPorts * length m)) 0 t (length m) ≡ 0
     takes =
-        ap (λ (k : ℕ). blockRefusalOf (eqb (length o) (1 * length m)) k t (length m)) (sym ex)
-        ∙ (unfold karplusStrongBlockOf in sym (block-refusal 1 _ _ _ x t o m) ∙ e)
+        ap (λ (k : ℕ). blockRefusalOf (eqb (length o) (nPorts * length m)) k t (length m)) (sym ex)
+        ∙ (unfold karplusStrongBlockOf in sym (block-refusal nPorts _ _ _ x t o m) ∙ e)
 
     same-blocks : SameBlock (karplusStrongBlockOf x c draws t o m) (karplusStrongBlockOf y c draws t o m)
     unfolding karplusStrongBlockOf blockOf

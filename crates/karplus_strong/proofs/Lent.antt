@@ -9,16 +9,16 @@ use lib.ListN.{length, getD, length-append, List·getD-append}
 use borrow.Author.Tests.{le-leb}
 use Rattle.laws.proofs.Over.{over-same}
 use Rattle.laws.specs.Machine.{more}
+use Rattle.answer.specs.Answer.{outcomeNumber}
 use Rattle.common.specs.Tests.{rateOk}
 use Rattle.common.specs.declared.Hertz.{Hertz}
-use Rattle.karplus_strong.specs.Line.{blankOf}
-use Rattle.karplus_strong.specs.KarplusStrong.{maxLenOf, roomOf, rateRefusalOf, madeNumber, madeOr, madeUnless, resizedString, karplusStrongSetSampleRateOf, Strung, strung}
-use Rattle.karplus_strong.specs.Calls.{SetSampleRate, Lend, strungAfter, lentOf, after, ReachedString}
+use Rattle.karplus_strong.specs.KarplusStrong.{maxLenOf, roomOf, karplusStrongRateRefusalOf, madeUnless}
+use Rattle.karplus_strong.specs.KarplusStrong.{karplusStrongSetSampleRateOf, Strung, strung, rated, ratedLine}
+use Rattle.karplus_strong.specs.Calls.{SetSampleRate, Lend, strungAfter, lentOf, after, ReachedKarplusStrong}
 use Rattle.karplus_strong.specs.Promises.{Any-line, Rate-line}
 use Rattle.karplus_strong.specs.declared.KarplusStrong.{KarplusStrong}
-use Rattle.karplus_strong.specs.declared.KarplusStrongMade.the-variants as made
 use Rattle.karplus_strong.proofs.Alike.{blank-cells, length-blank}
-use Rattle.karplus_strong.proofs.Parts.{room-of, sound-line}
+use Rattle.karplus_strong.proofs.Parts.{done, room-of, sound-line}
 use Rattle.karplus_strong.proofs.Reached.{Good, reached-good}
 
 pub any-line : Any-line
@@ -32,20 +32,16 @@ room-for : (r : Hertz) (n : ℕ) → maxLenOf r + 2 ≤ n → roomOf r n ≡ 0
 unfolding roomOf
 room-for r n h = simp (le-leb (maxLenOf r + 2) n h)
 
--- what a rate change leaves of l
-abbrev keptCells : KarplusStrong → Hertz → List Float → List Float
-keptCells s r l = blankOf (min (s .len) (maxLenOf r)) (maxLenOf r) l
-
 rate-done : (s : KarplusStrong) (n : ℕ) (r : Hertz) (l : List Float) → Good s n → rateOk r ≡ true → roomOf r (length l) ≡ 0
-    → karplusStrongSetSampleRateOf s r l ≡ record { out = made.Made (resizedString s r (maxLenOf r)); line = keptCells s r l }
-unfolding karplusStrongSetSampleRateOf rateRefusalOf madeUnless
+    → karplusStrongSetSampleRateOf s r l ≡ done (rated s r) (ratedLine s r l)
+unfolding karplusStrongSetSampleRateOf karplusStrongRateRefusalOf madeUnless
 rate-done s n r l g e h = simp (g .sound .rate, e, sound-line s (g .sound), h)
 
 -- it goes by a line that has room for both rates
 pub rate-line : Rate-line
 rate-line x h r e l room k =
     rw (rate-done s (length (x .line)) r l g e room)
-    (unfold madeNumber madeOr in (refl, subst ReachedString back (more changed (Lend (keptCells s r l)) tt)))
+    (unfold outcomeNumber in (refl, subst ReachedKarplusStrong back (more changed (Lend (ratedLine s r l)) tt)))
   where
     s : KarplusStrong
     s = x .string
@@ -69,19 +65,19 @@ rate-line x h r e l room k =
     lent = any-line x h long (room-for (s .«sample_rate») (length long) (omega (arith, size, g .room))) (λ i q. sym (first i q))
 
     y : Strung
-    y = strung (resizedString s r (maxLenOf r)) (keptCells s r long)
+    y = strung (rated s r) (ratedLine s r long)
 
     cut : after (strung s long) (SetSampleRate r) ≡ y
-    cut = unfold after madeOr in ap (strungAfter s) (rate-done s (length (x .line)) r long g e (room-for r (length long) (omega (arith, size, new-room))))
+    cut = unfold after in ap strungAfter (rate-done s (length (x .line)) r long g e (room-for r (length long) (omega (arith, size, new-room))))
 
-    changed : ReachedString y
-    changed = subst ReachedString cut (more (subst ReachedString lent (more h (Lend long) tt)) (SetSampleRate r) tt)
+    changed : ReachedKarplusStrong y
+    changed = subst ReachedKarplusStrong cut (more (subst ReachedKarplusStrong lent (more h (Lend long) tt)) (SetSampleRate r) tt)
 
     same : (i : ℕ) → i < min (s .len) (maxLenOf r) → getD long i nan ≡ getD l i nan
     same i q = first i (omega (arith, q)) ∙ k i q
 
-    back : after y (Lend (keptCells s r l)) ≡ strung (resizedString s r (maxLenOf r)) (keptCells s r l)
+    back : after y (Lend (ratedLine s r l)) ≡ strung (rated s r) (ratedLine s r l)
     back =
-        any-line y changed (keptCells s r l)
-        (room-for r (length (keptCells s r l)) (rw (length-blank (min (s .len) (maxLenOf r)) (maxLenOf r) l (omega (arith, new-room))) new-room))
+        any-line y changed (ratedLine s r l)
+        (room-for r (length (ratedLine s r l)) (rw (length-blank (min (s .len) (maxLenOf r)) (maxLenOf r) l (omega (arith, new-room))) new-room))
         (blank-cells (min (s .len) (maxLenOf r)) (maxLenOf r) long l same)

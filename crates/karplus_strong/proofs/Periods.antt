@@ -72,19 +72,22 @@ clamp-top w h = real-less (w + 10) (low w) (high w h) ∙ ap realOf (less w)
     less w = omega arith
 
 -- at 20 Hz and above no period reaches it
-pub high-period : (r f : Float) → T (le lowest r) → T (le r highest) → T (le twenty f) → lt (sub binary64 (realOf (wholeOf (div binary64 r twenty) + 10)) one) (div binary64 r f) ≡ false
+pub high-period : (r f : Float) → T (le lowest r) → T (le r highest) → T (le twenty f)
+    → lt (sub binary64 (realOf (wholeOf (div binary64 r twenty) + 10)) one) (div binary64 r f) ≡ false
 high-period r f l h k =
     let w = rate-whole r l h in
     let p : T (positive r) = between lowest r highest (unfold ofBits in tt) (unfold ofBits in tt) l h in
     let c = rate-cut r l h in
-    let q : T (positive (div binary64 r twenty)) = between one (div binary64 r twenty) top (unfold ofBits in tt) (unfold ofBits in tt) (c .0) (le-of-lt-true (div binary64 r twenty) top (c .1)) in
+    let q : T (positive (div binary64 r twenty)) =
+    between one (div binary64 r twenty) top (unfold ofBits in tt) (unfold ofBits in tt) (c .0) (le-of-lt-true (div binary64 r twenty) top (c .1)) in
     rw (clamp-top (wholeOf (div binary64 r twenty)) (w .1))
     (lt-false (realOf (wholeOf (div binary64 r twenty) + 9)) (div binary64 r f)
     (float-le-trans (div binary64 r f) (div binary64 r twenty) (realOf (wholeOf (div binary64 r twenty) + 9))
     (div-anti r twenty f p (unfold ofBits in tt) k) (below-next (div binary64 r twenty) q (w .1))))
 
 -- ---- where a clamped period lies
-pub clamped-cut : (x : Float) (w : ℕ) → w ≤ 9600 → T (not (isNan x)) → T (le two (clampOf x two (sub binary64 (realOf (w + 10)) one))) × T (lt (clampOf x two (sub binary64 (realOf (w + 10)) one)) top)
+pub clamped-cut : (x : Float) (w : ℕ) → w ≤ 9600 → T (not (isNan x))
+    → T (le two (clampOf x two (sub binary64 (realOf (w + 10)) one))) × T (lt (clampOf x two (sub binary64 (realOf (w + 10)) one)) top)
 clamped-cut x w h q = rw (clamp-top w h) (go (clamp-range x two (realOf (w + 9)) room q))
   where
     small : (w : ℕ) → w ≤ 9600 → w + 9 ≤ 9007199254740992
@@ -97,10 +100,13 @@ clamped-cut x w h q = rw (clamp-top w h) (go (clamp-range x two (realOf (w + 9))
         at-least w = omega arith
 
     under : T (lt (realOf (w + 9)) top)
-    under = of-true (lt (realOf (w + 9)) top) (lt-by-values (realOf (w + 9)) top (w + 9) 1 4503599627370496 1 (lit< tt) (lit< tt) (ofInt-val (w + 9) (small w h)) (unfold ofBits in (refl, refl)) ∙ is-true (ltb ((w + 9) * 1) (4503599627370496 * 1)) (lt→ltb ((w + 9) * 1) (4503599627370496 * 1) (short w h)))
+    under = of-true (lt (realOf (w + 9)) top)
+        (lt-by-values (realOf (w + 9)) top (w + 9) 1 4503599627370496 1 (lit< tt) (lit< tt) (ofInt-val (w + 9) (small w h)) (unfold ofBits in (refl, refl))
+        ∙ is-true (ltb ((w + 9) * 1) (4503599627370496 * 1)) (lt→ltb ((w + 9) * 1) (4503599627370496 * 1) (short w h)))
       where
         short : (w : ℕ) → w ≤ 9600 → (w + 9) * 1 < 4503599627370496 * 1
         short w h = omega arith
 
-    go : T (le two (clampOf x two (realOf (w + 9)))) × T (le (clampOf x two (realOf (w + 9))) (realOf (w + 9))) → T (le two (clampOf x two (realOf (w + 9)))) × T (lt (clampOf x two (realOf (w + 9))) top)
+    go : T (le two (clampOf x two (realOf (w + 9)))) × T (le (clampOf x two (realOf (w + 9))) (realOf (w + 9)))
+        → T (le two (clampOf x two (realOf (w + 9)))) × T (lt (clampOf x two (realOf (w + 9))) top)
     go r = (r .0, le-lt-trans (clampOf x two (realOf (w + 9))) (realOf (w + 9)) top (r .1) under)

@@ -6,72 +6,67 @@ use Prim.Native.Nat.{ℕ, _+_, _*_, _≤_, zero, suc}
 use native.Mathlib.Nat.{le-trans}
 use native.Mathlib.Omega.{arith}
 use lib.Dec.{eqb, leb}
-use lib.Ieee.{Float, binary64, le, mul, neg, low}
+use lib.Ieee.{Float, le, low}
 use lib.ListN.{length}
 use Rattle.common.proofs.DrawLaws.{draws-less, draws-taken}
-use Rattle.common.proofs.EdgeLaws.{rises-five}
+use Rattle.common.proofs.EdgeLaws.{rising-comes, rising-not}
 use Rattle.answer.specs.Answer.{refusalOf, accepted}
 use Rattle.answer.specs.Block.{blockRefusalOf}
 use Rattle.answer.specs.declared.Tally.{Tally}
 use Rattle.answer.proofs.Blocks.{block-refusal, held-accepted, all-taken}
-use Rattle.common.specs.Consts.{five, gateThreshold, half}
-use Rattle.common.specs.Edge.{risesAbove, risingAboveOf, risingOf}
-use Rattle.common.specs.Memo.{recall1, voctToHzAt}
+use Rattle.common.specs.Edge.{thresholdOf, risingOf}
 use Rattle.common.specs.Tests.{rateOk, drawsOk}
-use Rattle.laws.proofs.Order.{lt-false}
-use Rattle.laws.proofs.Tests.{of-true}
-use Rattle.laws.specs.Float.{zer, one, isFin}
-use Rattle.numeric.specs.Basic.{clampOf}
-use Rattle.karplus_strong.proofs.Alike.{length-blank}
-use Rattle.karplus_strong.proofs.Parts.{max-len-range, period-range, memo-number, Sound, sound-line, turn-is}
+use Rattle.karplus_strong.proofs.Alike.{length-blank, Keeps, strike-keeps, stepped}
+use Rattle.karplus_strong.proofs.Parts.{made-says, max-len-range, Sound, struck-range, sound-line, turn-is}
 use Rattle.karplus_strong.proofs.Reached.{Good, after-good, reached-good}
-use Rattle.karplus_strong.proofs.Ticks.{step-heard, heard-number, heard-accepted, struckStep, struck-heard, unless-number, twice-heard, twice-left, tick-is, good-refusal, good-room, good-none, good-first, good-tick}
+use Rattle.karplus_strong.proofs.Ticks.{step-heard, heard-none, heard-accepted, struckStep, struck-heard, unless-number}
+use Rattle.karplus_strong.proofs.Ticks.{twice-heard, twice-left, tick-is, good-refusal, good-room, good-none, good-first, good-tick}
 use Rattle.karplus_strong.proofs.Held.{tuneOf, holds, first-none}
-use Rattle.karplus_strong.specs.Held.{heldAnswer}
-use Rattle.karplus_strong.specs.Calls.{after, reply, Tick, Reset, SetSampleRate, Told}
-use Rattle.karplus_strong.specs.Consts.{loopLeak}
-use Rattle.karplus_strong.specs.Blocks.{triggerRefusalOf, karplusStrongBlockOf}
-use Rattle.karplus_strong.specs.KarplusStrong.{maxLenOf, roomOf, karplusStrongCellsOf, karplusStrongRefusalOf, rateRefusalOf, madeNumber, madeUnless, karplusStrongNewOf, karplusStrongResetOf, karplusStrongSetSampleRateOf, finiteOr, struckLen, strikeOf, strikeIf, heardString, tickUnless, karplusStrongTickOf, Strung}
-use Rattle.karplus_strong.specs.Promises.{periodAt, risesAt, Never-refused, First-there, New-there, Cells-enough, Edge-comes, Clean-or-cleared, Refused-leaves, Keeps-rate, Block-accepts, Block-tallies}
-use Rattle.karplus_strong.specs.Step.{filterCoefOf, apCoefOf, targetDelayOf, tapOf, filteredOf, stretchedOf, Ticking, wroteOf, clearedOf, stepOf}
-use Rattle.common.specs.declared.EdgeDetector.{EdgeDetector}
+use Rattle.karplus_strong.specs.Shortcuts.{heldAnswer}
+use Rattle.karplus_strong.specs.Calls.{First, ReachedKarplusStrong, after, reply, Tick, Reset, SetSampleRate, Told}
+use Rattle.karplus_strong.specs.Consts.{nPorts}
+use Rattle.karplus_strong.specs.KarplusStrong.{newStrung, triggerRefusalOf, karplusStrongBlockOf, maxLenOf, roomOf}
+use Rattle.karplus_strong.specs.KarplusStrong.{karplusStrongCellsOf, karplusStrongRefusalOf, karplusStrongRateRefusalOf}
+use Rattle.karplus_strong.specs.KarplusStrong.{madeUnless, karplusStrongNewOf, karplusStrongResetOf, karplusStrongSetSampleRateOf}
+use Rattle.karplus_strong.specs.KarplusStrong.{struckLen, heardString, tickUnless, karplusStrongTickOf, Strung, newLike, memoAt, periodAt}
+use Rattle.karplus_strong.specs.Promises.{taken, Never-refused, New-accepts, New-there, Cells-enough, Edge-comes}
+use Rattle.karplus_strong.specs.Promises.{Clean-or-cleared, Refused-leaves, Keeps-rate, Block-accepts, Block-tallies}
+use Rattle.karplus_strong.specs.Step.{Ticking}
 use Rattle.common.specs.declared.Hertz.{Hertz}
 use Rattle.karplus_strong.specs.declared.KarplusStrong.{KarplusStrong}
 use Rattle.karplus_strong.specs.declared.KarplusStrongControls.{KarplusStrongControls}
-use Rattle.karplus_strong.specs.declared.KarplusStrongMade.the-variants as made
 
 pub clean-or-cleared : Clean-or-cleared
-clean-or-cleared s c draws l e = rw (tick-is s c draws l) (twice-heard (karplusStrongRefusalOf s (length l)) (triggerRefusalOf s c draws) s l (struckStep s c draws l) (struck-heard s c draws l) (rw (tick-is s c draws l) at e))
+clean-or-cleared s c draws l e = rw (tick-is s c draws l)
+    (twice-heard (karplusStrongRefusalOf s (length l)) (triggerRefusalOf s c draws) s l (struckStep s c draws l) (struck-heard s c draws l)
+    (rw (tick-is s c draws l) at e))
 
 pub refused-leaves : Refused-leaves
-refused-leaves s c draws l e = rw (tick-is s c draws l) (twice-left (karplusStrongRefusalOf s (length l)) (triggerRefusalOf s c draws) s l (struckStep s c draws l) (struck-heard s c draws l) (rw (tick-is s c draws l) at e))
+refused-leaves s c draws l e = rw (tick-is s c draws l)
+    (twice-left (karplusStrongRefusalOf s (length l)) (triggerRefusalOf s c draws) s l (struckStep s c draws l) (struck-heard s c draws l)
+    (rw (tick-is s c draws l) at e))
 
 -- ---- a reached string is ready
 good-number : (s : KarplusStrong) (c : KarplusStrongControls) (draws : List ℕ) (l : List Float) → Good s (length l)
     → refusalOf (karplusStrongTickOf s c draws l .out .answer) ≡ triggerRefusalOf s c draws
 good-number s c draws l g =
     ap (λ (t : Ticking). refusalOf (t .out .answer)) (good-tick s c draws l g)
-    ∙ unless-number (triggerRefusalOf s c draws) s l (struckStep s c draws l) (heard-number (struckStep s c draws l .out .answer) (struck-heard s c draws l))
+    ∙ unless-number (triggerRefusalOf s c draws) s l (struckStep s c draws l) (heard-none (struckStep s c draws l .out .answer) (struck-heard s c draws l))
 
 good-block : (x : Strung) (c : KarplusStrongControls) (draws : List ℕ) (t : Tally) (o : List Float) (m : List ℕ) → Good (x .string) (length (x .line))
     → karplusStrongBlockOf x c draws t o m .refused
-    ≡ blockRefusalOf (eqb (length o) (1 * length m)) (cond (eqb (length m) 0) 0 (triggerRefusalOf (x .string) c draws)) t (length m)
+    ≡ blockRefusalOf (eqb (length o) (nPorts * length m)) (cond (eqb (length m) 0) 0 (triggerRefusalOf (x .string) c draws)) t (length m)
 unfolding karplusStrongBlockOf
 good-block x c draws t o m g =
-    block-refusal 1 _ _ _ x t o m
-    ∙ ap (λ (k : ℕ). blockRefusalOf (eqb (length o) (1 * length m)) k t (length m)) (good-first (x .string) c draws (length (x .line)) (length m) g)
-
-made-says : (k : ℕ) (t : KarplusStrong) (m l : List Float) → madeNumber (madeUnless k (record { out = made.Made t; line = m }) l .out) ≡ k
-unfolding madeUnless madeNumber
-made-says zero t m l = refl
-made-says (suc k) t m l = refl
+    block-refusal nPorts _ _ _ x t o m
+    ∙ ap (λ (k : ℕ). blockRefusalOf (eqb (length o) (nPorts * length m)) k t (length m)) (good-first (x .string) c draws (length (x .line)) (length m) g)
 
 pub never-refused : Never-refused
 never-refused x h = record {
   state = λ n. good-refusal (x .string) (length (x .line)) n g;
   room = good-room (x .string) (length (x .line)) g;
   tick = λ c draws. good-number (x .string) c draws (x .line) g;
-  block = λ c draws t o m. good-block x c draws t o m g;
+  play = λ c draws t o m. good-block x c draws t o m g;
   reset = reset-says;
   rate = rate-says;
 }
@@ -80,7 +75,7 @@ never-refused x h = record {
     g = reached-good x h
 
     reset-says : reply x Reset ≡ Told 0
-    reset-says = unfold reply karplusStrongResetOf in ap Told (made-says _ _ _ (x .line) ∙ good-none (x .string) (length (x .line)) g)
+    reset-says = unfold reply karplusStrongResetOf in ap Told (made-says _ x _ ∙ good-none (x .string) (length (x .line)) g)
 
     both : (b : Bool) (k : ℕ) → _≡_ {A = ℕ} (cond (true && b) (cond true k 2) 1) (cond b k 1)
     both true k = refl
@@ -88,107 +83,77 @@ never-refused x h = record {
 
     rate-says : (r : Hertz) → reply x (SetSampleRate r) ≡ Told (cond (rateOk r) (roomOf r (length (x .line))) 1)
     rate-says r =
-        unfold reply karplusStrongSetSampleRateOf rateRefusalOf in
-        ap Told (made-says _ _ _ (x .line) ∙ simp (g .sound .rate, sound-line (x .string) (g .sound)) (both (rateOk r) (roomOf r (length (x .line)))))
+        unfold reply karplusStrongSetSampleRateOf karplusStrongRateRefusalOf in
+        ap Told (made-says _ x _ ∙ simp (g .sound .rate, sound-line (x .string) (g .sound)) (both (rateOk r) (roomOf r (length (x .line)))))
 
-pub first-there : First-there
-first-there rate l e h = record { rate = rate; lent = l; is-new = unfold karplusStrongNewOf madeUnless in simp (e, h) }
+pub new-accepts : New-accepts
+new-accepts rate l = (unfold karplusStrongNewOf in made-says _ _ _, first)
+  where
+    first : rateOk rate ≡ true → roomOf rate (length l) ≡ 0 → First (newStrung rate l)
+    first e h = record { rate = rate; lent = l; is-new = unfold karplusStrongNewOf madeUnless in simp (e, h) }
+
+pub like-size : (x : Strung) → ReachedKarplusStrong x → (l : List Float) → length l ≡ length (x .line) → length (newLike x l .line) ≡ length (x .line)
+like-size x h l e = let r = reached-good x h .room in length-blank 0 (maxLenOf (x .string .«sample_rate»)) l (omega arith) ∙ e
 
 pub new-there : New-there
-new-there x h l e =
+new-there x h y w =
     let g = reached-good x h in
-    let r = g .room in
-    record {
-      is-new = first-there (x .string .«sample_rate») l (g .sound .rate) (rw e (good-room (x .string) (length (x .line)) g));
-      rate = refl;
-      size = length-blank 0 (maxLenOf (x .string .«sample_rate»)) l (omega arith) ∙ e;
-    }
+    rw (w .is-new) (new-accepts (x .string .«sample_rate») (w .lent) .1 (g .sound .rate) (rw (w .size) (good-room (x .string) (length (x .line)) g)))
 
 -- ---- a line of enough cells
 pub cells-enough : Cells-enough
 unfolding karplusStrongNewOf karplusStrongCellsOf
-cells-enough rate l = made-says (cond (rateOk rate) (roomOf rate (length l)) 1) _ _ l ∙ go (rateOk rate)
+cells-enough rate l = made-says _ _ _ ∙ go (rateOk rate)
   where
     go : (b : Bool) → _≡_ {A = ℕ} (cond b (roomOf rate (length l)) 1) (cond b (cond (leb (cond b (maxLenOf rate + 2) 0) (length l)) 0 3) 1)
     go true = unfold roomOf in refl
     go false = refl
 
 -- ---- an edge
-good-accepted : (s : KarplusStrong) (c : KarplusStrongControls) (draws : List ℕ) (l : List Float) → Good s (length l) → triggerRefusalOf s c draws ≡ 0 → accepted (karplusStrongTickOf s c draws l .out .answer) ≡ true
+good-accepted : (s : KarplusStrong) (c : KarplusStrongControls) (draws : List ℕ) (l : List Float) → Good s (length l) → triggerRefusalOf s c draws ≡ 0
+    → accepted (karplusStrongTickOf s c draws l .out .answer) ≡ true
 unfolding tickUnless
-good-accepted s c draws l g e = ap (λ (t : Ticking). accepted (t .out .answer)) (good-tick s c draws l g ∙ ap (λ (k : ℕ). tickUnless k s l (struckStep s c draws l)) e) ∙ heard-accepted (struckStep s c draws l .out .answer) (struck-heard s c draws l)
+good-accepted s c draws l g e = ap (λ (t : Ticking). accepted (t .out .answer))
+    (good-tick s c draws l g ∙ ap (λ (k : ℕ). tickUnless k s l (struckStep s c draws l)) e)
+    ∙ heard-accepted (struckStep s c draws l .out .answer) (struck-heard s c draws l)
 
--- a step and a strike leave the rate and the edge record
-step-keeps : (s : KarplusStrong) (p d t : Float) (l : List Float) → (stepOf s p d t l .out .«karplus_strong» .«sample_rate» ≡ s .«sample_rate») × (stepOf s p d t l .out .«karplus_strong» .«trigger_edge» ≡ s .«trigger_edge»)
-unfolding stepOf
-step-keeps s p d t l = go (isFin v) y z v
-  where
-    y : Float
-    y = filteredOf s (tapOf l (s .«write_pos») (s .len) (targetDelayOf p (filterCoefOf d) (apCoefOf t))) (filterCoefOf d)
-
-    z : Float
-    z = stretchedOf s y (apCoefOf t)
-
-    v : Float
-    v = mul binary64 z loopLeak
-
-    go : (b : Bool) (y z v : Float) → (cond b (wroteOf s y z v l) (clearedOf s l) .out .«karplus_strong» .«sample_rate» ≡ s .«sample_rate») × (cond b (wroteOf s y z v l) (clearedOf s l) .out .«karplus_strong» .«trigger_edge» ≡ s .«trigger_edge»)
-    go true y z v = (refl, refl)
-    go false y z v = (refl, refl)
-
-struck-keeps : (rising : Bool) (t : KarplusStrong) (p b : Float) (draws : List ℕ) (l : List Float) → (strikeIf rising t p b draws l .out .«sample_rate» ≡ t .«sample_rate») × (strikeIf rising t p b draws l .out .«trigger_edge» ≡ t .«trigger_edge»)
-unfolding strikeIf strikeOf
-struck-keeps true t p b draws l = (refl, refl)
-struck-keeps false t p b draws l = (refl, refl)
-
--- so both together leave the rate, and the edge record of the tick's trigger
+-- the step leaves the rate, and the edge record of the tick's trigger
 struck-step-keeps : (s : KarplusStrong) (c : KarplusStrongControls) (draws : List ℕ) (l : List Float)
-    → (struckStep s c draws l .out .«karplus_strong» .«sample_rate» ≡ s .«sample_rate») × (struckStep s c draws l .out .«karplus_strong» .«trigger_edge» ≡ risingOf (s .«trigger_edge») (c .trigger) .edge)
+    → Keeps (heardString s (risingOf (s .«trigger_edge») (c .trigger) .edge) (memoAt s c)) (struckStep s c draws l .out .«karplus_strong»)
 unfolding struckStep
 struck-step-keeps s c draws l =
-    let t = heardString s (risingOf (s .«trigger_edge») (c .trigger) .edge) (recall1 voctToHzAt (s .«freq_memo») (finiteOr (c .voct .0) zer)) in
-    let struck = strikeIf (risesAt s c) t (periodAt s c) (clampOf (finiteOr (c .brightness) half) zer one) draws l in
-    let a = step-keeps (struck .out) (periodAt s c) (clampOf (finiteOr (c .damping) half) zer one) (clampOf (finiteOr (c .stretch) zer) (neg one) one) (struck .line) in
-    let b = struck-keeps (risesAt s c) t (periodAt s c) (clampOf (finiteOr (c .brightness) half) zer one) draws l in
-    (a .0 ∙ b .0, a .1 ∙ b .1)
+    let a = stepped _ _ _ _ _ .keeps in
+    let b = strike-keeps _ _ _ draws l _ in
+    record { rate = a .rate ∙ b .rate; edge = a .edge ∙ b .edge; memo = a .memo ∙ b .memo }
 
-twice-rate : (k j : ℕ) (s : KarplusStrong) (l : List Float) (t : Ticking) → t .out .«karplus_strong» .«sample_rate» ≡ s .«sample_rate» → tickUnless k s l (tickUnless j s l t) .out .«karplus_strong» .«sample_rate» ≡ s .«sample_rate»
+twice-rate : (k j : ℕ) (s : KarplusStrong) (l : List Float) (t : Ticking) → t .out .«karplus_strong» .«sample_rate» ≡ s .«sample_rate»
+    → tickUnless k s l (tickUnless j s l t) .out .«karplus_strong» .«sample_rate» ≡ s .«sample_rate»
 unfolding tickUnless
 twice-rate zero zero s l t h = h
 twice-rate zero (suc j) s l t h = refl
 twice-rate (suc k) j s l t h = refl
 
 pub keeps-rate : Keeps-rate
-keeps-rate s c draws l = rw (tick-is s c draws l) (twice-rate (karplusStrongRefusalOf s (length l)) (triggerRefusalOf s c draws) s l (struckStep s c draws l) (struck-step-keeps s c draws l .0))
+keeps-rate s c draws l = rw (tick-is s c draws l)
+    (twice-rate (karplusStrongRefusalOf s (length l)) (triggerRefusalOf s c draws) s l (struckStep s c draws l) (struck-step-keeps s c draws l .rate))
 
-good-edge : (s : KarplusStrong) (c : KarplusStrongControls) (draws : List ℕ) (l : List Float) → Good s (length l) → triggerRefusalOf s c draws ≡ 0 → karplusStrongTickOf s c draws l .out .«karplus_strong» .«trigger_edge» ≡ risingOf (s .«trigger_edge») (c .trigger) .edge
+good-edge : (s : KarplusStrong) (c : KarplusStrongControls) (draws : List ℕ) (l : List Float) → Good s (length l) → triggerRefusalOf s c draws ≡ 0
+    → karplusStrongTickOf s c draws l .out .«karplus_strong» .«trigger_edge» ≡ risingOf (s .«trigger_edge») (c .trigger) .edge
 unfolding tickUnless
 good-edge s c draws l g e =
     ap (λ (t : Ticking). t .out .«karplus_strong» .«trigger_edge») (good-tick s c draws l g ∙ ap (λ (k : ℕ). tickUnless k s l (struckStep s c draws l)) e)
-    ∙ struck-step-keeps s c draws l .1
+    ∙ struck-step-keeps s c draws l .edge
 
--- what is not above the threshold is no edge, and 5.0 V after it is one
-low-rises : (s : KarplusStrong) (c : KarplusStrongControls) → le (c .trigger) gateThreshold ≡ true → risesAt s c ≡ false
-unfolding risingOf risingAboveOf risesAbove
-low-rises s c e = simp (lt-false gateThreshold (c .trigger) (of-true (le (c .trigger) gateThreshold) e))
-
-high-rises : (s : KarplusStrong) (c : KarplusStrongControls) (low : Float) → le low gateThreshold ≡ true → s .«trigger_edge» .prev ≡ low → c .trigger ≡ five → risesAt s c ≡ true
-unfolding risingOf risingAboveOf
-high-rises s c low el ep eh = rw (eh, ep) (rises-five low el)
-
-low-sounds : (s : KarplusStrong) (c : KarplusStrongControls) (draws : List ℕ) → le (c .trigger) gateThreshold ≡ true → triggerRefusalOf s c draws ≡ 0
+low-sounds : (s : KarplusStrong) (c : KarplusStrongControls) (draws : List ℕ) → le (c .trigger) (thresholdOf (s .«trigger_edge»)) ≡ true
+    → triggerRefusalOf s c draws ≡ 0
 unfolding triggerRefusalOf
-low-sounds s c draws e = simp (low-rises s c e)
+low-sounds s c draws e = simp (rising-not (s .«trigger_edge») (c .trigger) e)
 
 pub struck-short : (s : KarplusStrong) (c : KarplusStrongControls) → Sound s → struckLen (periodAt s c) ≤ 9611
-unfolding struckLen
-struck-short s c a =
-    let m = recall1 voctToHzAt (s .«freq_memo») (finiteOr (c .voct .0) zer) in
-    let w = period-range (s .«sample_rate») (m .val) (a .rate) (memo-number (s .«freq_memo») (c .voct .0) (finiteOr (c .voct .0) zer) m (a .value) refl refl) in
-    let k = max-len-range (s .«sample_rate») (a .rate) in
-    omega (arith, w .1, k .1)
+struck-short s c a = let k = max-len-range (s .«sample_rate») (a .rate) .1 in omega (arith, struck-range s c a .1)
 
-high-sounds : (s : KarplusStrong) (c : KarplusStrongControls) (draws : List ℕ) → Sound s → risesAt s c ≡ true → 9611 ≤ length draws → drawsOk draws 9611 ≡ true → triggerRefusalOf s c draws ≡ 0
+high-sounds : (s : KarplusStrong) (c : KarplusStrongControls) (draws : List ℕ) → Sound s → taken s c ≡ true → 9611 ≤ length draws → drawsOk draws 9611 ≡ true
+    → triggerRefusalOf s c draws ≡ 0
 unfolding triggerRefusalOf
 high-sounds s c draws a e h k =
     let n = struckLen (periodAt s c) in
@@ -196,7 +161,10 @@ high-sounds s c draws a e h k =
     simp (e, draws-taken n draws (le-trans q h) (draws-less draws 9611 n q k))
 
 pub edge-comes : Edge-comes
-edge-comes x h low high none draws f el eh n ok = (good-accepted (x .string) low none (x .line) g r, record { is-accepted = good-accepted (y .string) high draws (y .line) k (high-sounds (y .string) high draws (k .sound) e n ok); edge = e })
+edge-comes x h low high none draws f el eh n ok = (
+  good-accepted (x .string) low none (x .line) g r,
+  record { is-accepted = good-accepted (y .string) high draws (y .line) k (high-sounds (y .string) high draws (k .sound) e n ok); edge = e },
+)
   where
     g : Good (x .string) (length (x .line))
     g = reached-good x h
@@ -210,11 +178,11 @@ edge-comes x h low high none draws f el eh n ok = (good-accepted (x .string) low
     k : Good (y .string) (length (y .line))
     k = after-good x (Tick low none) g f
 
-    prev : y .string .«trigger_edge» .prev ≡ low .trigger
-    prev = unfold after risingOf risingAboveOf in ap (λ (e : EdgeDetector). e .prev) (good-edge (x .string) low none (x .line) g r)
+    edge : y .string .«trigger_edge» ≡ risingOf (x .string .«trigger_edge») (low .trigger) .edge
+    edge = unfold after in good-edge (x .string) low none (x .line) g r
 
-    e : risesAt (y .string) high ≡ true
-    e = high-rises (y .string) high (low .trigger) el prev eh
+    e : taken (y .string) high ≡ true
+    e = (λ i. risingOf (edge i) (eh i) .rising) ∙ rising-comes (x .string .«trigger_edge») (low .trigger) el
 
 -- ---- and no tick of a block is refused whose first isn't
 turn-accepted : (s : KarplusStrong) (c : KarplusStrongControls) (x : Strung) → accepted (heldAnswer (tuneOf s c) x) ≡ true

@@ -1,40 +1,40 @@
 -- What holds of every string that was made new and then called: refusals 1 to 3 let it pass, and its memo is coherent.
-use mathlib.Core.Bool.{Bool, true, false, cond, not}
+use mathlib.Core.Bool.{Bool, true, false, cond}
 use mathlib.Core.List.{List}
 use mathlib.Core.Logic.{inl}
 use mathlib.Core.Path.{_≡_, refl, sym, ap, subst}
 use Prim.Native.Nat.{ℕ, zero, suc, _+_, _≤_, _<_, min}
-use native.Mathlib.Nat.{mod-lt}
 use native.Mathlib.Omega.{arith}
-use lib.Dec.{T, eqb, ltb}
-use lib.ListN.{length, length-set, getD}
-use lib.Ieee.{Float, nan, inf, fin, binary64, mul, neg, fits, isNan, ofBits}
+use lib.Dec.{eqb, ltb}
+use lib.ListN.{length, getD}
+use lib.Ieee.{Float, nan, inf, fin, fits, isNan, ofBits}
 use borrow.Author.Tests.{eqb-true, ltb-true}
 use Rattle.laws.proofs.Always.{always}
 use Rattle.laws.proofs.Over.{length-over}
-use Rattle.laws.specs.Float.{zer, one, isFin, F64}
-use Rattle.numeric.specs.Basic.{clampOf, wholeOf}
+use Rattle.laws.specs.Float.{zer, F64}
 use Rattle.answer.proofs.Blocks.{block-keeps}
+use Rattle.answer.specs.Answer.{outcomeNumber}
 use Rattle.common.proofs.MemoLaws.{recalled1}
-use Rattle.common.specs.Consts.{half}
-use Rattle.common.specs.Edge.{newEdge, risingOf}
-use Rattle.common.specs.Memo.{recall1, voctToHzAt}
+use Rattle.common.specs.Edge.{risingOf}
+use Rattle.common.specs.Memo.{voctToHzAt}
 use Rattle.common.specs.Promises.{Coherent1}
-use Rattle.common.specs.Tests.{rateOk, drawsRefusalOf}
+use Rattle.common.specs.Tests.{rateOk}
 use Rattle.common.specs.declared.Hertz.{Hertz}
-use Rattle.common.specs.declared.Memo1.{Memo1}
-use Rattle.karplus_strong.specs.Consts.{loopLeak}
-use Rattle.karplus_strong.specs.Line.{blankOf, struckOf}
-use Rattle.karplus_strong.specs.Step.{filterCoefOf, apCoefOf, targetDelayOf, tapOf, filteredOf, stretchedOf, Ticking, restOf, wroteOf, clearedOf, stepOf}
-use Rattle.karplus_strong.specs.KarplusStrong.{maxLenOf, roomOf, karplusStrongRefusalOf, rateRefusalOf, Making, madeOr, madeUnless, newKarplusStrong, karplusStrongNewOf, karplusStrongResetOf, placeOf, resizedString, karplusStrongSetSampleRateOf, finiteOr, struckLen, strikeOf, strikeIf, heardString, tickUnless, karplusStrongSoundOf, karplusStrongTickOf, Strung}
-use Rattle.karplus_strong.specs.Blocks.{karplusStrongBlockOf}
-use Rattle.karplus_strong.specs.Calls.{Call, Tick, Play, Reset, SetSampleRate, Lend, strungAfter, lentOf, takenLine, after, FitCall, First, ReachedString}
-use Rattle.karplus_strong.specs.Promises.{periodAt}
+use Rattle.karplus_strong.specs.Consts.{nPorts}
+use Rattle.karplus_strong.specs.Line.{blankOf}
+use Rattle.karplus_strong.specs.Step.{Ticking, stepOf}
+use Rattle.karplus_strong.specs.KarplusStrong.{maxLenOf, newKarplusStrong, newStrung, roomOf, karplusStrongRefusalOf, Making}
+use Rattle.karplus_strong.specs.KarplusStrong.{madeUnless, karplusStrongNewOf, restarted, karplusStrongResetOf, placeOf, rated}
+use Rattle.karplus_strong.specs.KarplusStrong.{ratedLine, karplusStrongSetSampleRateOf, finiteOr, strikeIf, heardString}
+use Rattle.karplus_strong.specs.KarplusStrong.{tickUnless, karplusStrongSoundOf, karplusStrongTickOf, karplusStrongBlockOf}
+use Rattle.karplus_strong.specs.KarplusStrong.{Strung, dampingOf, brightnessOf, stretchOf, memoAt, periodAt, triggerRefusalOf}
+use Rattle.karplus_strong.specs.Calls.{Call, Tick, Play, Reset, SetSampleRate, Lend, strungAfter, lentOf}
+use Rattle.karplus_strong.specs.Calls.{takenLine, after, Fit, FitCall, First, ReachedKarplusStrong}
+use Rattle.karplus_strong.specs.Promises.{taken}
 use Rattle.karplus_strong.specs.declared.KarplusStrong.{KarplusStrong}
 use Rattle.karplus_strong.specs.declared.KarplusStrongControls.{KarplusStrongControls}
-use Rattle.karplus_strong.specs.declared.KarplusStrongMade.the-variants as made
-use Rattle.karplus_strong.proofs.Parts.{Sound, rate-accepted, max-len-range, period-range, memo-number, room-of}
-use Rattle.karplus_strong.proofs.Alike.{length-blank, length-struck}
+use Rattle.karplus_strong.proofs.Parts.{done, made-either, Sound, rate-accepted, max-len-range, struck-fits, struck-sound, room-of}
+use Rattle.karplus_strong.proofs.Alike.{length-blank, Keeps, strike-keeps, strike-size, stepped, turned-sound}
 
 pub record Good (s : KarplusStrong) (n : ℕ) : Type 0 where
   pub sound : Sound s
@@ -47,38 +47,14 @@ pub record GoodTick (t : Ticking) (n : ℕ) : Type 0 where
   pub line : length (t .line) ≡ n
 
 step-good : (s : KarplusStrong) (p d t : Float) (l : List Float) → Good s (length l) → GoodTick (stepOf s p d t l) (length l)
-unfolding stepOf
 step-good s p d t l g =
-    go (isFin v) y z v
-  where
-    y : Float
-    y = filteredOf s (tapOf l (s .«write_pos») (s .len) (targetDelayOf p (filterCoefOf d) (apCoefOf t))) (filterCoefOf d)
-
-    z : Float
-    z = stretchedOf s y (apCoefOf t)
-
-    v : Float
-    v = mul binary64 z loopLeak
-
-    a : Sound s
-    a = g .sound
-
-    go : (b : Bool) (y z v : Float) → GoodTick (cond b (wroteOf s y z v l) (clearedOf s l)) (length l)
-    go true y z v = record {
-      state = record {
-        sound = record { rate = a .rate; least = a .least; most = a .most; place = mod-lt (s .«write_pos» + 1) {m = s .len} (let q = a .least in omega arith); value = a .value };
-        room = g .room;
-        memo = g .memo;
-      };
-      line = length-set l (s .«write_pos») v;
-    }
-    go false y z v = record {
-      state = record {
-        sound = record { rate = a .rate; least = a .least; most = a .most; place = (let q = a .least in omega arith); value = a .value };
-        room = g .room;
-        memo = g .memo;
-      };
-      line = length-blank 0 (s .len) l (let q = a .most in let r = g .room in omega arith);
+    let w = stepped s p d t l in
+    let k = w .keeps in
+    let q = g .sound .most in
+    let r = g .room in
+    record {
+      state = record { sound = turned-sound s l _ w (g .sound); room = rw (k .rate) r; memo = rw (k .memo) (g .memo) };
+      line = w .size (omega arith);
     }
 
 pub fits-or : (x : Float) → F64 x → F64 (finiteOr x zer)
@@ -87,49 +63,36 @@ fits-or nan h = tt
 fits-or (inf s) h = tt
 fits-or (fin s m e) h = h
 
-strike-good : (rising : Bool) (k : ℕ) (s t : KarplusStrong) (p b d c : Float) (draws : List ℕ) (l : List Float) → Good s (length l) → Good t (length l)
-    → 4 ≤ struckLen p → struckLen p ≤ maxLenOf (t .«sample_rate») + 1
-    → GoodTick (tickUnless k s l (stepOf (strikeIf rising t p b draws l .out) p d c (strikeIf rising t p b draws l .line))) (length l)
-strike-good rising (suc k) s t p b d c draws l g h lo hi = unfold tickUnless in record { state = g; line = refl }
-strike-good false zero s t p b d c draws l g h lo hi = unfold tickUnless strikeIf in step-good t p d c l h
-strike-good true zero s t p b d c draws l g h lo hi = unfold tickUnless strikeIf strikeOf in struck
-  where
-    a : Sound t
-    a = h .sound
-
-    e : length (struckOf (struckLen p) b draws l) ≡ length l
-    e = length-struck (struckLen p) b draws l (let r = h .room in omega arith)
-
-    struck : GoodTick (stepOf (restOf t (struckLen p) (t .«trigger_edge»)) p d c (struckOf (struckLen p) b draws l)) (length l)
-    struck =
-        subst (λ (n : ℕ). GoodTick (stepOf (restOf t (struckLen p) (t .«trigger_edge»)) p d c (struckOf (struckLen p) b draws l)) n) e
-        (step-good (restOf t (struckLen p) (t .«trigger_edge»)) p d c (struckOf (struckLen p) b draws l)
-        (record { sound = record { rate = a .rate; least = lo; most = hi; place = omega arith; value = a .value }; room = rw e (h .room); memo = h .memo }))
-
-sound-good : (s : KarplusStrong) (c : KarplusStrongControls) (draws : List ℕ) (l : List Float) → Good s (length l) → F64 (c .voct .0) → GoodTick (karplusStrongSoundOf s c draws l) (length l)
+sound-good : (s : KarplusStrong) (c : KarplusStrongControls) (draws : List ℕ) (l : List Float) → Good s (length l) → Fit c
+    → GoodTick (karplusStrongSoundOf s c draws l) (length l)
 unfolding karplusStrongSoundOf
-sound-good s c draws l g f =
-    strike-good (risingOf (s .«trigger_edge») (c .trigger) .rising) (cond (risingOf (s .«trigger_edge») (c .trigger) .rising) (drawsRefusalOf (struckLen (periodAt s c)) draws) 0) s t (periodAt s c)
-    (clampOf (finiteOr (c .brightness) half) zer one) (clampOf (finiteOr (c .damping) half) zer one) (clampOf (finiteOr (c .stretch) zer) (neg one) one) draws l g
-    (record { sound = record { rate = a .rate; least = a .least; most = a .most; place = a .place; value = v }; room = g .room; memo = recalled1 voctToHzAt (s .«freq_memo») (g .memo) (finiteOr (c .voct .0) zer) (fits-or (c .voct .0) f) })
-    (unfold struckLen in omega (arith, w .0)) (unfold struckLen in omega (arith, w .1))
+sound-good s c draws l g f = go (triggerRefusalOf s c draws)
   where
-    a : Sound s
-    a = g .sound
-
-    m : Memo1
-    m = recall1 voctToHzAt (s .«freq_memo») (finiteOr (c .voct .0) zer)
-
     t : KarplusStrong
-    t = heardString s (risingOf (s .«trigger_edge») (c .trigger) .edge) m
+    t = heardString s (risingOf (s .«trigger_edge») (c .trigger) .edge) (memoAt s c)
 
-    v : T (not (isNan (m .val .0)))
-    v = memo-number (s .«freq_memo») (c .voct .0) (finiteOr (c .voct .0) zer) m (a .value) refl refl
+    x : Strung
+    x = strikeIf (taken s c) t (periodAt s c) (brightnessOf c) draws l
 
-    w : (2 ≤ wholeOf (periodAt s c)) × (wholeOf (periodAt s c) + 1 ≤ maxLenOf (s .«sample_rate»))
-    w = period-range (s .«sample_rate») (m .val) (a .rate) v
+    size : length (x .line) ≡ length l
+    size = strike-size t (periodAt s c) (brightnessOf c) draws l (taken s c) (struck-fits s c (g .sound) (length l) (g .room))
 
-pub tick-good : (s : KarplusStrong) (c : KarplusStrongControls) (draws : List ℕ) (l : List Float) → Good s (length l) → F64 (c .voct .0) → GoodTick (karplusStrongTickOf s c draws l) (length l)
+    kept : Keeps t (x .string)
+    kept = strike-keeps t (periodAt s c) (brightnessOf c) draws l (taken s c)
+
+    struck : Good (x .string) (length (x .line))
+    struck = record {
+      sound = struck-sound s c (g .sound) (taken s c) _ (brightnessOf c) draws l;
+      room = rw (size, kept .rate) (g .room);
+      memo = rw (kept .memo) (recalled1 voctToHzAt (s .«freq_memo») (g .memo) (finiteOr (c .voct .0) zer) (fits-or (c .voct .0) f));
+    }
+
+    go : (k : ℕ) → GoodTick (tickUnless k s l (stepOf (x .string) (periodAt s c) (dampingOf c) (stretchOf c) (x .line))) (length l)
+    go zero = unfold tickUnless in subst (GoodTick _) size (step-good (x .string) (periodAt s c) (dampingOf c) (stretchOf c) (x .line) struck)
+    go (suc k) = unfold tickUnless in record { state = g; line = refl }
+
+pub tick-good : (s : KarplusStrong) (c : KarplusStrongControls) (draws : List ℕ) (l : List Float) → Good s (length l) → Fit c
+    → GoodTick (karplusStrongTickOf s c draws l) (length l)
 unfolding karplusStrongTickOf tickUnless
 tick-good s c draws l g f = go (karplusStrongRefusalOf s (length l))
   where
@@ -138,10 +101,9 @@ tick-good s c draws l g f = go (karplusStrongRefusalOf s (length l))
     go (suc k) = record { state = g; line = refl }
 
 -- ---- and so do the other calls
-made-good : (k : ℕ) (s t : KarplusStrong) (l m : List Float) → Good s (length l) → (k ≡ 0 → Good t (length m)) → let x = strungAfter s (madeUnless k (record { out = made.Made t; line = m }) l) in Good (x .string) (length (x .line))
-unfolding madeUnless madeOr
-made-good zero s t l m g h = h refl
-made-good (suc k) s t l m g h = g
+made-good : (k : ℕ) (x y : Strung) → Good (x .string) (length (x .line)) → (k ≡ 0 → Good (y .string) (length (y .line)))
+    → let z = strungAfter (madeUnless k x y) in Good (z .string) (length (z .line))
+made-good k x y g h = made-either (λ m. Good (m .out .«karplus_strong») (length (m .line))) k x y h (λ n. g)
 
 pub new-good : (r : Hertz) (l : List Float) → rateOk r ≡ true → maxLenOf r + 2 ≤ length l → Good (newKarplusStrong r) (length (blankOf 0 (maxLenOf r) l))
 new-good r l e h =
@@ -153,7 +115,7 @@ new-good r l e h =
       memo = inl refl;
     }
 
-reset-good : (s : KarplusStrong) (l : List Float) → Good s (length l) → Good (restOf s (s .len) newEdge) (length (blankOf 0 (s .len) l))
+reset-good : (s : KarplusStrong) (l : List Float) → Good s (length l) → Good (restarted s) (length (blankOf 0 (s .len) l))
 reset-good s l g =
     let a = g .sound in
     let q = a .least in
@@ -170,12 +132,23 @@ place-in i n h = go (ltb i n) refl
     go true e = ltb-true i n e
     go false e = h
 
-rate-good : (s : KarplusStrong) (r : Hertz) (l : List Float) → Good s (length l) → rateOk r ≡ true → maxLenOf r + 2 ≤ length l → Good (resizedString s r (maxLenOf r)) (length (blankOf (min (s .len) (maxLenOf r)) (maxLenOf r) l))
+rate-good : (s : KarplusStrong) (r : Hertz) (l : List Float) → Good s (length l) → rateOk r ≡ true → maxLenOf r + 2 ≤ length l
+    → Good (rated s r) (length (ratedLine s r l))
 rate-good s r l g e h =
     let a = g .sound in
     let m = max-len-range r e in
-    let z : length (blankOf (min (s .len) (maxLenOf r)) (maxLenOf r) l) ≡ length l = length-blank (min (s .len) (maxLenOf r)) (maxLenOf r) l (omega arith) in
-    record { sound = record { rate = e; least = omega arith; most = omega arith; place = place-in (s .«write_pos») (maxLenOf r) (omega arith); value = a .value }; room = omega arith; memo = g .memo }
+    let z : length (ratedLine s r l) ≡ length l = length-blank (min (s .len) (maxLenOf r)) (maxLenOf r) l (omega arith) in
+    record {
+      sound = record {
+        rate = e;
+        least = omega arith;
+        most = omega arith;
+        place = place-in (s .«write_pos») (maxLenOf r) (omega arith);
+        value = a .value;
+      };
+      room = omega arith;
+      memo = g .memo;
+    }
 
 -- a line that is taken has room, and the string's cells
 lent-length : (x : Strung) (l : List Float) (n : ℕ) → Good (x .string) n → maxLenOf (x .string .«sample_rate») + 2 ≤ length l → length (lentOf x l) ≡ length l
@@ -192,16 +165,12 @@ lent-good x l g = go (eqb (roomOf (x .string .«sample_rate») (length l)) 0) (e
     go false h = g
 
 -- what new made is the new string
-made-new : (k : ℕ) (t s : KarplusStrong) (m l x : List Float) → madeUnless k (record { out = made.Made t; line = m }) l ≡ record { out = made.Made s; line = x } → (k ≡ 0) × (s ≡ t) × (x ≡ m)
-unfolding madeUnless
-made-new zero t s m l x e = (refl, sym (taken (ap (λ (y : Making). y .out) e)), sym (ap (λ (y : Making). y .line) e))
-  where
-    taken : made.Made t ≡ made.Made s → t ≡ s
-    taken h = cc
-made-new (suc k) t s m l x e = absurd (never (ap (λ (y : Making). y .out) e))
-  where
-    never : made.Refused (suc k) ≡ made.Made s → ⊥
-    never h = let z : _≡_ {A = ℕ} 0 1 = cc in omega arith
+made-new : (k : ℕ) (x y : Strung) (s : KarplusStrong) (l : List Float) → madeUnless k x y ≡ done s l → (k ≡ 0) × (s ≡ y .string) × (l ≡ y .line)
+unfolding outcomeNumber
+made-new k x y s l =
+    made-either (λ m. m ≡ done s l → (k ≡ 0) × (s ≡ y .string) × (l ≡ y .line)) k x y
+    (λ z e. (z, sym (ap (λ (m : Making). m .out .«karplus_strong») e), sym (ap (λ (m : Making). m .line) e)))
+    (λ n e. absurd (n (ap (λ (m : Making). outcomeNumber (m .out .outcome)) e)))
 
 pub new-taken : (r : Hertz) (n : ℕ) → _≡_ {A = ℕ} (cond (rateOk r) (roomOf r n) 1) 0 → (rateOk r ≡ true) × (maxLenOf r + 2 ≤ n)
 new-taken r n e = go (rateOk r) refl e
@@ -210,10 +179,11 @@ new-taken r n e = go (rateOk r) refl e
     go true p h = (p, room-of r n h)
     go false p h = absurd (omega arith)
 
-pub first-is : (x : Strung) (f : First x) → (rateOk (f .rate) ≡ true) × (maxLenOf (f .rate) + 2 ≤ length (f .lent)) × (x .string ≡ newKarplusStrong (f .rate)) × (x .line ≡ blankOf 0 (maxLenOf (f .rate)) (f .lent))
+pub first-is : (x : Strung) (f : First x) → (rateOk (f .rate) ≡ true) × (maxLenOf (f .rate) + 2 ≤ length (f .lent))
+    × (x .string ≡ newKarplusStrong (f .rate)) × (x .line ≡ blankOf 0 (maxLenOf (f .rate)) (f .lent))
 unfolding karplusStrongNewOf
 first-is x f =
-    let m = made-new (cond (rateOk (f .rate)) (roomOf (f .rate) (length (f .lent))) 1) (newKarplusStrong (f .rate)) (x .string) (blankOf 0 (maxLenOf (f .rate)) (f .lent)) (f .lent) (x .line) (f .is-new) in
+    let m = made-new _ _ (newStrung (f .rate) (f .lent)) (x .string) (x .line) (f .is-new) in
     let t = new-taken (f .rate) (length (f .lent)) (m .0) in
     (t .0, t .1, m .1, m .2)
 
@@ -225,13 +195,12 @@ unfolding after karplusStrongResetOf karplusStrongSetSampleRateOf
 after-good x (Tick c draws) g f = let t = tick-good (x .string) c draws (x .line) g f in rw (t .line) (t .state)
 after-good x (Play c draws t o m) g f =
     unfold karplusStrongBlockOf in
-    block-keeps 1 _ _ _ (λ (y : Strung). Good (y .string) (length (y .line)))
+    block-keeps nPorts _ _ _ (λ (y : Strung). Good (y .string) (length (y .line)))
     (λ y h. let u = tick-good (y .string) c draws (y .line) h f in rw (u .line) (u .state)) x g t o m
-after-good x Reset g f = made-good (karplusStrongRefusalOf (x .string) (length (x .line))) (x .string) (restOf (x .string) (x .string .len) newEdge) (x .line) (blankOf 0 (x .string .len) (x .line)) g (λ (e : karplusStrongRefusalOf (x .string) (length (x .line)) ≡ 0). reset-good (x .string) (x .line) g)
+after-good x Reset g f = made-good _ x _ g (λ e. reset-good (x .string) (x .line) g)
 after-good x (SetSampleRate r) g f =
-    made-good (rateRefusalOf (x .string) r (length (x .line))) (x .string) (resizedString (x .string) r (maxLenOf r)) (x .line) (blankOf (min (x .string .len) (maxLenOf r)) (maxLenOf r) (x .line)) g
-    (λ (e : rateRefusalOf (x .string) r (length (x .line)) ≡ 0). let a = rate-accepted (x .string) r (length (x .line)) e in rate-good (x .string) r (x .line) g (a .1) (a .2))
+    made-good _ x _ g (λ e. let a = rate-accepted (x .string) r (length (x .line)) e in rate-good (x .string) r (x .line) g (a .1) (a .2))
 after-good x (Lend l) g f = lent-good x l g
 
-pub reached-good : (x : Strung) → ReachedString x → Good (x .string) (length (x .line))
+pub reached-good : (x : Strung) → ReachedKarplusStrong x → Good (x .string) (length (x .line))
 reached-good x h = always (λ (y : Strung). Good (y .string) (length (y .line))) first-good after-good h

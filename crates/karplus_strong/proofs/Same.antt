@@ -11,23 +11,22 @@ use lib.ListN.{length, getD, drop}
 use Rattle.laws.proofs.Over.{tab-ext}
 use Rattle.laws.specs.Lists.{tab, over}
 use Rattle.laws.specs.Machine.{replies}
-use Rattle.common.specs.Edge.{newEdge}
 use Rattle.common.specs.declared.Hertz.{Hertz}
-use Rattle.answer.specs.Answer.{hostNumber, voltsOf}
+use Rattle.answer.specs.Answer.{outcomeNumber, hostNumber, voltsOf}
 use Rattle.answer.specs.Block.{Block, block, blockRefusalOf, blockOf, ticksOf, afterTicks, answerAt, countedTo, joined, portsOf}
 use Rattle.answer.specs.declared.Answer.{Answer}
 use Rattle.answer.specs.declared.Tally.{Tally}
+use Rattle.karplus_strong.specs.Consts.{nPorts}
 use Rattle.karplus_strong.specs.Line.{blankOf}
-use Rattle.karplus_strong.specs.Step.{restOf}
-use Rattle.karplus_strong.specs.KarplusStrong.{maxLenOf, roomOf, karplusStrongRefusalOf, rateRefusalOf, Making, madeNumber, madeOr, madeUnless, karplusStrongResetOf, resizedString, karplusStrongSetSampleRateOf, karplusStrongTickOf, Strung, strung}
-use Rattle.karplus_strong.specs.Blocks.{firstRefusalOf, karplusStrongAnswerOf, karplusStrongNextOf, karplusStrongBlockOf}
+use Rattle.karplus_strong.specs.KarplusStrong.{maxLenOf, roomOf, karplusStrongRefusalOf, karplusStrongRateRefusalOf, Making, madeUnless}
+use Rattle.karplus_strong.specs.KarplusStrong.{karplusStrongResetOf, karplusStrongSetSampleRateOf, karplusStrongTickOf, Strung, strung, firstRefusalOf}
+use Rattle.karplus_strong.specs.KarplusStrong.{karplusStrongToldOf, karplusStrongNextOf, karplusStrongBlockOf, restarted, rated, ratedLine}
 use Rattle.karplus_strong.specs.Calls.{Call, Tick, Play, Reset, SetSampleRate, Lend, Ticked, Played, Told, strungAfter, lentOf, unstrung, after, reply}
 use Rattle.karplus_strong.specs.Promises.{Alike, SameTick, Same, Same-replies}
 use Rattle.karplus_strong.specs.declared.KarplusStrong.{KarplusStrong}
 use Rattle.karplus_strong.specs.declared.KarplusStrongControls.{KarplusStrongControls}
 use Rattle.karplus_strong.specs.declared.KarplusStrongTicked.{KarplusStrongTicked}
-use Rattle.karplus_strong.specs.declared.KarplusStrongMade.the-variants as made
-use Rattle.karplus_strong.proofs.Parts.{accepted, rate-accepted}
+use Rattle.karplus_strong.proofs.Parts.{accepted, rate-accepted, made-done, made-no, made-either}
 use Rattle.karplus_strong.proofs.Alike.{alike-blank, only-its-cells}
 
 -- what holds of one string over two such lines holds of both strings
@@ -37,7 +36,7 @@ of-lines P h x y e = subst (λ (s : KarplusStrong). P x (strung s (y .line))) (e
 
 -- ---- ticks
 pub record SameNext (c : KarplusStrongControls) (draws : List ℕ) (x y : Strung) : Type 0 where
-  pub told : karplusStrongAnswerOf c draws x ≡ karplusStrongAnswerOf c draws y
+  pub told : karplusStrongToldOf c draws x ≡ karplusStrongToldOf c draws y
   pub state : Same (karplusStrongNextOf c draws x) (karplusStrongNextOf c draws y)
 
 pub same-next : (c : KarplusStrongControls) (draws : List ℕ) (x y : Strung)
@@ -56,20 +55,20 @@ pub record SameBlock (a b : Block Strung) : Type 0 where
 
 module _ (c : KarplusStrongControls) (draws : List ℕ) (t : Tally) (x y : Strung) where
   abbrev answersOf : Strung → ℕ → Answer
-  answersOf z = answerAt (karplusStrongAnswerOf c draws) (karplusStrongNextOf c draws) z
+  answersOf z = answerAt (karplusStrongToldOf c draws) (karplusStrongNextOf c draws) z
 
   abbrev leftBy : ℕ → Strung → Strung
   leftBy n z = afterTicks (karplusStrongNextOf c draws) n z
 
   abbrev ticksFrom : ℕ → Strung → Block Strung
-  ticksFrom n z = ticksOf 1 (karplusStrongAnswerOf c draws) (karplusStrongNextOf c draws) n z t
+  ticksFrom n z = ticksOf nPorts (karplusStrongToldOf c draws) (karplusStrongNextOf c draws) n z t
 
   by-ticks : (n : ℕ) → ((i : ℕ) → answersOf x i ≡ answersOf y i) → Same (leftBy n x) (leftBy n y) → SameBlock (ticksFrom n x) (ticksFrom n y)
   unfolding ticksOf
   by-ticks n h e = record { told = λ j. told (e .string j) (λ i. h i j); state = e }
     where
       told : KarplusStrong → (ℕ → Answer) → Block KarplusStrong
-      told s a = block 0 s (countedTo t (λ i. hostNumber (a i)) n) (joined (λ i. portsOf 1 (voltsOf (a i))) n) (tab (λ i. hostNumber (a i)) n)
+      told s a = block 0 s (countedTo t (λ i. hostNumber (a i)) n) (joined (λ i. portsOf nPorts (voltsOf (a i))) n) (tab (λ i. hostNumber (a i)) n)
 
   -- two strings that are the same from the second tick on
   module _ (k : SameNext c draws x y) where
@@ -94,14 +93,14 @@ module _ (c : KarplusStrongControls) (draws : List ℕ) (t : Tally) (x y : Strun
   from-first e (suc n) = by-ticks (suc n) (answers (same-tick c draws x y e)) (later (same-tick c draws x y e) n)
 
   abbrev blockBy : ℕ → List Float → List ℕ → Strung → Block Strung
-  blockBy k o m z = blockOf 1 k (karplusStrongAnswerOf c draws) (karplusStrongNextOf c draws) z t o m
+  blockBy k o m z = blockOf nPorts k (karplusStrongToldOf c draws) (karplusStrongNextOf c draws) z t o m
 
   same-block : Same x y → (k : ℕ) (o : List Float) (m : List ℕ) → SameBlock (blockBy k o m x) (blockBy k o m y)
   unfolding blockOf
   same-block e k o m = pick (eqb n 0)
     where
       n : ℕ
-      n = blockRefusalOf (eqb (length o) (1 * length m)) k t (length m)
+      n = blockRefusalOf (eqb (length o) (nPorts * length m)) k t (length m)
 
       pick : (b : Bool) → SameBlock (cond b (ticksFrom (length m) x) (block n x t o m)) (cond b (ticksFrom (length m) y) (block n y t o m))
       pick true = from-first e (length m)
@@ -124,23 +123,20 @@ unfolding reply after
 block-call x y c draws t o m b = record { said = ap Played (b .told); state = b .state }
 
 -- a call that makes t, over either line
-abbrev SameMade : KarplusStrong → Making → Making → Type 0
-SameMade s u v = (madeNumber (u .out) ≡ madeNumber (v .out)) × Same (strungAfter s u) (strungAfter s v)
-
-abbrev makes : KarplusStrong → List Float → Making
-makes t a = record { out = made.Made t; line = a }
+abbrev SameMade : Making → Making → Type 0
+SameMade u v = (outcomeNumber (u .out .outcome) ≡ outcomeNumber (v .out .outcome)) × Same (strungAfter u) (strungAfter v)
 
 same-made : (k j : ℕ) → k ≡ j → (s t : KarplusStrong) (l m a b : List Float) → Alike (s .len) l m → (k ≡ 0 → Alike (t .len) a b)
-    → SameMade s (madeUnless k (makes t a) l) (madeUnless j (makes t b) m)
-same-made k j q s t l m a b e h = rw (← q) (go k h)
-  where
-    go : (k : ℕ) → (k ≡ 0 → Alike (t .len) a b) → SameMade s (madeUnless k (makes t a) l) (madeUnless k (makes t b) m)
-    go zero h = unfold madeUnless madeOr in (refl, record { string = refl; line = h refl })
-    go (suc k) h = unfold madeUnless madeOr in (refl, record { string = refl; line = e })
+    → SameMade (madeUnless k (strung s l) (strung t a)) (madeUnless j (strung s m) (strung t b))
+same-made k j q s t l m a b e h =
+    rw (← q)
+    (made-either (λ u. SameMade u (madeUnless k (strung s m) (strung t b))) k (strung s l) (strung t a)
+    (λ z. rw (← made-done k (strung s m) (strung t b) z) (refl, record { string = refl; line = h z }))
+    (λ n. rw (← made-no k (strung s m) (strung t b) n) (refl, record { string = refl; line = e })))
 
-same-reset : (s : KarplusStrong) (l m : List Float) → Alike (s .len) l m → SameMade s (karplusStrongResetOf s l) (karplusStrongResetOf s m)
+same-reset : (s : KarplusStrong) (l m : List Float) → Alike (s .len) l m → SameMade (karplusStrongResetOf s l) (karplusStrongResetOf s m)
 unfolding karplusStrongResetOf
-same-reset s l m e = same-made _ _ (ap (karplusStrongRefusalOf s) (e .size)) s (restOf s (s .len) newEdge) l m _ _ e blank
+same-reset s l m e = same-made _ _ (ap (karplusStrongRefusalOf s) (e .size)) s (restarted s) l m _ _ e blank
   where
     blank : karplusStrongRefusalOf s (length l) ≡ 0 → Alike (s .len) (blankOf 0 (s .len) l) (blankOf 0 (s .len) m)
     blank z =
@@ -150,14 +146,11 @@ same-reset s l m e = same-made _ _ (ap (karplusStrongRefusalOf s) (e .size)) s (
         alike-blank 0 (s .len) l m (omega arith) (e .size) (λ i k. absurd (not-suc-le-zero k))
 
 same-rate : (s : KarplusStrong) (rate : Hertz) (l m : List Float) → Alike (s .len) l m
-    → SameMade s (karplusStrongSetSampleRateOf s rate l) (karplusStrongSetSampleRateOf s rate m)
+    → SameMade (karplusStrongSetSampleRateOf s rate l) (karplusStrongSetSampleRateOf s rate m)
 unfolding karplusStrongSetSampleRateOf
-same-rate s rate l m e = same-made _ _ (ap (rateRefusalOf s rate) (e .size)) s (resizedString s rate (maxLenOf rate)) l m _ _ e blank
+same-rate s rate l m e = same-made _ _ (ap (karplusStrongRateRefusalOf s rate) (e .size)) s (rated s rate) l m _ _ e blank
   where
-    kept : List Float → List Float
-    kept a = blankOf (min (s .len) (maxLenOf rate)) (maxLenOf rate) a
-
-    blank : rateRefusalOf s rate (length l) ≡ 0 → Alike (maxLenOf rate) (kept l) (kept m)
+    blank : karplusStrongRateRefusalOf s rate (length l) ≡ 0 → Alike (maxLenOf rate) (ratedLine s rate l) (ratedLine s rate m)
     blank z =
         let h = rate-accepted s rate (length l) z .2 in
         alike-blank (min (s .len) (maxLenOf rate)) (maxLenOf rate) l m (omega arith) (e .size) (λ i k. e .cells i (omega arith))

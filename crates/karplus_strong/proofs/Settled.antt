@@ -2,8 +2,8 @@
 use mathlib.Core.Path.{_≡_, sym, _∙_}
 use Rattle.laws.specs.Machine.{Settles}
 use Rattle.karplus_strong.specs.Step.{Ticking}
-use Rattle.karplus_strong.specs.KarplusStrong.{Making, karplusStrongCellsOf, karplusStrongNewOf, karplusStrongTickOf, karplusStrongResetOf, karplusStrongSetSampleRateOf}
-use Rattle.karplus_strong.specs.Blocks.{karplusStrongBlockOf}
+use Rattle.karplus_strong.specs.KarplusStrong.{Making, karplusStrongCellsOf, karplusStrongNewOf, karplusStrongTickOf}
+use Rattle.karplus_strong.specs.KarplusStrong.{karplusStrongResetOf, karplusStrongSetSampleRateOf, karplusStrongBlockOf}
 use Rattle.karplus_strong.specs.Promises.{Settled}
 use Rattle.laws.proofs.Settled as laws
 

@@ -6,23 +6,20 @@ use mathlib.Core.Path.{_≡_, refl, sym, ap, _∙_, subst}
 use Prim.Native.Nat.{ℕ, _+_, zero, suc}
 use native.Mathlib.Omega.{arith}
 use lib.Dec.{eqb}
-use lib.Ieee.{Float, binary64, mul, neg}
+use lib.Ieee.{Float}
 use lib.ListN.{length}
 use borrow.Author.Tests.{le-leb}
-use Rattle.answer.specs.Answer.{markNumber, voltsOf, refusalOf, accepted}
-use Rattle.common.specs.Consts.{half}
+use Rattle.answer.specs.Answer.{volts1, answerOf, cleared, clean, markNumber, voltsOf, refusalOf, accepted}
+use Rattle.answer.specs.Mark.{markedOf, ruleOf}
 use Rattle.common.specs.Edge.{risingOf}
-use Rattle.common.specs.Memo.{recall1, voctToHzAt}
-use Rattle.laws.specs.Float.{zer, one, isFin}
-use Rattle.numeric.specs.Basic.{clampOf}
-use types.Kit.{pick}
-use Rattle.karplus_strong.proofs.Parts.{sound-line, heard-clean, heard-cleared}
+use Rattle.laws.specs.Float.{zer, isFin}
+use Rattle.karplus_strong.proofs.Parts.{zer-fin, sound-line, heard-known, step-either}
 use Rattle.karplus_strong.proofs.Reached.{Good}
-use Rattle.karplus_strong.specs.Consts.{loopLeak}
-use Rattle.karplus_strong.specs.Blocks.{triggerRefusalOf, firstRefusalOf}
-use Rattle.karplus_strong.specs.KarplusStrong.{maxLenOf, roomOf, karplusStrongRefusalOf, finiteOr, strikeIf, heardString, tickUnless, karplusStrongSoundOf, karplusStrongTickOf}
-use Rattle.karplus_strong.specs.Promises.{periodAt, risesAt}
-use Rattle.karplus_strong.specs.Step.{filterCoefOf, apCoefOf, targetDelayOf, tapOf, filteredOf, stretchedOf, Ticking, outOf, wroteOf, clearedOf, stepOf}
+use Rattle.karplus_strong.specs.KarplusStrong.{triggerRefusalOf, firstRefusalOf, dampingOf, brightnessOf, stretchOf, memoAt, periodAt}
+use Rattle.karplus_strong.specs.KarplusStrong.{maxLenOf, roomOf, karplusStrongRefusalOf, strikeIf, heardString}
+use Rattle.karplus_strong.specs.KarplusStrong.{tickUnless, karplusStrongSoundOf, karplusStrongTickOf}
+use Rattle.karplus_strong.specs.Promises.{taken}
+use Rattle.karplus_strong.specs.Step.{Ticking, stepOf}
 use Rattle.answer.specs.declared.Answer.{Answer}
 use Rattle.answer.specs.declared.Answer.the-variants as answer
 use Rattle.karplus_strong.specs.declared.KarplusStrong.{KarplusStrong}
@@ -31,36 +28,23 @@ use Rattle.karplus_strong.specs.declared.KarplusStrongControls.{KarplusS
 -- ---- what a step answers
 -- an accepted answer: clean and finite, or cleared and 0.0
 abbrev pub Heard : Answer → Type 0
-Heard a = ((markNumber a ≡ 4) × (isFin (voltsOf a .p10) ≡ true)) ⊎ ((markNumber a ≡ 1) × (voltsOf a ≡ outOf zer))
+Heard a = ((markNumber a ≡ clean) × (isFin (voltsOf a .p10) ≡ true)) ⊎ ((markNumber a ≡ cleared) × (voltsOf a ≡ volts1 zer))
 
 pub step-heard : (s : KarplusStrong) (p d t : Float) (l : List Float) → Heard (stepOf s p d t l .out .answer)
-unfolding stepOf
-step-heard s p d t l = go v refl
-  where
-    y : Float
-    y = filteredOf s (tapOf l (s .«write_pos») (s .len) (targetDelayOf p (filterCoefOf d) (apCoefOf t))) (filterCoefOf d)
+unfolding markedOf ruleOf answerOf markNumber voltsOf
+step-heard s p d t l =
+    step-either (λ u. Heard (u .out .answer)) s p d t l
+    (λ y z v e. subst Heard (heard-known v false e) (inl (refl, e)))
+    (subst Heard (heard-known zer true zer-fin) (inr (refl, refl)))
 
-    z : Float
-    z = stretchedOf s y (apCoefOf t)
-
-    v : Float
-    v = mul binary64 z loopLeak
-
-    pick : (b : Bool) (v : Float) → isFin v ≡ b → Heard (cond b (wroteOf s y z v l) (clearedOf s l) .out .answer)
-    pick true v e = subst Heard (heard-clean v e) (inl (unfold markNumber in refl, unfold voltsOf in e))
-    pick false v e = subst Heard heard-cleared (inr (unfold markNumber in refl, unfold voltsOf in refl))
-
-    go : (x : Float) → v ≡ x → Heard (cond (isFin x) (wroteOf s y z x l) (clearedOf s l) .out .answer)
-    go x e = pick (isFin x) x refl
-
-pub heard-number : (a : Answer) → Heard a → refusalOf a ≡ 0
+pub heard-none : (a : Answer) → Heard a → refusalOf a ≡ 0
 unfolding markNumber refusalOf
-heard-number (answer.Clean v) h = refl
-heard-number (answer.Cleared v) h = refl
-heard-number (answer.NotFinite v) h = refl
-heard-number (answer.Lost v) h = refl
-heard-number (answer.Refused n) (inl h) = absurd (let q = h .0 in omega arith)
-heard-number (answer.Refused n) (inr h) = absurd (let q = h .0 in omega arith)
+heard-none (answer.Clean v) h = refl
+heard-none (answer.Cleared v) h = refl
+heard-none (answer.NotFinite v) h = refl
+heard-none (answer.Lost v) h = refl
+heard-none (answer.Refused n) (inl h) = absurd (let q = h .0 in omega arith)
+heard-none (answer.Refused n) (inr h) = absurd (let q = h .0 in omega arith)
 
 pub heard-accepted : (a : Answer) → Heard a → accepted a ≡ true
 unfolding markNumber accepted
@@ -74,39 +58,45 @@ heard-accepted (answer.Refused n) (inr h) = absurd (let q = h .0 in omega arith)
 -- ---- what a tick answers: the step's, unless it is refused
 unfoldable pub struckStep : KarplusStrong → KarplusStrongControls → List ℕ → List Float → Ticking
 struckStep s c draws l =
-    let struck = strikeIf (risesAt s c) (heardString s (risingOf (s .«trigger_edge») (c .trigger) .edge) (recall1 voctToHzAt (s .«freq_memo») (finiteOr (c .voct .0) zer))) (periodAt s c) (clampOf (finiteOr (c .brightness) half) zer one) draws l in
-    stepOf (struck .out) (periodAt s c) (clampOf (finiteOr (c .damping) half) zer one) (clampOf (finiteOr (c .stretch) zer) (neg one) one) (struck .line)
+    let struck = strikeIf (taken s c) (heardString s (risingOf (s .«trigger_edge») (c .trigger) .edge) (memoAt s c)) (periodAt s c) (brightnessOf c) draws l in
+    stepOf (struck .string) (periodAt s c) (dampingOf c) (stretchOf c) (struck .line)
 
-pub sound-is : (s : KarplusStrong) (c : KarplusStrongControls) (draws : List ℕ) (l : List Float) → karplusStrongSoundOf s c draws l ≡ tickUnless (triggerRefusalOf s c draws) s l (struckStep s c draws l)
+pub sound-is : (s : KarplusStrong) (c : KarplusStrongControls) (draws : List ℕ) (l : List Float)
+    → karplusStrongSoundOf s c draws l ≡ tickUnless (triggerRefusalOf s c draws) s l (struckStep s c draws l)
 unfolding karplusStrongSoundOf triggerRefusalOf struckStep
 sound-is s c draws l = refl
 
 pub struck-heard : (s : KarplusStrong) (c : KarplusStrongControls) (draws : List ℕ) (l : List Float) → Heard (struckStep s c draws l .out .answer)
 unfolding struckStep
 struck-heard s c draws l =
-    let struck = strikeIf (risesAt s c) (heardString s (risingOf (s .«trigger_edge») (c .trigger) .edge) (recall1 voctToHzAt (s .«freq_memo») (finiteOr (c .voct .0) zer))) (periodAt s c) (clampOf (finiteOr (c .brightness) half) zer one) draws l in
-    step-heard (struck .out) (periodAt s c) (clampOf (finiteOr (c .damping) half) zer one) (clampOf (finiteOr (c .stretch) zer) (neg one) one) (struck .line)
+    let struck = strikeIf (taken s c) (heardString s (risingOf (s .«trigger_edge») (c .trigger) .edge) (memoAt s c)) (periodAt s c) (brightnessOf c) draws l in
+    step-heard (struck .string) (periodAt s c) (dampingOf c) (stretchOf c) (struck .line)
 
-pub unless-number : (k : ℕ) (s : KarplusStrong) (l : List Float) (t : Ticking) → refusalOf (t .out .answer) ≡ 0 → refusalOf (tickUnless k s l t .out .answer) ≡ k
+pub unless-number : (k : ℕ) (s : KarplusStrong) (l : List Float) (t : Ticking) → refusalOf (t .out .answer) ≡ 0
+    → refusalOf (tickUnless k s l t .out .answer) ≡ k
 unfolding tickUnless refusalOf
 unless-number zero s l t h = h
 unless-number (suc k) s l t h = refl
 
 -- an accepted tick went on to the step, and a refused one leaves everything
-pub twice-heard : (k j : ℕ) (s : KarplusStrong) (l : List Float) (t : Ticking) → Heard (t .out .answer) → accepted (tickUnless k s l (tickUnless j s l t) .out .answer) ≡ true → Heard (tickUnless k s l (tickUnless j s l t) .out .answer)
+pub twice-heard : (k j : ℕ) (s : KarplusStrong) (l : List Float) (t : Ticking) → Heard (t .out .answer)
+    → accepted (tickUnless k s l (tickUnless j s l t) .out .answer) ≡ true → Heard (tickUnless k s l (tickUnless j s l t) .out .answer)
 unfolding tickUnless accepted
 twice-heard zero zero s l t h e = h
 twice-heard zero (suc j) s l t h e = absurd (true≢false (sym e))
 twice-heard (suc k) j s l t h e = absurd (true≢false (sym e))
 
-pub twice-left : (k j : ℕ) (s : KarplusStrong) (l : List Float) (t : Ticking) → Heard (t .out .answer) → accepted (tickUnless k s l (tickUnless j s l t) .out .answer) ≡ false
+pub twice-left : (k j : ℕ) (s : KarplusStrong) (l : List Float) (t : Ticking) → Heard (t .out .answer)
+    → accepted (tickUnless k s l (tickUnless j s l t) .out .answer) ≡ false
     → (tickUnless k s l (tickUnless j s l t) .out .«karplus_strong» ≡ s) × (tickUnless k s l (tickUnless j s l t) .line ≡ l)
 unfolding tickUnless
 twice-left zero zero s l t h e = absurd (true≢false (sym (heard-accepted (t .out .answer) h) ∙ e))
 twice-left zero (suc j) s l t h e = (refl, refl)
 twice-left (suc k) j s l t h e = (refl, refl)
 
-pub tick-is : (s : KarplusStrong) (c : KarplusStrongControls) (draws : List ℕ) (l : List Float) → karplusStrongTickOf s c draws l ≡ tickUnless (karplusStrongRefusalOf s (length l)) s l (tickUnless (triggerRefusalOf s c draws) s l (struckStep s c draws l))
+pub tick-is : (s : KarplusStrong) (c : KarplusStrongControls) (draws : List ℕ) (l : List Float)
+    → karplusStrongTickOf s c draws l
+    ≡ tickUnless (karplusStrongRefusalOf s (length l)) s l (tickUnless (triggerRefusalOf s c draws) s l (struckStep s c draws l))
 unfolding karplusStrongTickOf
 tick-is s c draws l = ap (tickUnless (karplusStrongRefusalOf s (length l)) s l) (sound-is s c draws l)
 
@@ -122,9 +112,11 @@ good-room s n g = simp (le-leb (maxLenOf (s .«sample_rate») + 2) n (g .room))
 pub good-none : (s : KarplusStrong) (n : ℕ) → Good s n → karplusStrongRefusalOf s n ≡ 0
 good-none s n g = good-refusal s n n g ∙ good-room s n g
 
-pub good-tick : (s : KarplusStrong) (c : KarplusStrongControls) (draws : List ℕ) (l : List Float) → Good s (length l) → karplusStrongTickOf s c draws l ≡ tickUnless (triggerRefusalOf s c draws) s l (struckStep s c draws l)
+pub good-tick : (s : KarplusStrong) (c : KarplusStrongControls) (draws : List ℕ) (l : List Float) → Good s (length l)
+    → karplusStrongTickOf s c draws l ≡ tickUnless (triggerRefusalOf s c draws) s l (struckStep s c draws l)
 unfolding tickUnless
-good-tick s c draws l g = tick-is s c draws l ∙ ap (λ (k : ℕ). tickUnless k s l (tickUnless (triggerRefusalOf s c draws) s l (struckStep s c draws l))) (good-none s (length l) g)
+good-tick s c draws l g =
+    tick-is s c draws l ∙ ap (λ (k : ℕ). tickUnless k s l (tickUnless (triggerRefusalOf s c draws) s l (struckStep s c draws l))) (good-none s (length l) g)
 
 -- and so is a block's first
 pub good-first : (s : KarplusStrong) (c : KarplusStrongControls) (draws : List ℕ) (n k : ℕ) → Good s n

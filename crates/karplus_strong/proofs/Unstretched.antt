@@ -17,7 +17,8 @@ use lib.Ieee.Positive.{positive, above, above-of-le}
 use borrow.Author.Tests.{ltb-true}
 use Rattle.laws.proofs.Always.{always}
 use Rattle.laws.specs.Machine.{Reached}
-use Rattle.laws.proofs.Interval.{Under, Within, part-of, round-sized, sized-mul, sum-under, unit-within, within-add, within-finite, within-minus, within-mul, within-of, within-to}
+use Rattle.laws.proofs.Interval.{Under, Within, part-of, round-sized, sized-mul, sum-under, unit-within}
+use Rattle.laws.proofs.Interval.{within-add, within-finite, within-minus, within-mul, within-of, within-to}
 use Rattle.laws.proofs.Order.{le-of-lt-true, float-le-trans}
 use Rattle.laws.proofs.Tests.{of-true}
 use Rattle.laws.proofs.Weights.{weighed}
@@ -30,27 +31,26 @@ use Rattle.numeric.specs.Basic.{clampOf, maxOf, wholeOf, realOf}
 use Rattle.numeric.specs.Draw.{bipolarOf}
 use Rattle.common.proofs.DrawLaws.{draw-below, draws-fine}
 use Rattle.common.specs.Consts.{half}
-use Rattle.common.specs.Edge.{newEdge, risingOf}
-use Rattle.common.specs.Memo.{recall1, voctToHzAt}
 use Rattle.common.specs.Tests.{rateOk, drawsOk, drawsRefusalOf}
 use Rattle.common.specs.declared.Hertz.{Hertz}
-use Rattle.common.specs.declared.Memo1.{Memo1}
 use Rattle.answer.proofs.Blocks.{ticks-keep, block-keeps, block-refusal, block-fits}
 use Rattle.answer.specs.Block.{afterTicks, answerAt}
-use Rattle.answer.specs.Answer.{markNumber, accepted}
+use Rattle.answer.specs.Answer.{answerOf, clean, markNumber, accepted}
+use Rattle.answer.specs.Mark.{markedOf, ruleOf}
 use Rattle.answer.specs.declared.Answer.{Answer}
-use Rattle.karplus_strong.specs.Consts.{loopLeak}
+use Rattle.karplus_strong.specs.Consts.{nPorts, loopLeak}
 use Rattle.karplus_strong.specs.Line.{blankAt, blankOf, impulseOf, pulseOf, excitedAt, excitedOf, sumTo, meanOf, levelAt, levelOf, struckOf}
-use Rattle.karplus_strong.specs.Step.{filterCoefOf, apCoefOf, filterDelayOf, apDelayOf, targetDelayOf, offsetOne, offsetTwo, tapOf, filteredOf, stretchedOf, Ticking, restOf, stepOf}
-use Rattle.karplus_strong.specs.Blocks.{triggerRefusalOf, firstRefusalOf, karplusStrongNextOf, karplusStrongBlockOf}
-use Rattle.karplus_strong.specs.KarplusStrong.{maxLenOf, karplusStrongRefusalOf, roomOf, rateRefusalOf, madeOr, madeUnless, karplusStrongResetOf, resizedString, karplusStrongSetSampleRateOf, finiteOr, periodOf, struckLen, strikeOf, strikeIf, heardString, tickUnless, karplusStrongTickOf, Strung, strung}
+use Rattle.karplus_strong.specs.Step.{filterCoefOf, apCoefOf, filterDelayOf, apDelayOf, targetDelayOf, offsetOne}
+use Rattle.karplus_strong.specs.Step.{offsetTwo, tapOf, filteredOf, stretchedOf, Ticking, restOf, stepOf}
+use Rattle.karplus_strong.specs.KarplusStrong.{triggerRefusalOf, firstRefusalOf, karplusStrongNextOf, karplusStrongBlockOf, maxLenOf, roomOf, madeUnless}
+use Rattle.karplus_strong.specs.KarplusStrong.{karplusStrongResetOf, karplusStrongSetSampleRateOf, finiteOr, periodOf, struckLen, strikeOf, strikeIf}
+use Rattle.karplus_strong.specs.KarplusStrong.{tickUnless, karplusStrongTickOf, Strung, strung, dampingOf, brightnessOf, stretchOf, memoAt, periodAt}
 use Rattle.karplus_strong.specs.Calls.{Call, Tick, Play, Reset, SetSampleRate, Lend, strungAfter, lentOf, after, FitCall, First}
-use Rattle.karplus_strong.specs.Promises.{periodAt, risesAt, NoStretch, Unstretched, Never-cleared, Block-never-cleared}
+use Rattle.karplus_strong.specs.Promises.{taken, NoStretch, Unstretched, Never-cleared, Block-never-cleared}
 use Rattle.karplus_strong.specs.declared.KarplusStrong.{KarplusStrong}
 use Rattle.karplus_strong.specs.declared.KarplusStrongControls.{KarplusStrongControls}
-use Rattle.karplus_strong.specs.declared.KarplusStrongMade.the-variants as made
 use Rattle.karplus_strong.proofs.Alike.{getD-over, length-struck}
-use Rattle.karplus_strong.proofs.Parts.{Sound, damped, delay-range, heard-clean, memo-number, struck-room}
+use Rattle.karplus_strong.proofs.Parts.{Sound, damped, delay-range, made-either, heard-known, heard-number, struck-fits}
 use Rattle.karplus_strong.proofs.Promised.{struck-short, block-accepts}
 use Rattle.karplus_strong.proofs.Reached.{Good, tick-good, first-is, first-good, after-good}
 use Rattle.karplus_strong.proofs.Ticks.{struckStep, good-tick}
@@ -88,8 +88,10 @@ sum-within l (suc n) h k =
     let b = k n (last n) in
     let p = a .1 in
     let q = b .1 in
-    subst (λ (x : Float). (s : Bool) × Under (4 * suc n) 1 s x) (sym (add-round (sumTo l n) (getD l n nan) (a .0) (b .0) (p .0) (p .1) (q .0) (q .1) (p .2) (q .2) (p .4) (q .4)))
-    (sum-under (a .0) (b .0) (p .0 * q .1) (q .0 * p .1) (p .1 * q .1) (4 * suc n) 1 (mul-pos (p .2) (q .2)) (lit< tt) (total (p .0) (p .1) (q .0) (q .1) n (p .3) (q .3)) (exact-at false (4 * suc n) 0 (small n h) (lit≤ tt)))
+    subst (λ (x : Float). (s : Bool) × Under (4 * suc n) 1 s x)
+    (sym (add-round (sumTo l n) (getD l n nan) (a .0) (b .0) (p .0) (p .1) (q .0) (q .1) (p .2) (q .2) (p .4) (q .4)))
+    (sum-under (a .0) (b .0) (p .0 * q .1) (q .0 * p .1) (p .1 * q .1) (4 * suc n) 1 (mul-pos (p .2) (q .2)) (lit< tt)
+    (total (p .0) (p .1) (q .0) (q .1) n (p .3) (q .3)) (exact-at false (4 * suc n) 0 (small n h) (lit≤ tt)))
   where
     up : (n : ℕ) → n ≤ suc n
     up n = omega arith
@@ -104,7 +106,8 @@ sum-within l (suc n) h k =
     small n h = omega arith
 
     total : (a c b d n : ℕ) → a * 1 ≤ 4 * n * c → b ≤ 4 * d → (a * d + b * c) * 1 ≤ 4 * suc n * (c * d)
-    total a c b d n h g = le-trans (le-of-eq (mul-one (a * d + b * c))) (le-trans (add-le-add (mul-le-mul-right d (le-trans (le-of-eq (sym (mul-one a))) h)) (mul-le-mul-right c g)) (le-of-eq (gather c d n)))
+    total a c b d n h g = le-trans (le-of-eq (mul-one (a * d + b * c)))
+        (le-trans (add-le-add (mul-le-mul-right d (le-trans (le-of-eq (sym (mul-one a))) h)) (mul-le-mul-right c g)) (le-of-eq (gather c d n)))
       where
         gather : (c d n : ℕ) → 4 * n * c * d + 4 * d * c ≡ 4 * suc n * (c * d)
         gather c d n = omega arith
@@ -120,7 +123,8 @@ mean-within l n N h k =
     turn : (c n : ℕ) → 4 * n * c ≡ 4 * (c * n)
     turn c n = omega arith
 
-struck-within : (n : ℕ) (b : Float) (d : List ℕ) (l : List Float) → 0 < n → n ≤ 9611 → drawsOk d n ≡ true → T (le zer b) → T (le b one) → (i : ℕ) → i < n → Within 3 (getD (struckOf n b d l) i nan)
+struck-within : (n : ℕ) (b : Float) (d : List ℕ) (l : List Float) → 0 < n → n ≤ 9611 → drawsOk d n ≡ true → T (le zer b) → T (le b one) → (i : ℕ) → i < n
+    → Within 3 (getD (struckOf n b d l) i nan)
 unfolding struckOf levelOf excitedOf levelAt excitedAt
 struck-within n b d l N h ok lo hi i q =
     subst (Within 3) (sym (getD-over (levelAt (meanOf n x) x) n x i q))
@@ -142,7 +146,7 @@ record Calm (s : KarplusStrong) (l : List Float) : Type 0 where
 
 record CalmTick (t : Ticking) : Type 0 where
   calm : Calm (t .out .«karplus_strong») (t .line)
-  mark : accepted (t .out .answer) ≡ true → markNumber (t .out .answer) ≡ 4
+  mark : accepted (t .out .answer) ≡ true → markNumber (t .out .answer) ≡ clean
 
 -- a delay that both taps can be read at
 record Delay (x : Float) : Type 0 where
@@ -155,7 +159,8 @@ tap-within : (l : List Float) (from len : ℕ) (x : Float) → from < len → De
 unfolding tapOf
 tap-within l from len x h d k =
     let w = tap-weights x (d .fits) (d .sign) (d .least) (d .most) in
-    weighed 3 49 (2 ^ 52 - w .0) (w .0) (getD l ((from + offsetOne len (wholeOf x)) % len) nan) (getD l ((from + offsetTwo len (wholeOf x)) % len) nan) (sub binary64 one (sub binary64 x (realOf (wholeOf x)))) (sub binary64 x (realOf (wholeOf x))) (lit≤ tt)
+    weighed 3 49 (2 ^ 52 - w .0) (w .0) (getD l ((from + offsetOne len (wholeOf x)) % len) nan) (getD l ((from + offsetTwo len (wholeOf x)) % len) nan)
+    (sub binary64 one (sub binary64 x (realOf (wholeOf x)))) (sub binary64 x (realOf (wholeOf x))) (lit≤ tt)
     (exact-at false (2 ^ 52 - w .0) 49 (less (w .0)) (lit≤ tt)) (exact-at false (w .0) 49 (short (w .0) (w .1)) (lit≤ tt)) (whole (w .0) (w .1))
     (k ((from + offsetOne len (wholeOf x)) % len) (mod-lt (from + offsetOne len (wholeOf x)) {m = len} (omega arith)))
     (k ((from + offsetTwo len (wholeOf x)) % len) (mod-lt (from + offsetTwo len (wholeOf x)) {m = len} (omega arith)))
@@ -170,12 +175,14 @@ tap-within l from len x h d k =
     whole : (r : ℕ) → r ≤ 4503599627370496 → 4503599627370496 - r + r ≡ 4503599627370496
     whole r h = omega arith
 
-filtered-within : (s : KarplusStrong) (x d : Float) → T (le zer d) → T (le d one) → Within 3 x → Within 3 (s .«lp_state») → Within 3 (filteredOf s x (filterCoefOf d))
+filtered-within : (s : KarplusStrong) (x d : Float) → T (le zer d) → T (le d one) → Within 3 x → Within 3 (s .«lp_state»)
+    → Within 3 (filteredOf s x (filterCoefOf d))
 unfolding filteredOf filterCoefOf
 filtered-within s x d l h X L =
     let w = filter-weights d l h in
     let c = filterCoefOf d in
-    weighed 3 50 (w .0) (2 ^ 53 - w .0) x (s .«lp_state») c (sub binary64 one c) (lit≤ tt) (exact-upto (w .0) (w .2)) (exact-upto (2 ^ 53 - w .0) (less (w .0))) (whole (w .0) (w .2)) X L (w .3) (w .4)
+    weighed 3 50 (w .0) (2 ^ 53 - w .0) x (s .«lp_state») c (sub binary64 one c) (lit≤ tt) (exact-upto (w .0) (w .2))
+    (exact-upto (2 ^ 53 - w .0) (less (w .0))) (whole (w .0) (w .2)) X L (w .3) (w .4)
   where
     less : (p : ℕ) → 9007199254740992 - p ≤ 9007199254740992
     less p = omega arith
@@ -210,7 +217,7 @@ step-calm s p d bend l flat h k lo hi g c =
     rw settled
     (record {
       calm = record { cells = λ i q. cell i q (ℕ-discrete i (s .«write_pos»)); lp = filtered; x1 = filtered; y1 = bent };
-      mark = λ e. subst (λ (a : Answer). markNumber a ≡ 4) (heard-clean v settled) (unfold markNumber in refl);
+      mark = λ e. subst (λ (a : Answer). markNumber a ≡ clean) (heard-known v false settled) (unfold markedOf ruleOf answerOf markNumber in refl);
     })
   where
     x : Float
@@ -274,7 +281,8 @@ delay-fine r f d t e q = record { fits = max-fits; sign = finite-positive x (abo
     most = delay-range r f d t e q
 
     max-fits : F64 x
-    max-fits = unfold targetDelayOf maxOf in cond-fits binary64 (lt one y) y (cond (isNan one) y one) (sub-fits binary64 left bent) (unfold isNan fits ofBits in tt)
+    max-fits =
+        unfold targetDelayOf maxOf in cond-fits binary64 (lt one y) y (cond (isNan one) y one) (sub-fits binary64 left bent) (unfold isNan fits ofBits in tt)
 
     least : T (le one x)
     least = unfold targetDelayOf maxOf in go (lt one y) refl
@@ -287,35 +295,33 @@ struck-calm : (rising : Bool) (t : KarplusStrong) (p b d bend : Float) (draws : 
     → eq bend zer ≡ true → _≡_ {A = ℕ} (cond rising (drawsRefusalOf (struckLen p) draws) 0) 0 → struckLen p ≤ length l → struckLen p ≤ 9611
     → t .«write_pos» < t .len → t .len ≤ length l → T (le zer b) → T (le b one) → T (le zer d) → T (le d one)
     → Delay (targetDelayOf p (filterCoefOf d) (apCoefOf bend)) → Calm t l
-    → CalmTick (stepOf (strikeIf rising t p b draws l .out) p d bend (strikeIf rising t p b draws l .line))
+    → CalmTick (stepOf (strikeIf rising t p b draws l .string) p d bend (strikeIf rising t p b draws l .line))
 struck-calm false t p b d bend draws l flat e r n h k bl bh dl dh g c = unfold strikeIf in step-calm t p d bend l flat h k dl dh g c
 struck-calm true t p b d bend draws l flat e r n h k bl bh dl dh g c =
     unfold strikeIf strikeOf in
     (let q = length-struck (struckLen p) b draws l r in
     let z : 0 < struckLen p = unfold struckLen in omega arith in
     step-calm (restOf t (struckLen p) (t .«trigger_edge»)) p d bend (struckOf (struckLen p) b draws l) flat z (omega arith) dl dh g
-    (record { cells = struck-within (struckLen p) b draws l z n (draws-fine (struckLen p) draws e) bl bh; lp = zero-within; x1 = zero-within; y1 = zero-within }))
+    (record {
+      cells = struck-within (struckLen p) b draws l z n (draws-fine (struckLen p) draws e) bl bh;
+      lp = zero-within;
+      x1 = zero-within;
+      y1 = zero-within;
+    }))
 
 sound-calm : (s : KarplusStrong) (c : KarplusStrongControls) (draws : List ℕ) (l : List Float) → Good s (length l) → NoStretch c
     → triggerRefusalOf s c draws ≡ 0 → Calm s l → CalmTick (struckStep s c draws l)
 unfolding struckStep triggerRefusalOf
 sound-calm s c draws l g z e k =
-    struck-calm (risesAt s c) (heardString s (risingOf (s .«trigger_edge») (c .trigger) .edge) memo) (periodAt s c)
-    (clampOf (finiteOr (c .brightness) half) zer one) (clampOf (finiteOr (c .damping) half) zer one) (clampOf (finiteOr (c .stretch) zer) (neg one) one) draws l z e
-    (struck-room (s .«sample_rate») (memo .val) (periodAt s c) (length l) refl (a .rate) number (g .room)) (struck-short s c a) (a .place)
+    struck-calm (taken s c) _ (periodAt s c) (brightnessOf c) (dampingOf c) (stretchOf c) draws l z e
+    (struck-fits s c a (length l) (g .room)) (struck-short s c a) (a .place)
     (let q = a .most in let r = g .room in omega arith)
     (damped (c .brightness) .0) (damped (c .brightness) .1) (damped (c .damping) .0) (damped (c .damping) .1)
-    (delay-fine (s .«sample_rate») (memo .val) (c .damping) (c .stretch) (a .rate) number)
+    (delay-fine (s .«sample_rate») (memoAt s c .val) (c .damping) (c .stretch) (a .rate) (heard-number s c a))
     (record { cells = k .cells; lp = k .lp; x1 = k .x1; y1 = k .y1 })
   where
     a : Sound s
     a = g .sound
-
-    memo : Memo1
-    memo = recall1 voctToHzAt (s .«freq_memo») (finiteOr (c .voct .0) zer)
-
-    number : T (not (isNan (memo .val .0)))
-    number = memo-number (s .«freq_memo») (c .voct .0) (finiteOr (c .voct .0) zer) memo (a .value) refl refl
 
 tick-calm : (s : KarplusStrong) (c : KarplusStrongControls) (draws : List ℕ) (l : List Float) → Good s (length l) → NoStretch c → Calm s l
     → CalmTick (karplusStrongTickOf s c draws l)
@@ -334,10 +340,9 @@ blank-within a n l h i q = subst (Within 3) (sym (getD-over (blankAt a l) n l i 
     go true e = h i (ltb-true i a e)
     go false e = zero-within
 
-made-calm : (k : ℕ) (s t : KarplusStrong) (l m : List Float) → Calm s l → Calm t m → let x = strungAfter s (madeUnless k (record { out = made.Made t; line = m }) l) in Calm (x .string) (x .line)
-unfolding madeUnless madeOr
-made-calm zero s t l m c d = d
-made-calm (suc k) s t l m c d = c
+made-calm : (k : ℕ) (x y : Strung) → Calm (x .string) (x .line) → Calm (y .string) (y .line)
+    → let z = strungAfter (madeUnless k x y) in Calm (z .string) (z .line)
+made-calm k x y c d = made-either (λ m. Calm (m .out .«karplus_strong») (m .line)) k x y (λ z. d) (λ n. c)
 
 lent-calm : (s : KarplusStrong) (l m : List Float) → Calm s l → Calm s (lentOf (strung s l) m)
 unfolding lentOf
@@ -357,16 +362,22 @@ tick-quiet c draws f z y q =
     let t = tick-good (y .string) c draws (y .line) (q .0) f in
     (rw (t .line) (t .state), tick-calm (y .string) c draws (y .line) (q .0) z (q .1) .calm)
 
-after-calm : (x : Strung) (c : Call) → Good (x .string) (length (x .line)) → Unstretched c → Calm (x .string) (x .line) → Calm (after x c .string) (after x c .line)
+after-calm : (x : Strung) (c : Call) → Good (x .string) (length (x .line)) → Unstretched c → Calm (x .string) (x .line)
+    → Calm (after x c .string) (after x c .line)
 unfolding after karplusStrongResetOf karplusStrongSetSampleRateOf
 after-calm x (Tick c draws) g f k = tick-calm (x .string) c draws (x .line) g (f .1) k .calm
-after-calm x (Play c draws t o m) g f k = unfold karplusStrongBlockOf in block-keeps 1 _ _ _ Quiet (tick-quiet c draws (f .0) (f .1)) x (g, k) t o m .1
+after-calm x (Play c draws t o m) g f k = unfold karplusStrongBlockOf in block-keeps nPorts _ _ _ Quiet (tick-quiet c draws (f .0) (f .1)) x (g, k) t o m .1
 after-calm x Reset g f k =
-    made-calm (karplusStrongRefusalOf (x .string) (length (x .line))) (x .string) (restOf (x .string) (x .string .len) newEdge) (x .line) (blankOf 0 (x .string .len) (x .line)) k
+    made-calm _ x _ k
     (record { cells = blank-within 0 (x .string .len) (x .line) (λ i q. absurd (not-suc-le-zero q)); lp = zero-within; x1 = zero-within; y1 = zero-within })
 after-calm x (SetSampleRate r) g f k =
-    made-calm (rateRefusalOf (x .string) r (length (x .line))) (x .string) (resizedString (x .string) r (maxLenOf r)) (x .line) (blankOf (min (x .string .len) (maxLenOf r)) (maxLenOf r) (x .line)) k
-    (record { cells = blank-within (min (x .string .len) (maxLenOf r)) (maxLenOf r) (x .line) (λ i q. k .cells i (omega arith)); lp = k .lp; x1 = k .x1; y1 = k .y1 })
+    made-calm _ x _ k
+    (record {
+      cells = blank-within (min (x .string .len) (maxLenOf r)) (maxLenOf r) (x .line) (λ i q. k .cells i (omega arith));
+      lp = k .lp;
+      x1 = k .x1;
+      y1 = k .y1;
+    })
 after-calm x (Lend l) g f k = go (eqb (roomOf (x .string .«sample_rate») (length l)) 0)
   where
     go : (b : Bool) → Calm (x .string) (cond b (lentOf x l) (x .line))
@@ -383,7 +394,15 @@ fit (Lend l) f = f
 first-calm : (x : Strung) → First x → Calm (x .string) (x .line)
 first-calm x f =
     let i = first-is x f in
-    rw (i .2, i .3) (record { cells = blank-within 0 (maxLenOf (f .rate)) (f .lent) (λ j q. absurd (not-suc-le-zero q)); lp = zero-within; x1 = zero-within; y1 = zero-within })
+    rw (
+      i .2,
+      i .3,
+    ) (record {
+      cells = blank-within 0 (maxLenOf (f .rate)) (f .lent) (λ j q. absurd (not-suc-le-zero q));
+      lp = zero-within;
+      x1 = zero-within;
+      y1 = zero-within;
+    })
 
 reached-quiet : (x : Strung) → Reached First Unstretched after x → Quiet x
 reached-quiet x h = always Quiet (λ y i. (first-good y i, first-calm y i)) (λ y c p u. (after-good y c (p .0) (fit c u), after-calm y c (p .0) u (p .1))) h
@@ -399,4 +418,4 @@ block-never-cleared x h c draws t o m f e i q =
     tick-calm (y .string) c draws (y .line) (k .0) (f .1) (k .1) .mark (unfold answerAt in block-accepts x c draws (length m) (omega arith) first i)
   where
     first : firstRefusalOf (x .string) c draws (length (x .line)) (length m) ≡ 0
-    first = unfold karplusStrongBlockOf in block-fits 1 _ t o m _ refl (sym (block-refusal 1 _ _ _ x t o m) ∙ e) .1
+    first = unfold karplusStrongBlockOf in block-fits nPorts _ t o m _ refl (sym (block-refusal nPorts _ _ _ x t o m) ∙ e) .1

@@ -7,31 +7,27 @@ use native.Mathlib.Omega.{arith}
 use lib.Dec.{eqb}
 use lib.ListN.{length, getD, drop, length-set}
 use lib.Seq.{getD-append-add, getD-drop, getD-set-other}
-use lib.Ieee.{Float, nan, binary64, mul, neg}
+use lib.Ieee.{Float, nan}
 use borrow.Author.Tests.{eqb-true}
 use Rattle.laws.proofs.Over.{length-tab, length-over, tab-ext}
-use Rattle.laws.specs.Float.{zer, one, isFin}
 use Rattle.laws.specs.Lists.{tab, over}
-use Rattle.numeric.specs.Basic.{clampOf}
 use Rattle.common.proofs.DrawLaws.{refusal-draws}
-use Rattle.common.specs.Consts.{half}
-use Rattle.common.specs.Edge.{risingOf}
-use Rattle.common.specs.Memo.{recall1, voctToHzAt}
-use Rattle.common.specs.Tests.{rateOk, drawsRefusalOf}
 use Rattle.answer.specs.Block.{Block, block, blockOf, blockRefusalOf, ticksOf, afterTicks}
 use Rattle.answer.specs.declared.Tally.{Tally}
 use Rattle.answer.proofs.Blocks.{ticks-keep, held-after, block-fits}
-use Rattle.karplus_strong.specs.Consts.{loopLeak}
+use Rattle.karplus_strong.specs.Consts.{nPorts}
 use Rattle.karplus_strong.specs.Line.{blankAt, blankOf, excitedAt, excitedOf, meanOf, levelAt, levelOf, struckOf}
-use Rattle.karplus_strong.specs.Step.{filterCoefOf, apCoefOf, targetDelayOf, tapOf, filteredOf, stretchedOf, Ticking, restOf, wroteOf, clearedOf, stepOf}
-use Rattle.karplus_strong.specs.Held.{tuningOf, turnOf, heldNext}
-use Rattle.karplus_strong.specs.Blocks.{triggerRefusalOf, firstRefusalOf, karplusStrongAnswerOf, karplusStrongNextOf, karplusStrongBlockOf}
-use Rattle.karplus_strong.specs.KarplusStrong.{maxLenOf, roomOf, karplusStrongRefusalOf, rateRefusalOf, madeUnless, newKarplusStrong, karplusStrongNewOf, karplusStrongResetOf, resizedString, karplusStrongSetSampleRateOf, finiteOr, struckLen, strikeOf, strikeIf, heardString, tickUnless, karplusStrongSoundOf, karplusStrongTickOf, Strung, strung}
-use Rattle.karplus_strong.specs.Promises.{periodAt, risesAt, SamePast, Past-untouched, Only-its-draws}
+use Rattle.karplus_strong.specs.Step.{Ticking, restOf, stepOf}
+use Rattle.karplus_strong.specs.Shortcuts.{tuningOf, turnOf, heldNext}
+use Rattle.karplus_strong.specs.KarplusStrong.{triggerRefusalOf, firstRefusalOf, karplusStrongToldOf, karplusStrongNextOf, karplusStrongBlockOf}
+use Rattle.karplus_strong.specs.KarplusStrong.{maxLenOf, karplusStrongRefusalOf, madeUnless, karplusStrongNewOf, karplusStrongResetOf}
+use Rattle.karplus_strong.specs.KarplusStrong.{karplusStrongSetSampleRateOf, struckLen, strikeOf, strikeIf, tickUnless, karplusStrongSoundOf}
+use Rattle.karplus_strong.specs.KarplusStrong.{karplusStrongTickOf, Strung, strung, noString, dampingOf, brightnessOf, stretchOf, periodAt}
+use Rattle.karplus_strong.specs.Promises.{taken, SamePast, Past-untouched, Only-its-draws}
 use Rattle.karplus_strong.specs.declared.KarplusStrong.{KarplusStrong}
 use Rattle.karplus_strong.specs.declared.KarplusStrongControls.{KarplusStrongControls}
-use Rattle.karplus_strong.specs.declared.KarplusStrongMade.the-variants as made
-use Rattle.karplus_strong.proofs.Parts.{Sound, accepted, rate-accepted, memo-number, struck-room, turn-is}
+use Rattle.karplus_strong.proofs.Parts.{made-either, Sound, struck-fits, accepted, rate-accepted, turn-is, step-either}
+use Rattle.karplus_strong.proofs.Alike.{stepped}
 use Rattle.karplus_strong.proofs.Held.{Held, tuneOf, struckBy, holds, turned-ready, first-none}
 use Rattle.karplus_strong.proofs.Reached.{new-taken}
 use Rattle.karplus_strong.proofs.Ticks.{struckStep, tick-is}
@@ -43,7 +39,8 @@ getD-past f n l i h =
     let q : length (tab f n) ≡ n = length-tab f n in
     let e : i ≡ length (tab f n) + (i - n) = omega arith in
     let d : n + (i - n) ≡ i = omega arith in
-    ap (λ (j : ℕ). getD (tab f n ++ drop n l) j nan) e ∙ getD-append-add (tab f n) (drop n l) (i - n) nan ∙ getD-drop n l (i - n) nan ∙ ap (λ (j : ℕ). getD l j nan) d
+    ap (λ (j : ℕ). getD (tab f n ++ drop n l) j nan) e ∙ getD-append-add (tab f n) (drop n l) (i - n) nan ∙ getD-drop n l (i - n) nan
+    ∙ ap (λ (j : ℕ). getD l j nan) d
 
 past-over : (f : ℕ → Float) (n : ℕ) (l : List Float) → n ≤ length l → SamePast n l (over f n l)
 past-over f n l h = record { size = length-over f n l h; cells = λ i q. getD-past f n l i q }
@@ -70,26 +67,19 @@ abbrev PastTick : List Float → Ticking → Type 0
 PastTick l t = SamePast (t .out .«karplus_strong» .len) l (t .line)
 
 past-step : (s : KarplusStrong) (p d t : Float) (l : List Float) → s .«write_pos» < s .len → s .len ≤ length l → PastTick l (stepOf s p d t l)
-unfolding stepOf
-past-step s p d t l h k = go (isFin v) y z v
+past-step s p d t l h k =
+    step-either (PastTick l) s p d t l
+    (λ y z v e. record {
+      size = length-set l (s .«write_pos») v;
+      cells = λ i q. getD-set-other l (s .«write_pos») i v nan (behind i (s .«write_pos») (s .len) h q);
+    })
+    (past-blank 0 (s .len) l k)
   where
-    y : Float
-    y = filteredOf s (tapOf l (s .«write_pos») (s .len) (targetDelayOf p (filterCoefOf d) (apCoefOf t))) (filterCoefOf d)
-
-    z : Float
-    z = stretchedOf s y (apCoefOf t)
-
-    v : Float
-    v = mul binary64 z loopLeak
-
     behind : (i j n : ℕ) → j < n → n ≤ i → i ≡ j → ⊥
     behind i j n h k e = omega arith
 
-    go : (b : Bool) (y z v : Float) → PastTick l (cond b (wroteOf s y z v l) (clearedOf s l))
-    go true y z v = record { size = length-set l (s .«write_pos») v; cells = λ i q. getD-set-other l (s .«write_pos») i v nan (behind i (s .«write_pos») (s .len) h q) }
-    go false y z v = past-blank 0 (s .len) l k
-
-past-struck-step : (t : KarplusStrong) (p b d c : Float) (draws : List ℕ) (l : List Float) → struckLen p ≤ length l → PastTick l (stepOf (restOf t (struckLen p) (t .«trigger_edge»)) p d c (struckOf (struckLen p) b draws l))
+past-struck-step : (t : KarplusStrong) (p b d c : Float) (draws : List ℕ) (l : List Float) → struckLen p ≤ length l
+    → PastTick l (stepOf (restOf t (struckLen p) (t .«trigger_edge»)) p d c (struckOf (struckLen p) b draws l))
 past-struck-step t p b d c draws l h =
     let u = restOf t (struckLen p) (t .«trigger_edge») in
     let m = struckOf (struckLen p) b draws l in
@@ -97,33 +87,26 @@ past-struck-step t p b d c draws l h =
     let e = a .size in
     let z : 0 < struckLen p = unfold struckLen in omega arith in
     let w : PastTick m (stepOf u p d c m) = past-step u p d c m z (omega arith) in
-    past-both (stepOf u p d c m .out .«karplus_strong» .len) l m (stepOf u p d c m .line) (wider (stepOf u p d c m .out .«karplus_strong» .len) (step-len u p d c m) a) w
+    past-both (stepOf u p d c m .out .«karplus_strong» .len) l m (stepOf u p d c m .line)
+    (wider (stepOf u p d c m .out .«karplus_strong» .len) (stepped u p d c m .len) a) w
   where
-    step-len : (s : KarplusStrong) (p d t : Float) (l : List Float) → stepOf s p d t l .out .«karplus_strong» .len ≡ s .len
-    step-len s p d t l = unfold stepOf in pick (isFin (mul binary64 (stretchedOf s (filteredOf s (tapOf l (s .«write_pos») (s .len) (targetDelayOf p (filterCoefOf d) (apCoefOf t))) (filterCoefOf d)) (apCoefOf t)) loopLeak)) _ _ _
-      where
-        pick : (b : Bool) (y z v : Float) → cond b (wroteOf s y z v l) (clearedOf s l) .out .«karplus_strong» .len ≡ s .len
-        pick true y z v = refl
-        pick false y z v = refl
-
     wider : {l m : List Float} {n : ℕ} (k : ℕ) → k ≡ n → SamePast n l m → SamePast k l m
     wider k e a = rw e a
 
-past-sounded : (rising : Bool) (k : ℕ) (s t : KarplusStrong) (p b d c : Float) (draws : List ℕ) (l : List Float) → t .«write_pos» < t .len → t .len ≤ length l → struckLen p ≤ length l
-    → PastTick l (tickUnless k s l (stepOf (strikeIf rising t p b draws l .out) p d c (strikeIf rising t p b draws l .line)))
+past-sounded : (rising : Bool) (k : ℕ) (s t : KarplusStrong) (p b d c : Float) (draws : List ℕ) (l : List Float) → t .«write_pos» < t .len → t .len ≤ length l
+    → struckLen p ≤ length l
+    → PastTick l (tickUnless k s l (stepOf (strikeIf rising t p b draws l .string) p d c (strikeIf rising t p b draws l .line)))
 past-sounded rising (suc k) s t p b d c draws l h g r = unfold tickUnless in past-none (s .len) l
 past-sounded false zero s t p b d c draws l h g r = unfold tickUnless strikeIf in past-step t p d c l h g
 past-sounded true zero s t p b d c draws l h g r = unfold tickUnless strikeIf strikeOf in past-struck-step t p b d c draws l r
 
-past-sound : (s : KarplusStrong) (c : KarplusStrongControls) (draws : List ℕ) (l : List Float) → Sound s → maxLenOf (s .«sample_rate») + 2 ≤ length l → PastTick l (karplusStrongSoundOf s c draws l)
+past-sound : (s : KarplusStrong) (c : KarplusStrongControls) (draws : List ℕ) (l : List Float) → Sound s → maxLenOf (s .«sample_rate») + 2 ≤ length l
+    → PastTick l (karplusStrongSoundOf s c draws l)
 unfolding karplusStrongSoundOf
 past-sound s c draws l a r =
-    let memo = recall1 voctToHzAt (s .«freq_memo») (finiteOr (c .voct .0) zer) in
-    let risen = risingOf (s .«trigger_edge») (c .trigger) in
     let q = a .most in
-    past-sounded (risen .rising) (cond (risen .rising) (drawsRefusalOf (struckLen (periodAt s c)) draws) 0) s (heardString s (risen .edge) memo) (periodAt s c) (clampOf (finiteOr (c .brightness) half) zer one) (clampOf (finiteOr (c .damping) half) zer one) (clampOf (finiteOr (c .stretch) zer) (neg one) one) draws l
-    (a .place) (omega arith)
-    (struck-room (s .«sample_rate») (memo .val) (periodAt s c) (length l) refl (a .rate) (memo-number (s .«freq_memo») (c .voct .0) (finiteOr (c .voct .0) zer) memo (a .value) refl refl) r)
+    past-sounded _ (triggerRefusalOf s c draws) s _ (periodAt s c) (brightnessOf c) (dampingOf c) (stretchOf c) draws l (a .place) (omega arith)
+    (struck-fits s c a (length l) r)
 
 past-tick : (s : KarplusStrong) (c : KarplusStrongControls) (draws : List ℕ) (l : List Float) → PastTick l (karplusStrongTickOf s c draws l)
 unfolding karplusStrongTickOf tickUnless
@@ -135,7 +118,7 @@ past-tick s c draws l = pick (karplusStrongRefusalOf s (length l)) refl
 
 -- ---- the block
 past-strike : (rising : Bool) (t : KarplusStrong) (p b : Float) (draws : List ℕ) (l : List Float) → let u = strikeIf rising t p b draws l in
-    u .out .len ≤ length l → SamePast (u .out .len) l (u .line)
+    u .string .len ≤ length l → SamePast (u .string .len) l (u .line)
 unfolding strikeIf strikeOf
 past-strike true t p b draws l h = past-struck (struckLen p) b draws l h
 past-strike false t p b draws l h = past-none (t .len) l
@@ -146,7 +129,7 @@ turn-past s p d t l h k = subst (PastTick l) (sym (turn-is s p d t l)) (past-ste
 module _ (s : KarplusStrong) (c : KarplusStrongControls) (draws : List ℕ) (l : List Float)
     (h : karplusStrongRefusalOf s (length l) ≡ 0) (k : triggerRefusalOf s c draws ≡ 0) where
   abbrev start : Strung
-  start = strung (struckBy s c draws l .out) (struckBy s c draws l .line)
+  start = struckBy s c draws l
 
   -- from its first turn on the string's length stays
   record Ringing (y : Strung) : Type 0 where
@@ -155,7 +138,7 @@ module _ (s : KarplusStrong) (c : KarplusStrongControls) (draws : List ℕ) (l :
     past : SamePast (start .string .len) l (y .line)
 
   first-ringing : Ringing start
-  first-ringing = record { held = g; len = refl; past = past-strike (risesAt s c) _ _ _ draws l room }
+  first-ringing = record { held = g; len = refl; past = past-strike (taken s c) _ _ _ draws l room }
     where
       g : Held s c start
       g = holds s c draws l h k .good
@@ -201,29 +184,32 @@ past-block x c draws t o m = go (eqb n 0) (eqb-true n 0)
     number = firstRefusalOf (x .string) c draws (length (x .line)) (length m)
 
     n : ℕ
-    n = blockRefusalOf (eqb (length o) (1 * length m)) number t (length m)
+    n = blockRefusalOf (eqb (length o) (nPorts * length m)) number t (length m)
 
     ticks : Block Strung
-    ticks = ticksOf 1 (karplusStrongAnswerOf c draws) (karplusStrongNextOf c draws) (length m) x t
+    ticks = ticksOf nPorts (karplusStrongToldOf c draws) (karplusStrongNextOf c draws) (length m) x t
 
     go : (b : Bool) → (b ≡ true → n ≡ 0) → let y = cond b ticks (block n x t o m) .state in SamePast (y .string .len) (x .line) (y .line)
-    go true h = unfold ticksOf in past-ticks x c draws (length m) (block-fits 1 number t o m n refl (h refl) .1)
+    go true h = unfold ticksOf in past-ticks x c draws (length m) (block-fits nPorts number t o m n refl (h refl) .1)
     go false h = past-none (x .string .len) (x .line)
 
 -- ---- the other calls
-past-made : (k n : ℕ) (t : KarplusStrong) (l m : List Float) → (k ≡ 0 → SamePast n l m) → SamePast n l (madeUnless k (record { out = made.Made t; line = m }) l .line)
-unfolding madeUnless
-past-made zero n t l m h = h refl
-past-made (suc k) n t l m h = past-none n l
+past-made : (k n : ℕ) (x y : Strung) → (k ≡ 0 → SamePast n (x .line) (y .line)) → SamePast n (x .line) (madeUnless k x y .line)
+past-made k n x y h = made-either (λ m. SamePast n (x .line) (m .line)) k x y h (λ z. past-none n (x .line))
 
 pub past-untouched : Past-untouched
 past-untouched =
     record {
-      new = λ rate l. unfold karplusStrongNewOf in past-made (cond (rateOk rate) (roomOf rate (length l)) 1) (maxLenOf rate) (newKarplusStrong rate) l (blankOf 0 (maxLenOf rate) l) (λ e. let h = new-taken rate (length l) e .1 in past-blank 0 (maxLenOf rate) l (omega arith));
+      new = λ rate l. unfold karplusStrongNewOf in
+          past-made _ (maxLenOf rate) (strung (noString rate) l) _
+          (λ e. let h = new-taken rate (length l) e .1 in past-blank 0 (maxLenOf rate) l (omega arith));
       tick = past-tick;
       block = past-block;
-      reset = λ s l. unfold karplusStrongResetOf in past-made (karplusStrongRefusalOf s (length l)) (s .len) _ l (blankOf 0 (s .len) l) (λ e. let a = accepted s (length l) e in let q = a .0 .most in let h = a .1 in past-blank 0 (s .len) l (omega arith));
-      «set_sample_rate» = λ s rate l. unfold karplusStrongSetSampleRateOf in past-made (rateRefusalOf s rate (length l)) (maxLenOf rate) (resizedString s rate (maxLenOf rate)) l (blankOf (min (s .len) (maxLenOf rate)) (maxLenOf rate) l) (λ e. let h = rate-accepted s rate (length l) e .2 in past-blank (min (s .len) (maxLenOf rate)) (maxLenOf rate) l (omega arith));
+      reset = λ s l. unfold karplusStrongResetOf in
+          past-made _ (s .len) (strung s l) _ (λ e. let a = accepted s (length l) e in past-blank 0 (s .len) l (omega (arith, a .0 .most, a .1)));
+      «set_sample_rate» = λ s rate l. unfold karplusStrongSetSampleRateOf in
+          past-made _ (maxLenOf rate) (strung s l) _
+          (λ e. let h = rate-accepted s rate (length l) e .2 in past-blank (min (s .len) (maxLenOf rate)) (maxLenOf rate) l (omega arith));
     }
 
 -- ---- draws
@@ -232,12 +218,14 @@ unfolding struckOf excitedOf excitedAt over
 struck-draws n b d e l k = rw (tab-ext (excitedAt n b d) (excitedAt n b e) n (λ i q. rw (k i q)))
 
 -- a tick's draws go to its refusal and its strike
-tick-draws : (s : KarplusStrong) (c : KarplusStrongControls) (d e : List ℕ) (l : List Float) → triggerRefusalOf s c d ≡ triggerRefusalOf s c e → struckStep s c d l ≡ struckStep s c e l → karplusStrongTickOf s c d l ≡ karplusStrongTickOf s c e l
+tick-draws : (s : KarplusStrong) (c : KarplusStrongControls) (d e : List ℕ) (l : List Float) → triggerRefusalOf s c d ≡ triggerRefusalOf s c e
+    → struckStep s c d l ≡ struckStep s c e l → karplusStrongTickOf s c d l ≡ karplusStrongTickOf s c e l
 tick-draws s c d e l h k = rw (tick-is s c d l, tick-is s c e l, h, k)
 
 pub only-its-draws : Only-its-draws
 only-its-draws =
     record {
-      struck = λ s c d e l h g k. tick-draws s c d e l (unfold triggerRefusalOf in rw (refusal-draws (struckLen (periodAt s c)) d e h g k)) (unfold struckStep strikeIf strikeOf in rw (struck-draws (struckLen (periodAt s c)) (clampOf (finiteOr (c .brightness) half) zer one) d e l k));
+      struck = λ s c d e l h g k. tick-draws s c d e l (unfold triggerRefusalOf in rw (refusal-draws (struckLen (periodAt s c)) d e h g k))
+          (unfold struckStep strikeIf strikeOf in rw (struck-draws (struckLen (periodAt s c)) (brightnessOf c) d e l k));
       unstruck = λ s c d e l h. tick-draws s c d e l (unfold triggerRefusalOf in rw h) (unfold struckStep strikeIf in rw h);
     }

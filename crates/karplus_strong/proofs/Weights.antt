@@ -24,7 +24,8 @@ use Rattle.karplus_strong.proofs.Delays.{filter-unit}
 
 -- ---- the weights of two taps: r parts of 2 ^ 52, and what is left
 pub tap-weights : (x : Float) → F64 x → T (positive x) → T (le one x) → wholeOf x ≤ 9610
-    → (r : ℕ) × (r ≤ 2 ^ 52) × HasValue (sub binary64 x (realOf (wholeOf x))) false r (2 ^ 52) × HasValue (sub binary64 one (sub binary64 x (realOf (wholeOf x)))) false (2 ^ 52 - r) (2 ^ 52)
+    → (r : ℕ) × (r ≤ 2 ^ 52) × HasValue (sub binary64 x (realOf (wholeOf x))) false r (2 ^ 52)
+    × HasValue (sub binary64 one (sub binary64 x (realOf (wholeOf x)))) false (2 ^ 52 - r) (2 ^ 52)
 tap-weights nan f q l h = absurd q
 tap-weights (inf s) f q l h = absurd q
 tap-weights (fin true m e) f q l h = absurd q
@@ -61,19 +62,27 @@ tap-weights (fin false m e) f q l h = (r, top, v, rest-of 52 r (sub binary64 x (
     turn a b c = omega arith
 
     low : w * 4503599627370496 ≤ p
-    low = le-of-mul-le-mul-right (le-trans (le-of-eq (turn w 4503599627370496 (down e))) (le-trans (mul-le-mul-right 4503599627370496 (under-it (m * up e) (down e) w cut)) (le-of-eq same))) (down-pos e)
+    low = le-of-mul-le-mul-right
+        (le-trans (le-of-eq (turn w 4503599627370496 (down e)))
+        (le-trans (mul-le-mul-right 4503599627370496 (under-it (m * up e) (down e) w cut)) (le-of-eq same))) (down-pos e)
       where
         under-it : (n d w : ℕ) → w ≡ n / d → w * d ≤ n
         under-it n d w e = let z : n / d * d + n % d ≡ n = div-add-mod' n d in rw e (omega arith)
 
     high : p ≤ (w + 1) * 4503599627370496
-    high = le-of-mul-le-mul-right (le-trans (le-of-eq (sym same)) (le-trans (mul-le-mul-right 4503599627370496 (over-it (m * up e) (down e) w (down-pos e) cut)) (le-of-eq (turn (w + 1) (down e) 4503599627370496)))) (down-pos e)
+    high = le-of-mul-le-mul-right
+        (le-trans (le-of-eq (sym same))
+        (le-trans (mul-le-mul-right 4503599627370496 (over-it (m * up e) (down e) w (down-pos e) cut)) (le-of-eq (turn (w + 1) (down e) 4503599627370496))))
+        (down-pos e)
       where
         next : (w d : ℕ) → w * d + d ≡ (w + 1) * d
         next w d = omega arith
 
         over-it : (n d w : ℕ) → 0 < d → w ≡ n / d → n ≤ (w + 1) * d
-        over-it n d w D e = let z : n / d * d + n % d ≡ n = div-add-mod' n d in let k : n % d < d = mod-lt n D in le-trans (sums (n / d * d) (n % d) n d z k) (le-of-eq (next (n / d) d ∙ ap (λ (z : ℕ). (z + 1) * d) (sym e)))
+        over-it n d w D e =
+            let z : n / d * d + n % d ≡ n = div-add-mod' n d in
+            let k : n % d < d = mod-lt n D in
+            le-trans (sums (n / d * d) (n % d) n d z k) (le-of-eq (next (n / d) d ∙ ap (λ (z : ℕ). (z + 1) * d) (sym e)))
           where
             sums : (a r n d : ℕ) → a + r ≡ n → r < d → n ≤ a + d
             sums a r n d h k = omega arith
@@ -92,7 +101,9 @@ tap-weights (fin false m e) f q l h = (r, top, v, rest-of 52 r (sub binary64 x (
 
     v : HasValue (sub binary64 x (realOf w)) false r 4503599627370496
     v = subst (λ (z : Float). HasValue z false r 4503599627370496)
-        (sym (sub-round x (realOf w) false false p 4503599627370496 w 1 (lit< tt) (lit< tt) (grid .1) (ofInt-val w (le-trans h (lit≤ tt))) ∙ sum-pos-neg (p * 1) (w * 4503599627370496) 4503599627370496 (le-trans low (le-of-eq (sym (mul-one p)))) ∙ ap (λ (z : ℕ). round binary64 false (z - w * 4503599627370496) 4503599627370496) (mul-one p)))
+        (sym (sub-round x (realOf w) false false p 4503599627370496 w 1 (lit< tt) (lit< tt) (grid .1) (ofInt-val w (le-trans h (lit≤ tt)))
+        ∙ sum-pos-neg (p * 1) (w * 4503599627370496) 4503599627370496 (le-trans low (le-of-eq (sym (mul-one p))))
+        ∙ ap (λ (z : ℕ). round binary64 false (z - w * 4503599627370496) 4503599627370496) (mul-one p)))
         (exact-at false r 52 (within r top) (lit≤ tt))
       where
         within : (r : ℕ) → r ≤ 4503599627370496 → r < 9007199254740992
@@ -116,7 +127,8 @@ filter-weights d l h = (grid .0, least, most, grid .1, rest-of 53 (grid .0) c (l
     q = between half c one (unfold ofBits in tt) (unfold ofBits in tt) low high
 
     grid : (p : ℕ) × HasValue c false p (2 ^ 53)
-    grid = grid-of 53 c (add-fits binary64 half (mul binary64 d spread)) q (at-least (den c) (num c) (values-le half c 1 2 (num c) (den c) (lit< tt) (den-pos c) (unfold ofBits in (refl, refl)) (own-value c q) low))
+    grid = grid-of 53 c (add-fits binary64 half (mul binary64 d spread)) q
+        (at-least (den c) (num c) (values-le half c 1 2 (num c) (den c) (lit< tt) (den-pos c) (unfold ofBits in (refl, refl)) (own-value c q) low))
       where
         at-least : (d n : ℕ) → 1 * d ≤ n * 2 → d * 4503599627370496 ≤ n * 9007199254740992
         at-least d n h = omega arith
@@ -141,4 +153,5 @@ pub exact-upto : (p : ℕ) → p ≤ 2 ^ 53 → Exact p (2 ^ 50)
 exact-upto p h = ⊎-elim (λ (e : p ≡ 2 ^ 53). rw e all) (λ (l : p < 2 ^ 53). exact-at false p 50 l (lit≤ tt)) (eq-or-lt-of-le h)
   where
     all : Exact (2 ^ 53) (2 ^ 50)
-    all = subst (λ (z : Float). HasValue z false (2 ^ 53) (2 ^ 50)) (sym (round-same binary64 false (2 ^ 53) (2 ^ 50) 8 1 (lit< tt) (lit< tt) refl)) (rescale (round binary64 false 8 1) false 8 1 (2 ^ 53) (2 ^ 50) (lit< tt) refl (exact-at false 8 0 (lit< tt) (lit≤ tt)))
+    all = subst (λ (z : Float). HasValue z false (2 ^ 53) (2 ^ 50)) (sym (round-same binary64 false (2 ^ 53) (2 ^ 50) 8 1 (lit< tt) (lit< tt) refl))
+        (rescale (round binary64 false 8 1) false 8 1 (2 ^ 53) (2 ^ 50) (lit< tt) refl (exact-at false 8 0 (lit< tt) (lit≤ tt)))

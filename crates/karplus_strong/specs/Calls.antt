@@ -11,14 +11,15 @@ use Rattle.laws.specs.Float.{F64}
 use Rattle.laws.specs.Lists.{over}
 use Rattle.laws.specs.Machine.{Reached}
 use Rattle.common.specs.declared.Hertz.{Hertz}
+use Rattle.answer.specs.Answer.{outcomeNumber}
 use Rattle.answer.specs.Block.{Block, block}
 use Rattle.answer.specs.declared.Answer.{Answer}
+use Rattle.answer.specs.declared.Outcome.the-variants as outcome
 use Rattle.answer.specs.declared.Tally.{Tally}
-use Rattle.karplus_strong.specs.KarplusStrong.{Making, roomOf, madeNumber, madeOr, karplusStrongNewOf, karplusStrongTickOf, karplusStrongResetOf, karplusStrongSetSampleRateOf, Strung, strung}
-use Rattle.karplus_strong.specs.Blocks.{karplusStrongBlockOf}
+use Rattle.karplus_strong.specs.KarplusStrong.{Making, making, roomOf, karplusStrongNewOf, karplusStrongToldOf, karplusStrongNextOf}
+use Rattle.karplus_strong.specs.KarplusStrong.{karplusStrongBlockOf, karplusStrongResetOf, karplusStrongSetSampleRateOf, Strung, strung}
 use Rattle.karplus_strong.specs.declared.KarplusStrong.{KarplusStrong}
 use Rattle.karplus_strong.specs.declared.KarplusStrongControls.{KarplusStrongControls}
-use Rattle.karplus_strong.specs.declared.KarplusStrongMade.the-variants as made
 
 pub data Call : Type 0 where
   Tick : KarplusStrongControls → List ℕ → Call
@@ -34,8 +35,9 @@ pub data Reply : Type 0 where
   Played : Block KarplusStrong → Reply
   Told : ℕ → Reply
 
-abbrev pub strungAfter : KarplusStrong → Making → Strung
-strungAfter s m = record { string = madeOr s (m .out); line = m .line }
+-- a refused call hands out the string as it stood
+abbrev pub strungAfter : Making → Strung
+strungAfter m = strung (m .out .«karplus_strong») (m .line)
 
 -- a line with the string's cells; the cells past them are its own
 unfoldable pub lentOf : Strung → List Float → List Float
@@ -46,10 +48,10 @@ abbrev pub takenLine : Strung → List Float → List Float
 takenLine x l = cond (eqb (roomOf (x .string .«sample_rate») (length l)) 0) (lentOf x l) (x .line)
 
 unfoldable pub after : Strung → Call → Strung
-after x (Tick c draws) = let t = karplusStrongTickOf (x .string) c draws (x .line) in record { string = t .out .«karplus_strong»; line = t .line }
+after x (Tick c draws) = karplusStrongNextOf c draws x
 after x (Play c draws t o m) = karplusStrongBlockOf x c draws t o m .state
-after x Reset = strungAfter (x .string) (karplusStrongResetOf (x .string) (x .line))
-after x (SetSampleRate rate) = strungAfter (x .string) (karplusStrongSetSampleRateOf (x .string) rate (x .line))
+after x Reset = strungAfter (karplusStrongResetOf (x .string) (x .line))
+after x (SetSampleRate rate) = strungAfter (karplusStrongSetSampleRateOf (x .string) rate (x .line))
 after x (Lend l) = strung (x .string) (takenLine x l)
 
 -- what a block leaves beside its line
@@ -57,16 +59,19 @@ abbrev pub unstrung : Block Strung → Block KarplusStrong
 unstrung b = block (b .refused) (b .state .string) (b .tally) (b .samples) (b .marks)
 
 unfoldable pub reply : Strung → Call → Reply
-reply x (Tick c draws) = Ticked (karplusStrongTickOf (x .string) c draws (x .line) .out .answer)
+reply x (Tick c draws) = Ticked (karplusStrongToldOf c draws x)
 reply x (Play c draws t o m) = Played (unstrung (karplusStrongBlockOf x c draws t o m))
-reply x Reset = Told (madeNumber (karplusStrongResetOf (x .string) (x .line) .out))
-reply x (SetSampleRate rate) = Told (madeNumber (karplusStrongSetSampleRateOf (x .string) rate (x .line) .out))
+reply x Reset = Told (outcomeNumber (karplusStrongResetOf (x .string) (x .line) .out .outcome))
+reply x (SetSampleRate rate) = Told (outcomeNumber (karplusStrongSetSampleRateOf (x .string) rate (x .line) .out .outcome))
 reply x (Lend l) = Told (roomOf (x .string .«sample_rate») (length l))
 
--- the pitch is an f64
+-- the pitch, which the memo keeps, is an f64
+abbrev pub Fit : KarplusStrongControls → Type 0
+Fit c = F64 (c .voct .0)
+
 abbrev pub FitCall : Call → Type 0
-FitCall (Tick c draws) = F64 (c .voct .0)
-FitCall (Play c draws t o m) = F64 (c .voct .0)
+FitCall (Tick c draws) = Fit c
+FitCall (Play c draws t o m) = Fit c
 FitCall Reset = Unit
 FitCall (SetSampleRate rate) = Unit
 FitCall (Lend l) = Unit
@@ -75,7 +80,7 @@ FitCall (Lend l) = Unit
 pub record First (x : Strung) : Type 0 where
   pub rate : Hertz
   pub lent : List Float
-  pub is-new : karplusStrongNewOf rate lent ≡ record { out = made.Made (x .string); line = x .line }
+  pub is-new : karplusStrongNewOf rate lent ≡ making (record { outcome = outcome.Done; «karplus_strong» = x .string }) (x .line)
 
-abbrev pub ReachedString : Strung → Type 0
-ReachedString = Reached First FitCall after
+abbrev pub ReachedKarplusStrong : Strung → Type 0
+ReachedKarplusStrong = Reached First FitCall after

@@ -1,5 +1,10 @@
 -- The string's own constants, by their bits.
+use Prim.Native.Nat.{ℕ}
 use lib.Ieee.{Float, binary64, ofBits}
+
+-- the number of its outputs
+abbrev pub nPorts : ℕ
+nPorts = 1
 
 -- 20: the lowest frequency that a line has room for
 abbrev pub twenty : Float

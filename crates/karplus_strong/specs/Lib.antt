@@ -1,9 +1,7 @@
 pub mod Consts
-pub mod Ranges
 pub mod Line
 pub mod Step
 pub mod KarplusStrong
-pub mod Held
-pub mod Blocks
 pub mod Calls
 pub mod Promises
+pub mod Shortcuts

@@ -23,7 +23,8 @@ impulseOf n i = cond (ltb i (n / 4)) one zer
 
 -- noise * brightness + impulse * (1.0 - brightness)
 unfoldable pub pulseOf : ℕ → Float → ℕ → ℕ → Float
-pulseOf n brightness draw i = add binary64 (mul binary64 (bipolarOf draw) brightness) (mul binary64 (impulseOf n i) (sub binary64 one brightness))
+pulseOf n brightness draw i =
+    add binary64 (mul binary64 (bipolarOf draw) brightness) (mul binary64 (impulseOf n i) (sub binary64 one brightness))
 
 -- cell i has draw i
 unfoldable pub excitedAt : ℕ → Float → List ℕ → ℕ → Float

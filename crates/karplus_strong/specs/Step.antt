@@ -8,9 +8,9 @@ use Rattle.laws.specs.Float.{zer, one, isFin}
 use Rattle.numeric.specs.Basic.{maxOf, wholeOf, realOf}
 use Rattle.common.specs.Consts.{half}
 use Rattle.common.specs.declared.EdgeDetector.{EdgeDetector}
+use Rattle.answer.specs.Answer.{volts1}
 use Rattle.answer.specs.Mark.{markOf}
 use Rattle.answer.specs.declared.Answer.{Answer}
-use Rattle.answer.specs.declared.Volts.{Volts}
 use Rattle.karplus_strong.specs.Consts.{spread, loopLeak}
 use Rattle.karplus_strong.specs.Line.{blankOf}
 use Rattle.karplus_strong.specs.declared.KarplusStrong.{KarplusStrong}
@@ -65,31 +65,49 @@ pub record Ticking : Type 0 where
   pub out : KarplusStrongTicked
   pub line : List Float
 
--- the one output, port 10
-abbrev pub outOf : Float → Volts
-outOf v = record { p10 = v; p11 = zer; p12 = zer; p13 = zer; p14 = zer }
-
--- the string is cleared or clean: nothing stands before a clamp, and it has no phase
+-- the one output, port 10. The string is cleared or clean: nothing stands before a clamp, and it has no phase
 unfoldable pub heardOf : Float → Bool → Answer
-heardOf v cleared = markOf (outOf v) cleared true true
+heardOf v zeroed = markOf (volts1 v) zeroed true true
 
 -- a loop at rest, of n cells: what clear_loop_state and excite leave beside the line
 abbrev pub restOf : KarplusStrong → ℕ → EdgeDetector → KarplusStrong
-restOf s n edge = record { len = n; «write_pos» = 0; «sample_rate» = s .«sample_rate»; «lp_state» = zer; «ap_x1» = zer; «ap_y1» = zer; «trigger_edge» = edge; «freq_memo» = s .«freq_memo» }
+restOf s n edge =
+    record {
+      len = n;
+      «write_pos» = 0;
+      «sample_rate» = s .«sample_rate»;
+      «lp_state» = zer;
+      «ap_x1» = zer;
+      «ap_y1» = zer;
+      «trigger_edge» = edge;
+      «freq_memo» = s .«freq_memo»;
+    }
 
 -- a finite value goes into the line, at the write position
 abbrev pub wroteOf : KarplusStrong → Float → Float → Float → List Float → Ticking
 wroteOf s filtered stretched leaked l = record {
   out = record {
     answer = heardOf leaked false;
-    «karplus_strong» = record { len = s .len; «write_pos» = (s .«write_pos» + 1) % s .len; «sample_rate» = s .«sample_rate»; «lp_state» = filtered; «ap_x1» = filtered; «ap_y1» = stretched; «trigger_edge» = s .«trigger_edge»; «freq_memo» = s .«freq_memo» };
+    «karplus_strong» = record {
+      len = s .len;
+      «write_pos» = (s .«write_pos» + 1) % s .len;
+      «sample_rate» = s .«sample_rate»;
+      «lp_state» = filtered;
+      «ap_x1» = filtered;
+      «ap_y1» = stretched;
+      «trigger_edge» = s .«trigger_edge»;
+      «freq_memo» = s .«freq_memo»;
+    };
   };
   line = set l (s .«write_pos») leaked;
 }
 
 -- another one clears the loop: clear_loop_state, and 0.0
 abbrev pub clearedOf : KarplusStrong → List Float → Ticking
-clearedOf s l = record { out = record { answer = heardOf zer true; «karplus_strong» = restOf s (s .len) (s .«trigger_edge») }; line = blankOf 0 (s .len) l }
+clearedOf s l = record {
+  out = record { answer = heardOf zer true; «karplus_strong» = restOf s (s .len) (s .«trigger_edge») };
+  line = blankOf 0 (s .len) l;
+}
 
 unfoldable pub stepOf : KarplusStrong → Float → Float → Float → List Float → Ticking
 stepOf s period damping stretch l =

@@ -1,32 +1,35 @@
 // KarplusStrong of oscillators.rs: a plucked string. Its delay line is lent to each call, and so are the draws of its noise.
 use answer::Answer;
+use answer::Outcome;
 use answer::Tally;
-use answer::Volts;
 use common::EdgeDetector;
 use common::Hertz;
 use common::Memo1;
 use common::VoltsPerOctave;
 ghost use mathlib.Core.Path.{_≡_};
 ghost use mathlib.Core.Bool.{cond, not, true};
-ghost use Prim.Native.Nat.{_≤_, _<_, _+_, _-_, _*_, _%_, min};
+ghost use Prim.Native.Nat.{_≤_, _<_, _+_, _-_, _*_, _%_};
 ghost use lib.Ieee.{isNan};
-ghost use lib.Dec.{T, eqb};
-ghost use lib.ListN.{length, set};
-ghost use lib.Seq.{sets};
+ghost use lib.Dec.{T};
+ghost use lib.ListN.{length};
 ghost use Rattle.laws.specs.Float.{isFin, zer, one};
 ghost use Rattle.laws.specs.Lists.{tab};
 ghost use Rattle.numeric.specs.Basic.{clampOf, wholeOf};
 ghost use Rattle.common.specs.Consts.{half};
-ghost use Rattle.common.specs.Memo.{recall1, voctToHzAt};
 ghost use Rattle.common.specs.Tests.{rateOk, drawsRefusalOf};
-ghost use Rattle.answer.specs.Answer.{hostNumber, voltsOf};
-ghost use Rattle.answer.specs.Block.{afterTicks, portsOf, joined, block, markAt, frameAt};
-ghost use Rattle.karplus_strong.specs.Ranges.{Cut};
+ghost use Rattle.answer.specs.Block.{afterTicks, joined, block, markAt, frameAt};
+ghost use Rattle.karplus_strong.specs.Consts.{nPorts};
 ghost use Rattle.karplus_strong.specs.Line.{blankOf, pulseOf, excitedOf, sumTo, levelOf, struckOf};
-ghost use Rattle.karplus_strong.specs.Step.{filterCoefOf, apCoefOf, targetDelayOf, restOf, outOf, stepOf};
-ghost use Rattle.karplus_strong.specs.Held.{tuningOf, tapAt, turnOf, heldAnswer, heldNext};
-ghost use Rattle.karplus_strong.specs.KarplusStrong.{maxLenOf, lineOk, roomOf, karplusStrongRefusalOf, rateRefusalOf, placeOf, resizedString, finiteOr, periodOf, struckLen, strikeOf, strikeIf, heardString, refusedTick, karplusStrongSoundOf, karplusStrongTickOf, karplusStrongNewOf, karplusStrongResetOf, karplusStrongSetSampleRateOf, karplusStrongCellsOf, strung};
-ghost use Rattle.karplus_strong.specs.Blocks.{triggerRefusalOf, firstRefusalOf, karplusStrongAnswerOf, karplusStrongNextOf, karplusStrongBlockOf};
+ghost use Rattle.karplus_strong.specs.Step.{filterCoefOf, apCoefOf, targetDelayOf, stepOf};
+ghost use Rattle.karplus_strong.specs.KarplusStrong.{maxLenOf, stringOf, lineOk, roomOf, karplusStrongRefusalOf, karplusStrongRateRefusalOf};
+ghost use Rattle.karplus_strong.specs.KarplusStrong.{karplusStrongCellsOf, karplusStrongNewOf, finiteOr, periodOf, struckLen, strikeOf};
+ghost use Rattle.karplus_strong.specs.KarplusStrong.{strikeIf, karplusStrongSoundOf, karplusStrongTickOf, karplusStrongToldOf};
+ghost use Rattle.karplus_strong.specs.KarplusStrong.{karplusStrongNextOf, triggerRefusalOf, firstRefusalOf, karplusStrongBlockOf};
+ghost use Rattle.karplus_strong.specs.KarplusStrong.{karplusStrongResetOf, placeOf, karplusStrongSetSampleRateOf, strung};
+ghost use Rattle.karplus_strong.specs.Shortcuts.{Cut, tuningOf, tapAt, turnOf, heldAnswer, heldNext};
+
+// The number of outputs.
+const PORTS: usize = 1;
 
 // The Rust's fields less `max_len`, which follows from the rate, the lent line, of which the length stays, and the noise.
 pub struct KarplusStrong {
@@ -62,10 +65,10 @@ pub struct KarplusStrongBlock {
     pub tally: Tally,
 }
 
-// The string that was made, or the number that refused it.
-pub enum KarplusStrongMade {
-    Made(KarplusStrong),
-    Refused(u32),
+// A refused new hands out a string of no cells, which every call refuses; any other refused call the string as it stood.
+pub struct KarplusStrongMade {
+    pub outcome: Outcome,
+    pub karplus_strong: KarplusStrong,
 }
 
 // What period, damping and stretch make of the loop: its filters, and the delay of its line in whole samples and a fraction.
@@ -221,12 +224,6 @@ fn placed(pos: usize, len: usize) -> usize
     if pos < len { pos } else { 0 }
 }
 
-fn lesser(a: usize, b: usize) -> usize
-    ensures { λ r. ⌜ r ≡ min a b ⌝ }
-{
-    if a < b { a } else { b }
-}
-
 // The cell that was written `delay` ticks ago, or the oldest one: (pos + len.saturating_sub(delay)) % len without a division.
 fn behind(pos: usize, len: usize, delay: usize) -> usize
     requires { ⌜ pos < len ⌝ }
@@ -276,17 +273,6 @@ fn tuned(period: f64, damping: f64, stretch: f64) -> Tuning
     }
 }
 
-// The frequency that a memo gives for a pitch, without a new memo.
-fn recalled(memo: Memo1, voct: VoltsPerOctave) -> Hertz
-    ensures { λ r. ⌜ r ≡ recall1 voctToHzAt memo (voct .0) .val ⌝ }
-{
-    if memo.hits(voct.0) {
-        memo.val
-    } else {
-        common::voct_to_hz(voct)
-    }
-}
-
 // A period in samples, (sample_rate / freq).clamp(2.0, max_len as f64 - 1.0). From 20 Hz on it is below max_len - 1.
 fn period_of(sample_rate: Hertz, freq: Hertz) -> f64
     requires { ⌜ (rateOk «sample_rate» ≡ true) × T (not (isNan (freq .0))) ⌝ }
@@ -301,35 +287,22 @@ fn period_of(sample_rate: Hertz, freq: Hertz) -> f64
     }
 }
 
-// The one output, port 10.
-fn volts(v: f64) -> Volts
-    ensures { λ r. ⌜ r ≡ outOf v ⌝ }
+// A string at rest, of so many cells.
+fn string_of(sample_rate: Hertz, len: usize) -> KarplusStrong
+    ensures { λ r. ⌜ r ≡ stringOf «sample_rate» len ⌝ }
 {
-    Volts {
-        p10: v,
-        p11: 0.0,
-        p12: 0.0,
-        p13: 0.0,
-        p14: 0.0,
+    let trigger_edge = EdgeDetector::new();
+    let freq_memo = Memo1::new();
+    KarplusStrong {
+        len,
+        write_pos: 0,
+        sample_rate,
+        lp_state: 0.0,
+        ap_x1: 0.0,
+        ap_y1: 0.0,
+        trigger_edge,
+        freq_memo,
     }
-}
-
-// Whether a block has one sample for each of n marks.
-fn fits(samples: usize, n: usize) -> bool
-    ensures { λ r. ⌜ r ≡ eqb samples (1 * n) ⌝ }
-{
-    samples == n
-}
-
-// What tick i of a block answers.
-fn put(a: Answer, i: usize, samples: &mut [f64], marks: &mut [u32])
-    requires { ⌜ (i < length (now marks)) × (length (now samples) ≡ 1 * length (now marks)) ⌝ }
-    ensures { λ _. ⌜ now (samples .exit) ≡ sets (now (samples .entry)) (1 * i) (portsOf 1 (voltsOf a)) ⌝ }
-    ensures { λ _. ⌜ now (marks .exit) ≡ set (now (marks .entry)) i (hostNumber a) ⌝ }
-{
-    let v = answer::samples(a);
-    samples[i] = v.p10;
-    marks[i] = answer::host_number(a);
 }
 
 impl KarplusStrong {
@@ -402,41 +375,45 @@ impl KarplusStrong {
     }
 
     pub fn new(sample_rate: Hertz, line: &mut [f64]) -> KarplusStrongMade
-        ensures { λ r. ⌜ (r ≡ karplusStrongNewOf «sample_rate» (now (line .entry)) .out) × (now (line .exit) ≡ karplusStrongNewOf «sample_rate» (now (line .entry)) .line) ⌝ }
+        ensures { λ r. ⌜ (r ≡ karplusStrongNewOf «sample_rate» (now (line .entry)) .out)
+            × (now (line .exit) ≡ karplusStrongNewOf «sample_rate» (now (line .entry)) .line) ⌝ }
     {
         if common::rate_ok(sample_rate) {
             let refused = KarplusStrong::room(sample_rate, line.len());
             if refused == 0 {
                 let max_len = KarplusStrong::max_len_for(sample_rate);
                 blank(line, 0, max_len);
-                let trigger_edge = EdgeDetector::new();
-                let freq_memo = Memo1::new();
-                KarplusStrongMade::Made(KarplusStrong {
-                    len: max_len,
-                    write_pos: 0,
-                    sample_rate,
-                    lp_state: 0.0,
-                    ap_x1: 0.0,
-                    ap_y1: 0.0,
-                    trigger_edge,
-                    freq_memo,
-                })
+                KarplusStrongMade {
+                    outcome: Outcome::Done,
+                    karplus_strong: string_of(sample_rate, max_len),
+                }
             } else {
-                KarplusStrongMade::Refused(refused)
+                KarplusStrongMade {
+                    outcome: Outcome::Refused(refused),
+                    karplus_strong: string_of(sample_rate, 0),
+                }
             }
         } else {
-            KarplusStrongMade::Refused(1)
+            KarplusStrongMade {
+                outcome: Outcome::Refused(1),
+                karplus_strong: string_of(sample_rate, 0),
+            }
         }
     }
 
-    // A loop at rest, of len cells: what clear_loop_state and excite leave beside the line.
-    fn at_rest(self, len: usize, trigger_edge: EdgeDetector) -> Self
-        ensures { λ r. ⌜ r ≡ restOf self len «trigger_edge» ⌝ }
+    // Strikes the string: the line gets its length from the period, and an excitation.
+    fn strike(self, period: f64, brightness: f64, draws: &[u64], line: &mut [f64]) -> Self
+        requires { ⌜ Cut period × (struckLen period ≤ length (now draws)) × (struckLen period ≤ length (now line)) ⌝ }
+        ensures { λ r. ⌜ (r ≡ strikeOf self period brightness (now (draws .entry)) (now (line .entry)) .string)
+            × (now (line .exit) ≡ strikeOf self period brightness (now (draws .entry)) (now (line .entry)) .line) ⌝ }
     {
         let sample_rate = self.sample_rate;
+        let trigger_edge = self.trigger_edge;
         let freq_memo = self.freq_memo;
+        let n = whole(period) + 2;
+        excite(line, n, brightness, draws);
         KarplusStrong {
-            len,
+            len: n,
             write_pos: 0,
             sample_rate,
             lp_state: 0.0,
@@ -445,17 +422,6 @@ impl KarplusStrong {
             trigger_edge,
             freq_memo,
         }
-    }
-
-    // Strikes the string: the line gets its length from the period, and an excitation.
-    fn strike(self, period: f64, brightness: f64, draws: &[u64], line: &mut [f64]) -> Self
-        requires { ⌜ Cut period × (struckLen period ≤ length (now draws)) × (struckLen period ≤ length (now line)) ⌝ }
-        ensures { λ r. ⌜ (r ≡ strikeOf self period brightness (now (draws .entry)) (now (line .entry)) .out) × (now (line .exit) ≡ strikeOf self period brightness (now (draws .entry)) (now (line .entry)) .line) ⌝ }
-    {
-        let n = whole(period) + 2;
-        excite(line, n, brightness, draws);
-        let trigger_edge = self.trigger_edge;
-        self.at_rest(n, trigger_edge)
     }
 
     // Strikes it where the trigger was taken.
@@ -468,7 +434,9 @@ impl KarplusStrong {
         line: &mut [f64],
     ) -> Self
         requires { ⌜ Cut period × (cond rising (drawsRefusalOf (struckLen period) (now draws)) 0 ≡ 0) × (struckLen period ≤ length (now line)) ⌝ }
-        ensures { λ r. ⌜ (r ≡ strikeIf rising self period (clampOf (finiteOr brightness half) zer one) (now (draws .entry)) (now (line .entry)) .out) × (now (line .exit) ≡ strikeIf rising self period (clampOf (finiteOr brightness half) zer one) (now (draws .entry)) (now (line .entry)) .line) ⌝ }
+        ensures { λ r. ⌜ (let bright = clampOf (finiteOr brightness half) zer one in
+            (r ≡ strikeIf rising self period bright (now (draws .entry)) (now (line .entry)) .string)
+            × (now (line .exit) ≡ strikeIf rising self period bright (now (draws .entry)) (now (line .entry)) .line)) ⌝ }
     {
         if rising {
             self.strike(period, within(brightness, 0.5, 0.0, 1.0), draws, line)
@@ -497,7 +465,7 @@ impl KarplusStrong {
             line[pos] = leaked;
             let next = after(pos, len);
             KarplusStrongTicked {
-                answer: Answer::Clean(volts(leaked)),
+                answer: answer::marked(answer::volts1(leaked), false, true, true),
                 karplus_strong: KarplusStrong {
                     len,
                     write_pos: next,
@@ -512,50 +480,36 @@ impl KarplusStrong {
         } else {
             blank(line, 0, len);
             KarplusStrongTicked {
-                answer: Answer::Cleared(volts(0.0)),
-                karplus_strong: self.at_rest(len, trigger_edge),
+                answer: answer::marked(answer::volts1(0.0), true, true, true),
+                karplus_strong: KarplusStrong {
+                    len,
+                    write_pos: 0,
+                    sample_rate,
+                    lp_state: 0.0,
+                    ap_x1: 0.0,
+                    ap_y1: 0.0,
+                    trigger_edge,
+                    freq_memo,
+                },
             }
         }
     }
 
     // The turn of a tick.
     fn step(self, period: f64, damping: f64, stretch: f64, line: &mut [f64]) -> KarplusStrongTicked
-        requires { ⌜ (self .«write_pos» < self .len) × (self .len ≤ length (now line)) × (wholeOf (targetDelayOf period (filterCoefOf damping) (apCoefOf stretch)) ≤ 9610) ⌝ }
-        ensures { λ r. ⌜ (r ≡ stepOf self period damping stretch (now (line .entry)) .out) × (now (line .exit) ≡ stepOf self period damping stretch (now (line .entry)) .line) ⌝ }
+        requires { ⌜ (self .«write_pos» < self .len) × (self .len ≤ length (now line))
+            × (wholeOf (targetDelayOf period (filterCoefOf damping) (apCoefOf stretch)) ≤ 9610) ⌝ }
+        ensures { λ r. ⌜ (r ≡ stepOf self period damping stretch (now (line .entry)) .out)
+            × (now (line .exit) ≡ stepOf self period damping stretch (now (line .entry)) .line) ⌝ }
     {
         self.turn(tuned(period, damping, stretch), line)
-    }
-
-    // The string with what a tick heard: its trigger and its pitch.
-    fn heard(self, trigger_edge: EdgeDetector, freq_memo: Memo1) -> Self
-        ensures { λ r. ⌜ r ≡ heardString self «trigger_edge» «freq_memo» ⌝ }
-    {
-        let sample_rate = self.sample_rate;
-        KarplusStrong {
-            len: self.len,
-            write_pos: self.write_pos,
-            sample_rate,
-            lp_state: self.lp_state,
-            ap_x1: self.ap_x1,
-            ap_y1: self.ap_y1,
-            trigger_edge,
-            freq_memo,
-        }
-    }
-
-    fn refused(self, number: u32) -> KarplusStrongTicked
-        ensures { λ r. ⌜ r ≡ refusedTick self number ⌝ }
-    {
-        KarplusStrongTicked {
-            answer: Answer::Refused(number),
-            karplus_strong: self,
-        }
     }
 
     // The tick of a state and a line that refusals 1 to 3 let pass: edge, strike if it is taken, step.
     fn sound(self, c: KarplusStrongControls, draws: &[u64], line: &mut [f64]) -> KarplusStrongTicked
         requires { ⌜ karplusStrongRefusalOf self (length (now line)) ≡ 0 ⌝ }
-        ensures { λ r. ⌜ (r ≡ karplusStrongSoundOf self c (now (draws .entry)) (now (line .entry)) .out) × (now (line .exit) ≡ karplusStrongSoundOf self c (now (draws .entry)) (now (line .entry)) .line) ⌝ }
+        ensures { λ r. ⌜ (r ≡ karplusStrongSoundOf self c (now (draws .entry)) (now (line .entry)) .out)
+            × (now (line .exit) ≡ karplusStrongSoundOf self c (now (draws .entry)) (now (line .entry)) .line) ⌝ }
     {
         let voct = c.voct;
         let memo = self.freq_memo;
@@ -570,11 +524,23 @@ impl KarplusStrong {
         let edge = risen.edge;
         let refused = draws_refusal(risen.rising, period, draws);
         if refused == 0 {
-            let heard = self.heard(edge, freq_memo);
+            let heard = KarplusStrong {
+                len: self.len,
+                write_pos: self.write_pos,
+                sample_rate,
+                lp_state: self.lp_state,
+                ap_x1: self.ap_x1,
+                ap_y1: self.ap_y1,
+                trigger_edge: edge,
+                freq_memo,
+            };
             let struck = heard.strike_if(risen.rising, period, c.brightness, draws, line);
             struck.step(period, damping, stretch, line)
         } else {
-            self.refused(refused)
+            KarplusStrongTicked {
+                answer: Answer::Refused(refused),
+                karplus_strong: self,
+            }
         }
     }
 
@@ -584,22 +550,29 @@ impl KarplusStrong {
         draws: &[u64],
         line: &mut [f64],
     ) -> KarplusStrongTicked
-        ensures { λ r. ⌜ (r ≡ karplusStrongTickOf self c (now (draws .entry)) (now (line .entry)) .out) × (now (line .exit) ≡ karplusStrongTickOf self c (now (draws .entry)) (now (line .entry)) .line) ⌝ }
+        ensures { λ r. ⌜ (r ≡ karplusStrongTickOf self c (now (draws .entry)) (now (line .entry)) .out)
+            × (now (line .exit) ≡ karplusStrongTickOf self c (now (draws .entry)) (now (line .entry)) .line) ⌝ }
     {
         let refused = self.refusal(line.len());
         if refused == 0 {
             self.sound(c, draws, line)
         } else {
-            self.refused(refused)
+            KarplusStrongTicked {
+                answer: Answer::Refused(refused),
+                karplus_strong: self,
+            }
         }
     }
 
     // Turns one after another, as many as there are marks: neither trigger nor controls are looked at.
     fn ring(self, t: Tuning, line: &mut [f64], samples: &mut [f64], marks: &mut [u32]) -> Self
-        requires { ⌜ (self .«write_pos» < self .len) × (self .len ≤ length (now line)) × (t .delay ≤ 9610) × (length (now samples) ≡ 1 * length (now marks)) ⌝ }
+        requires { ⌜ (self .«write_pos» < self .len) × (self .len ≤ length (now line)) × (t .delay ≤ 9610)
+            × (length (now samples) ≡ nPorts * length (now marks)) ⌝ }
         ensures { λ r. ⌜ strung r (now (line .exit)) ≡ afterTicks (heldNext t) (length (now (marks .entry))) (strung self (now (line .entry))) ⌝ }
-        ensures { λ r. ⌜ now (samples .exit) ≡ joined (frameAt 1 (heldAnswer t) (heldNext t) (strung self (now (line .entry)))) (length (now (marks .entry))) ⌝ }
-        ensures { λ r. ⌜ now (marks .exit) ≡ tab (markAt (heldAnswer t) (heldNext t) (strung self (now (line .entry)))) (length (now (marks .entry))) ⌝ }
+        ensures { λ r. ⌜ now (samples .exit)
+            ≡ joined (frameAt nPorts (heldAnswer t) (heldNext t) (strung self (now (line .entry)))) (length (now (marks .entry))) ⌝ }
+        ensures { λ r. ⌜ now (marks .exit)
+            ≡ tab (markAt (heldAnswer t) (heldNext t) (strung self (now (line .entry)))) (length (now (marks .entry))) ⌝ }
     {
         let mut string = self;
         let mut i = 0;
@@ -607,37 +580,30 @@ impl KarplusStrong {
             let ticked = string.turn(t, &mut *line);
             let heard = ticked.answer;
             let next = ticked.karplus_strong;
-            put(heard, i, &mut *samples, &mut *marks);
+            answer::put(heard, PORTS, i, &mut *samples, &mut *marks);
             string = next;
             i += 1;
         }
         string
     }
 
-    // Refusals 5 and 6 of a tick that refusals 1 to 3 let pass, or 0.
-    fn trigger_refusal(self, c: KarplusStrongControls, draws: &[u64]) -> u32
-        requires { ⌜ (rateOk (self .«sample_rate») ≡ true) × T (not (isNan (self .«freq_memo» .val .0))) ⌝ }
-        ensures { λ r. ⌜ r ≡ triggerRefusalOf self c (now (draws .entry)) ⌝ }
+    // What refuses the first of n ticks, or 0. Where there is none, its trigger isn't looked at.
+    fn first_refusal(self, c: KarplusStrongControls, draws: &[u64], cells: usize, n: usize) -> u32
+        ensures { λ r. ⌜ r ≡ firstRefusalOf self c (now (draws .entry)) cells n ⌝ }
     {
         let voct = c.voct;
         let memo = self.freq_memo;
         let sample_rate = self.sample_rate;
         let trigger_edge = self.trigger_edge;
-        let freq = recalled(memo, VoltsPerOctave(finite_or(voct.0, 0.0)));
-        let risen = trigger_edge.rising(c.trigger);
-        draws_refusal(risen.rising, period_of(sample_rate, freq), draws)
-    }
-
-    // What refuses the first of n ticks, or 0. Where there is none, its trigger isn't looked at.
-    fn first_refusal(self, c: KarplusStrongControls, draws: &[u64], cells: usize, n: usize) -> u32
-        ensures { λ r. ⌜ r ≡ firstRefusalOf self c (now (draws .entry)) cells n ⌝ }
-    {
         let refused = self.refusal(cells);
         if refused == 0 {
             if n == 0 {
                 0
             } else {
-                self.trigger_refusal(c, draws)
+                let freq_memo = memo.voct_to_hz(VoltsPerOctave(finite_or(voct.0, 0.0)));
+                let freq = freq_memo.val;
+                let risen = trigger_edge.rising(c.trigger);
+                draws_refusal(risen.rising, period_of(sample_rate, freq), draws)
             }
         } else {
             refused
@@ -653,10 +619,14 @@ impl KarplusStrong {
         samples: &mut [f64],
         marks: &mut [u32],
     ) -> Self
-        requires { ⌜ (karplusStrongRefusalOf self (length (now line)) ≡ 0) × (triggerRefusalOf self c (now draws) ≡ 0) × (0 < length (now marks)) × (length (now samples) ≡ 1 * length (now marks)) ⌝ }
-        ensures { λ r. ⌜ strung r (now (line .exit)) ≡ afterTicks (karplusStrongNextOf c (now (draws .entry))) (length (now (marks .entry))) (strung self (now (line .entry))) ⌝ }
-        ensures { λ r. ⌜ now (samples .exit) ≡ joined (frameAt 1 (karplusStrongAnswerOf c (now (draws .entry))) (karplusStrongNextOf c (now (draws .entry))) (strung self (now (line .entry)))) (length (now (marks .entry))) ⌝ }
-        ensures { λ r. ⌜ now (marks .exit) ≡ tab (markAt (karplusStrongAnswerOf c (now (draws .entry))) (karplusStrongNextOf c (now (draws .entry))) (strung self (now (line .entry)))) (length (now (marks .entry))) ⌝ }
+        requires { ⌜ (karplusStrongRefusalOf self (length (now line)) ≡ 0) × (triggerRefusalOf self c (now draws) ≡ 0)
+            × (0 < length (now marks)) × (length (now samples) ≡ nPorts * length (now marks)) ⌝ }
+        ensures { λ r. ⌜ strung r (now (line .exit))
+            ≡ afterTicks (karplusStrongNextOf c (now (draws .entry))) (length (now (marks .entry))) (strung self (now (line .entry))) ⌝ }
+        ensures { λ r. ⌜ (let d = now (draws .entry) in now (samples .exit)
+            ≡ joined (frameAt nPorts (karplusStrongToldOf c d) (karplusStrongNextOf c d) (strung self (now (line .entry)))) (length (now (marks .entry)))) ⌝ }
+        ensures { λ r. ⌜ (let d = now (draws .entry) in now (marks .exit)
+            ≡ tab (markAt (karplusStrongToldOf c d) (karplusStrongNextOf c d) (strung self (now (line .entry)))) (length (now (marks .entry)))) ⌝ }
     {
         let voct = c.voct;
         let memo = self.freq_memo;
@@ -669,7 +639,16 @@ impl KarplusStrong {
         let period = period_of(sample_rate, freq);
         let risen = trigger_edge.rising(c.trigger);
         let edge = risen.edge;
-        let heard = self.heard(edge, freq_memo);
+        let heard = KarplusStrong {
+            len: self.len,
+            write_pos: self.write_pos,
+            sample_rate,
+            lp_state: self.lp_state,
+            ap_x1: self.ap_x1,
+            ap_y1: self.ap_y1,
+            trigger_edge: edge,
+            freq_memo,
+        };
         let tuning = tuned(period, damping, stretch);
         if risen.rising {
             let brightness = within(c.brightness, 0.5, 0.0, 1.0);
@@ -690,11 +669,12 @@ impl KarplusStrong {
         samples: &mut [f64],
         marks: &mut [u32],
     ) -> KarplusStrongBlock
-        ensures { λ r. ⌜ block (r .refused) (strung (r .«karplus_strong») (now (line .exit))) (r .tally) (now (samples .exit)) (now (marks .exit)) ≡ karplusStrongBlockOf (strung self (now (line .entry))) c (now (draws .entry)) tally (now (samples .entry)) (now (marks .entry)) ⌝ }
+        ensures { λ r. ⌜ block (r .refused) (strung (r .«karplus_strong») (now (line .exit))) (r .tally) (now (samples .exit)) (now (marks .exit))
+            ≡ karplusStrongBlockOf (strung self (now (line .entry))) c (now (draws .entry)) tally (now (samples .entry)) (now (marks .entry)) ⌝ }
     {
         let n = marks.len();
         let first = self.first_refusal(c, draws, line.len(), n);
-        let refused = answer::block_refusal(fits(samples.len(), n), first, tally, n);
+        let refused = answer::block_refusal(PORTS, samples.len(), first, tally, n);
         if refused == 0 {
             if n == 0 {
                 KarplusStrongBlock {
@@ -721,22 +701,41 @@ impl KarplusStrong {
 
     // The line is silent again; its length stays, and so does the memo.
     pub fn reset(self, line: &mut [f64]) -> KarplusStrongMade
-        ensures { λ r. ⌜ (r ≡ karplusStrongResetOf self (now (line .entry)) .out) × (now (line .exit) ≡ karplusStrongResetOf self (now (line .entry)) .line) ⌝ }
+        ensures { λ r. ⌜ (r ≡ karplusStrongResetOf self (now (line .entry)) .out)
+            × (now (line .exit) ≡ karplusStrongResetOf self (now (line .entry)) .line) ⌝ }
     {
         let refused = self.refusal(line.len());
         if refused == 0 {
             let len = self.len;
+            let sample_rate = self.sample_rate;
             let edge = self.trigger_edge;
+            let freq_memo = self.freq_memo;
             blank(line, 0, len);
-            KarplusStrongMade::Made(self.at_rest(len, edge.reset()))
+            let trigger_edge = edge.reset();
+            KarplusStrongMade {
+                outcome: Outcome::Done,
+                karplus_strong: KarplusStrong {
+                    len,
+                    write_pos: 0,
+                    sample_rate,
+                    lp_state: 0.0,
+                    ap_x1: 0.0,
+                    ap_y1: 0.0,
+                    trigger_edge,
+                    freq_memo,
+                },
+            }
         } else {
-            KarplusStrongMade::Refused(refused)
+            KarplusStrongMade {
+                outcome: Outcome::Refused(refused),
+                karplus_strong: self,
+            }
         }
     }
 
     // Refusals 1 to 3 of a rate change, or 0.
     fn rate_refusal(self, sample_rate: Hertz, n: usize) -> u32
-        ensures { λ r. ⌜ r ≡ rateRefusalOf self «sample_rate» n ⌝ }
+        ensures { λ r. ⌜ r ≡ karplusStrongRateRefusalOf self «sample_rate» n ⌝ }
     {
         let old = self.sample_rate;
         if common::rate_ok(old) {
@@ -754,35 +753,35 @@ impl KarplusStrong {
         }
     }
 
-    // The string in a line of max_len cells. A write position that no longer lies in it goes to 0.
-    fn resized(self, sample_rate: Hertz, max_len: usize) -> Self
-        ensures { λ r. ⌜ r ≡ resizedString self «sample_rate» «max_len» ⌝ }
-    {
-        let trigger_edge = self.trigger_edge;
-        let freq_memo = self.freq_memo;
-        KarplusStrong {
-            len: max_len,
-            write_pos: placed(self.write_pos, max_len),
-            sample_rate,
-            lp_state: self.lp_state,
-            ap_x1: self.ap_x1,
-            ap_y1: self.ap_y1,
-            trigger_edge,
-            freq_memo,
-        }
-    }
-
-    // Cuts the line to the new rate's longest, or fills it up with 0.0.
+    // Cuts the line to the new rate's longest, or fills it up with 0.0. A write position that no longer lies in it goes to 0.
     pub fn set_sample_rate(self, sample_rate: Hertz, line: &mut [f64]) -> KarplusStrongMade
-        ensures { λ r. ⌜ (r ≡ karplusStrongSetSampleRateOf self «sample_rate» (now (line .entry)) .out) × (now (line .exit) ≡ karplusStrongSetSampleRateOf self «sample_rate» (now (line .entry)) .line) ⌝ }
+        ensures { λ r. ⌜ (r ≡ karplusStrongSetSampleRateOf self «sample_rate» (now (line .entry)) .out)
+            × (now (line .exit) ≡ karplusStrongSetSampleRateOf self «sample_rate» (now (line .entry)) .line) ⌝ }
     {
         let refused = self.rate_refusal(sample_rate, line.len());
         if refused == 0 {
+            let trigger_edge = self.trigger_edge;
+            let freq_memo = self.freq_memo;
             let max_len = KarplusStrong::max_len_for(sample_rate);
-            blank(line, lesser(self.len, max_len), max_len);
-            KarplusStrongMade::Made(self.resized(sample_rate, max_len))
+            blank(line, numeric::least(self.len, max_len), max_len);
+            KarplusStrongMade {
+                outcome: Outcome::Done,
+                karplus_strong: KarplusStrong {
+                    len: max_len,
+                    write_pos: placed(self.write_pos, max_len),
+                    sample_rate,
+                    lp_state: self.lp_state,
+                    ap_x1: self.ap_x1,
+                    ap_y1: self.ap_y1,
+                    trigger_edge,
+                    freq_memo,
+                },
+            }
         } else {
-            KarplusStrongMade::Refused(refused)
+            KarplusStrongMade {
+                outcome: Outcome::Refused(refused),
+                karplus_strong: self,
+            }
         }
     }
 }

@@ -1,6 +1,7 @@
+use mathlib.Core.Path.{_∙_}
 use borrow.Author.Needs.{needs}
-use Rattle.answer.proofs.Flat.{sized}
-use Rattle.exports_karplus_strong.proofs.CallLaws.{new-left, left-refused}
+use Rattle.boundary.proofs.Flat.{sized}
+use Rattle.exports_karplus_strong.proofs.CallLaws.{left-done, left-refused}
 use Rattle.exports_karplus_strong.specs.Calls.{karplusStrongNewAt}
 use Rattle.exports_karplus_strong.proofs.gruttisol_karplus_strong_new.Statement.{statement}
 use Rattle.exports_karplus_strong.proofs.gruttisol_karplus_strong_new.Tie as tie
@@ -12,7 +13,9 @@ new-requires : tie.Need-new-requires
 new-requires c κs = search needs
 
 put-made-requires : tie.Need-put-made-requires
-put-made-requires c κs = sized _ _ _ _ _ (c .before .before .before .before .before .before .before .sizes .ensures) (c .before .before .before .before .before .before .if1 .taken)
+put-made-requires c κs =
+    let made = c .before .before .before .before in
+    sized _ _ _ _ _ (made .before .before .before .sizes .ensures) (made .before .before .if1 .taken)
 
 same-length : tie.Need-same-length
 same-length c = search needs
@@ -24,7 +27,12 @@ same-length-3 : tie.Need-same-length-3
 same-length-3 c = search needs
 
 returns : tie.Need-returns
-returns c = new-left _ _ _ _ (c .before .before .before .before .before .before .before .before .before .before .before .before .sizes .ensures) (c .before .before .before .before .before .before .before .before .before .before .before .if1 .taken) _ _ _ (c .before .before .before .before .put-made .ensures) _ (c .before .before .before .before .before .before .before .before .before .new .ensures .0) (c .before .before .before .before .before .before .before .before .before .new .ensures .1)
+unfolding karplusStrongNewAt
+returns c =
+    let put = c .before .before .before .before in
+    let made = put .before .before .before .before .before in
+    left-done _ _ _ _ (made .before .before .before .sizes .ensures) (made .before .before .if1 .taken) _ _ _
+    (put .put-made .ensures ∙ simp (made .new .ensures .0)) (made .new .ensures .1)
 
 same-length-4 : tie.Need-same-length-4
 same-length-4 c = search needs
@@ -34,19 +42,9 @@ same-length-5 c = search needs
 
 returns-2 : tie.Need-returns-2
 unfolding karplusStrongNewAt
-returns-2 c = left-refused _ _ _ _ (c .before .sizes .ensures) _ (c .if1 .left)
+returns-2 c = left-refused _ _ _ _ (c .before .sizes .ensures) (c .if1 .left) _
 
 pub gruttisol-karplus-strong-new-spec : {M : Type 1} → statement M
 gruttisol-karplus-strong-new-spec =
     tie.close
-    (tie.spec
-    sizes-requires
-    new-requires
-    put-made-requires
-    same-length
-    same-length-2
-    same-length-3
-    returns
-    same-length-4
-    same-length-5
-    returns-2)
+    (tie.spec sizes-requires new-requires put-made-requires same-length same-length-2 same-length-3 returns same-length-4 same-length-5 returns-2)

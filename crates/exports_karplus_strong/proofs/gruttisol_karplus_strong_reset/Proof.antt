@@ -1,6 +1,7 @@
+use mathlib.Core.Path.{_∙_}
 use borrow.Author.Needs.{needs}
-use Rattle.answer.proofs.Flat.{sized}
-use Rattle.exports_karplus_strong.proofs.CallLaws.{reset-left, left-refused}
+use Rattle.boundary.proofs.Flat.{sized}
+use Rattle.exports_karplus_strong.proofs.CallLaws.{left-done, left-refused}
 use Rattle.exports_karplus_strong.specs.Calls.{karplusStrongResetAt}
 use Rattle.exports_karplus_strong.proofs.gruttisol_karplus_strong_reset.Statement.{statement}
 use Rattle.exports_karplus_strong.proofs.gruttisol_karplus_strong_reset.Tie as tie
@@ -15,7 +16,9 @@ reset-requires : tie.Need-reset-requires
 reset-requires c κs = search needs
 
 put-made-requires : tie.Need-put-made-requires
-put-made-requires c κs = sized _ _ _ _ _ (c .before .before .before .before .before .before .before .before .before .before .sizes .ensures) (c .before .before .before .before .before .before .before .before .before .if1 .taken)
+put-made-requires c κs =
+    let restarted = c .before .before .before .before in let tested = restarted .before .before .before .before .before in
+    sized _ _ _ _ _ (tested .before .sizes .ensures) (tested .if1 .taken)
 
 same-length : tie.Need-same-length
 same-length c = search needs
@@ -27,7 +30,14 @@ same-length-3 : tie.Need-same-length-3
 same-length-3 c = search needs
 
 returns : tie.Need-returns
-returns c = reset-left _ _ _ _ (c .before .before .before .before .before .before .before .before .before .before .before .before .before .before .before .sizes .ensures) (c .before .before .before .before .before .before .before .before .before .before .before .before .before .before .if1 .taken) _ _ _ (c .before .before .before .before .put-made .ensures) _ (c .before .before .before .before .before .before .before .before .before .before .before .state .ensures) (c .before .before .before .before .before .before .before .before .before .reset .ensures .0) (c .before .before .before .before .before .before .before .before .before .reset .ensures .1)
+unfolding karplusStrongResetAt
+returns c =
+    let put = c .before .before .before .before in
+    let restarted = put .before .before .before .before .before in
+    let tested = restarted .before .before .before .before .before in
+    left-done _ _ _ _ (tested .before .sizes .ensures) (tested .if1 .taken) _ _ _
+    (put .put-made .ensures ∙ simp (restarted .reset .ensures .0, restarted .before .before .state .ensures))
+    (rw (restarted .before .before .state .ensures) at (restarted .reset .ensures .1))
 
 same-length-4 : tie.Need-same-length-4
 same-length-4 c = search needs
@@ -37,20 +47,10 @@ same-length-5 c = search needs
 
 returns-2 : tie.Need-returns-2
 unfolding karplusStrongResetAt
-returns-2 c = left-refused _ _ _ _ (c .before .sizes .ensures) _ (c .if1 .left)
+returns-2 c = left-refused _ _ _ _ (c .before .sizes .ensures) (c .if1 .left) _
 
 pub gruttisol-karplus-strong-reset-spec : {M : Type 1} → statement M
 gruttisol-karplus-strong-reset-spec =
     tie.close
-    (tie.spec
-    sizes-requires
-    state-requires
-    reset-requires
-    put-made-requires
-    same-length
-    same-length-2
-    same-length-3
-    returns
-    same-length-4
-    same-length-5
+    (tie.spec sizes-requires state-requires reset-requires put-made-requires same-length same-length-2 same-length-3 returns same-length-4 same-length-5
     returns-2)

@@ -1,6 +1,7 @@
+use mathlib.Core.Path.{_∙_}
 use borrow.Author.Needs.{needs}
-use Rattle.answer.proofs.Flat.{sized}
-use Rattle.exports_karplus_strong.proofs.CallLaws.{rate-left, left-refused}
+use Rattle.boundary.proofs.Flat.{sized}
+use Rattle.exports_karplus_strong.proofs.CallLaws.{left-done, left-refused}
 use Rattle.exports_karplus_strong.specs.Calls.{karplusStrongSetSampleRateAt}
 use Rattle.exports_karplus_strong.proofs.gruttisol_karplus_strong_set_sample_rate.Statement.{statement}
 use Rattle.exports_karplus_strong.proofs.gruttisol_karplus_strong_set_sample_rate.Tie as tie
@@ -15,7 +16,9 @@ set-sample-rate-requires : tie.Need-set-sample-rate-requires
 set-sample-rate-requires c κs = search needs
 
 put-made-requires : tie.Need-put-made-requires
-put-made-requires c κs = sized _ _ _ _ _ (c .before .before .before .before .before .before .before .before .before .before .sizes .ensures) (c .before .before .before .before .before .before .before .before .before .if1 .taken)
+put-made-requires c κs =
+    let retuned = c .before .before .before .before in let tested = retuned .before .before .before .before .before in
+    sized _ _ _ _ _ (tested .before .sizes .ensures) (tested .if1 .taken)
 
 same-length : tie.Need-same-length
 same-length c = search needs
@@ -27,7 +30,14 @@ same-length-3 : tie.Need-same-length-3
 same-length-3 c = search needs
 
 returns : tie.Need-returns
-returns c = rate-left _ _ _ _ (c .before .before .before .before .before .before .before .before .before .before .before .before .before .before .before .sizes .ensures) (c .before .before .before .before .before .before .before .before .before .before .before .before .before .before .if1 .taken) _ _ _ (c .before .before .before .before .put-made .ensures) _ _ (c .before .before .before .before .before .before .before .before .before .before .before .state .ensures) (c .before .before .before .before .before .before .before .before .before .set-sample-rate .ensures .0) (c .before .before .before .before .before .before .before .before .before .set-sample-rate .ensures .1)
+unfolding karplusStrongSetSampleRateAt
+returns c =
+    let put = c .before .before .before .before in
+    let retuned = put .before .before .before .before .before in
+    let tested = retuned .before .before .before .before .before in
+    left-done _ _ _ _ (tested .before .sizes .ensures) (tested .if1 .taken) _ _ _
+    (put .put-made .ensures ∙ simp (retuned .set-sample-rate .ensures .0, retuned .before .before .state .ensures))
+    (rw (retuned .before .before .state .ensures) at (retuned .set-sample-rate .ensures .1))
 
 same-length-4 : tie.Need-same-length-4
 same-length-4 c = search needs
@@ -37,20 +47,10 @@ same-length-5 c = search needs
 
 returns-2 : tie.Need-returns-2
 unfolding karplusStrongSetSampleRateAt
-returns-2 c = left-refused _ _ _ _ (c .before .sizes .ensures) _ (c .if1 .left)
+returns-2 c = left-refused _ _ _ _ (c .before .sizes .ensures) (c .if1 .left) _
 
 pub gruttisol-karplus-strong-set-sample-rate-spec : {M : Type 1} → statement M
 gruttisol-karplus-strong-set-sample-rate-spec =
     tie.close
-    (tie.spec
-    sizes-requires
-    state-requires
-    set-sample-rate-requires
-    put-made-requires
-    same-length
-    same-length-2
-    same-length-3
-    returns
-    same-length-4
-    same-length-5
-    returns-2)
+    (tie.spec sizes-requires state-requires set-sample-rate-requires put-made-requires same-length same-length-2 same-length-3 returns same-length-4
+    same-length-5 returns-2)

@@ -1,6 +1,7 @@
+use mathlib.Core.Path.{_∙_}
 use borrow.Author.Needs.{needs}
-use Rattle.answer.proofs.Flat.{tick-sized}
-use Rattle.exports_karplus_strong.proofs.CallLaws.{rate-stands, tick-sounded, sounded-refused}
+use Rattle.boundary.proofs.Flat.{tick-sized}
+use Rattle.exports_karplus_strong.proofs.CallLaws.{rate-stands, sounded-done, sounded-refused}
 use Rattle.exports_karplus_strong.specs.Calls.{karplusStrongTickAt}
 use Rattle.exports_karplus_strong.proofs.gruttisol_karplus_strong_tick.Statement.{statement}
 use Rattle.exports_karplus_strong.proofs.gruttisol_karplus_strong_tick.Tie as tie
@@ -9,13 +10,19 @@ tick-sizes-requires : tie.Need-tick-sizes-requires
 tick-sizes-requires c κs = search needs
 
 state-requires : tie.Need-state-requires
-state-requires c κs = let z = tick-sized _ _ _ _ _ _ _ (c .before .before .before .tick-sizes .ensures) (c .before .before .if1 .taken) in (z .0, z .1)
+state-requires c κs =
+    let z = tick-sized _ _ _ _ _ _ _ (c .before .before .before .tick-sizes .ensures) (c .before .before .if1 .taken) in
+    (z .0, z .1)
 
 tick-requires : tie.Need-tick-requires
 tick-requires c κs = search needs
 
 put-ticked-requires : tie.Need-put-ticked-requires
-put-ticked-requires c κs = let z = tick-sized _ _ _ _ _ _ _ (c .before .before .before .before .before .before .before .before .before .before .before .tick-sizes .ensures) (c .before .before .before .before .before .before .before .before .before .before .if1 .taken) in (z .0, z .1, z .2, rate-stands _ _ _ _ _ _ _ (c .before .before .before .before .before .before .before .state .ensures) (c .before .before .before .before .before .tick .ensures .0))
+put-ticked-requires c κs =
+    let ticked = c .before .before .before .before .before in
+    let tested = ticked .before .before .before .before .before in
+    let z = tick-sized _ _ _ _ _ _ _ (tested .before .tick-sizes .ensures) (tested .if1 .taken) in
+    (z .0, z .1, z .2, rate-stands _ _ _ _ _ _ _ (ticked .before .before .state .ensures) (ticked .tick .ensures .0))
 
 same-length : tie.Need-same-length
 same-length c = search needs
@@ -30,7 +37,14 @@ same-length-4 : tie.Need-same-length-4
 same-length-4 c = search needs
 
 returns : tie.Need-returns
-returns c = tick-sounded _ _ _ _ _ (c .before .before .before .before .before .before .before .before .before .before .before .before .before .before .before .before .before .before .tick-sizes .ensures) _ _ _ _ _ _ _ _ _ _ (c .before .before .before .before .before .before .before .before .before .before .before .before .before .before .before .before .before .if1 .taken) (c .before .before .before .before .before .before .before .before .before .before .before .before .before .before .state .ensures) (c .before .before .before .before .before .before .before .before .before .before .before .before .tick .ensures .0) (c .before .before .before .before .before .before .before .before .before .before .before .before .tick .ensures .1) (c .before .before .before .before .before .before .put-ticked .ensures)
+unfolding karplusStrongTickAt
+returns c =
+    let ready = c .before .before .before .before .before in let known-5 = ready .before .before .before .before .before in
+    let ticked = known-5 .before .before in
+    let tested = ticked .before .before .before .before .before in
+    sounded-done _ _ _ _ _ (tested .before .tick-sizes .ensures) (tested .if1 .taken) _ _ _
+    (ready .before .put-ticked .ensures ∙ simp (ticked .tick .ensures .0, ticked .before .before .state .ensures))
+    (rw (ticked .before .before .state .ensures) at (ticked .tick .ensures .1))
 
 same-length-5 : tie.Need-same-length-5
 same-length-5 c = search needs
@@ -43,22 +57,10 @@ same-length-7 c = search needs
 
 returns-2 : tie.Need-returns-2
 unfolding karplusStrongTickAt
-returns-2 c = sounded-refused _ _ _ _ _ (c .before .tick-sizes .ensures) _ (c .if1 .left)
+returns-2 c = sounded-refused _ _ _ _ _ (c .before .tick-sizes .ensures) (c .if1 .left) _
 
 pub gruttisol-karplus-strong-tick-spec : {M : Type 1} → statement M
 gruttisol-karplus-strong-tick-spec =
     tie.close
-    (tie.spec
-    tick-sizes-requires
-    state-requires
-    tick-requires
-    put-ticked-requires
-    same-length
-    same-length-2
-    same-length-3
-    same-length-4
-    returns
-    same-length-5
-    same-length-6
-    same-length-7
-    returns-2)
+    (tie.spec tick-sizes-requires state-requires tick-requires put-ticked-requires same-length same-length-2 same-length-3 same-length-4 returns same-length-5
+    same-length-6 same-length-7 returns-2)

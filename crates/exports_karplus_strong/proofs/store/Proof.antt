@@ -11,7 +11,10 @@ store-kept-requires : tie.Need-store-kept-requires
 store-kept-requires c κs = search needs
 
 same-length : tie.Need-same-length
-same-length c = c .before .before .before .before .store-kept .kept .1 .0 ∙ length-set (c .before .before .before .before .before .before .before .before .before .before .args .floats .now) 0 (c .before .before .before .before .before .before .before .before .before .before .args .s .«sample_rate» .0)
+same-length c =
+    let stored-kept = c .before .before .before .before in
+    let known = stored-kept .before .before .before .before .before in
+    stored-kept .store-kept .kept .1 .0 ∙ length-set (known .before .args .floats .now) 0 (known .before .args .s .«sample_rate» .0)
 
 same-length-2 : tie.Need-same-length-2
 same-length-2 c = search needs
@@ -20,5 +23,4 @@ returns : tie.Need-returns
 returns c = search needs
 
 pub store-spec : {M : Type 1} → statement M
-store-spec =
-    tie.close (tie.spec slice-write-floats store-kept-requires same-length same-length-2 returns)
+store-spec = tie.close (tie.spec slice-write-floats store-kept-requires same-length same-length-2 returns)

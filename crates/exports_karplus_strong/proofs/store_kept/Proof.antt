@@ -17,11 +17,11 @@ slice-write-floats-2 c = search needs
 slice-write-floats-3 : tie.Need-slice-write-floats-3
 slice-write-floats-3 c = search needs
 
-slice-write-floats-4 : tie.Need-slice-write-floats-4
-slice-write-floats-4 c = search needs
+put-edge-requires : tie.Need-put-edge-requires
+put-edge-requires c κs = search needs
 
-slice-write-floats-5 : tie.Need-slice-write-floats-5
-slice-write-floats-5 c = simp length-set (omega arith)
+slice-write-floats-4 : tie.Need-slice-write-floats-4
+slice-write-floats-4 c = rw (c .before .before .put-edge .ensures) (simp length-set (omega arith))
 
 slice-write-wholes : tie.Need-slice-write-wholes
 slice-write-wholes c = search needs
@@ -30,38 +30,31 @@ slice-write-wholes-2 : tie.Need-slice-write-wholes-2
 slice-write-wholes-2 c = search needs
 
 slice-write-wholes-3 : tie.Need-slice-write-wholes-3
-slice-write-wholes-3 c = search needs
+slice-write-wholes-3 c = simp length-set (omega arith)
 
 cast-wholes : tie.Need-cast-wholes
 cast-wholes c = search needs
 
 slice-write-wholes-4 : tie.Need-slice-write-wholes-4
-slice-write-wholes-4 c = search needs
+slice-write-wholes-4 c = simp length-set (omega arith)
 
 same-length : tie.Need-same-length
-same-length c = search needs
+same-length c = simp length-set (omega (arith, simp length-set at (c .before .before .before .put-edge .kept .1 .0)))
 
 same-length-2 : tie.Need-same-length-2
 same-length-2 c = search needs
 
 returns : tie.Need-returns
 unfolding floatsOf wholesOf
-returns c = (stored-rest nan (c .before .before .before .before .args .floats .now) _ _ (c .before .before .before .before .pre .0) (c .before .before .before .before .pre .2), simp byte (stored (c .before .before .before .before .args .wholes .now) (wholesOf (c .before .before .before .before .args .s)) (c .before .before .before .before .pre .1)))
+returns c =
+    let put = c .before .before .before in
+    let known-2 = put .before .before .before .before .before in let entered = known-2 .before .before in (
+      rw (put .put-edge .ensures) (stored-rest nan (entered .args .floats .now) _ _ (entered .pre .0) (entered .pre .2)),
+      simp byte (stored (entered .args .wholes .now) (wholesOf (entered .args .s)) (entered .pre .1)),
+    )
 
 pub store-kept-spec : {M : Type 1} → statement M
 store-kept-spec =
     tie.close
-    (tie.spec
-    slice-write-floats
-    slice-write-floats-2
-    slice-write-floats-3
-    slice-write-floats-4
-    slice-write-floats-5
-    slice-write-wholes
-    slice-write-wholes-2
-    slice-write-wholes-3
-    cast-wholes
-    slice-write-wholes-4
-    same-length
-    same-length-2
-    returns)
+    (tie.spec slice-write-floats slice-write-floats-2 slice-write-floats-3 put-edge-requires slice-write-floats-4 slice-write-wholes slice-write-wholes-2
+    slice-write-wholes-3 cast-wholes slice-write-wholes-4 same-length same-length-2 returns)

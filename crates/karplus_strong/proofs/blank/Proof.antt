@@ -47,19 +47,10 @@ same-length c = c .before .loop .inv .2
 
 returns : tie.Need-returns Inv-loop μ-loop
 unfolding blankOf
-returns c = let s = c .before .loop .inv in s .3 ∙ ap (λ k. over (blankAt (c .before .before .args .from) (c .before .before .args .line .now)) k (c .before .before .args .line .now)) (le-antisymm (s .1) (c .loop-test .left))
+returns c =
+    let s = c .before .loop .inv in
+    s .3 ∙ ap (λ k. over (blankAt (c .before .before .args .from) (c .before .before .args .line .now)) k (c .before .before .args .line .now))
+    (le-antisymm (s .1) (c .loop-test .left))
 
 pub blank-spec : {M : Type 1} → statement M
-blank-spec =
-    tie.close
-    (tie.spec
-    Inv-loop
-    μ-loop
-    loop-holds
-    mul-line
-    slice-write-line
-    add-i
-    loop-less
-    loop-again
-    same-length
-    returns)
+blank-spec = tie.close (tie.spec Inv-loop μ-loop loop-holds mul-line slice-write-line add-i loop-less loop-again same-length returns)

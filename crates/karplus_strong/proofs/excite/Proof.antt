@@ -19,9 +19,10 @@ same-length : tie.Need-same-length
 same-length c = search needs
 
 returns : tie.Need-returns
-returns c = struck-by _ _ _ _ _ _ _ _ (c .before .before .before .before .before .before .before .before .before .fill .ensures) (c .before .before .before .before .before .sum .ensures) (c .before .before .before .before .of-u64 .ensures) (c .before .before .level .ensures)
+returns c =
+    let cast-64 = c .before .before .before .before in
+    let filled = cast-64 .before .before .before .before .before in
+    struck-by _ _ _ _ _ _ _ _ (filled .fill .ensures) (cast-64 .before .sum .ensures) (cast-64 .of-u64 .ensures) (c .before .before .level .ensures)
 
 pub excite-spec : {M : Type 1} → statement M
-excite-spec =
-    tie.close
-    (tie.spec fill-requires sum-requires of-u64-requires level-requires same-length returns)
+excite-spec = tie.close (tie.spec fill-requires sum-requires of-u64-requires level-requires same-length returns)

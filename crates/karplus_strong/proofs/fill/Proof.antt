@@ -42,29 +42,22 @@ loop-less c = omega arith
 
 loop-again : tie.Need-loop-again Inv-loop μ-loop
 unfolding excitedAt
-loop-again c = let s = c .before .before .before .loop .inv in (omega arith, simp length-set (s .1), over-more _ _ _ _ _ (omega arith) (s .2) (c .pulse .ensures))
+loop-again c =
+    let s = c .before .before .before .loop .inv in
+    (omega arith, simp length-set (s .1), over-more _ _ _ _ _ (omega arith) (s .2) (c .pulse .ensures))
 
 same-length : tie.Need-same-length Inv-loop μ-loop
 same-length c = c .before .loop .inv .1
 
 returns : tie.Need-returns Inv-loop μ-loop
 unfolding excitedOf
-returns c = let s = c .before .loop .inv in s .2 ∙ ap (λ k. over (excitedAt (c .before .before .before .before .args .n) (c .before .before .before .before .args .brightness) (c .before .before .before .before .args .draws .now)) k (c .before .before .before .before .args .line .now)) (le-antisymm (s .0) (c .loop-test .left))
+returns c =
+    let s = c .before .loop .inv in
+    s .2 ∙ ap (λ k. over (excitedAt (c .before .before .before .before .args .n) (c .before .before .before .before .args .brightness)
+    (c .before .before .before .before .args .draws .now)) k (c .before .before .before .before .args .line .now)) (le-antisymm (s .0) (c .loop-test .left))
 
 pub fill-spec : {M : Type 1} → statement M
 fill-spec =
     tie.close
-    (tie.spec
-    Inv-loop
-    μ-loop
-    loop-holds
-    mul-pulse
-    shared-slice-read-pulse
-    pulse-requires
-    mul-line
-    slice-write-line
-    add-i
-    loop-less
-    loop-again
-    same-length
+    (tie.spec Inv-loop μ-loop loop-holds mul-pulse shared-slice-read-pulse pulse-requires mul-line slice-write-line add-i loop-less loop-again same-length
     returns)

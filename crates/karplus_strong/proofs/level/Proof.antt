@@ -39,28 +39,22 @@ loop-less c = omega arith
 
 loop-again : tie.Need-loop-again Inv-loop μ-loop
 unfolding levelAt
-loop-again c = let s = c .before .before .loop .inv in (omega arith, simp length-set (s .1), over-more _ _ _ _ _ (omega arith) (s .2) (ap (λ x. sub binary64 x (c .before .before .before .args .mean)) (rw (s .2) (over-at nan _ _ _ (omega arith)))))
+loop-again c =
+    let s = c .before .before .loop .inv in (
+      omega arith,
+      simp length-set (s .1),
+      over-more _ _ _ _ _ (omega arith) (s .2) (ap (λ x. sub binary64 x (c .before .before .before .args .mean)) (rw (s .2) (over-at nan _ _ _ (omega arith)))),
+    )
 
 same-length : tie.Need-same-length Inv-loop μ-loop
 same-length c = c .before .loop .inv .1
 
 returns : tie.Need-returns Inv-loop μ-loop
 unfolding levelOf
-returns c = let s = c .before .loop .inv in s .2 ∙ ap (λ k. over (levelAt (c .before .before .args .mean) (c .before .before .args .line .now)) k (c .before .before .args .line .now)) (le-antisymm (s .0) (c .loop-test .left))
+returns c =
+    let s = c .before .loop .inv in
+    s .2 ∙ ap (λ k. over (levelAt (c .before .before .args .mean) (c .before .before .args .line .now)) k (c .before .before .args .line .now))
+    (le-antisymm (s .0) (c .loop-test .left))
 
 pub level-spec : {M : Type 1} → statement M
-level-spec =
-    tie.close
-    (tie.spec
-    Inv-loop
-    μ-loop
-    loop-holds
-    mul-line
-    slice-read-line
-    mul-line-2
-    slice-write-line
-    add-i
-    loop-less
-    loop-again
-    same-length
-    returns)
+level-spec = tie.close (tie.spec Inv-loop μ-loop loop-holds mul-line slice-read-line mul-line-2 slice-write-line add-i loop-less loop-again same-length returns)

@@ -9,22 +9,27 @@ max-len-for-requires : tie.Need-max-len-for-requires
 max-len-for-requires c κs = search needs
 
 int-to-float-clamp : tie.Need-int-to-float-clamp
-int-to-float-clamp c = held _ (rw (c .before .max-len-for .ensures) (max-len-range _ (c .before .before .before .before .before .before .pre .0) .1))
+int-to-float-clamp c =
+    let sized = c .before in
+    let began = sized .before .before .before .before .before in
+    held _ (rw (sized .max-len-for .ensures) (max-len-range _ (began .pre .0) .1))
 
 clamp-requires : tie.Need-clamp-requires
 clamp-requires c κs = search needs
 
 returns : tie.Need-returns
-returns c = period-high _ _ (c .before .before .before .before .before .pre .0) (c .before .if1 .taken) (c .if2 .taken)
+returns c =
+    let began = c .before .before .before .before .before in
+    period-high _ _ (began .pre .0) (c .before .if1 .taken) (c .if2 .taken)
 
 returns-2 : tie.Need-returns-2
-returns-2 c = period-two _ _ (c .before .before .before .before .before .pre .0) (c .before .before .before .before .before .pre .1) (c .if2 .left)
+returns-2 c =
+    let began = c .before .before .before .before .before in
+    period-two _ _ (began .pre .0) (began .pre .1) (c .if2 .left)
 
 returns-3 : tie.Need-returns-3
 unfolding periodOf
 returns-3 c = simp (c .clamp .ensures, c .before .before .max-len-for .ensures)
 
 pub period-of-spec : {M : Type 1} → statement M
-period-of-spec =
-    tie.close
-    (tie.spec max-len-for-requires int-to-float-clamp clamp-requires returns returns-2 returns-3)
+period-of-spec = tie.close (tie.spec max-len-for-requires int-to-float-clamp clamp-requires returns returns-2 returns-3)

@@ -37,15 +37,4 @@ returns : tie.Need-returns Inv-loop μ-loop
 returns c = let s = c .before .loop .inv in s .1 ∙ ap (λ k. sumTo (c .before .before .args .line .now) k) (le-antisymm (s .0) (c .loop-test .left))
 
 pub sum-spec : {M : Type 1} → statement M
-sum-spec =
-    tie.close
-    (tie.spec
-    Inv-loop
-    μ-loop
-    loop-holds
-    mul-sum
-    shared-slice-read-sum
-    add-i
-    loop-less
-    loop-again
-    returns)
+sum-spec = tie.close (tie.spec Inv-loop μ-loop loop-holds mul-sum shared-slice-read-sum add-i loop-less loop-again returns)

@@ -18,26 +18,21 @@ mul-result : tie.Need-mul-result
 mul-result c = let q = in-line _ _ _ _ _ (c .before .behind .ensures) (c .before .before .before .pre .0) (c .before .before .before .pre .1) in omega arith
 
 shared-slice-read-result : tie.Need-shared-slice-read-result
-shared-slice-read-result c = in-line _ _ _ _ _ (c .before .before .behind .ensures) (c .before .before .before .before .pre .0) (c .before .before .before .before .pre .1)
+shared-slice-read-result c =
+    in-line _ _ _ _ _ (c .before .before .behind .ensures) (c .before .before .before .before .pre .0) (c .before .before .before .before .pre .1)
 
 mul-result-2 : tie.Need-mul-result-2
-mul-result-2 c = let q = in-line _ _ _ _ _ (c .before .behind2 .ensures) (c .before .before .before .before .pre .0) (c .before .before .before .before .pre .1) in omega arith
+mul-result-2 c =
+    let q = in-line _ _ _ _ _ (c .before .behind2 .ensures) (c .before .before .before .before .pre .0) (c .before .before .before .before .pre .1) in
+    omega arith
 
 shared-slice-read-result-2 : tie.Need-shared-slice-read-result-2
-shared-slice-read-result-2 c = in-line _ _ _ _ _ (c .before .before .behind2 .ensures) (c .before .before .before .before .before .pre .0) (c .before .before .before .before .before .pre .1)
+shared-slice-read-result-2 c =
+    let began = c .before .before .before .before .before in
+    in-line _ _ _ _ _ (c .before .before .behind2 .ensures) (began .pre .0) (began .pre .1)
 
 returns : tie.Need-returns
 returns c = tap-by _ _ _ _ _ _ _ (c .before .before .before .behind .ensures) (c .before .before .behind2 .ensures)
 
 pub tap-spec : {M : Type 1} → statement M
-tap-spec =
-    tie.close
-    (tie.spec
-    behind-requires
-    add-behind
-    behind-requires-2
-    mul-result
-    shared-slice-read-result
-    mul-result-2
-    shared-slice-read-result-2
-    returns)
+tap-spec = tie.close (tie.spec behind-requires add-behind behind-requires-2 mul-result shared-slice-read-result mul-result-2 shared-slice-read-result-2 returns)

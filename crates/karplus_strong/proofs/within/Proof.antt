@@ -25,13 +25,4 @@ returns-3 : tie.Need-returns-3
 returns-3 c = simp (c .clamp2 .ensures, c .before .finite-or2 .ensures)
 
 pub within-spec : {M : Type 1} → statement M
-within-spec =
-    tie.close
-    (tie.spec
-    finite-or-requires
-    clamp-requires
-    finite-or-requires-2
-    clamp-requires-2
-    returns
-    returns-2
-    returns-3)
+within-spec = tie.close (tie.spec finite-or-requires clamp-requires finite-or-requires-2 clamp-requires-2 returns returns-2 returns-3)

@@ -1,8 +1,8 @@
 use mathlib.Core.Path.{ap, _∙_}
 use Rattle.answer.specs.Tally.{tallyOr}
 use Rattle.karplus_strong.proofs.Held.{first-none}
-use Rattle.karplus_strong.specs.Blocks.{karplusStrongBlockOf}
-use Rattle.karplus_strong.specs.KarplusStrong.{strung}
+use Rattle.karplus_strong.specs.Consts.{nPorts}
+use Rattle.karplus_strong.specs.KarplusStrong.{strung, karplusStrongBlockOf}
 use Rattle.answer.proofs.Blocks.{block-refused, block-fits, block-empty, block-done}
 use native.Mathlib.Omega.{arith}
 use borrow.Author.Needs.{needs}
@@ -12,14 +12,19 @@ use Rattle.karplus_strong.proofs.KarplusStrong.block.Tie as tie
 first-refusal-requires : tie.Need-first-refusal-requires
 first-refusal-requires c κs = search needs
 
-fits-requires : tie.Need-fits-requires
-fits-requires c κs = search needs
-
 block-refusal-requires : tie.Need-block-refusal-requires
 block-refusal-requires c κs = search needs
 
 run-requires : tie.Need-run-requires
-run-requires c κs = let a = c .before .before .before .before .before .before .before .before .before .before .before .before .args in let f = block-fits 1 _ (a .tally) (a .samples .now) (a .marks .now) _ (rw (c .before .before .before .before .before .before .fits2 .ensures, c .before .before .before .before .before .before .before .first-refusal .ensures) at (c .before .before .before .before .before .block-refusal .ensures)) (c .before .before .before .before .if1 .taken) in let z = c .before .before .before .if2 .left in let k = first-none _ _ _ _ _ (f .1) z in (k .0, k .1, omega arith, f .0)
+run-requires c κs =
+    let passed-2 = c .before .before .before in
+    let judged-first = passed-2 .before .before .before in
+    let a = judged-first .before .before .before .before .before .args in
+    let judged = rw (judged-first .first-refusal .ensures) at (passed-2 .before .before .block-refusal .ensures) in
+    let f = block-fits nPorts _ (a .tally) (a .samples .now) (a .marks .now) _ judged (passed-2 .before .if1 .taken) in
+    let k = first-none _ _ _ _ _ (f .1) (passed-2 .if2 .left) in
+    let z = passed-2 .if2 .left in
+    (k .0, k .1, omega arith, f .0)
 
 take-marks-requires : tie.Need-take-marks-requires
 take-marks-requires c κs = search needs
@@ -29,7 +34,11 @@ or-requires c κs = search needs
 
 returns : tie.Need-returns
 unfolding karplusStrongBlockOf
-returns c = let a = c .before .before .before .before .before .before .before .before .before .args in block-empty 1 _ _ _ (strung (a .self) (a .line .now)) (a .tally) (a .samples .now) (a .marks .now) _ (rw (c .before .before .before .fits2 .ensures, c .before .before .before .before .first-refusal .ensures) at (c .before .before .block-refusal .ensures)) (c .before .if1 .taken) (c .if2 .taken)
+returns c =
+    let judged-first = c .before .before .before in
+    let a = judged-first .before .before .before .before .before .args in
+    let judged = rw (judged-first .first-refusal .ensures) at (c .before .before .block-refusal .ensures) in
+    block-empty nPorts _ _ _ (strung (a .self) (a .line .now)) (a .tally) (a .samples .now) (a .marks .now) _ judged (c .before .if1 .taken) (c .if2 .taken)
 
 same-length : tie.Need-same-length
 same-length c = search needs
@@ -42,25 +51,26 @@ same-length-3 c = search needs
 
 returns-2 : tie.Need-returns-2
 unfolding karplusStrongBlockOf
-returns-2 c = let a = c .before .before .before .before .before .before .before .before .before .before .before .before .before .before .before .before .before .before .before .before .before .before .args in let r = c .before .before .before .before .before .before .before .before .before .run .ensures in block-done 1 _ _ _ (strung (a .self) (a .line .now)) (a .tally) (a .samples .now) (a .marks .now) _ (rw (c .before .before .before .before .before .before .before .before .before .before .before .before .before .before .before .before .fits2 .ensures, c .before .before .before .before .before .before .before .before .before .before .before .before .before .before .before .before .before .first-refusal .ensures) at (c .before .before .before .before .before .before .before .before .before .before .before .before .before .before .before .block-refusal .ensures)) (c .before .before .before .before .before .before .before .before .before .before .before .before .before .before .if1 .taken) _ _ _ _ (r .0) (r .1 .0) (r .1 .1) (c .or .ensures ∙ ap (tallyOr (a .tally)) (c .before .take-marks .ensures))
+returns-2 c =
+    let known-5 = c .before .before .before .before .before in let ran = known-5 .before .before .before .before in
+    let tested = ran .before .before .before .before .before in
+    let judged-first = tested .before .before in
+    let a = judged-first .before .before .before .before .before .args in
+    let r = ran .run .ensures in
+    let judged = rw (judged-first .first-refusal .ensures) at (tested .before .block-refusal .ensures) in
+    block-done nPorts _ _ _ (strung (a .self) (a .line .now)) (a .tally) (a .samples .now) (a .marks .now) _ judged (tested .if1 .taken)
+    _ _ _ _ (r .0) (r .1 .0) (r .1 .1) (c .or .ensures ∙ ap (tallyOr (a .tally)) (c .before .take-marks .ensures))
 
 returns-3 : tie.Need-returns-3
 unfolding karplusStrongBlockOf
-returns-3 c = let a = c .before .before .before .before .before .before .before .before .args in block-refused 1 _ _ _ (strung (a .self) (a .line .now)) (a .tally) (a .samples .now) (a .marks .now) _ (rw (c .before .before .fits2 .ensures, c .before .before .before .first-refusal .ensures) at (c .before .block-refusal .ensures)) (c .if1 .left)
+returns-3 c =
+    let judged-first = c .before .before in
+    let a = judged-first .before .before .before .before .before .args in
+    let judged = rw (judged-first .first-refusal .ensures) at (c .before .block-refusal .ensures) in
+    block-refused nPorts _ _ _ (strung (a .self) (a .line .now)) (a .tally) (a .samples .now) (a .marks .now) _ judged (c .if1 .left)
 
 pub block-spec : {M : Type 1} → statement M
 block-spec =
     tie.close
-    (tie.spec
-    first-refusal-requires
-    fits-requires
-    block-refusal-requires
-    run-requires
-    take-marks-requires
-    or-requires
-    returns
-    same-length
-    same-length-2
-    same-length-3
-    returns-2
-    returns-3)
+    (tie.spec first-refusal-requires block-refusal-requires run-requires take-marks-requires or-requires returns same-length same-length-2 same-length-3
+    returns-2 returns-3)

@@ -1,5 +1,5 @@
-use Rattle.karplus_strong.proofs.Parts.{accepted}
-use Rattle.karplus_strong.specs.Blocks.{firstRefusalOf}
+use Rattle.karplus_strong.proofs.Parts.{accepted, memo-number, period-cut}
+use Rattle.karplus_strong.specs.KarplusStrong.{triggerRefusalOf, firstRefusalOf}
 use borrow.Author.Tests.{ne-eqb}
 use mathlib.Core.Path.{sym, _∙_}
 use borrow.Author.Needs.{needs}
@@ -9,16 +9,48 @@ use Rattle.karplus_strong.proofs.KarplusStrong.first_refusal.Tie as tie
 refusal-requires : tie.Need-refusal-requires
 refusal-requires c κs = search needs
 
-trigger-refusal-requires : tie.Need-trigger-refusal-requires
-trigger-refusal-requires c κs = let a = accepted _ _ (sym (c .before .before .refusal .ensures) ∙ c .before .if1 .taken) in (a .0 .rate, a .0 .value)
+finite-or-requires : tie.Need-finite-or-requires
+finite-or-requires c κs = search needs
+
+voct-to-hz-requires : tie.Need-voct-to-hz-requires
+voct-to-hz-requires c κs = search needs
+
+rising-requires : tie.Need-rising-requires
+rising-requires c κs = search needs
+
+period-of-requires : tie.Need-period-of-requires
+period-of-requires c κs =
+    let tested = c .before .before .before .before .before in
+    let good = accepted _ _ (sym (tested .before .refusal .ensures) ∙ tested .if1 .taken) .0 in
+    (good .rate, memo-number _ _ _ _ (good .value) (c .before .before .before .finite-or .ensures) (c .before .before .voct-to-hz .ensures))
+
+draws-refusal-requires : tie.Need-draws-refusal-requires
+draws-refusal-requires c κs =
+    let tuned = c .before .before .before in
+    let tested = tuned .before .before .before in
+    let good = accepted _ _ (sym (tested .before .refusal .ensures) ∙ tested .if1 .taken) .0 in
+    let number = memo-number _ _ _ _ (good .value) (tuned .before .finite-or .ensures) (tuned .voct-to-hz .ensures) in
+    rw (c .period-of .ensures) (period-cut _ _ (good .rate) number)
 
 returns : tie.Need-returns
 unfolding firstRefusalOf
 returns c = simp (← c .before .before .refusal .ensures, c .before .if1 .taken, c .if2 .taken)
 
 returns-2 : tie.Need-returns-2
-unfolding firstRefusalOf
-returns-2 c = simp (← c .before .before .before .refusal .ensures, c .before .before .if1 .taken, ne-eqb _ _ (c .before .if2 .left), c .trigger-refusal .ensures)
+unfolding firstRefusalOf triggerRefusalOf
+returns-2 c =
+    let tuned = c .before .before .before .before in
+    let passed-2 = tuned .before .before in
+    simp (
+      ← passed-2 .before .before .refusal .ensures,
+      passed-2 .before .if1 .taken,
+      ne-eqb _ _ (passed-2 .if2 .left),
+      c .draws-refusal .ensures,
+      c .before .period-of .ensures,
+      c .before .before .rising .ensures,
+      tuned .voct-to-hz .ensures,
+      tuned .before .finite-or .ensures,
+    )
 
 returns-3 : tie.Need-returns-3
 unfolding firstRefusalOf
@@ -26,4 +58,5 @@ returns-3 c = simp (← c .before .refusal .ensures, ne-eqb _ _ (c .if1 .left))
 
 pub first-refusal-spec : {M : Type 1} → statement M
 first-refusal-spec =
-    tie.close (tie.spec refusal-requires trigger-refusal-requires returns returns-2 returns-3)
+    tie.close
+    (tie.spec refusal-requires finite-or-requires voct-to-hz-requires rising-requires period-of-requires draws-refusal-requires returns returns-2 returns-3)

@@ -1,6 +1,6 @@
-use mathlib.Core.Path.{sym, ap, _∙_}
+use mathlib.Core.Path.{refl, sym, _∙_}
 use native.Mathlib.Omega.{arith}
-use Rattle.karplus_strong.proofs.Parts.{room-of, new-made, new-room, new-rate}
+use Rattle.karplus_strong.proofs.Parts.{room-of, made-parts, new-made, new-room, new-rate}
 use borrow.Author.Needs.{needs}
 use Rattle.karplus_strong.proofs.KarplusStrong.new.Statement.{statement}
 use Rattle.karplus_strong.proofs.KarplusStrong.new.Tie as tie
@@ -15,37 +15,41 @@ max-len-for-requires : tie.Need-max-len-for-requires
 max-len-for-requires c κs = sym (c .before .before .before .rate-ok .ensures) ∙ c .before .before .if1 .taken
 
 blank-requires : tie.Need-blank-requires
-blank-requires c κs = let m = room-of _ _ (sym (c .before .before .before .room .ensures) ∙ c .before .before .if2 .taken) in let w = c .before .max-len-for .ensures in (omega arith, omega arith)
+blank-requires c κs =
+    let m = room-of _ _ (sym (c .before .before .before .room .ensures) ∙ c .before .before .if2 .taken) in
+    let w = c .before .max-len-for .ensures in
+    (omega arith, omega arith)
 
-new-requires : tie.Need-new-requires
-new-requires c κs = search needs
+string-of-requires : tie.Need-string-of-requires
+string-of-requires c κs = search needs
 
-new-requires-2 : tie.Need-new-requires-2
-new-requires-2 c κs = search needs
+string-of-requires-2 : tie.Need-string-of-requires-2
+string-of-requires-2 c κs = search needs
+
+string-of-requires-3 : tie.Need-string-of-requires-3
+string-of-requires-3 c κs = search needs
 
 same-length : tie.Need-same-length
 same-length c = search needs
 
 returns : tie.Need-returns
-returns c = let e = new-made _ _ _ (sym (c .before .before .before .before .before .before .before .before .before .before .rate-ok .ensures) ∙ c .before .before .before .before .before .before .before .before .before .if1 .taken) (c .before .before .before .before .before .before .before .before .room .ensures) (c .before .before .before .before .before .before .before .if2 .taken) _ _ _ (c .before .before .before .before .before .before .max-len-for .ensures) (c .before .new .ensures) (c .new2 .ensures) in (ap (λ x. x .out) e, c .before .before .before .before .blank .ensures ∙ ap (λ x. x .line) e)
+returns c =
+    let sized = c .before .before .before .before .before in
+    let roomed = sized .before .before in
+    made-parts
+    (new-made _ _ _ _ (c .string-of .ensures) _ (sym (roomed .before .before .rate-ok .ensures) ∙ roomed .before .if1 .taken) (roomed .room .ensures)
+    (sized .before .if2 .taken) (sized .max-len-for .ensures) _ (c .before .before .before .blank .ensures))
 
 returns-2 : tie.Need-returns-2
-returns-2 c = let e = new-room _ _ _ (sym (c .before .before .before .rate-ok .ensures) ∙ c .before .before .if1 .taken) (c .before .room .ensures) (c .if2 .left) in (ap (λ x. x .out) e, ap (λ x. x .line) e)
+returns-2 c =
+    made-parts (new-room _ _ _ _ (c .string-of2 .ensures) _ (sym (c .before .before .before .before .rate-ok .ensures) ∙ c .before .before .before .if1 .taken)
+    (c .before .before .room .ensures) (c .before .if2 .left) refl)
 
 returns-3 : tie.Need-returns-3
-returns-3 c = let e = new-rate _ _ (sym (c .before .rate-ok .ensures) ∙ c .if1 .left) in (ap (λ x. x .out) e, ap (λ x. x .line) e)
+returns-3 c = made-parts (new-rate _ _ _ _ (c .string-of3 .ensures) (sym (c .before .before .rate-ok .ensures) ∙ c .before .if1 .left) refl)
 
 pub new-spec : {M : Type 1} → statement M
 new-spec =
     tie.close
-    (tie.spec
-    rate-ok-requires
-    room-requires
-    max-len-for-requires
-    blank-requires
-    new-requires
-    new-requires-2
-    same-length
-    returns
-    returns-2
-    returns-3)
+    (tie.spec rate-ok-requires room-requires max-len-for-requires blank-requires string-of-requires string-of-requires-2 string-of-requires-3 same-length
+    returns returns-2 returns-3)

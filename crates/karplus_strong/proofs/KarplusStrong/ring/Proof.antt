@@ -1,22 +1,27 @@
 use Rattle.karplus_strong.proofs.Held.{heard, moved, turned-ready}
-use Rattle.karplus_strong.specs.Held.{heldAnswer, heldNext}
+use Rattle.karplus_strong.specs.Shortcuts.{heldAnswer, heldNext}
 use Rattle.karplus_strong.specs.KarplusStrong.{strung}
 use Rattle.answer.proofs.Blocks.{one-port, joined-none, frames-more, frames-done, marks-more, marks-done}
 use Rattle.answer.specs.Block.{afterTicks, markAt, frameAt, joined}
 use Rattle.laws.proofs.Over.{over-none}
 use Rattle.laws.specs.Lists.{over}
-use lib.Seq.{sets, length-sets}
-use lib.ListN.{length, length-set}
+use lib.Seq.{sets}
+use lib.ListN.{length}
 use native.Mathlib.Omega.{arith}
 use native.Mathlib.Nat.{le-antisymm}
 use Prim.Native.Nat.{_≤_, _<_, _-_}
 use mathlib.Core.Path.{_≡_, refl, ap, _∙_}
+use borrow.Author.Needs.{needs}
+use Rattle.karplus_strong.specs.Consts.{nPorts}
 use Rattle.karplus_strong.proofs.KarplusStrong.ring.Statement.{statement}
 use Rattle.karplus_strong.proofs.KarplusStrong.ring.Tie as tie
 
 abbrev Inv-loop : tie.InvT-loop
 Inv-loop t line₀ samples₀ marks₀ string₀ i₀ line samples marks string i =
-    (i ≤ length marks₀) × (length line ≡ length line₀) × (length samples ≡ length samples₀) × (length marks ≡ length marks₀) × (samples ≡ sets samples₀ 0 (joined (frameAt 1 (heldAnswer t) (heldNext t) (strung string₀ line₀)) i)) × (marks ≡ over (markAt (heldAnswer t) (heldNext t) (strung string₀ line₀)) i marks₀) × (strung string line ≡ afterTicks (heldNext t) i (strung string₀ line₀)) × (string .«write_pos» < string .len) × (string .len ≤ length line₀)
+    let x = strung string₀ line₀ in
+    (i ≤ length marks₀) × (length line ≡ length line₀) × (length samples ≡ length samples₀) × (length marks ≡ length marks₀)
+    × (samples ≡ sets samples₀ 0 (joined (frameAt nPorts (heldAnswer t) (heldNext t) x) i)) × (marks ≡ over (markAt (heldAnswer t) (heldNext t) x) i marks₀)
+    × (strung string line ≡ afterTicks (heldNext t) i x) × (string .«write_pos» < string .len) × (string .len ≤ length line₀)
 
 abbrev μ-loop : tie.MeasureT-loop
 μ-loop t line₀ samples₀ marks₀ string₀ i₀ line samples marks string i = length marks₀ - i
@@ -26,10 +31,13 @@ unfolding afterTicks
 loop-holds c = (omega arith, refl, refl, refl, joined-none _ _, over-none _ _, refl, c .before .before .before .pre .0, c .before .before .before .pre .1)
 
 turn-requires : tie.Need-turn-requires Inv-loop μ-loop
-turn-requires c κs = (c .before .before .loop .inv .7, (let s = c .before .before .loop .inv in omega arith), c .before .before .before .before .before .before .pre .2)
+turn-requires c κs =
+    let looped = c .before .before in
+    let began = looped .before .before .before .before in
+    (looped .loop .inv .7, (let s = looped .loop .inv in omega arith), began .pre .2)
 
 put-requires : tie.Need-put-requires Inv-loop μ-loop
-put-requires c κs = (omega arith, omega arith)
+put-requires c κs = search needs
 
 add-i : tie.Need-add-i Inv-loop μ-loop
 add-i c = omega arith
@@ -39,12 +47,25 @@ loop-less c = omega arith
 
 loop-again : tie.Need-loop-again Inv-loop μ-loop
 loop-again c =
-    let s = c .before .before .before .before .before .before .before .before .before .before .before .before .before .loop .inv in
-    let e = c .before .before .before .before .before .before .before .before .before .before .turn .ensures in
-    let p = c .before .before .before .before .put .ensures in
-    let a = heard _ _ _ _ _ _ (e .0) (s .6) in
-    let r = turned-ready _ _ _ _ (e .0) (s .7) in
-    (omega arith, omega arith, simp (p .0, length-sets) (s .2), simp (p .1, length-set) (s .3), rw (p .0) (frames-more 1 one-port _ _ _ _ _ _ _ (s .4) a), rw (p .1) (marks-more 1 one-port _ _ _ _ _ _ _ (omega arith) (s .5) a), moved _ _ _ _ _ _ _ (e .0) (e .1) (s .6), r .0, (let q = r .1 in omega arith))
+    let put = c .before .before .before .before in
+    let known-4 = put .before .before .before .before in let looped = known-4 .before .before .before .before .before in
+    let entered = looped .before .before .before .before in
+    let s = looped .loop .inv in
+    let e = known-4 .before .before .turn .ensures in
+    let p = put .put .ensures in
+    let told = heard _ _ _ _ _ _ (e .0) (s .6) in
+    let n = length (entered .args .marks .now) in
+    let r = turned-ready _ _ _ _ (e .0) (s .7) in (
+      omega arith,
+      omega arith,
+      omega arith,
+      omega arith,
+      rw (p .0) (frames-more nPorts one-port _ _ _ _ n _ _ _ (omega arith) (s .2 ∙ entered .pre .3) (s .4) told),
+      rw (p .1) (marks-more nPorts one-port _ _ _ _ _ _ _ (omega arith) (s .5) told),
+      moved _ _ _ _ _ _ _ (e .0) (e .1) (s .6),
+      r .0,
+      (let q = r .1 in omega arith),
+    )
 
 same-length : tie.Need-same-length Inv-loop μ-loop
 same-length c = c .before .loop .inv .1
@@ -57,24 +78,15 @@ same-length-3 c = c .before .loop .inv .3
 
 returns : tie.Need-returns Inv-loop μ-loop
 returns c =
+    let entered = c .before .before .before .before .before in
     let s = c .before .loop .inv in
-    let a = c .before .before .before .before .before .args in
-    let n = le-antisymm (s .0) (omega arith) in
-    (s .6 ∙ ap (λ k. afterTicks (heldNext (a .t)) k (strung (a .self) (a .line .now))) n, (frames-done 1 one-port _ _ _ _ _ _ _ n (c .before .before .before .before .before .pre .3) (s .4), marks-done 1 one-port _ _ _ _ _ _ _ n refl (s .5)))
+    let a = entered .args in
+    let n = le-antisymm (s .0) (omega arith) in (
+      s .6 ∙ ap (λ k. afterTicks (heldNext (a .t)) k (strung (a .self) (a .line .now))) n,
+      (frames-done nPorts one-port _ _ _ _ _ _ _ n (entered .pre .3) (s .4), marks-done nPorts one-port _ _ _ _ _ _ _ n refl (s .5)),
+    )
 
 pub ring-spec : {M : Type 1} → statement M
 ring-spec =
     tie.close
-    (tie.spec
-    Inv-loop
-    μ-loop
-    loop-holds
-    turn-requires
-    put-requires
-    add-i
-    loop-less
-    loop-again
-    same-length
-    same-length-2
-    same-length-3
-    returns)
+    (tie.spec Inv-loop μ-loop loop-holds turn-requires put-requires add-i loop-less loop-again same-length same-length-2 same-length-3 returns)

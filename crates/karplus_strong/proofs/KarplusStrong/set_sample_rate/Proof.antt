@@ -1,6 +1,6 @@
-use mathlib.Core.Path.{sym, ap, _∙_}
+use mathlib.Core.Path.{sym, _∙_}
 use native.Mathlib.Omega.{arith}
-use Rattle.karplus_strong.proofs.Parts.{rate-accepted, rate-made, rate-no}
+use Rattle.karplus_strong.proofs.Parts.{rate-accepted, made-parts, rate-made, rate-no}
 use borrow.Author.Needs.{needs}
 use Rattle.karplus_strong.proofs.KarplusStrong.set_sample_rate.Statement.{statement}
 use Rattle.karplus_strong.proofs.KarplusStrong.set_sample_rate.Tie as tie
@@ -9,35 +9,37 @@ rate-refusal-requires : tie.Need-rate-refusal-requires
 rate-refusal-requires c κs = search needs
 
 max-len-for-requires : tie.Need-max-len-for-requires
-max-len-for-requires c κs = rate-accepted _ _ _ (sym (c .before .rate-refusal .ensures) ∙ c .if1 .taken) .1
+max-len-for-requires c κs = rate-accepted _ _ _ (sym (c .before .before .before .rate-refusal .ensures) ∙ c .before .before .if1 .taken) .1
 
-lesser-requires : tie.Need-lesser-requires
-lesser-requires c κs = search needs
+least-requires : tie.Need-least-requires
+least-requires c κs = search needs
 
 blank-requires : tie.Need-blank-requires
-blank-requires c κs = let a = rate-accepted _ _ _ (sym (c .before .before .before .before .rate-refusal .ensures) ∙ c .before .before .before .if1 .taken) .2 in let w = c .before .before .max-len-for .ensures in let m = c .lesser .ensures in (omega arith, omega arith)
+blank-requires c κs =
+    let tested = c .before .before .before .before .before in
+    let a = rate-accepted _ _ _ (sym (tested .before .rate-refusal .ensures) ∙ tested .if1 .taken) .2 in
+    let w = c .before .before .max-len-for .ensures in
+    let m = c .least .ensures in
+    (omega arith, omega arith)
 
-resized-requires : tie.Need-resized-requires
-resized-requires c κs = search needs
+placed-requires : tie.Need-placed-requires
+placed-requires c κs = search needs
 
 same-length : tie.Need-same-length
 same-length c = search needs
 
 returns : tie.Need-returns
-returns c = let e = rate-made _ _ _ _ (c .before .before .before .before .before .before .before .before .rate-refusal .ensures) (c .before .before .before .before .before .before .before .if1 .taken) _ _ _ (c .before .before .before .before .before .before .max-len-for .ensures) (c .before .before .before .before .lesser .ensures) (c .resized .ensures) in (ap (λ x. x .out) e, c .before .before .before .blank .ensures ∙ ap (λ x. x .line) e)
+returns c =
+    let at-least = c .before .before .before .before in
+    let tested = at-least .before .before .before .before .before in
+    made-parts
+    (rate-made _ _ _ _ (tested .before .rate-refusal .ensures) (tested .if1 .taken) _ _ _ _ (at-least .before .before .max-len-for .ensures)
+    (at-least .least .ensures) (c .placed .ensures) (c .before .before .before .blank .ensures))
 
 returns-2 : tie.Need-returns-2
-returns-2 c = let e = rate-no _ _ _ _ (c .before .rate-refusal .ensures) (c .if1 .left) in (ap (λ x. x .out) e, ap (λ x. x .line) e)
+returns-2 c = made-parts (rate-no _ _ _ _ (c .before .rate-refusal .ensures) (c .if1 .left))
 
 pub set-sample-rate-spec : {M : Type 1} → statement M
 set-sample-rate-spec =
     tie.close
-    (tie.spec
-    rate-refusal-requires
-    max-len-for-requires
-    lesser-requires
-    blank-requires
-    resized-requires
-    same-length
-    returns
-    returns-2)
+    (tie.spec rate-refusal-requires max-len-for-requires least-requires blank-requires placed-requires same-length returns returns-2)

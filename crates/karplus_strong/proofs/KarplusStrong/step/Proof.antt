@@ -1,4 +1,4 @@
-use Rattle.karplus_strong.specs.Held.{tuningOf}
+use Rattle.karplus_strong.specs.Shortcuts.{tuningOf}
 use Rattle.karplus_strong.proofs.Parts.{turn-by}
 use borrow.Author.Needs.{needs}
 use Rattle.karplus_strong.proofs.KarplusStrong.step.Statement.{statement}
@@ -15,7 +15,8 @@ same-length : tie.Need-same-length
 same-length c = search needs
 
 returns : tie.Need-returns
-returns c = turn-by _ _ _ _ _ _ _ _ (c .before .before .before .before .tuned .ensures) (c .before .before .turn .ensures .0) (c .before .before .turn .ensures .1)
+returns c =
+    turn-by _ _ _ _ _ _ _ _ (c .before .before .before .before .tuned .ensures) (c .before .before .turn .ensures .0) (c .before .before .turn .ensures .1)
 
 pub step-spec : {M : Type 1} → statement M
 step-spec = tie.close (tie.spec tuned-requires turn-requires same-length returns)

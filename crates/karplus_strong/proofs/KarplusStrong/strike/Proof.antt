@@ -1,4 +1,4 @@
-use mathlib.Core.Path.{sym, ap, subst}
+use mathlib.Core.Path.{sym, subst}
 use native.Mathlib.Omega.{arith}
 use lib.Dec.{T}
 use Rattle.karplus_strong.proofs.Cuts.{cut-small}
@@ -11,20 +11,22 @@ whole-requires : tie.Need-whole-requires
 whole-requires c κs = search needs
 
 add-n : tie.Need-add-n
-add-n c = let w = c .whole .ensures in let q = cut-small (c .before .before .before .args .period) (subst T (sym (c .before .before .before .good .1 .0 .1)) tt) (c .before .before .before .pre .0) in omega arith
+add-n c =
+    let known = c .before .before .before .before .before in
+    let w = c .whole .ensures in
+    let q = cut-small (known .before .args .period) (subst T (sym (known .before .good .1 .0 .1)) tt) (known .before .pre .0) in
+    omega arith
 
 excite-requires : tie.Need-excite-requires
-excite-requires c κs = (cut-room _ _ _ (c .before .whole .ensures) (c .before .before .before .before .pre .2), cut-room _ _ _ (c .before .whole .ensures) (c .before .before .before .before .pre .1))
-
-at-rest-requires : tie.Need-at-rest-requires
-at-rest-requires c κs = search needs
+excite-requires c κs =
+    let known = c .before .before .before .before .before in
+    (cut-room _ _ _ (c .before .whole .ensures) (known .before .before .pre .2), cut-room _ _ _ (c .before .whole .ensures) (known .before .before .pre .1))
 
 same-length : tie.Need-same-length
 same-length c = search needs
 
 returns : tie.Need-returns
-returns c = let e = strike-by _ _ _ _ _ _ _ _ (c .before .before .before .before .before .before .whole .ensures) (c .before .before .before .before .excite .ensures) (c .at-rest .ensures) in (ap (λ x. x .out) e, ap (λ x. x .line) e)
+returns c = strike-by _ _ _ _ _ _ _ (c .before .before .before .before .whole .ensures) (c .before .before .excite .ensures)
 
 pub strike-spec : {M : Type 1} → statement M
-strike-spec =
-    tie.close (tie.spec whole-requires add-n excite-requires at-rest-requires same-length returns)
+strike-spec = tie.close (tie.spec whole-requires add-n excite-requires same-length returns)

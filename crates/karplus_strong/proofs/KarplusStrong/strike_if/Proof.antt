@@ -1,4 +1,3 @@
-use mathlib.Core.Path.{ap, _∙_}
 use Rattle.common.proofs.DrawLaws.{draws-enough}
 use Rattle.karplus_strong.proofs.Parts.{zer-fin, one-fin, strike-taken, strike-none}
 use borrow.Author.Needs.{needs}
@@ -9,16 +8,20 @@ within-requires : tie.Need-within-requires
 within-requires c κs = (zer-fin, one-fin)
 
 strike-requires : tie.Need-strike-requires
-strike-requires c κs = (c .before .before .before .before .before .pre .0, draws-enough _ _ (rw (c .before .before .if1 .taken) at (c .before .before .before .before .before .pre .1)), c .before .before .before .before .before .pre .2)
+strike-requires c κs =
+    let began = c .before .before .before .before .before in
+    (began .pre .0, draws-enough _ _ (rw (c .before .before .if1 .taken) at (began .pre .1)), began .pre .2)
 
 same-length : tie.Need-same-length
 same-length c = search needs
 
 returns : tie.Need-returns
-returns c = let e = strike-taken _ _ _ _ _ _ _ (c .before .before .before .before .before .if1 .taken) (c .before .before .before .before .within .ensures) in (c .before .before .strike .ensures .0 ∙ ap (λ x. x .out) e, c .before .before .strike .ensures .1 ∙ ap (λ x. x .line) e)
+returns c =
+    let bounded = c .before .before .before .before in
+    strike-taken _ _ _ _ _ _ _ _ _ (bounded .before .if1 .taken) (bounded .within .ensures) (c .before .before .strike .ensures)
 
 returns-2 : tie.Need-returns-2
-returns-2 c = let e = strike-none _ _ _ _ _ _ (c .if1 .left) in (ap (λ x. x .out) e, ap (λ x. x .line) e)
+returns-2 c = strike-none _ _ _ _ _ _ (c .if1 .left)
 
 pub strike-if-spec : {M : Type 1} → statement M
 strike-if-spec = tie.close (tie.spec within-requires strike-requires same-length returns returns-2)

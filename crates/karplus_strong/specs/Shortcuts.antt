@@ -1,19 +1,25 @@
--- A step whose controls stand still: what they make of the loop is worked out once, and then only the loop turns. proofs/Held.antt
--- shows that a block is made of such turns.
+-- Shortcuts of the code: no public contract and no promise cites them, so nobody need believe them; proofs/Held.antt, Parts.antt and
+-- Cuts.antt show that they are what the definitions say.
 use mathlib.Core.Bool.{cond}
 use mathlib.Core.List.{List}
 use Prim.Native.Nat.{ℕ, _+_, _%_}
+use lib.Dec.{T}
 use lib.ListN.{getD}
-use lib.Ieee.{Float, nan, binary64, add, sub, mul}
+use lib.Ieee.{Float, nan, binary64, add, sub, mul, lt, le, ofBits}
 use Rattle.laws.specs.Float.{one, isFin}
 use Rattle.numeric.specs.Basic.{wholeOf, realOf}
 use Rattle.answer.specs.declared.Answer.{Answer}
 use Rattle.karplus_strong.specs.Consts.{loopLeak}
 use Rattle.karplus_strong.specs.Step.{filterCoefOf, apCoefOf, targetDelayOf, offsetOne, offsetTwo, filteredOf, stretchedOf, Ticking, wroteOf, clearedOf}
-use Rattle.karplus_strong.specs.KarplusStrong.{Strung}
+use Rattle.karplus_strong.specs.KarplusStrong.{Strung, strung}
 use Rattle.karplus_strong.specs.declared.KarplusStrong.{KarplusStrong}
 use Rattle.karplus_strong.specs.declared.Tuning.{Tuning}
 
+-- ---- the range in which a cast drops the digits of a fraction and nothing else: from 1 to below 2 ^ 52
+abbrev pub Cut : Float → Type 0
+Cut x = T (le one x) × T (lt x (ofBits binary64 0x4330000000000000))
+
+-- ---- a step whose controls stand still: what they make of the loop is worked out once, and then only the loop turns
 -- the filters, and the delay in whole samples and a fraction
 unfoldable pub tuningOf : Float → Float → Float → Tuning
 tuningOf period damping stretch =
@@ -42,4 +48,4 @@ unfoldable pub heldAnswer : Tuning → Strung → Answer
 heldAnswer t x = turnOf (x .string) t (x .line) .out .answer
 
 unfoldable pub heldNext : Tuning → Strung → Strung
-heldNext t x = let u = turnOf (x .string) t (x .line) in record { string = u .out .«karplus_strong»; line = u .line }
+heldNext t x = let u = turnOf (x .string) t (x .line) in strung (u .out .«karplus_strong») (u .line)
