@@ -16,22 +16,21 @@ use Rattle.laws.proofs.Order.{lt-false, le-of-lt-true, float-le-trans, values-l
 use Rattle.laws.proofs.Rounded.{Rounded, rounded}
 use Rattle.laws.proofs.Tests.{of-true}
 use Rattle.laws.proofs.Values.{mul-round, round-zero}
-use Rattle.numeric.specs.Basic.{fabsOf}
+use Rattle.numeric.specs.Basic.{fabsOf, tau}
 use Rattle.numeric.specs.Trig.{sinOf}
 use Rattle.numeric.proofs.BasicLaws.{within-fabs}
 use Rattle.common.proofs.Bounds.{phase-within, sin-within, zer-within, one-within, half-within, two-within, four-within, five-within, tau-within, out-finite}
-use Rattle.common.specs.Consts.{four, five, half, tau}
+use Rattle.common.specs.Consts.{four, five, half}
 use Rattle.common.specs.Phase.{turns, polyblepOf, polyblampOf}
 use Rattle.common.specs.Ports.{wants}
 use Rattle.common.specs.Tests.{phaseOk}
-use Rattle.answer.specs.Answer.{answerOf}
-use Rattle.answer.specs.Mark.{allFinite, markOf, ruleOf}
-use Rattle.vco.specs.Waves.{sineOf, sawOf, levelOf, pwEdgeOf, sqrOf, cornerHalfOf, triOf, steppedOf, Quiet}
-use Rattle.vco.specs.Vco.{plainVolts, vcoVoltsOf, vcoAnswerOf}
+use Rattle.answer.specs.Mark.{allFinite, markedOf, markOf}
+use Rattle.vco.specs.Waves.{sineOf, sawOf, levelOf, pwEdgeOf, sqrOf, cornerHalfOf, triOf, steppedOf}
+use Rattle.vco.specs.Shortcuts.{Quiet, plainVolts}
+use Rattle.vco.specs.Vco.{vcoVoltsOf, vcoAnswerOf}
 use Rattle.vco.proofs.QuietLaws.{away}
 use Rattle.common.specs.declared.Crossing.{Crossing}
 use Rattle.common.specs.declared.Crossing.the-variants.{Nowhere}
-use Rattle.answer.specs.declared.Answer.the-variants as answer
 
 -- ---- the test
 -- from dt to 1 - dt both residuals are 0
@@ -126,15 +125,14 @@ plain-finite p pw wanted h =
     simp (sine-finite (wants wanted 1) p h, out-finite (wants wanted 2) 6 (triOf p zer zer) (lit≤ tt) (tri-within p h), out-finite (wants wanted 4) 3 (sawOf p zer) (lit≤ tt) (saw-within p h), out-finite (wants wanted 8) 2 (sqrOf p pw zer zer) (lit≤ tt) (sqr-within p pw)) (unfold ofBits in refl)
 
 -- so a quiet tick is clean, with plain samples
-pub quiet-clean : (at : Crossing) (p old pw dt : Float) (wanted : ℕ) → phaseOk (turns p) ≡ true → Quiet at p (pwEdgeOf p pw) (fabsOf dt)
-    → answer.Clean (plainVolts p pw wanted) ≡ markOf (vcoVoltsOf at p old pw (fabsOf dt) wanted) false true (isFin (add binary64 p dt))
-unfolding markOf ruleOf answerOf
-quiet-clean at p old pw dt wanted h q =
+pub quiet-answer : (at : Crossing) (p old pw dt : Float) (wanted : ℕ) → phaseOk (turns p) ≡ true → Quiet at p (pwEdgeOf p pw) (fabsOf dt)
+    → markedOf (plainVolts p pw wanted) false true true ≡ vcoAnswerOf at p old pw dt wanted
+unfolding vcoAnswerOf markOf
+quiet-answer at p old pw dt wanted h q =
     let t = tick-value dt (q .small) in
     let w = phase-within p h in
-    simp (quiet-volts at p old pw (fabsOf dt) wanted q (still (fabsOf dt) (t .1)), plain-finite p pw wanted w, is-true (isFin (add binary64 p dt)) (within-finite 1 (add binary64 p dt) (within-add 0 p dt (lit≤ tt) w (t .0))))
-
-pub quiet-answer : (at : Crossing) (p old pw dt : Float) (wanted : ℕ) → phaseOk (turns p) ≡ true → Quiet at p (pwEdgeOf p pw) (fabsOf dt)
-    → answer.Clean (plainVolts p pw wanted) ≡ vcoAnswerOf at p old pw dt wanted
-unfolding vcoAnswerOf
-quiet-answer at p old pw dt wanted h q = quiet-clean at p old pw dt wanted h q
+    simp (
+      quiet-volts at p old pw (fabsOf dt) wanted q (still (fabsOf dt) (t .1)),
+      plain-finite p pw wanted w,
+      is-true (isFin (add binary64 p dt)) (within-finite 1 (add binary64 p dt) (within-add 0 p dt (lit≤ tt) w (t .0))),
+    )

@@ -1,80 +1,81 @@
--- At its sync edge a Vco forgets all that came before: it goes on as a new one would that was fed the edge's tick first.
+-- Demand 3: at its sync edge a Vco forgets all that came before: it goes on as a new one like it would that was fed the edge's tick first.
 use mathlib.Core.Bool.{Bool, true}
 use mathlib.Core.Logic.{inl}
 use mathlib.Core.Path.{_≡_, refl, sym, ap, _∙_}
 use Prim.Native.Nat.{ℕ}
 use lib.Ieee.{le}
-use lib.Ieee.Bits.{is-true}
-use Rattle.laws.specs.Float.{zer}
-use Rattle.laws.specs.Machine.{replies}
-use Rattle.common.specs.Consts.{gateThreshold}
-use Rattle.common.specs.Edge.{risesAbove, crossedAboveOf, crossedOf}
-use Rattle.common.specs.Memo.{newMemo3, filled3, recall3}
-use Rattle.common.specs.Phase.{restartOf}
-use Rattle.common.proofs.EdgeLaws.{rises-new, gate-above, rises-five}
-use Rattle.common.proofs.MemoLaws.{recall3-is}
-use Rattle.answer.specs.Answer.{voltsOf}
-use Rattle.answer.specs.Mark.{markOf}
 use Rattle.answer.proofs.Blocks.{block-meets}
 use Rattle.answer.proofs.Laws.{mark-says}
+use Rattle.answer.specs.Answer.{voltsOf}
+use Rattle.answer.specs.Mark.{markOf}
 use Rattle.answer.specs.declared.Volts.{Volts}
-use Rattle.vco.specs.Vco.{newVco, vcoNewOf, frequencyOf, crossesOf, vcoVoltsOf, vcoAnswerOf, vcoSoundOf, vcoToldOf, vcoNextOf, vcoBlockOf}
-use Rattle.vco.specs.Calls.{Tick, Fit, after, reply}
-use Rattle.vco.specs.Promises.{taken, Forgets, Block-forgets, Edge-comes}
+use Rattle.common.proofs.EdgeLaws.{rising-like, crossed-is, rising-comes}
+use Rattle.common.proofs.MemoLaws.{recall3-is}
+use Rattle.common.specs.Consts.{five}
+use Rattle.common.specs.Edge.{thresholdOf, resetOf}
+use Rattle.common.specs.Memo.{newMemo3, filled3, recall3}
+use Rattle.common.specs.Phase.{turns, restartOf}
+use Rattle.common.specs.declared.Memo3.{Memo3}
+use Rattle.common.specs.Promises.{Coherent3}
+use Rattle.laws.specs.Float.{zer}
+use Rattle.laws.specs.Machine.{replies}
 use Rattle.vco.proofs.Reached.{Good, good-unrefused, good-new, after-tick, Remembers, reached, good-tick, tick-sound, accepted-sound, good-accepts}
+use Rattle.vco.specs.Calls.{Tick, Fit, after, reply}
+use Rattle.vco.specs.Consts.{nPorts}
+use Rattle.vco.specs.Promises.{taken, Forgets, Block-forgets, Edge-comes}
+use Rattle.vco.specs.Vco.{newVco, newLike, madeUnless, vcoNewOf, frequencyOf, crossesOf, vcoVoltsOf, vcoAnswerOf, vcoSoundOf, vcoTickOf, vcoToldOf}
+use Rattle.vco.specs.Vco.{vcoNextOf, vcoBlockOf}
 use Rattle.vco.specs.declared.Vco.{Vco}
 use Rattle.vco.specs.declared.VcoControls.{VcoControls}
 
--- a new Vco takes the edge too
-edge-new : (s : Vco) (c : VcoControls) → taken s c ≡ true → taken (newVco (s .«sample_rate»)) c ≡ true
-unfolding newVco
-edge-new s c e = rises-new gateThreshold (s .«sync_edge» .prev) (c .sync) gate-above e
+-- a new one like s has a detector like its own
+like : (s : Vco) → newLike s ≡ record { phase = turns zer; «sample_rate» = s .«sample_rate»; «sync_edge» = resetOf (s .«sync_edge»); «freq_memo» = newMemo3 }
+unfolding newLike newVco resetOf
+like s = refl
 
-memo : (s : Vco) → Remembers s → (c : VcoControls) → Fit c → recall3 frequencyOf (s .«freq_memo») (c .voct .0) (c .fm .0) (c .«fm_lin») ≡ filled3 (c .voct .0) (c .fm .0) (c .«fm_lin») (frequencyOf (c .voct .0) (c .fm .0) (c .«fm_lin»))
-memo s h c f = recall3-is frequencyOf (s .«freq_memo») h (c .voct .0) (c .fm .0) (c .«fm_lin») (f .0) (f .1) (f .2)
+good-like : (s : Vco) → Good s → Good (newLike s)
+unfolding newLike
+good-like s g = good-new (s .«sample_rate») (g .rate)
 
-fresh : (c : VcoControls) → Fit c → recall3 frequencyOf newMemo3 (c .voct .0) (c .fm .0) (c .«fm_lin») ≡ filled3 (c .voct .0) (c .fm .0) (c .«fm_lin») (frequencyOf (c .voct .0) (c .fm .0) (c .«fm_lin»))
-fresh c f = recall3-is frequencyOf newMemo3 (inl refl) (c .voct .0) (c .fm .0) (c .«fm_lin») (f .0) (f .1) (f .2)
+-- what a coherent memo recalls
+memo : (m : Memo3) → Coherent3 frequencyOf m → (c : VcoControls) → Fit c
+    → recall3 frequencyOf m (c .voct .0) (c .fm .0) (c .«fm_lin») ≡ filled3 (c .voct .0) (c .fm .0) (c .«fm_lin») (frequencyOf (c .voct .0) (c .fm .0) (c .«fm_lin»))
+memo m h c f = recall3-is frequencyOf m h (c .voct .0) (c .fm .0) (c .«fm_lin») (f .0) (f .1) (f .2)
 
 -- the tick from the edge's parts: a coherent memo and an edge leave no trace of the state
-struck : (s : Vco) → Remembers s → (c : VcoControls) (wanted : ℕ) → Fit c → taken s c ≡ true → vcoSoundOf s c wanted .vco ≡ vcoSoundOf (newVco (s .«sample_rate»)) c wanted .vco
-unfolding vcoSoundOf newVco crossedOf crossedAboveOf crossesOf restartOf
-struck s h c wanted f e =
-    let n : risesAbove gateThreshold zer (c .sync) ≡ true = edge-new s c e in
-    simp (memo s h c f, fresh c f, e, n)
+struck : (s : Vco) → Remembers s → (c : VcoControls) (wanted : ℕ) → Fit c → taken s c ≡ true → vcoSoundOf s c wanted .vco ≡ vcoSoundOf (newLike s) c wanted .vco
+unfolding vcoSoundOf crossesOf restartOf
+struck s h c wanted f e = simp (like s, crossed-is, rising-like (s .«sync_edge») (c .sync) e, e, memo (s .«freq_memo») h c f, memo newMemo3 (inl refl) c f)
 
 struck-after : (s : Vco) → Good s → Remembers s → (c : VcoControls) (wanted : ℕ) → Fit c → taken s c ≡ true
-    → after s (Tick c wanted) ≡ after (newVco (s .«sample_rate»)) (Tick c wanted)
-struck-after s g h c wanted f e =
-    after-tick s g c wanted ∙ struck s h c wanted f e ∙ sym (after-tick (newVco (s .«sample_rate»)) (good-new (s .«sample_rate») (g .rate)) c wanted)
+    → after s (Tick c wanted) ≡ after (newLike s) (Tick c wanted)
+struck-after s g h c wanted f e = after-tick s g c wanted ∙ struck s h c wanted f e ∙ sym (after-tick (newLike s) (good-like s g) c wanted)
 
 -- and its sine and triangle are a new one's
-volts-mark : (v : Volts) (cleared sums phases : Bool) → voltsOf (markOf v cleared sums phases) ≡ v
-volts-mark v cleared sums phases = mark-says v cleared sums phases .volts
+volts-mark : (v : Volts) (zeroed sums phases : Bool) → voltsOf (markOf v zeroed sums phases) ≡ v
+volts-mark v zeroed sums phases = mark-says v zeroed sums phases .volts
 
-struck-sin : (s : Vco) (c : VcoControls) (wanted : ℕ) → taken s c ≡ true → voltsOf (vcoSoundOf s c wanted .answer) .p10 ≡ voltsOf (vcoSoundOf (newVco (s .«sample_rate»)) c wanted .answer) .p10
-unfolding vcoSoundOf vcoAnswerOf vcoVoltsOf newVco crossedOf crossedAboveOf crossesOf restartOf
-struck-sin s c wanted e =
-    let n : risesAbove gateThreshold zer (c .sync) ≡ true = edge-new s c e in
-    simp (volts-mark, e, n)
+struck-sin : (s : Vco) (c : VcoControls) (wanted : ℕ) → taken s c ≡ true
+    → voltsOf (vcoSoundOf s c wanted .answer) .p10 ≡ voltsOf (vcoSoundOf (newLike s) c wanted .answer) .p10
+unfolding vcoSoundOf vcoAnswerOf vcoVoltsOf crossesOf restartOf
+struck-sin s c wanted e = simp (volts-mark, like s, crossed-is, rising-like (s .«sync_edge») (c .sync) e, e)
 
-struck-tri : (s : Vco) → Remembers s → (c : VcoControls) (wanted : ℕ) → Fit c → taken s c ≡ true → voltsOf (vcoSoundOf s c wanted .answer) .p11 ≡ voltsOf (vcoSoundOf (newVco (s .«sample_rate»)) c wanted .answer) .p11
-unfolding vcoSoundOf vcoAnswerOf vcoVoltsOf newVco crossedOf crossedAboveOf crossesOf restartOf
+struck-tri : (s : Vco) → Remembers s → (c : VcoControls) (wanted : ℕ) → Fit c → taken s c ≡ true
+    → voltsOf (vcoSoundOf s c wanted .answer) .p11 ≡ voltsOf (vcoSoundOf (newLike s) c wanted .answer) .p11
+unfolding vcoSoundOf vcoAnswerOf vcoVoltsOf crossesOf restartOf
 struck-tri s h c wanted f e =
-    let n : risesAbove gateThreshold zer (c .sync) ≡ true = edge-new s c e in
-    simp (volts-mark, memo s h c f, fresh c f, e, n)
+    simp (volts-mark, like s, crossed-is, rising-like (s .«sync_edge») (c .sync) e, e, memo (s .«freq_memo») h c f, memo newMemo3 (inl refl) c f)
 
 pub forgets : Forgets
 forgets s h c wanted f a e =
     let k = reached s h in
     let g = k .0 in
-    let r = s .«sample_rate» in
-    let n = good-new r (g .rate) in
+    let n = good-like s g in
     record {
-      new = unfold vcoNewOf in simp (g .rate);
-      accepts = rw (tick-sound (newVco r) n c wanted) (accepted-sound (newVco r) c wanted);
-      sin = rw (tick-sound s g c wanted, tick-sound (newVco r) n c wanted) (struck-sin s c wanted e);
-      tri = rw (tick-sound s g c wanted, tick-sound (newVco r) n c wanted) (struck-tri s (k .1) c wanted f e);
+      new = unfold vcoNewOf madeUnless newLike in simp (g .rate);
+      accepts = rw (tick-sound (newLike s) n c wanted) (accepted-sound (newLike s) c wanted);
+      sin = rw (tick-sound s g c wanted, tick-sound (newLike s) n c wanted) (struck-sin s c wanted e);
+      tri = rw (tick-sound s g c wanted, tick-sound (newLike s) n c wanted) (struck-tri s (k .1) c wanted f e);
       state = struck-after s g (k .1) c wanted f e;
       later = λ cs. ap (λ (t : Vco). replies after reply t cs) (struck-after s g (k .1) c wanted f e);
     }
@@ -84,21 +85,23 @@ unfolding vcoBlockOf after
 block-forgets s h c wanted t o m f a z e =
     let k = reached s h in
     let g = k .0 in
-    let new = newVco (s .«sample_rate») in
     let next = struck-after s g (k .1) c wanted f e in
-    let taken = sym (good-accepts s g .play c wanted t o m) ∙ a in
-    simp (good-unrefused s g, good-unrefused new (good-new (s .«sample_rate») (g .rate)))
-    (block-meets (vcoNextOf c wanted) s new next 4 0 (vcoToldOf c wanted) t o m (taken, z))
+    let accepts = sym (good-accepts s g .play c wanted t o m) ∙ a in
+    simp (good-unrefused s g, good-unrefused (newLike s) (good-like s g))
+    (block-meets (vcoNextOf c wanted) s (newLike s) next nPorts 0 (vcoToldOf c wanted) t o m (accepts, z))
 
--- low, and then 5.0 V
-prev-is : (s : Vco) → Good s → (c : VcoControls) (wanted : ℕ) → after s (Tick c wanted) .«sync_edge» .prev ≡ c .sync
-prev-is s g c wanted = let e : vcoSoundOf s c wanted .vco .«sync_edge» .prev ≡ c .sync = unfold vcoSoundOf crossedOf crossedAboveOf in refl in ap (λ (t : Vco). t .«sync_edge» .prev) (after-tick s g c wanted) ∙ e
+-- ---- an edge can be had
+rises : (s : Vco) (c d : VcoControls) (wanted : ℕ) → Good s → le (c .sync) (thresholdOf (s .«sync_edge»)) ≡ true → d .sync ≡ five
+    → taken (vcoTickOf s c wanted .vco) d ≡ true
+unfolding vcoSoundOf
+rises s c d wanted g l e = rw (e, tick-sound s g c wanted, crossed-is (s .«sync_edge») (c .sync)) (rising-comes (s .«sync_edge») (c .sync) l)
 
 pub edge-comes : Edge-comes
-edge-comes s h c d wanted low high =
+unfolding after
+edge-comes s h c d wanted l e =
     let g = reached s h .0 in
     record {
       first = good-accepts s g .tick c wanted;
-      second = good-accepts (after s (Tick c wanted)) (unfold after in good-tick s g c wanted) .tick d wanted;
-      edge = rw (prev-is s g c wanted, high) (rises-five (c .sync) (is-true (le (c .sync) gateThreshold) low));
+      second = good-accepts (after s (Tick c wanted)) (good-tick s g c wanted) .tick d wanted;
+      edge = rises s c d wanted g l e;
     }

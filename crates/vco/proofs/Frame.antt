@@ -5,21 +5,23 @@ use lib.Dec.{lit≤}
 use lib.IntN.{pos}
 use lib.Ieee.{fin, binary64, add, sub, mul, div, neg, lt, le, eq, ofInt, ofBits}
 use Rattle.laws.specs.Float.{zer, one, isFin}
-use Rattle.numeric.specs.Basic.{fabsOf, clampOf}
+use Rattle.numeric.specs.Basic.{fabsOf, clampOf, tau}
 use Rattle.numeric.specs.Floor.{floorOf}
 use Rattle.numeric.specs.Power.{exp2Of}
 use Rattle.numeric.proofs.PowerLaws.{exp2-whole}
 use Rattle.numeric.proofs.TrigLaws.{sin-zero}
-use Rattle.common.specs.Consts.{c4, five, half, tau}
+use Rattle.common.specs.Consts.{c4, five, half}
 use Rattle.common.specs.Pitch.{voctToHz}
 use Rattle.common.specs.Phase.{polyblepOf, polyblampOf, incrementOf, restartOf}
 use Rattle.common.specs.Memo.{hits3, filled3, recall3}
-use Rattle.common.specs.Edge.{risesAbove, crossedAboveOf, crossedOf}
+use Rattle.common.proofs.EdgeLaws.{crossed-is, rising-once}
+use Rattle.common.specs.Edge.{newEdge, risingAboveOf, risingOf}
 use Rattle.common.specs.Ports.{outOf}
 use Rattle.common.specs.Tests.{rateOk}
 use Rattle.common.specs.declared.Crossing.the-variants.{Nowhere}
-use Rattle.answer.specs.Answer.{answerOf}
-use Rattle.answer.specs.Mark.{allFinite, markOf, ruleOf}
+use Rattle.common.specs.declared.Risen.{Risen}
+use Rattle.answer.specs.Answer.{volts4, answerOf}
+use Rattle.answer.specs.Mark.{allFinite, markOf, markedOf, ruleOf}
 use Rattle.answer.specs.declared.Volts.{Volts}
 use Rattle.answer.specs.declared.Answer.the-variants as answer
 use Rattle.vco.specs.Consts.{pwLow, pwHigh}
@@ -46,10 +48,15 @@ no-step : div binary64 zer (frameRate .0) ≡ zer
 unfolding div ofBits
 no-step = refl
 
+-- and a sync that stays at 0 has no edge
+no-edge : risingOf newEdge zer .rising ≡ false
+unfolding risingOf risingAboveOf
+no-edge = ap (λ (r : Risen). r .rising) (rising-once newEdge zer)
+
 -- so the tick is one without an edge, from phase 0 by 0
 frame-answer : vcoSoundOf (newVco frameRate) frameControls 15 .answer ≡ vcoAnswerOf Nowhere zer zer (clampOf half pwLow pwHigh) zer 15
-unfolding vcoSoundOf newVco crossedOf crossedAboveOf crossesOf restartOf incrementOf recall3 hits3 filled3
-frame-answer = let n : risesAbove (ofBits binary64 0x4004000000000000) zer zer ≡ false = unfold risesAbove lt ofBits in refl in simp (n, still, no-step)
+unfolding vcoSoundOf newVco crossesOf restartOf incrementOf recall3 hits3 filled3
+frame-answer = simp (crossed-is, no-edge, still, no-step)
 
 silent : sineOf true zer ≡ zer
 unfolding sineOf
@@ -85,13 +92,13 @@ first-frame = ap (λ (t : VcoTicked). t .answer) (tick-sound (newVco frameRate) 
     rate = unfold rateOk le lt eq ofBits in refl
 
     printed : Volts
-    printed = record { p10 = ofBits binary64 0; p11 = ofBits binary64 0xc014000000000000; p12 = ofBits binary64 0xc014000000000000; p13 = ofBits binary64 0x4014000000000000; p14 = zer }
+    printed = volts4 (ofBits binary64 0) (ofBits binary64 0xc014000000000000) (ofBits binary64 0xc014000000000000) (ofBits binary64 0x4014000000000000)
 
     volts : frameVolts ≡ printed
     volts = λ i. record { p10 = frame-sin i; p11 = frame-tri i; p12 = frame-saw i; p13 = frame-sqr i; p14 = frame-last i }
 
     marked : markOf printed false true (isFin (add binary64 zer zer)) ≡ answer.Clean printed
-    marked = unfold markOf ruleOf answerOf allFinite add ofBits in refl
+    marked = unfold markOf markedOf ruleOf answerOf allFinite add ofBits in refl
 
     clean : vcoAnswerOf Nowhere zer zer (clampOf half pwLow pwHigh) zer 15 ≡ answer.Clean printed
     clean = unfold vcoAnswerOf in rw volts marked

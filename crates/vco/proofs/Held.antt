@@ -12,10 +12,10 @@ use Rattle.answer.proofs.Blocks.{Holds, held-after, held-accepted, all-taken}
 use Rattle.answer.proofs.Laws.{mark-says, refused-by}
 use Rattle.answer.specs.declared.Answer.{Answer}
 use Rattle.common.specs.Phase.{turns, wrapOf, incrementOf}
-use Rattle.common.specs.Edge.{crossedOf, crossedAboveOf}
+use Rattle.common.specs.Edge.{risingOf, crossedOf}
 use Rattle.common.specs.Memo.{recall3}
 use Rattle.common.specs.Tests.{phaseOk}
-use Rattle.common.proofs.EdgeLaws.{rises-once}
+use Rattle.common.proofs.EdgeLaws.{crossed-is, rising-once}
 use Rattle.common.proofs.MemoLaws.{recall3-again}
 use Rattle.common.proofs.PhaseLaws.{wrap-in}
 use Rattle.common.specs.declared.Turns.{Turns}
@@ -26,7 +26,7 @@ use Rattle.common.specs.declared.Crossing.the-variants.{Nowhere, At}
 use Rattle.numeric.specs.Basic.{clampOf}
 use Rattle.vco.specs.Consts.{pwLow, pwHigh}
 use Rattle.vco.specs.Vco.{frequencyOf, syncedOf, vcoAnswerOf, vcoSoundOf, vcoRefusalOf, vcoTickOf, vcoToldOf, vcoNextOf}
-use Rattle.vco.specs.Held.{Held, held, heldAnswer, heldNext}
+use Rattle.vco.specs.Shortcuts.{Held, held, heldTold, heldNext}
 use Rattle.vco.proofs.StateLaws.{unrefused}
 use Rattle.vco.proofs.Reached.{tick-sound}
 use Rattle.vco.specs.Promises.{Block-accepts, Block-tallies}
@@ -36,8 +36,8 @@ use Rattle.vco.specs.declared.VcoTicked.{VcoTicked}
 
 -- ---- a turn of the loop
 pub heard-now : (wanted : ℕ) (pw : Float) (dt : Turns) (start : Held) (i : ℕ) (p q : Turns) (at : Crossing) (a : Answer) → a ≡ vcoAnswerOf at (q .0) (p .0) pw (dt .0) wanted
-    → q ≡ syncedOf p at → held p at ≡ afterTicks (heldNext dt) i start → a ≡ answerAt (heldAnswer wanted pw dt) (heldNext dt) start i
-unfolding answerAt heldAnswer
+    → q ≡ syncedOf p at → held p at ≡ afterTicks (heldNext dt) i start → a ≡ answerAt (heldTold wanted pw dt) (heldNext dt) start i
+unfolding answerAt heldTold
 heard-now wanted pw dt start i p q at a e r z = simp (e, r, ← z)
 
 pub moved : (dt : Turns) (start : Held) (i : ℕ) (p q r : Turns) (at : Crossing) → r ≡ turns (wrapOf (add binary64 (q .0) (dt .0)))
@@ -58,7 +58,7 @@ module _ (s : Vco) (c : VcoControls) where
 
   -- the detector that tells this crossing: the one before the block if it is an edge, the one after a tick if it is none
   unfoldable pub edgeOf : Crossing → EdgeDetector
-  edgeOf Nowhere = record { prev = c .sync }
+  edgeOf Nowhere = risingOf (s .«sync_edge») (c .sync) .edge
   edgeOf (At frac) = s .«sync_edge»
 
   -- the state in a block that the small one stands for
@@ -69,10 +69,19 @@ module _ (s : Vco) (c : VcoControls) where
     pub phase : phaseOk (h .phase) ≡ true
     pub at : crossedOf (edgeOf (h .at)) (c .sync) .at ≡ h .at
 
-  -- no edge comes twice
+  -- no edge comes twice, and the detector then stays
   still : crossedOf (edgeOf Nowhere) (c .sync) .at ≡ Nowhere
-  unfolding edgeOf crossedOf crossedAboveOf
-  still = simp rises-once
+  unfolding edgeOf
+  still = simp (crossed-is, rising-once (s .«sync_edge») (c .sync))
+
+  edge-first : crossedOf (s .«sync_edge») (c .sync) .edge ≡ edgeOf Nowhere
+  unfolding edgeOf
+  edge-first = simp (crossed-is (s .«sync_edge») (c .sync))
+
+  edge-left : (at : Crossing) → crossedOf (edgeOf at) (c .sync) .edge ≡ edgeOf Nowhere
+  unfolding edgeOf
+  edge-left Nowhere = simp (crossed-is, rising-once (s .«sync_edge») (c .sync))
+  edge-left (At frac) = edge-first
 
   first-at : (at : Crossing) → crossedOf (s .«sync_edge») (c .sync) .at ≡ at → crossedOf (edgeOf at) (c .sync) .at ≡ at
   unfolding edgeOf
@@ -81,18 +90,17 @@ module _ (s : Vco) (c : VcoControls) where
 
   -- in such a state a tick finds its frequency in the memo, and its edge is the one held
   held-sound : (wanted : ℕ) (h : Held) → Fair h
-      → vcoSoundOf (stateOf h) c wanted ≡ record { answer = heldAnswer wanted (clampOf (c .pw) pwLow pwHigh) stepOf h; vco = stateOf (heldNext stepOf h) }
-  unfolding vcoSoundOf heldAnswer heldNext
-  held-sound wanted h f =
-      let e : crossedOf (edgeOf (h .at)) (c .sync) .edge ≡ edgeOf Nowhere = unfold edgeOf crossedOf crossedAboveOf in refl in
-      simp (recall3-again frequencyOf (s .«freq_memo») (c .voct .0) (c .fm .0) (c .«fm_lin»), f .at, e)
+      → vcoSoundOf (stateOf h) c wanted ≡ record { answer = heldTold wanted (clampOf (c .pw) pwLow pwHigh) stepOf h; vco = stateOf (heldNext stepOf h) }
+  unfolding vcoSoundOf heldTold heldNext
+  held-sound wanted h f = simp (recall3-again frequencyOf (s .«freq_memo») (c .voct .0) (c .fm .0) (c .«fm_lin»), f .at, edge-left (h .at))
 
-  first-sound : (wanted : ℕ) → vcoSoundOf s c wanted ≡ record { answer = heldAnswer wanted (clampOf (c .pw) pwLow pwHigh) stepOf startOf; vco = stateOf (heldNext stepOf startOf) }
-  unfolding vcoSoundOf heldAnswer heldNext edgeOf crossedOf crossedAboveOf
-  first-sound wanted = refl
+  first-sound : (wanted : ℕ)
+      → vcoSoundOf s c wanted ≡ record { answer = heldTold wanted (clampOf (c .pw) pwLow pwHigh) stepOf startOf; vco = stateOf (heldNext stepOf startOf) }
+  unfolding vcoSoundOf heldTold heldNext
+  first-sound wanted = simp edge-first
 
   pub holds : (wanted : ℕ) → vcoRefusalOf s ≡ 0
-      → Holds (vcoToldOf c wanted) (vcoNextOf c wanted) (heldAnswer wanted (clampOf (c .pw) pwLow pwHigh) stepOf) (heldNext stepOf) stateOf Fair s startOf
+      → Holds (vcoToldOf c wanted) (vcoNextOf c wanted) (heldTold wanted (clampOf (c .pw) pwLow pwHigh) stepOf) (heldNext stepOf) stateOf Fair s startOf
   holds wanted n =
       let a = unrefused s n in
       let first = tick-sound s (record { rate = a .0; phase = a .1 }) c wanted ∙ first-sound wanted in
@@ -113,13 +121,11 @@ module _ (s : Vco) (c : VcoControls) where
 
   pub left : (wanted n : ℕ) → vcoRefusalOf s ≡ 0 → 0 < n
       → record { phase = afterTicks (heldNext stepOf) n startOf .phase; «sample_rate» = s .«sample_rate»; «sync_edge» = crossedOf (s .«sync_edge») (c .sync) .edge; «freq_memo» = heldMemo } ≡ afterTicks (vcoNextOf c wanted) n s
-  left wanted n h z =
-      let e : crossedOf (s .«sync_edge») (c .sync) .edge ≡ edgeOf Nowhere = unfold edgeOf crossedOf crossedAboveOf in refl in
-      simp (e, ← left-at n z) (sym (held-after _ _ _ _ _ _ _ _ (holds wanted h) n z))
+  left wanted n h z = simp (edge-first, ← left-at n z) (sym (held-after _ _ _ _ _ _ _ _ (holds wanted h) n z))
 
 -- ---- so none of them is refused
 pub block-accepts : Block-accepts
-block-accepts s c wanted h = held-accepted _ _ _ _ _ _ _ _ (holds s c wanted h) (λ p. unfold heldAnswer vcoAnswerOf in mark-says _ _ _ _ .is-accepted)
+block-accepts s c wanted h = held-accepted _ _ _ _ _ _ _ _ (holds s c wanted h) (λ p. unfold heldTold vcoAnswerOf in mark-says _ _ _ _ .is-accepted)
 
 pub block-tallies : Block-tallies
 block-tallies s c wanted h = all-taken _ _ s (block-accepts s c wanted h)

@@ -22,7 +22,8 @@ use Rattle.numeric.proofs.SmallFloor.{floor-zero, floor-one, pos-sub-zer}
 use Rattle.numeric.specs.Basic.{clampOf}
 use Rattle.numeric.specs.Floor.{floorOf}
 use Rattle.vco.specs.Consts.{pwLow, pwHigh}
-use Rattle.vco.specs.Waves.{pwEdgeOf, Width}
+use Rattle.vco.specs.Shortcuts.{Width}
+use Rattle.vco.specs.Waves.{pwEdgeOf}
 
 -- the clamp leaves such a width
 pub clamp-width : (x : Float) → Width (clampOf x pwLow pwHigh)

@@ -1,5 +1,9 @@
--- The ends of the pulse width, by their bits.
+-- How many outputs there are, and the ends of the pulse width, by their bits.
+use Prim.Native.Nat.{ℕ}
 use lib.Ieee.{Float, binary64, ofBits}
+
+abbrev pub nPorts : ℕ
+nPorts = 4
 
 -- 0.05
 abbrev pub pwLow : Float

@@ -1,6 +1,6 @@
 pub mod Consts
 pub mod Waves
 pub mod Vco
-pub mod Held
+pub mod Shortcuts
 pub mod Calls
 pub mod Promises

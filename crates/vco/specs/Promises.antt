@@ -3,80 +3,83 @@ use mathlib.Core.Path.{_≡_}
 use mathlib.Core.Bool.{Bool, true, cond}
 use mathlib.Core.List.{List}
 use Prim.Native.Nat.{ℕ, _*_, _<_}
-use lib.Dec.{T, eqb}
+use lib.Dec.{eqb}
 use lib.Ieee.{Float, binary64, le, neg, ofBits}
 use lib.ListN.{length}
 use Rattle.laws.specs.Float.{zer}
 use Rattle.laws.specs.Machine.{replies, Settles}
-use Rattle.common.specs.Consts.{gateThreshold, five, half}
-use Rattle.common.specs.Edge.{risesAbove}
+use Rattle.common.specs.Consts.{five, half}
+use Rattle.common.specs.Edge.{risingOf, thresholdOf}
 use Rattle.common.specs.Tests.{rateOk, phaseOk}
 use Rattle.common.specs.declared.Hertz.{Hertz}
-use Rattle.answer.specs.Answer.{accepted, voltsOf}
+use Rattle.answer.specs.Answer.{accepted, voltsOf, outcomeNumber, volts4}
 use Rattle.answer.specs.Block.{Block, blockRefusalOf}
 use Rattle.answer.specs.Promises.{AllAccepted, AllTaken}
 use Rattle.answer.specs.declared.Answer.the-variants as answer
+use Rattle.answer.specs.declared.Outcome.the-variants as outcome
 use Rattle.answer.specs.declared.Tally.{Tally}
-use Rattle.vco.specs.Vco.{newVco, vcoNewOf, vcoTickOf, vcoBlockOf, vcoResetOf, vcoSetSampleRateOf, vcoRefusalOf, vcoToldOf, vcoNextOf, madeNumber}
+use Rattle.vco.specs.Consts.{nPorts}
+use Rattle.vco.specs.Vco.{newVco, newLike, vcoRefusalOf, vcoNewOf, vcoTickOf, vcoToldOf, vcoNextOf, vcoBlockOf, vcoResetOf, vcoSetSampleRateOf}
 use Rattle.vco.specs.Calls.{Call, Tick, Reset, SetSampleRate, Told, Fit, after, reply, First, ReachedVco}
 use Rattle.vco.specs.declared.Vco.{Vco}
 use Rattle.vco.specs.declared.VcoControls.{VcoControls}
 use Rattle.vco.specs.declared.VcoTicked.{VcoTicked}
 use Rattle.vco.specs.declared.VcoMade.{VcoMade}
-use Rattle.vco.specs.declared.VcoMade.the-variants as made
 
 -- ---- `new` refuses a bad rate alone: at each other one there is a first state
 abbrev pub New-accepts : Type 0
-New-accepts = (r : Hertz) → (madeNumber (vcoNewOf r) ≡ cond (rateOk r) 0 1) × (rateOk r ≡ true → First (newVco r))
+New-accepts = (r : Hertz) → (outcomeNumber (vcoNewOf r .outcome) ≡ cond (rateOk r) 0 1) × (rateOk r ≡ true → First (newVco r))
 
--- ---- no call refuses but for its own input
+-- ---- a reached state refuses no call but for the call's own input
 pub record Accepts (s : Vco) : Type 0 where
+  pub phase : phaseOk (s .phase) ≡ true
   pub tick : (c : VcoControls) (wanted : ℕ) → accepted (vcoTickOf s c wanted .answer) ≡ true
   -- by its buffers' 52 and its tally's 7 alone
   pub play : (c : VcoControls) (wanted : ℕ) (t : Tally) (o : List Float) (m : List ℕ)
-      → vcoBlockOf s c wanted t o m .refused ≡ blockRefusalOf (eqb (length o) (4 * length m)) 0 t (length m)
+      → vcoBlockOf s c wanted t o m .refused ≡ blockRefusalOf (eqb (length o) (nPorts * length m)) 0 t (length m)
   pub reset : reply s Reset ≡ Told 0
   pub rate : (r : Hertz) → reply s (SetSampleRate r) ≡ Told (cond (rateOk r) 0 1)
-  pub phase : phaseOk (s .phase) ≡ true
 
 abbrev pub Never-refused : Type 0
 Never-refused = (s : Vco) → ReachedVco s → Accepts s
 
--- ---- a Vco forgets at its sync edge
--- whether a tick with these controls takes the edge
+-- ---- demand 3
+-- whether a tick with these controls takes the sync edge
 abbrev pub taken : Vco → VcoControls → Bool
-taken s c = risesAbove gateThreshold (s .«sync_edge» .prev) (c .sync)
+taken s c = risingOf (s .«sync_edge») (c .sync) .rising
 
--- what a new one at this rate does, fed this tick first
+-- what a new one like it does, fed this tick first
 pub record Forgotten (s : Vco) (c : VcoControls) (wanted : ℕ) : Type 0 where
   -- it is to be had and accepts the tick
-  pub new : vcoNewOf (s .«sample_rate») ≡ made.Made (newVco (s .«sample_rate»))
-  pub accepts : accepted (vcoTickOf (newVco (s .«sample_rate»)) c wanted .answer) ≡ true
+  pub new : vcoNewOf (s .«sample_rate») ≡ record { outcome = outcome.Done; vco = newLike s }
+  pub accepts : accepted (vcoTickOf (newLike s) c wanted .answer) ≡ true
   -- in the edge tick: all but saw, square and mark
-  pub sin : voltsOf (vcoTickOf s c wanted .answer) .p10 ≡ voltsOf (vcoTickOf (newVco (s .«sample_rate»)) c wanted .answer) .p10
-  pub tri : voltsOf (vcoTickOf s c wanted .answer) .p11 ≡ voltsOf (vcoTickOf (newVco (s .«sample_rate»)) c wanted .answer) .p11
+  pub sin : voltsOf (vcoTickOf s c wanted .answer) .p10 ≡ voltsOf (vcoTickOf (newLike s) c wanted .answer) .p10
+  pub tri : voltsOf (vcoTickOf s c wanted .answer) .p11 ≡ voltsOf (vcoTickOf (newLike s) c wanted .answer) .p11
   -- it leaves the same state
-  pub state : after s (Tick c wanted) ≡ after (newVco (s .«sample_rate»)) (Tick c wanted)
+  pub state : after s (Tick c wanted) ≡ after (newLike s) (Tick c wanted)
   -- and answers the same to every call after it
-  pub later : (cs : List Call) → replies after reply (after s (Tick c wanted)) cs ≡ replies after reply (after (newVco (s .«sample_rate»)) (Tick c wanted)) cs
+  pub later : (cs : List Call) → replies after reply (after s (Tick c wanted)) cs ≡ replies after reply (after (newLike s) (Tick c wanted)) cs
 
 abbrev pub Forgets : Type 0
-Forgets = (s : Vco) → ReachedVco s → (c : VcoControls) (wanted : ℕ) → Fit c → accepted (vcoTickOf s c wanted .answer) ≡ true → taken s c ≡ true → Forgotten s c wanted
+Forgets = (s : Vco) → ReachedVco s → (c : VcoControls) (wanted : ℕ) → Fit c → accepted (vcoTickOf s c wanted .answer) ≡ true → taken s c ≡ true
+    → Forgotten s c wanted
 
 -- a block that takes the edge in its first tick leaves what a new one's leaves
 abbrev pub Block-forgets : Type 0
 Block-forgets = (s : Vco) → ReachedVco s → (c : VcoControls) (wanted : ℕ) (t : Tally) (o : List Float) (m : List ℕ) → Fit c
     → vcoBlockOf s c wanted t o m .refused ≡ 0 → 0 < length m → taken s c ≡ true
-    → vcoBlockOf s c wanted t o m .state ≡ vcoBlockOf (newVco (s .«sample_rate»)) c wanted t o m .state
+    → vcoBlockOf s c wanted t o m .state ≡ vcoBlockOf (newLike s) c wanted t o m .state
 
--- such a tick is there: one with the gate low, then one at 5.0 V
+-- and such a tick is always to be had: after one with sync not above the threshold, one with sync at 5 V
 pub record Comes (s : Vco) (c d : VcoControls) (wanted : ℕ) : Type 0 where
   pub first : accepted (vcoTickOf s c wanted .answer) ≡ true
   pub second : accepted (vcoTickOf (after s (Tick c wanted)) d wanted .answer) ≡ true
   pub edge : taken (after s (Tick c wanted)) d ≡ true
 
 abbrev pub Edge-comes : Type 0
-Edge-comes = (s : Vco) → ReachedVco s → (c d : VcoControls) (wanted : ℕ) → T (le (c .sync) gateThreshold) → d .sync ≡ five → Comes s c d wanted
+Edge-comes = (s : Vco) → ReachedVco s → (c d : VcoControls) (wanted : ℕ) → le (c .sync) (thresholdOf (s .«sync_edge»)) ≡ true → d .sync ≡ five
+    → Comes s c d wanted
 
 -- ---- no tick of a block is refused whose first isn't, and a tally with room takes each of their answers
 abbrev pub Block-accepts : Type 0
@@ -89,9 +92,10 @@ Block-tallies = (s : Vco) (c : VcoControls) (wanted : ℕ) → vcoRefusalOf s �
 pub record Settled : Type 0 where
   pub new : (r : Hertz) → Settles (λ (m : VcoMade). m ≡ vcoNewOf r)
   pub tick : (s : Vco) (c : VcoControls) (wanted : ℕ) → Settles (λ (t : VcoTicked). t ≡ vcoTickOf s c wanted)
-  pub block : (s : Vco) (c : VcoControls) (wanted : ℕ) (t : Tally) (o : List Float) (m : List ℕ) → Settles (λ (b : Block Vco). b ≡ vcoBlockOf s c wanted t o m)
+  pub block : (s : Vco) (c : VcoControls) (wanted : ℕ) (t : Tally) (o : List Float) (m : List ℕ)
+      → Settles (λ (b : Block Vco). b ≡ vcoBlockOf s c wanted t o m)
   pub reset : (s : Vco) → Settles (λ (m : VcoMade). m ≡ vcoResetOf s)
-  pub rate : (s : Vco) (r : Hertz) → Settles (λ (m : VcoMade). m ≡ vcoSetSampleRateOf s r)
+  pub «set_sample_rate» : (s : Vco) (r : Hertz) → Settles (λ (m : VcoMade). m ≡ vcoSetSampleRateOf s r)
 
 -- ---- the scope's example 10: the frame that `render` prints
 -- 48,000 Hz; voct 0, fm 0, pw 0.5, sync 0 and fm_lin -5 V
@@ -104,4 +108,9 @@ frameControls = record { voct = record { 0 = zer }; fm = record { 0 = zer }; pw 
 abbrev pub First-frame : Type 0
 First-frame =
     vcoTickOf (newVco frameRate) frameControls 15 .answer
-    ≡ answer.Clean (record { p10 = ofBits binary64 0; p11 = ofBits binary64 0xc014000000000000; p12 = ofBits binary64 0xc014000000000000; p13 = ofBits binary64 0x4014000000000000; p14 = zer })
+    ≡ answer.Clean
+    (volts4
+    (ofBits binary64 0)
+    (ofBits binary64 0xc014000000000000)
+    (ofBits binary64 0xc014000000000000)
+    (ofBits binary64 0x4014000000000000))

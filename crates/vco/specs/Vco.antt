@@ -11,12 +11,13 @@ use Rattle.common.specs.Consts.{four, five}
 use Rattle.common.specs.Pitch.{voctToHz}
 use Rattle.common.specs.Phase.{turns, wrapOf, polyblepOf, polyblampOf, incrementOf, restartOf}
 use Rattle.common.specs.Memo.{newMemo3, recall3}
-use Rattle.common.specs.Edge.{newEdge, crossedOf}
+use Rattle.common.specs.Edge.{newEdge, resetOf, crossedOf}
 use Rattle.common.specs.Ports.{wants, outOf}
 use Rattle.common.specs.Tests.{rateOk, phaseOk}
+use Rattle.answer.specs.Answer.{volts4}
 use Rattle.answer.specs.Block.{Block, blockOf}
 use Rattle.answer.specs.Mark.{markOf}
-use Rattle.vco.specs.Consts.{pwLow, pwHigh}
+use Rattle.vco.specs.Consts.{nPorts, pwLow, pwHigh}
 use Rattle.vco.specs.Waves.{sineOf, sawOf, levelOf, pwEdgeOf, sqrOf, cornerHalfOf, triOf, steppedOf}
 use Rattle.common.specs.declared.Hertz.{Hertz}
 use Rattle.common.specs.declared.Turns.{Turns}
@@ -25,16 +26,36 @@ use Rattle.common.specs.declared.Crossing.the-variants.{Nowhere, At}
 use Rattle.answer.specs.declared.Volts.{Volts}
 use Rattle.answer.specs.declared.Answer.{Answer}
 use Rattle.answer.specs.declared.Answer.the-variants as answer
+use Rattle.answer.specs.declared.Outcome.the-variants as outcome
 use Rattle.answer.specs.declared.Tally.{Tally}
 use Rattle.vco.specs.declared.Vco.{Vco}
 use Rattle.vco.specs.declared.VcoControls.{VcoControls}
 use Rattle.vco.specs.declared.VcoTicked.{VcoTicked}
 use Rattle.vco.specs.declared.VcoMade.{VcoMade}
-use Rattle.vco.specs.declared.VcoMade.the-variants as made
 
 -- Vco::new
 unfoldable pub newVco : Hertz → Vco
 newVco r = record { phase = turns zer; «sample_rate» = r; «sync_edge» = newEdge; «freq_memo» = newMemo3 }
+
+-- a new one like this
+unfoldable pub newLike : Vco → Vco
+newLike s = newVco (s .«sample_rate»)
+
+-- 0, or what refuses a state: 1 its rate, 2 its phase
+unfoldable pub vcoRefusalOf : Vco → ℕ
+vcoRefusalOf s = cond (rateOk (s .«sample_rate»)) (cond (phaseOk (s .phase)) 0 2) 1
+
+-- and a rate change: 1 on the new rate and on the old, then 2
+unfoldable pub vcoRateRefusalOf : Vco → Hertz → ℕ
+vcoRateRefusalOf s r = cond (rateOk r) (vcoRefusalOf s) 1
+
+-- `new`, unless n refuses, which leaves `old`
+unfoldable pub madeUnless : ℕ → Vco → Vco → VcoMade
+madeUnless n old new = cond (eqb n 0) (record { outcome = outcome.Done; vco = new }) (record { outcome = outcome.Refused n; vco = old })
+
+-- 1 on the rate: refused, the state has it, and so refuses every call
+unfoldable pub vcoNewOf : Hertz → VcoMade
+vcoNewOf r = madeUnless (cond (rateOk r) 0 1) (newVco r) (newVco r)
 
 -- the memo's closure: base_freq * pow(2.0, fm), and (fm_lin / 5.0) * base_freq added
 unfoldable pub frequencyOf : Float → Float → Float → Hertz
@@ -59,30 +80,17 @@ vcoVoltsOf at p old pw dt wanted =
     let upper = mul binary64 (mul binary64 four dt) (polyblampOf (cornerHalfOf p) dt) in
     let sawStep = mul binary64 (neg two) old in
     let sqrStep = sub binary64 one (levelOf old pw) in
-    record {
-      p10 = sineOf (wants wanted 1) p;
-      p11 = outOf (wants wanted 2) (triOf p lower upper);
-      p12 = outOf (wants wanted 4) (steppedOf at (sawOf p wrap) sawStep dt);
-      p13 = outOf (wants wanted 8) (steppedOf at (sqrOf p pw wrap fall) sqrStep dt);
-      p14 = zer;
-    }
-
--- the same where nothing is smoothed: those of a quiet tick
-abbrev pub plainVolts : Float → Float → ℕ → Volts
-plainVolts p pw wanted =
-    record {
-      p10 = sineOf (wants wanted 1) p;
-      p11 = outOf (wants wanted 2) (triOf p zer zer);
-      p12 = outOf (wants wanted 4) (sawOf p zer);
-      p13 = outOf (wants wanted 8) (sqrOf p pw zer zer);
-      p14 = zer;
-    }
+    volts4
+    (sineOf (wants wanted 1) p)
+    (outOf (wants wanted 2) (triOf p lower upper))
+    (outOf (wants wanted 4) (steppedOf at (sawOf p wrap) sawStep dt))
+    (outOf (wants wanted 8) (steppedOf at (sqrOf p pw wrap fall) sqrStep dt))
 
 -- with their mark: no tick is cleared, no output has a clamp, and a tick is lost where phase + dt isn't finite
 unfoldable pub vcoAnswerOf : Crossing → Float → Float → Float → Float → ℕ → Answer
 vcoAnswerOf at p old pw dt wanted = markOf (vcoVoltsOf at p old pw (fabsOf dt) wanted) false true (isFin (add binary64 p dt))
 
--- Vco::tick_wanted
+-- tick_wanted, line by line
 unfoldable pub vcoSoundOf : Vco → VcoControls → ℕ → VcoTicked
 vcoSoundOf s c wanted =
     let memo = recall3 frequencyOf (s .«freq_memo») (c .voct .0) (c .fm .0) (c .«fm_lin») in
@@ -96,50 +104,33 @@ vcoSoundOf s c wanted =
       vco = record { phase = turns (wrapOf next); «sample_rate» = s .«sample_rate»; «sync_edge» = crossed .edge; «freq_memo» = memo };
     }
 
--- what refuses a state: 1 its rate, 2 its phase; else 0
-unfoldable pub vcoRefusalOf : Vco → ℕ
-vcoRefusalOf s = cond (rateOk (s .«sample_rate»)) (cond (phaseOk (s .phase)) 0 2) 1
-
--- a rate change tests 1 on the old rate and the new
-unfoldable pub vcoRateRefusalOf : Vco → Hertz → ℕ
-vcoRateRefusalOf s r = cond (rateOk r) (vcoRefusalOf s) 1
-
-unfoldable pub vcoNewOf : Hertz → VcoMade
-vcoNewOf r = cond (rateOk r) (made.Made (newVco r)) (made.Refused 1)
-
--- a refused call leaves the state as it stood
+-- a refused tick leaves the state
 unfoldable pub vcoTickOf : Vco → VcoControls → ℕ → VcoTicked
-vcoTickOf s c wanted = cond (eqb (vcoRefusalOf s) 0) (vcoSoundOf s c wanted) (record { answer = answer.Refused (vcoRefusalOf s); vco = s })
+vcoTickOf s c wanted =
+    let n = vcoRefusalOf s in
+    cond (eqb n 0) (vcoSoundOf s c wanted) (record { answer = answer.Refused n; vco = s })
 
--- a block of as many ticks with these controls as there are marks: four samples a tick
+-- what a tick with these controls answers, and what it leaves
 abbrev pub vcoToldOf : VcoControls → ℕ → Vco → Answer
 vcoToldOf c wanted s = vcoTickOf s c wanted .answer
 
 abbrev pub vcoNextOf : VcoControls → ℕ → Vco → Vco
 vcoNextOf c wanted s = vcoTickOf s c wanted .vco
 
+-- a block of as many such ticks as there are marks
 unfoldable pub vcoBlockOf : Vco → VcoControls → ℕ → Tally → List Float → List ℕ → Block Vco
-vcoBlockOf s c wanted t o m = blockOf 4 (vcoRefusalOf s) (vcoToldOf c wanted) (vcoNextOf c wanted) s t o m
+vcoBlockOf s c wanted t o m = blockOf nPorts (vcoRefusalOf s) (vcoToldOf c wanted) (vcoNextOf c wanted) s t o m
 
--- the scope's number of what a call made, 0 unless it was refused, and the state then: a refusal leaves the old one
-unfoldable pub madeNumber : VcoMade → ℕ
-madeNumber (made.Made t) = 0
-madeNumber (made.Refused n) = n
-
-unfoldable pub madeOr : Vco → VcoMade → Vco
-madeOr s (made.Made t) = t
-madeOr s (made.Refused n) = s
-
--- phase = 0.0; sync_edge.reset()
+-- reset: the rate and the memo stay
 unfoldable pub restarted : Vco → Vco
-restarted s = record { phase = turns zer; «sample_rate» = s .«sample_rate»; «sync_edge» = newEdge; «freq_memo» = s .«freq_memo» }
+restarted s = record { phase = turns zer; «sample_rate» = s .«sample_rate»; «sync_edge» = resetOf (s .«sync_edge»); «freq_memo» = s .«freq_memo» }
 
 unfoldable pub vcoResetOf : Vco → VcoMade
-vcoResetOf s = cond (eqb (vcoRefusalOf s) 0) (made.Made (restarted s)) (made.Refused (vcoRefusalOf s))
+vcoResetOf s = madeUnless (vcoRefusalOf s) s (restarted s)
 
--- self.sample_rate = sample_rate
+-- set_sample_rate: all but the rate stays
 unfoldable pub rated : Vco → Hertz → Vco
 rated s r = record { phase = s .phase; «sample_rate» = r; «sync_edge» = s .«sync_edge»; «freq_memo» = s .«freq_memo» }
 
 unfoldable pub vcoSetSampleRateOf : Vco → Hertz → VcoMade
-vcoSetSampleRateOf s r = cond (eqb (vcoRateRefusalOf s r) 0) (made.Made (rated s r)) (made.Refused (vcoRateRefusalOf s r))
+vcoSetSampleRateOf s r = madeUnless (vcoRateRefusalOf s r) s (rated s r)

@@ -1,15 +1,12 @@
 -- The Vco's waveforms, written from Vco::tick_wanted. p is its `phase`, dt its `dt_abs`, and old its `p_old`.
-use mathlib.Core.Bool.{Bool, false, cond}
-use mathlib.Core.Path.{_≡_}
-use lib.Dec.{T}
-use lib.Ieee.{Float, binary64, lt, le, mul, div, sub, add, neg}
-use Rattle.common.specs.Consts.{four, five, half, tau}
-use Rattle.common.specs.Phase.{polyblepOf, polyblampOf}
+use mathlib.Core.Bool.{Bool, cond}
+use lib.Ieee.{Float, binary64, lt, mul, div, sub, add, neg}
+use Rattle.common.specs.Consts.{four, five, half}
+use Rattle.common.specs.Phase.{polyblepOf}
 use Rattle.laws.specs.Float.{zer, one, two}
-use Rattle.numeric.specs.Basic.{fabsOf}
+use Rattle.numeric.specs.Basic.{fabsOf, tau}
 use Rattle.numeric.specs.Floor.{floorOf}
 use Rattle.numeric.specs.Trig.{sinOf}
-use Rattle.vco.specs.Consts.{pwLow, pwHigh}
 use Rattle.common.specs.declared.Crossing.{Crossing}
 use Rattle.common.specs.declared.Crossing.the-variants.{Nowhere, At}
 
@@ -45,16 +42,3 @@ triOf p lower upper = sub binary64 (add binary64 (sub binary64 one (mul binary64
 unfoldable pub steppedOf : Crossing → Float → Float → Float → Float
 steppedOf Nowhere x step dt = x
 steppedOf (At frac) x step dt = add binary64 x (mul binary64 (div binary64 step two) (polyblepOf (mul binary64 (sub binary64 one frac) dt) dt))
-
--- a pulse width as the clamp leaves it: not below 0.05 and not above 0.95; it may be NaN
-abbrev pub Width : Float → Type 0
-Width pw = (lt pw pwLow ≡ false) × (lt pwHigh pw ≡ false)
-
--- no edge, and no corner within a tick: every residual is 0
-pub record Quiet (at : Crossing) (p edge dt : Float) : Type 0 where
-  pub nowhere : at ≡ Nowhere
-  pub wrap : polyblepOf p dt ≡ zer
-  pub fall : polyblepOf edge dt ≡ zer
-  pub lower : polyblampOf p dt ≡ zer
-  pub upper : polyblampOf (cornerHalfOf p) dt ≡ zer
-  pub small : T (le dt one)

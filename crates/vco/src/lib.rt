@@ -1,6 +1,7 @@
 // The Vco of oscillators.rs: sine, triangle, saw and square of one phase, with hard sync and two kinds of FM.
 // In an answer's volts p10 is sin, p11 tri, p12 saw and p13 sqr.
 use answer::Answer;
+use answer::Outcome;
 use answer::Tally;
 use answer::Volts;
 use common::Crossing;
@@ -12,23 +13,20 @@ use common::VoltsPerOctave;
 ghost use mathlib.Core.Path.{_≡_};
 ghost use mathlib.Core.Bool.{true};
 ghost use Prim.Native.Nat.{_<_, _*_};
-ghost use lib.Dec.{eqb};
-ghost use lib.Ieee.{binary64, add};
 ghost use lib.ListN.{length, set};
-ghost use lib.Seq.{sets};
 ghost use Rattle.laws.specs.Lists.{tab};
 ghost use Rattle.numeric.specs.Basic.{fabsOf, clampOf};
-ghost use Rattle.common.specs.Phase.{turns, wrapOf};
+ghost use Rattle.common.specs.Phase.{turns};
 ghost use Rattle.common.specs.Memo.{recall3};
 ghost use Rattle.common.specs.Ports.{wants};
 ghost use Rattle.common.specs.Tests.{phaseOk};
 ghost use Rattle.answer.specs.Answer.{hostNumber, voltsOf};
-ghost use Rattle.answer.specs.Block.{afterTicks, portsOf, joined, block, markAt, frameAt};
-ghost use Rattle.vco.specs.Consts.{pwLow, pwHigh};
-ghost use Rattle.vco.specs.Waves.{sineOf, sawOf, levelOf, Width, pwEdgeOf, sqrOf, cornerHalfOf, triOf, steppedOf, Quiet};
-ghost use Rattle.vco.specs.Vco.{frequencyOf, crossesOf, plainVolts, vcoAnswerOf, vcoSoundOf, vcoRefusalOf, vcoRateRefusalOf};
-ghost use Rattle.vco.specs.Vco.{vcoNewOf, vcoTickOf, vcoToldOf, vcoNextOf, vcoBlockOf, vcoResetOf, vcoSetSampleRateOf};
-ghost use Rattle.vco.specs.Held.{held, heldAnswer, heldNext};
+ghost use Rattle.answer.specs.Block.{afterTicks, framed, joined, block, markAt, frameAt};
+ghost use Rattle.vco.specs.Consts.{nPorts, pwLow, pwHigh};
+ghost use Rattle.vco.specs.Waves.{sineOf, sawOf, levelOf, pwEdgeOf, sqrOf, cornerHalfOf, triOf, steppedOf};
+ghost use Rattle.vco.specs.Shortcuts.{Width, Quiet, plainVolts, held, heldTold, heldNext};
+ghost use Rattle.vco.specs.Vco.{vcoRefusalOf, vcoRateRefusalOf, vcoNewOf, frequencyOf, crossesOf, vcoAnswerOf, vcoSoundOf};
+ghost use Rattle.vco.specs.Vco.{vcoTickOf, vcoToldOf, vcoNextOf, vcoBlockOf, vcoResetOf, vcoSetSampleRateOf};
 
 pub struct Vco {
     pub phase: Turns,
@@ -58,11 +56,14 @@ pub struct VcoBlock {
     pub tally: Tally,
 }
 
-// A state, or the number that refused the call.
-pub enum VcoMade {
-    Made(Vco),
-    Refused(u32),
+// What a call without samples leaves: a refused one the old state, and a refused `new` a state that refuses every call.
+pub struct VcoMade {
+    pub outcome: Outcome,
+    pub vco: Vco,
 }
+
+// How many outputs there are.
+const PORTS: usize = 4;
 
 // The memo's closure. Linear FM may take the frequency below 0.
 fn frequency(voct: VoltsPerOctave, fm: VoltsPerOctave, fm_lin: f64) -> Hertz
@@ -92,22 +93,6 @@ fn width(pw: f64) -> f64
     numeric::clamp(pw, 0.05, 0.95)
 }
 
-// The phase a tick later. Nearly every one is there without a wrap.
-fn advance(phase: Turns, dt: Turns) -> Turns
-    ensures { λ r. ⌜ r ≡ turns (wrapOf (add binary64 (phase .0) (dt .0))) ⌝ }
-{
-    let next = Turns(phase.0 + dt.0);
-    if next.0 > 0.0 {
-        if next.0 < 1.0 {
-            next
-        } else {
-            common::wrap_phase(next)
-        }
-    } else {
-        common::wrap_phase(next)
-    }
-}
-
 // Whether a sync edge is taken: the phase that the waveforms see starts again there.
 fn crosses(at: Crossing) -> bool
     ensures { λ r. ⌜ r ≡ crossesOf at ⌝ }
@@ -122,7 +107,7 @@ fn sine(want: bool, phase: Turns) -> f64
     ensures { λ r. ⌜ r ≡ sineOf want (phase .0) ⌝ }
 {
     if want {
-        numeric::sin(phase.0 * 6.283185307179586) * 5.0
+        numeric::sin(phase.0 * numeric::TAU) * 5.0
     } else {
         0.0
     }
@@ -215,30 +200,6 @@ fn calm(at: Crossing, phase: Turns, pw: f64, dt: Turns) -> bool
     quiet(at, phase, pw_edge(phase, pw), Turns(numeric::fabs(dt.0)))
 }
 
-// Whether a block has four samples for each of n marks. A product could be too large.
-fn fits(samples: usize, n: usize) -> bool
-    ensures { λ r. ⌜ r ≡ eqb samples (4 * n) ⌝ }
-{
-    if samples % 4 == 0 {
-        samples / 4 == n
-    } else {
-        false
-    }
-}
-
-// The samples of tick i of a block, and the number that a host is told of it.
-fn put(v: Volts, mark: u32, i: usize, samples: &mut [f64], marks: &mut [u32])
-    requires { ⌜ (i < length (now marks)) × (length (now samples) ≡ 4 * length (now marks)) ⌝ }
-    ensures { λ _. ⌜ (now (samples .exit) ≡ sets (now (samples .entry)) (4 * i) (portsOf 4 v)) × (now (marks .exit) ≡ set (now (marks .entry)) i mark) ⌝ }
-{
-    let at = 4 * i;
-    samples[at] = v.p10;
-    samples[at + 1] = v.p11;
-    samples[at + 2] = v.p12;
-    samples[at + 3] = v.p13;
-    marks[i] = mark;
-}
-
 impl Vco {
     // The bits of `wanted`, in port order.
     const WANT_SIN: u32 = 1 << 0;
@@ -252,15 +213,22 @@ impl Vco {
     pub fn new(sample_rate: Hertz) -> VcoMade
         ensures { λ r. ⌜ r ≡ vcoNewOf «sample_rate» ⌝ }
     {
+        let vco = Vco {
+            phase: Turns(0.0),
+            sample_rate,
+            sync_edge: EdgeDetector::new(),
+            freq_memo: Memo3::new(),
+        };
         if common::rate_ok(sample_rate) {
-            VcoMade::Made(Vco {
-                phase: Turns(0.0),
-                sample_rate,
-                sync_edge: EdgeDetector::new(),
-                freq_memo: Memo3::new(),
-            })
+            VcoMade {
+                outcome: Outcome::Done,
+                vco,
+            }
         } else {
-            VcoMade::Refused(1)
+            VcoMade {
+                outcome: Outcome::Refused(1),
+                vco,
+            }
         }
     }
 
@@ -288,13 +256,12 @@ impl Vco {
         requires { ⌜ sin ≡ sineOf (wants wanted 1) (phase .0) ⌝ }
         ensures { λ r. ⌜ r ≡ plainVolts (phase .0) pw wanted ⌝ }
     {
-        Volts {
-            p10: sin,
-            p11: common::out(wanted & Self::WANT_TRI != 0, triangle(phase, 0.0, 0.0)),
-            p12: common::out(wanted & Self::WANT_SAW != 0, saw(phase, 0.0)),
-            p13: common::out(wanted & Self::WANT_SQR != 0, square(phase, pw, 0.0, 0.0)),
-            p14: 0.0,
-        }
+        answer::volts4(
+            sin,
+            common::out(wanted & Self::WANT_TRI != 0, triangle(phase, 0.0, 0.0)),
+            common::out(wanted & Self::WANT_SAW != 0, saw(phase, 0.0)),
+            common::out(wanted & Self::WANT_SQR != 0, square(phase, pw, 0.0, 0.0)),
+        )
     }
 
     // Any tick's samples with their mark, over its sine. Called for those alone that aren't quiet, so that the way of the others
@@ -320,30 +287,29 @@ impl Vco {
         let saw = stepped(at, saw(phase, wrap), -2.0 * p_old.0, dt_abs);
         let sqr_step = 1.0 - level(p_old, pw);
         let sqr = stepped(at, square(phase, pw, wrap, fall), sqr_step, dt_abs);
-        let volts = Volts {
-            p10: sin,
-            p11: common::out(wanted & Self::WANT_TRI != 0, tri),
-            p12: common::out(wanted & Self::WANT_SAW != 0, saw),
-            p13: common::out(wanted & Self::WANT_SQR != 0, sqr),
-            p14: 0.0,
-        };
+        let volts = answer::volts4(
+            sin,
+            common::out(wanted & Self::WANT_TRI != 0, tri),
+            common::out(wanted & Self::WANT_SAW != 0, saw),
+            common::out(wanted & Self::WANT_SQR != 0, sqr),
+        );
         answer::mark(volts, false, true, numeric::is_finite(phase.0 + dt.0))
     }
 
-    // The samples with their mark.
+    // The samples with their mark. A quiet tick is clean.
     fn heard(at: Crossing, phase: Turns, p_old: Turns, pw: f64, dt: Turns, wanted: u32) -> Answer
         requires { ⌜ (phaseOk phase ≡ true) × Width pw ⌝ }
         ensures { λ r. ⌜ r ≡ vcoAnswerOf at (phase .0) («p_old» .0) pw (dt .0) wanted ⌝ }
     {
         let sin = Self::sin(wanted, phase);
         if calm(at, phase, pw, dt) {
-            Answer::Clean(Self::plain(sin, phase, pw, wanted))
+            answer::marked(Self::plain(sin, phase, pw, wanted), false, true, true)
         } else {
             Self::smoothed(sin, at, phase, p_old, pw, dt, wanted)
         }
     }
 
-    // The same, put to tick i of a block. A quiet tick is clean: 14.
+    // The same, put to tick i of a block.
     fn put_heard(
         at: Crossing,
         phase: Turns,
@@ -355,17 +321,26 @@ impl Vco {
         samples: &mut [f64],
         marks: &mut [u32],
     )
-        requires { ⌜ (phaseOk phase ≡ true) × Width pw × (i < length (now marks)) × (length (now samples) ≡ 4 * length (now marks)) ⌝ }
-        ensures { λ _. ⌜ (now (samples .exit) ≡ sets (now (samples .entry)) (4 * i) (portsOf 4 (voltsOf (vcoAnswerOf at (phase .0) («p_old» .0) pw (dt .0) wanted)))) × (now (marks .exit) ≡ set (now (marks .entry)) i (hostNumber (vcoAnswerOf at (phase .0) («p_old» .0) pw (dt .0) wanted))) ⌝ }
+        requires { ⌜ (phaseOk phase ≡ true) × Width pw ⌝ }
+        ensures { λ _. ⌜ now (samples .exit)
+            ≡ framed nPorts i (voltsOf (vcoAnswerOf at (phase .0) («p_old» .0) pw (dt .0) wanted)) (now (samples .entry)) ⌝ }
+        ensures { λ _. ⌜ now (marks .exit)
+            ≡ set (now (marks .entry)) i (hostNumber (vcoAnswerOf at (phase .0) («p_old» .0) pw (dt .0) wanted)) ⌝ }
     {
         let sin = Self::sin(wanted, phase);
         if calm(at, phase, pw, dt) {
-            put(Self::plain(sin, phase, pw, wanted), 14, i, samples, marks);
+            let volts = Self::plain(sin, phase, pw, wanted);
+            answer::put(
+                answer::marked(volts, false, true, true),
+                PORTS,
+                i,
+                samples,
+                marks,
+            );
         } else {
-            let a = Self::smoothed(sin, at, phase, p_old, pw, dt, wanted);
-            put(
-                answer::samples(a),
-                answer::host_number(a),
+            answer::put(
+                Self::smoothed(sin, at, phase, p_old, pw, dt, wanted),
+                PORTS,
                 i,
                 samples,
                 marks,
@@ -394,7 +369,7 @@ impl Vco {
         VcoTicked {
             answer: Self::heard(at, phase, p_old, width(c.pw), dt, wanted),
             vco: Vco {
-                phase: advance(phase, dt),
+                phase: common::wrap_phase(Turns(phase.0 + dt.0)),
                 sample_rate,
                 sync_edge,
                 freq_memo,
@@ -405,12 +380,12 @@ impl Vco {
     pub fn tick(self, c: VcoControls, wanted: u32) -> VcoTicked
         ensures { λ r. ⌜ r ≡ vcoTickOf self c wanted ⌝ }
     {
-        let refusal = self.refusal();
-        if refusal == 0 {
+        let n = self.refusal();
+        if n == 0 {
             self.sound(c, wanted)
         } else {
             VcoTicked {
-                answer: Answer::Refused(refusal),
+                answer: Answer::Refused(n),
                 vco: self,
             }
         }
@@ -426,10 +401,12 @@ impl Vco {
         samples: &mut [f64],
         marks: &mut [u32],
     ) -> Turns
-        requires { ⌜ (phaseOk start ≡ true) × Width pw × (length (now samples) ≡ 4 * length (now marks)) ⌝ }
+        requires { ⌜ (phaseOk start ≡ true) × Width pw × (length (now samples) ≡ nPorts * length (now marks)) ⌝ }
         ensures { λ r. ⌜ r ≡ afterTicks (heldNext dt) (length (now (marks .entry))) (held start edge) .phase ⌝ }
-        ensures { λ r. ⌜ now (samples .exit) ≡ joined (frameAt 4 (heldAnswer wanted pw dt) (heldNext dt) (held start edge)) (length (now (marks .entry))) ⌝ }
-        ensures { λ r. ⌜ now (marks .exit) ≡ tab (markAt (heldAnswer wanted pw dt) (heldNext dt) (held start edge)) (length (now (marks .entry))) ⌝ }
+        ensures { λ r. ⌜ now (samples .exit)
+            ≡ joined (frameAt nPorts (heldTold wanted pw dt) (heldNext dt) (held start edge)) (length (now (marks .entry))) ⌝ }
+        ensures { λ r. ⌜ now (marks .exit)
+            ≡ tab (markAt (heldTold wanted pw dt) (heldNext dt) (held start edge)) (length (now (marks .entry))) ⌝ }
     {
         let mut p_old = start;
         let mut at = edge;
@@ -447,7 +424,7 @@ impl Vco {
                 &mut *samples,
                 &mut *marks,
             );
-            p_old = advance(phase, dt);
+            p_old = common::wrap_phase(Turns(phase.0 + dt.0));
             at = Crossing::Nowhere;
             i += 1;
         }
@@ -456,9 +433,10 @@ impl Vco {
 
     // The ticks of a block: what memo, edge and controls say is worked out once.
     fn run(self, c: VcoControls, wanted: u32, samples: &mut [f64], marks: &mut [u32]) -> Self
-        requires { ⌜ (vcoRefusalOf self ≡ 0) × (0 < length (now marks)) × (length (now samples) ≡ 4 * length (now marks)) ⌝ }
+        requires { ⌜ (vcoRefusalOf self ≡ 0) × (0 < length (now marks)) × (length (now samples) ≡ nPorts * length (now marks)) ⌝ }
         ensures { λ r. ⌜ r ≡ afterTicks (vcoNextOf c wanted) (length (now (marks .entry))) self ⌝ }
-        ensures { λ r. ⌜ now (samples .exit) ≡ joined (frameAt 4 (vcoToldOf c wanted) (vcoNextOf c wanted) self) (length (now (marks .entry))) ⌝ }
+        ensures { λ r. ⌜ now (samples .exit)
+            ≡ joined (frameAt nPorts (vcoToldOf c wanted) (vcoNextOf c wanted) self) (length (now (marks .entry))) ⌝ }
         ensures { λ r. ⌜ now (marks .exit) ≡ tab (markAt (vcoToldOf c wanted) (vcoNextOf c wanted) self) (length (now (marks .entry))) ⌝ }
     {
         let p_old = self.phase;
@@ -490,10 +468,11 @@ impl Vco {
         samples: &mut [f64],
         marks: &mut [u32],
     ) -> VcoBlock
-        ensures { λ r. ⌜ block (r .refused) (r .vco) (r .tally) (now (samples .exit)) (now (marks .exit)) ≡ vcoBlockOf self c wanted tally (now (samples .entry)) (now (marks .entry)) ⌝ }
+        ensures { λ r. ⌜ block (r .refused) (r .vco) (r .tally) (now (samples .exit)) (now (marks .exit))
+            ≡ vcoBlockOf self c wanted tally (now (samples .entry)) (now (marks .entry)) ⌝ }
     {
         let n = marks.len();
-        let refused = answer::block_refusal(fits(samples.len(), n), self.refusal(), tally, n);
+        let refused = answer::block_refusal(PORTS, samples.len(), self.refusal(), tally, n);
         if refused == 0 {
             if n == 0 {
                 VcoBlock {
@@ -522,23 +501,29 @@ impl Vco {
     pub fn reset(self) -> VcoMade
         ensures { λ r. ⌜ r ≡ vcoResetOf self ⌝ }
     {
-        let refusal = self.refusal();
-        if refusal == 0 {
+        let n = self.refusal();
+        if n == 0 {
             let sample_rate = self.sample_rate;
             let edge = self.sync_edge;
             let freq_memo = self.freq_memo;
-            VcoMade::Made(Vco {
-                phase: Turns(0.0),
-                sample_rate,
-                sync_edge: edge.reset(),
-                freq_memo,
-            })
+            VcoMade {
+                outcome: Outcome::Done,
+                vco: Vco {
+                    phase: Turns(0.0),
+                    sample_rate,
+                    sync_edge: edge.reset(),
+                    freq_memo,
+                },
+            }
         } else {
-            VcoMade::Refused(refusal)
+            VcoMade {
+                outcome: Outcome::Refused(n),
+                vco: self,
+            }
         }
     }
 
-    // The same of a rate change: a bad new rate is 1 too, and comes before 2.
+    // What refuses a rate change: 1 the new rate or the old, then 2.
     fn rate_refusal(self, sample_rate: Hertz) -> u32
         ensures { λ r. ⌜ r ≡ vcoRateRefusalOf self «sample_rate» ⌝ }
     {
@@ -553,19 +538,25 @@ impl Vco {
     pub fn set_sample_rate(self, sample_rate: Hertz) -> VcoMade
         ensures { λ r. ⌜ r ≡ vcoSetSampleRateOf self «sample_rate» ⌝ }
     {
-        let refusal = self.rate_refusal(sample_rate);
-        if refusal == 0 {
+        let refused = self.rate_refusal(sample_rate);
+        if refused == 0 {
             let phase = self.phase;
             let sync_edge = self.sync_edge;
             let freq_memo = self.freq_memo;
-            VcoMade::Made(Vco {
-                phase,
-                sample_rate,
-                sync_edge,
-                freq_memo,
-            })
+            VcoMade {
+                outcome: Outcome::Done,
+                vco: Vco {
+                    phase,
+                    sample_rate,
+                    sync_edge,
+                    freq_memo,
+                },
+            }
         } else {
-            VcoMade::Refused(refusal)
+            VcoMade {
+                outcome: Outcome::Refused(refused),
+                vco: self,
+            }
         }
     }
 }

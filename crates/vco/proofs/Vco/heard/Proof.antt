@@ -12,11 +12,19 @@ calm-requires c κs = search needs
 plain-requires : tie.Need-plain-requires
 plain-requires c κs = search needs
 
+marked-requires : tie.Need-marked-requires
+marked-requires c κs = search needs
+
 smoothed-requires : tie.Need-smoothed-requires
 smoothed-requires c κs = search needs
 
 returns : tie.Need-returns
-returns c = let s = c .before .before .before .before in simp (c .plain .ensures) (quiet-answer (s .args .at) (s .args .phase .0) (s .args .p-old .0) (s .args .pw) (s .args .dt .0) (s .args .wanted) (s .pre .0) (c .before .before .calm .ensures (c .before .if1 .taken)))
+returns c =
+    let tested = c .before .before in
+    let s = tested .before .before .before in
+    let quiet = tested .before .calm .ensures (tested .if1 .taken) in
+    let a = s .args in
+    simp (c .marked .ensures, c .before .plain .ensures) (quiet-answer (a .at) (a .phase .0) (a .p-old .0) (a .pw) (a .dt .0) (a .wanted) (s .pre .0) quiet)
 
 returns-2 : tie.Need-returns-2
 returns-2 c = search needs
@@ -24,4 +32,4 @@ returns-2 c = search needs
 pub heard-spec : {M : Type 1} → statement M
 heard-spec =
     tie.close
-    (tie.spec sin-requires calm-requires plain-requires smoothed-requires returns returns-2)
+    (tie.spec sin-requires calm-requires plain-requires marked-requires smoothed-requires returns returns-2)

@@ -20,8 +20,23 @@ square-requires c κs = search needs
 out-requires-3 : tie.Need-out-requires-3
 out-requires-3 c κs = search needs
 
+volts4-requires : tie.Need-volts4-requires
+volts4-requires c κs = search needs
+
 returns : tie.Need-returns
-returns c = simp (c .out3 .ensures, c .before .square .ensures, c .before .before .out2 .ensures, c .before .before .before .saw .ensures, c .before .before .before .before .out .ensures, c .before .before .before .before .before .triangle .ensures, c .before .before .before .before .before .before .pre)
+returns c =
+    let voiced = c .before in
+    let shaped = voiced .before .before .before .before in
+    simp (
+      c .volts4 .ensures,
+      voiced .out3 .ensures,
+      voiced .before .square .ensures,
+      voiced .before .before .out2 .ensures,
+      voiced .before .before .before .saw .ensures,
+      shaped .out .ensures,
+      shaped .before .triangle .ensures,
+      shaped .before .before .pre,
+    )
 
 pub plain-spec : {M : Type 1} → statement M
 plain-spec =
@@ -33,4 +48,5 @@ plain-spec =
     out-requires-2
     square-requires
     out-requires-3
+    volts4-requires
     returns)

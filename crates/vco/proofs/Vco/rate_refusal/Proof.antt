@@ -1,5 +1,5 @@
-use Rattle.vco.specs.Vco.{vcoRateRefusalOf}
 use borrow.Author.Needs.{needs}
+use Rattle.vco.specs.Vco.{vcoRateRefusalOf}
 use Rattle.vco.proofs.Vco.rate_refusal.Statement.{statement}
 use Rattle.vco.proofs.Vco.rate_refusal.Tie as tie
 

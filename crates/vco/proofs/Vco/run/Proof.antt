@@ -5,6 +5,7 @@ use Rattle.vco.proofs.PulseLaws.{clamp-width}
 use Rattle.vco.proofs.StateLaws.{unrefused}
 use Rattle.vco.proofs.Held.{holds, left}
 use borrow.Author.Needs.{needs}
+use Rattle.vco.specs.Consts.{nPorts}
 use Rattle.vco.proofs.Vco.run.Statement.{statement}
 use Rattle.vco.proofs.Vco.run.Tie as tie
 
@@ -21,7 +22,10 @@ width-requires : tie.Need-width-requires
 width-requires c κs = search needs
 
 glide-requires : tie.Need-glide-requires
-glide-requires c κs = let s = c .before .before .before .before .before .before .before .before .before .before .before .before .before .before .before .before in (unrefused (s .args .self) (s .pre .0) .1, simp (c .before .before .width .ensures) (clamp-width _), s .pre .2)
+glide-requires c κs =
+    let widened = c .before .before in
+    let s = widened .before .before .before .before .before .before .before .before .before .before .before .before .before .before in
+    (unrefused (s .args .self) (s .pre .0) .1, simp (widened .width .ensures) (clamp-width _), s .pre .2)
 
 same-length : tie.Need-same-length
 same-length c = search needs
@@ -31,12 +35,25 @@ same-length-2 c = search needs
 
 returns : tie.Need-returns
 returns c =
-    let a = c .before .before .before .before .before .before .before .before .before .before .before .before .before .before .before .before .before .before .before .before .before .args in
-    let p = c .before .before .before .before .before .before .before .before .before .before .before .before .before .before .before .before .before .before .before .before .before .pre in
-    let g = c .before .before .before .before .glide .ensures in
-    let w = holds (a .self) (a .c) (a .wanted) (p .0) in
+    let glided = c .before .before .before .before in
+    let widened = glided .before .before .before in
+    let crossed = widened .before .before in
+    let tuned = crossed .before .before .before in
+    let start = tuned .before .before .before .before .before .before .before .before .before in
+    let a = start .args in
+    let g = glided .glide .ensures in
+    let w = holds (a .self) (a .c) (a .wanted) (start .pre .0) in
     let n = length (a .marks .now) in
-    (simp (g .0, c .before .before .before .before .before .before .before .width .ensures, c .before .before .before .before .before .before .before .before .before .rising-frac .ensures, c .before .before .before .before .before .before .before .before .before .before .increment .ensures, c .before .before .before .before .before .before .before .before .before .before .before .before .tuned .ensures) (left (a .self) (a .c) (a .wanted) n (p .0) (p .1)), (g .1 .0 ∙ simp (c .before .before .before .before .before .before .before .width .ensures, c .before .before .before .before .before .before .before .before .before .rising-frac .ensures, c .before .before .before .before .before .before .before .before .before .before .increment .ensures, c .before .before .before .before .before .before .before .before .before .before .before .before .tuned .ensures) (sym (held-frames _ _ _ _ _ _ _ _ w 4 n)), g .1 .1 ∙ simp (c .before .before .before .before .before .before .before .width .ensures, c .before .before .before .before .before .before .before .before .before .rising-frac .ensures, c .before .before .before .before .before .before .before .before .before .before .increment .ensures, c .before .before .before .before .before .before .before .before .before .before .before .before .tuned .ensures) (sym (held-marks _ _ _ _ _ _ _ _ w n))))
+    let pw = widened .width .ensures in
+    let edge = crossed .rising-frac .ensures in
+    let step = crossed .before .increment .ensures in
+    let memo = tuned .tuned .ensures in (
+      simp (g .0, pw, edge, step, memo) (left (a .self) (a .c) (a .wanted) n (start .pre .0) (start .pre .1)),
+      (
+        g .1 .0 ∙ simp (pw, edge, step, memo) (sym (held-frames _ _ _ _ _ _ _ _ w nPorts n)),
+        g .1 .1 ∙ simp (pw, edge, step, memo) (sym (held-marks _ _ _ _ _ _ _ _ w n)),
+      ),
+    )
 
 pub run-spec : {M : Type 1} → statement M
 run-spec =

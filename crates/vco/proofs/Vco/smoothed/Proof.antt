@@ -51,6 +51,9 @@ out-requires-2 c κs = search needs
 out-requires-3 : tie.Need-out-requires-3
 out-requires-3 c κs = search needs
 
+volts4-requires : tie.Need-volts4-requires
+volts4-requires c κs = search needs
+
 is-finite-requires : tie.Need-is-finite-requires
 is-finite-requires c κs = search needs
 
@@ -59,7 +62,36 @@ mark-requires c κs = search needs
 
 returns : tie.Need-returns
 unfolding vcoAnswerOf vcoVoltsOf
-returns c = simp (c .mark .ensures, c .before .is-finite .ensures, c .before .before .before .before .out3 .ensures, c .before .before .before .before .before .out2 .ensures, c .before .before .before .before .before .before .out .ensures, c .before .before .before .before .before .before .before .stepped2 .ensures, c .before .before .before .before .before .before .before .before .square .ensures, c .before .before .before .before .before .before .before .before .before .level .ensures, c .before .before .before .before .before .before .before .before .before .before .stepped .ensures, c .before .before .before .before .before .before .before .before .before .before .before .before .saw .ensures, c .before .before .before .before .before .before .before .before .before .before .before .before .before .triangle .ensures, c .before .before .before .before .before .before .before .before .before .before .before .before .before .before .polyblamp2 .ensures, c .before .before .before .before .before .before .before .before .before .before .before .before .before .before .before .corner-half .ensures, c .before .before .before .before .before .before .before .before .before .before .before .before .before .before .before .before .before .polyblamp .ensures, c .before .before .before .before .before .before .before .before .before .before .before .before .before .before .before .before .before .before .before .polyblep2 .ensures, c .before .before .before .before .before .before .before .before .before .before .before .before .before .before .before .before .before .before .before .before .pw-edge .ensures, c .before .before .before .before .before .before .before .before .before .before .before .before .before .before .before .before .before .before .before .before .before .polyblep .ensures, c .before .before .before .before .before .before .before .before .before .before .before .before .before .before .before .before .before .before .before .before .before .before .fabs .ensures, c .before .before .before .before .before .before .before .before .before .before .before .before .before .before .before .before .before .before .before .before .before .before .before .pre .2)
+returns c =
+    let made = c .before .before .before .before in
+    let stepped = made .before .before .before .before in
+    let sloped = stepped .before .before .before in
+    let shaped = sloped .before .before .before in
+    let cornered = shaped .before .before in
+    let lowered = cornered .before .before in
+    let fallen = lowered .before .before in
+    simp (
+      c .mark .ensures,
+      c .before .is-finite .ensures,
+      made .volts4 .ensures,
+      made .before .out3 .ensures,
+      made .before .before .out2 .ensures,
+      made .before .before .before .out .ensures,
+      stepped .stepped2 .ensures,
+      stepped .before .square .ensures,
+      stepped .before .before .level .ensures,
+      sloped .stepped .ensures,
+      sloped .before .before .saw .ensures,
+      shaped .triangle .ensures,
+      shaped .before .polyblamp2 .ensures,
+      cornered .corner-half .ensures,
+      lowered .polyblamp .ensures,
+      fallen .polyblep2 .ensures,
+      fallen .before .pw-edge .ensures,
+      fallen .before .before .polyblep .ensures,
+      fallen .before .before .before .fabs .ensures,
+      fallen .before .before .before .before .pre .2,
+    )
 
 pub smoothed-spec : {M : Type 1} → statement M
 smoothed-spec =
@@ -81,6 +113,7 @@ smoothed-spec =
     out-requires
     out-requires-2
     out-requires-3
+    volts4-requires
     is-finite-requires
     mark-requires
     returns)

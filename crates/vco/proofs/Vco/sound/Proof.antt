@@ -28,24 +28,25 @@ heard-requires c κs =
     let s = c .before .before .before .before .before .before .before .before .before .before .before .before .before .before in
     (simp (c .before .restart .ensures) (restart-in (s .args .self .phase) _ (s .pre)), simp (c .width .ensures) (clamp-width _))
 
-advance-requires : tie.Need-advance-requires
-advance-requires c κs = search needs
+wrap-phase-requires : tie.Need-wrap-phase-requires
+wrap-phase-requires c κs = search needs
 
 returns : tie.Need-returns
 unfolding vcoSoundOf
 returns c =
-    let s = c .before .before .before in
-    let k = c .before .before .before .before .before .before in
-    let f = c .before .before .before .before .before .before .before .before .before in
+    let answered = c .before .before .before in
+    let restarted = answered .before .before in
+    let crossed = restarted .before .before .before in
+    let tuned = crossed .before .before .before in
     simp (
-      c .advance .ensures,
-      c .before .heard .ensures,
-      c .before .before .width .ensures,
-      s .restart .ensures,
-      s .before .crosses .ensures,
-      k .rising-frac .ensures,
-      k .before .increment .ensures,
-      f .tuned .ensures,
+      c .wrap-phase .ensures,
+      answered .heard .ensures,
+      answered .before .width .ensures,
+      restarted .restart .ensures,
+      restarted .before .crosses .ensures,
+      crossed .rising-frac .ensures,
+      crossed .before .increment .ensures,
+      tuned .tuned .ensures,
     )
 
 pub sound-spec : {M : Type 1} → statement M
@@ -59,5 +60,5 @@ sound-spec =
     restart-requires
     width-requires
     heard-requires
-    advance-requires
+    wrap-phase-requires
     returns)
