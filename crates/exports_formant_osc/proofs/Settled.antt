@@ -1,7 +1,7 @@
 -- What is stored is read back, and each contract, being one equation, settles what it speaks of.
 use Rattle.answer.proofs.Flat.{flag}
 use Rattle.exports_formant_osc.proofs.Stores.{whole}
-use Rattle.exports_formant_osc.specs.Calls.{formantNewAt, formantResetAt, formantSetSampleRateAt, formantTickAt, formantBlockAt}
+use Rattle.exports_formant_osc.specs.Calls.{formantOscNewAt, formantOscResetAt, formantOscSetSampleRateAt, formantOscTickAt, formantOscBlockAt}
 use Rattle.exports_formant_osc.specs.Promises.{Read-back, Settled}
 use Rattle.exports_formant_osc.specs.State.{stateOf, floatsOf, wholesOf}
 use Rattle.laws.proofs.Settled as laws
@@ -17,9 +17,9 @@ read-back s h k =
 pub settled : Settled
 settled =
     record {
-      new = λ rate f w. laws.settled (formantNewAt rate f w);
-      tick = λ vOct vowel shift vibrato f w o. laws.settled (formantTickAt vOct vowel shift vibrato f w o);
-      block = λ vOct vowel shift vibrato f w k o m. laws.settled (formantBlockAt vOct vowel shift vibrato f w k o m);
-      reset = λ f w. laws.settled (formantResetAt f w);
-      «set_sample_rate» = λ rate f w. laws.settled (formantSetSampleRateAt rate f w);
+      new = λ rate f w. laws.settled (formantOscNewAt rate f w);
+      tick = λ vOct vowel shift vibrato f w o. laws.settled (formantOscTickAt vOct vowel shift vibrato f w o);
+      block = λ vOct vowel shift vibrato f w k o m. laws.settled (formantOscBlockAt vOct vowel shift vibrato f w k o m);
+      reset = λ f w. laws.settled (formantOscResetAt f w);
+      «set_sample_rate» = λ rate f w. laws.settled (formantOscSetSampleRateAt rate f w);
     }

@@ -13,11 +13,11 @@ use common::Memo1;
 use common::Turns;
 use common::VoltsPerOctave;
 use formant_osc::CoefMemo;
-use formant_osc::FormantBlock;
-use formant_osc::FormantControls;
-use formant_osc::FormantMade;
 use formant_osc::FormantOsc;
-use formant_osc::FormantTicked;
+use formant_osc::FormantOscBlock;
+use formant_osc::FormantOscControls;
+use formant_osc::FormantOscMade;
+use formant_osc::FormantOscTicked;
 ghost use mathlib.Core.Path.{_≡_};
 ghost use mathlib.Core.List.{List};
 ghost use Prim.Native.Nat.{ℕ, _+_, _≤_};
@@ -27,7 +27,7 @@ ghost use lib.Seq.{sets};
 ghost use Rattle.answer.specs.Block.{block};
 ghost use Rattle.answer.specs.Flat.{kept, heard, heardOf, played, playedOf};
 ghost use Rattle.exports_formant_osc.specs.State.{stateOf, floatsOf, wholesOf, samplesOf};
-ghost use Rattle.exports_formant_osc.specs.Calls.{keptOf, formantNewAt, formantTickAt, formantBlockAt, formantResetAt, formantSetSampleRateAt};
+ghost use Rattle.exports_formant_osc.specs.Calls.{keptOf, formantOscNewAt, formantOscTickAt, formantOscBlockAt, formantOscResetAt, formantOscSetSampleRateAt};
 
 fn state(floats: &[f64], wholes: &[u64]) -> FormantOsc
     requires { ⌜ (length (now floats) ≡ 29) × (length (now wholes) ≡ 6) ⌝ }
@@ -133,7 +133,7 @@ fn store_wholes(s: FormantOsc, wholes: &mut [u64])
 }
 
 // What a call without samples made.
-fn put_made(m: FormantMade, floats: &mut [f64], wholes: &mut [u64]) -> u32
+fn put_made(m: FormantOscMade, floats: &mut [f64], wholes: &mut [u64]) -> u32
     requires { ⌜ (length (now floats) ≡ 29) × (length (now wholes) ≡ 6) ⌝ }
     ensures { λ r. ⌜ kept r (now (floats .exit)) (now (wholes .exit)) ≡ keptOf m (now (floats .entry)) (now (wholes .entry)) ⌝ }
 {
@@ -155,7 +155,7 @@ pub extern "C" fn gruttisol_formant_osc_new(
     floats: &mut [f64],
     wholes: &mut [u64],
 ) -> u32
-    ensures { λ r. ⌜ kept r (now (floats .exit)) (now (wholes .exit)) ≡ formantNewAt «sample_rate» (now (floats .entry)) (now (wholes .entry)) ⌝ }
+    ensures { λ r. ⌜ kept r (now (floats .exit)) (now (wholes .exit)) ≡ formantOscNewAt «sample_rate» (now (floats .entry)) (now (wholes .entry)) ⌝ }
 {
     let n = answer::sizes(29, 6, floats, wholes);
     if n == 0 {
@@ -166,9 +166,14 @@ pub extern "C" fn gruttisol_formant_osc_new(
 }
 
 // The sample and the state after an accepted tick; a refused one leaves them.
-fn put_ticked(t: FormantTicked, floats: &mut [f64], wholes: &mut [u64], samples: &mut [f64]) -> u32
+fn put_ticked(
+    t: FormantOscTicked,
+    floats: &mut [f64],
+    wholes: &mut [u64],
+    samples: &mut [f64],
+) -> u32
     requires { ⌜ (length (now floats) ≡ 29) × (length (now wholes) ≡ 6) × (length (now samples) ≡ 1) ⌝ }
-    ensures { λ r. ⌜ heard r (now (floats .exit)) (now (wholes .exit)) (now (samples .exit)) ≡ heardOf floatsOf wholesOf samplesOf (t .answer) (t .formant) (now (floats .entry)) (now (wholes .entry)) (now (samples .entry)) ⌝ }
+    ensures { λ r. ⌜ heard r (now (floats .exit)) (now (wholes .exit)) (now (samples .exit)) ≡ heardOf floatsOf wholesOf samplesOf (t .answer) (t .«formant_osc») (now (floats .entry)) (now (wholes .entry)) (now (samples .entry)) ⌝ }
 {
     let answer = t.answer;
     let code = answer::host_number(answer);
@@ -192,11 +197,11 @@ pub extern "C" fn gruttisol_formant_osc_tick(
     wholes: &mut [u64],
     samples: &mut [f64],
 ) -> u32
-    ensures { λ r. ⌜ heard r (now (floats .exit)) (now (wholes .exit)) (now (samples .exit)) ≡ formantTickAt «v_oct» vowel «formant_shift» vibrato (now (floats .entry)) (now (wholes .entry)) (now (samples .entry)) ⌝ }
+    ensures { λ r. ⌜ heard r (now (floats .exit)) (now (wholes .exit)) (now (samples .exit)) ≡ formantOscTickAt «v_oct» vowel «formant_shift» vibrato (now (floats .entry)) (now (wholes .entry)) (now (samples .entry)) ⌝ }
 {
     let n = answer::tick_sizes(29, 6, 1, floats, wholes, samples);
     if n == 0 {
-        let c = FormantControls {
+        let c = FormantOscControls {
             v_oct: VoltsPerOctave(v_oct),
             vowel,
             formant_shift,
@@ -209,9 +214,9 @@ pub extern "C" fn gruttisol_formant_osc_tick(
 }
 
 // The state and the counts after a block; a refused one leaves them.
-fn put_block(b: FormantBlock, floats: &mut [f64], wholes: &mut [u64], counts: &mut [u32]) -> u32
+fn put_block(b: FormantOscBlock, floats: &mut [f64], wholes: &mut [u64], counts: &mut [u32]) -> u32
     requires { ⌜ (length (now floats) ≡ 29) × (length (now wholes) ≡ 6) × (length (now counts) ≡ 5) ⌝ }
-    ensures { λ r. ⌜ ((o : List Float) → (m : List ℕ) → played r (now (floats .exit)) (now (wholes .exit)) (now (counts .exit)) o m ≡ playedOf floatsOf wholesOf (block (b .refused) (b .formant) (b .tally) o m) (now (floats .entry)) (now (wholes .entry)) (now (counts .entry))) ⌝ }
+    ensures { λ r. ⌜ ((o : List Float) → (m : List ℕ) → played r (now (floats .exit)) (now (wholes .exit)) (now (counts .exit)) o m ≡ playedOf floatsOf wholesOf (block (b .refused) (b .«formant_osc») (b .tally) o m) (now (floats .entry)) (now (wholes .entry)) (now (counts .entry))) ⌝ }
 {
     let refused = b.refused;
     if refused == 0 {
@@ -238,14 +243,14 @@ pub extern "C" fn gruttisol_formant_osc_block(
     samples: &mut [f64],
     marks: &mut [u32],
 ) -> u32
-    ensures { λ r. ⌜ played r (now (floats .exit)) (now (wholes .exit)) (now (counts .exit)) (now (samples .exit)) (now (marks .exit)) ≡ formantBlockAt «v_oct» vowel «formant_shift» vibrato (now (floats .entry)) (now (wholes .entry)) (now (counts .entry)) (now (samples .entry)) (now (marks .entry)) ⌝ }
+    ensures { λ r. ⌜ played r (now (floats .exit)) (now (wholes .exit)) (now (counts .exit)) (now (samples .exit)) (now (marks .exit)) ≡ formantOscBlockAt «v_oct» vowel «formant_shift» vibrato (now (floats .entry)) (now (wholes .entry)) (now (counts .entry)) (now (samples .entry)) (now (marks .entry)) ⌝ }
 {
     let n = answer::sizes(29, 6, floats, wholes);
     if n == 0 {
         let given = Tally::from_counts(counts);
         match given {
             Tallied::Taken(tally) => {
-                let c = FormantControls {
+                let c = FormantOscControls {
                     v_oct: VoltsPerOctave(v_oct),
                     vowel,
                     formant_shift,
@@ -263,7 +268,7 @@ pub extern "C" fn gruttisol_formant_osc_block(
 
 #[no_mangle]
 pub extern "C" fn gruttisol_formant_osc_reset(floats: &mut [f64], wholes: &mut [u64]) -> u32
-    ensures { λ r. ⌜ kept r (now (floats .exit)) (now (wholes .exit)) ≡ formantResetAt (now (floats .entry)) (now (wholes .entry)) ⌝ }
+    ensures { λ r. ⌜ kept r (now (floats .exit)) (now (wholes .exit)) ≡ formantOscResetAt (now (floats .entry)) (now (wholes .entry)) ⌝ }
 {
     let n = answer::sizes(29, 6, floats, wholes);
     if n == 0 {
@@ -279,7 +284,7 @@ pub extern "C" fn gruttisol_formant_osc_set_sample_rate(
     floats: &mut [f64],
     wholes: &mut [u64],
 ) -> u32
-    ensures { λ r. ⌜ kept r (now (floats .exit)) (now (wholes .exit)) ≡ formantSetSampleRateAt «sample_rate» (now (floats .entry)) (now (wholes .entry)) ⌝ }
+    ensures { λ r. ⌜ kept r (now (floats .exit)) (now (wholes .exit)) ≡ formantOscSetSampleRateAt «sample_rate» (now (floats .entry)) (now (wholes .entry)) ⌝ }
 {
     let n = answer::sizes(29, 6, floats, wholes);
     if n == 0 {

@@ -12,7 +12,7 @@ use lib.Ieee.Fits.{div-fits, down-pos}
 use lib.IntN.{pos}
 use lib.ListN.{getD}
 use Rattle.answer.proofs.Laws.{mark-says}
-use Rattle.answer.specs.Answer.{markNumber}
+use Rattle.answer.specs.Answer.{markNumber, volts1, clean}
 use Rattle.answer.specs.Mark.{allFinite, ruleOf}
 use Rattle.common.proofs.Bounds.{sin-within}
 use Rattle.common.specs.Consts.{c4, five, half}
@@ -22,15 +22,14 @@ use Rattle.common.specs.Pitch.{voctToHz}
 use Rattle.common.specs.Tests.{rateOk}
 use Rattle.formant_osc.proofs.Positive.{alpha-plus, shares}
 use Rattle.formant_osc.proofs.Reached.{tick-sounds, good, new-accepts}
-use Rattle.formant_osc.specs.Coefs.{spotOf, formantOf, getFormants, coefOf, resonatorCoefs}
-use Rattle.formant_osc.specs.Consts.{pi, omegaLow, omegaHigh, twelve, amplitude3, amplitude4, amplitude5}
-use Rattle.formant_osc.specs.Consts.{bandwidth1, bandwidth2, bandwidth3, bandwidth4, bandwidth5}
-use Rattle.formant_osc.specs.FormantOsc.{newFormantOsc, formantAtRest, freqMemoOf, coefMemoOf, formantRung, formantSoundOf}
+use Rattle.formant_osc.specs.Coefs.{spotOf, formantOf, getFormants, bandwidthOf, coefOf, resonatorCoefs}
+use Rattle.formant_osc.specs.Consts.{omegaLow, omegaHigh, twelve}
+use Rattle.formant_osc.specs.FormantOsc.{newFormantOsc, freqMemoOf, coefMemoOf, formantOscRung, formantOscSoundOf}
 use Rattle.formant_osc.specs.Memo.{newCoefMemo, coefHits, coefFilled, coefRecall}
 use Rattle.formant_osc.specs.Promises.{firstRate, noControls, First-clean}
-use Rattle.formant_osc.specs.Sound.{glottalPulse, pitchOf, resonateOf, plus, rungOf, onlyOf}
+use Rattle.formant_osc.specs.Sound.{glottalPulse, pitchOf, resonateOf, amplitudeOf, plus, rungOf}
 use Rattle.formant_osc.specs.declared.FormantOsc.{FormantOsc}
-use Rattle.formant_osc.specs.declared.FormantTicked.{FormantTicked}
+use Rattle.formant_osc.specs.declared.FormantOscTicked.{FormantOscTicked}
 use Rattle.laws.proofs.Interval.{Under, round-under, Within, within-finite, isWithin, within-of}
 use Rattle.laws.proofs.Number.{value-finite}
 use Rattle.laws.proofs.Sign.{Plus}
@@ -39,7 +38,7 @@ use Rattle.laws.proofs.Zeros.{times-nought}
 use Rattle.laws.specs.Float.{zer, one, two, isFin}
 use Rattle.laws.specs.Machine.{begun}
 use Rattle.numeric.proofs.Laws.{exp2-whole, sin-zero}
-use Rattle.numeric.specs.Basic.{clampOf}
+use Rattle.numeric.specs.Basic.{pi, clampOf}
 use Rattle.numeric.specs.Power.{exp2Of}
 use Rattle.numeric.specs.Trig.{sinOf}
 
@@ -106,7 +105,11 @@ out-silent b0 a1 a2 h =
 abbrev rest : List Float
 rest = zer ∷ zer ∷ zer ∷ zer ∷ zer ∷ zer ∷ zer ∷ zer ∷ zer ∷ zer ∷ []
 
-plus-silent : plus (plus (plus (plus (plus zer zer one) zer half) zer amplitude3) zer amplitude4) zer amplitude5 ≡ zer
+abbrev summed : Float → Float → Float → Float → Float → Float
+summed a b d e f =
+    plus (plus (plus (plus (plus zer a (amplitudeOf 0)) b (amplitudeOf 1)) d (amplitudeOf 2)) e (amplitudeOf 3)) f (amplitudeOf 4)
+
+plus-silent : summed zer zer zer zer zer ≡ zer
 unfolding add mul ofBits
 plus-silent = refl
 
@@ -119,7 +122,7 @@ rung-silent c p q r t u =
     let d = out-silent _ (getD c 7 nan) (getD c 8 nan) r in
     let e = out-silent _ (getD c 10 nan) (getD c 11 nan) t in
     let f = out-silent _ (getD c 13 nan) (getD c 14 nan) u in
-    (λ i. plus (plus (plus (plus (plus zer (a i) one) (b i) half) (d i) amplitude3) (e i) amplitude4) (f i) amplitude5) ∙ plus-silent
+    (λ i. summed (a i) (b i) (d i) (e i) (f i)) ∙ plus-silent
 
 -- ---- the pulse, the factor and the pitch of zeros
 pulse-zero : glottalPulse zer ≡ zer
@@ -146,15 +149,16 @@ coef-at i bandwidth h k p q =
 sum-silent : rungOf (resonatorCoefs zer zer (firstRate .0)) rest zer .sum ≡ zer
 unfolding resonatorCoefs getFormants formantOf spotOf clampOf lt add sub mul div toUnsigned ofInt ofBits
 sum-silent =
-    rung-silent (resonatorCoefs zer zer (firstRate .0)) (coef-at 0 bandwidth1 tt tt tt tt) (coef-at 1 bandwidth2 tt tt tt tt) (coef-at 2 bandwidth3 tt tt tt tt)
-    (coef-at 3 bandwidth4 tt tt tt tt) (coef-at 4 bandwidth5 tt tt tt tt)
+    rung-silent (resonatorCoefs zer zer (firstRate .0)) (coef-at 0 (bandwidthOf 0) tt tt tt tt) (coef-at 1 (bandwidthOf 1) tt tt tt tt)
+    (coef-at 2 (bandwidthOf 2) tt tt tt tt)
+    (coef-at 3 (bandwidthOf 3) tt tt tt tt) (coef-at 4 (bandwidthOf 4) tt tt tt tt)
 
 -- ---- the tick
 abbrev new : FormantOsc
 new = newFormantOsc firstRate
 
-sum-zero : formantRung new noControls .sum ≡ zer
-unfolding formantRung coefMemoOf coefRecall coefHits coefFilled newFormantOsc formantAtRest newCoefMemo clampOf lt ofBits
+sum-zero : formantOscRung new noControls .sum ≡ zer
+unfolding formantOscRung coefMemoOf coefRecall coefHits coefFilled newFormantOsc newCoefMemo clampOf lt ofBits
 sum-zero = ap (λ (x : Float). rungOf (resonatorCoefs zer zer (firstRate .0)) rest x .sum) pulse-zero ∙ sum-silent
 
 hertz-zero : voctToHzAt zer .0 ≡ mul binary64 c4 (fin false 1 (pos 0))
@@ -162,15 +166,15 @@ unfolding voctToHz clampOf lt neg ofInt ofBits
 hertz-zero = ap (mul binary64 c4) (exp2-whole (pos 0) (lit≤ tt))
 
 hertz-first : freqMemoOf new noControls .val .0 ≡ mul binary64 c4 (fin false 1 (pos 0))
-unfolding freqMemoOf recall1 hits1 filled1 newFormantOsc formantAtRest
+unfolding freqMemoOf recall1 hits1 filled1 newFormantOsc
 hertz-first = ap (λ (x : Float). voctToHzAt x .0) tone-zero ∙ hertz-zero
 
-sound-clean : markNumber (formantSoundOf new noControls .answer) ≡ 4
-unfolding formantSoundOf incrementOf newFormantOsc formantAtRest ruleOf allFinite onlyOf clampOf lt neg add mul div ofBits
-sound-clean = simp (sum-zero, hertz-first) (mark-says (onlyOf (mul binary64 (clampOf zer (neg one) one) five)) false true true .number)
+sound-clean : markNumber (formantOscSoundOf new noControls .answer) ≡ clean
+unfolding formantOscSoundOf incrementOf newFormantOsc ruleOf allFinite clampOf lt neg add mul div ofBits
+sound-clean = simp (sum-zero, hertz-first) (mark-says (volts1 (mul binary64 (clampOf zer (neg one) one) five)) false true true .number)
 
 pub first-clean : First-clean
 unfolding rateOk le lt ofBits
 first-clean =
     let g = good (begun new (new-accepts firstRate .1 refl (ofBits-fits binary64 0x40e7700000000000))) in
-    ap (λ (t : FormantTicked). markNumber (t .answer)) (tick-sounds new noControls g) ∙ sound-clean
+    ap (λ (t : FormantOscTicked). markNumber (t .answer)) (tick-sounds new noControls g) ∙ sound-clean

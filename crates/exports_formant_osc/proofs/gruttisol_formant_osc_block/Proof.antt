@@ -3,7 +3,7 @@ use borrow.Author.Needs.{needs}
 use borrow.Author.Tests.{eq-eqb, ne-eqb}
 use Rattle.answer.proofs.Flat.{sized, five-counts}
 use Rattle.answer.specs.Flat.{playedFrom, playedSized}
-use Rattle.exports_formant_osc.specs.Calls.{formantBlockAt}
+use Rattle.exports_formant_osc.specs.Calls.{formantOscBlockAt}
 use Rattle.exports_formant_osc.proofs.gruttisol_formant_osc_block.Statement.{statement}
 use Rattle.exports_formant_osc.proofs.gruttisol_formant_osc_block.Tie as tie
 
@@ -53,7 +53,7 @@ same-length-5 : tie.Need-same-length-5
 same-length-5 c = search needs
 
 returns : tie.Need-returns
-unfolding formantBlockAt playedSized playedFrom
+unfolding formantOscBlockAt playedSized playedFrom
 returns c =
     let stored = c .before .before .before .before .before .before in
     let played = stored .before .before .before .before .before .before .before .before in
@@ -82,7 +82,7 @@ same-length-8 : tie.Need-same-length-8
 same-length-8 c = search needs
 
 returns-2 : tie.Need-returns-2
-unfolding formantBlockAt playedSized playedFrom
+unfolding formantOscBlockAt playedSized playedFrom
 returns-2 c =
     let refused = c .before in
     let read = refused .before .before in
@@ -97,7 +97,7 @@ same-length-10 : tie.Need-same-length-10
 same-length-10 c = search needs
 
 returns-3 : tie.Need-returns-3
-unfolding formantBlockAt playedSized playedFrom
+unfolding formantOscBlockAt playedSized playedFrom
 returns-3 c = simp (← c .before .sizes .ensures, ne-eqb _ _ (c .if1 .left))
 
 pub gruttisol-formant-osc-block-spec : {M : Type 1} → statement M

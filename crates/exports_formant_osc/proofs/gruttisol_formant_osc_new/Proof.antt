@@ -3,7 +3,7 @@ use borrow.Author.Needs.{needs}
 use borrow.Author.Tests.{ne-eqb, eq-eqb}
 use Rattle.answer.proofs.Flat.{sized}
 use Rattle.answer.specs.Flat.{keptSized}
-use Rattle.exports_formant_osc.specs.Calls.{formantNewAt}
+use Rattle.exports_formant_osc.specs.Calls.{formantOscNewAt}
 use Rattle.exports_formant_osc.proofs.gruttisol_formant_osc_new.Statement.{statement}
 use Rattle.exports_formant_osc.proofs.gruttisol_formant_osc_new.Tie as tie
 
@@ -23,7 +23,7 @@ same-length-2 : tie.Need-same-length-2
 same-length-2 c = search needs
 
 returns : tie.Need-returns
-unfolding formantNewAt keptSized
+unfolding formantOscNewAt keptSized
 returns c = c .before .before .before .before .put-made .ensures ∙ simp (← c .before .before .before .before .before .before .before .before .before .sizes .ensures, eq-eqb _ _ (c .before .before .before .before .before .before .before .before .if1 .taken), c .before .before .before .before .before .before .before .new .ensures)
 
 same-length-3 : tie.Need-same-length-3
@@ -33,7 +33,7 @@ same-length-4 : tie.Need-same-length-4
 same-length-4 c = search needs
 
 returns-2 : tie.Need-returns-2
-unfolding formantNewAt keptSized
+unfolding formantOscNewAt keptSized
 returns-2 c = simp (← c .before .sizes .ensures, ne-eqb _ _ (c .if1 .left))
 
 pub gruttisol-formant-osc-new-spec : {M : Type 1} → statement M

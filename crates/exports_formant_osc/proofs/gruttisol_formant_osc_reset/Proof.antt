@@ -3,7 +3,7 @@ use borrow.Author.Needs.{needs}
 use borrow.Author.Tests.{ne-eqb, eq-eqb}
 use Rattle.answer.proofs.Flat.{sized}
 use Rattle.answer.specs.Flat.{keptSized}
-use Rattle.exports_formant_osc.specs.Calls.{formantResetAt}
+use Rattle.exports_formant_osc.specs.Calls.{formantOscResetAt}
 use Rattle.exports_formant_osc.proofs.gruttisol_formant_osc_reset.Statement.{statement}
 use Rattle.exports_formant_osc.proofs.gruttisol_formant_osc_reset.Tie as tie
 
@@ -26,7 +26,7 @@ same-length-2 : tie.Need-same-length-2
 same-length-2 c = search needs
 
 returns : tie.Need-returns
-unfolding formantResetAt keptSized
+unfolding formantOscResetAt keptSized
 returns c = c .before .before .before .before .put-made .ensures ∙ simp (← c .before .before .before .before .before .before .before .before .before .before .before .before .sizes .ensures, eq-eqb _ _ (c .before .before .before .before .before .before .before .before .before .before .before .if1 .taken), c .before .before .before .before .before .before .before .reset .ensures, c .before .before .before .before .before .before .before .before .state .ensures)
 
 same-length-3 : tie.Need-same-length-3
@@ -36,7 +36,7 @@ same-length-4 : tie.Need-same-length-4
 same-length-4 c = search needs
 
 returns-2 : tie.Need-returns-2
-unfolding formantResetAt keptSized
+unfolding formantOscResetAt keptSized
 returns-2 c = simp (← c .before .sizes .ensures, ne-eqb _ _ (c .if1 .left))
 
 pub gruttisol-formant-osc-reset-spec : {M : Type 1} → statement M

@@ -3,7 +3,7 @@ use borrow.Author.Needs.{needs}
 use borrow.Author.Tests.{ne-eqb, eq-eqb}
 use Rattle.answer.proofs.Flat.{tick-sized}
 use Rattle.answer.specs.Flat.{heardSized}
-use Rattle.exports_formant_osc.specs.Calls.{formantTickAt}
+use Rattle.exports_formant_osc.specs.Calls.{formantOscTickAt}
 use Rattle.exports_formant_osc.proofs.gruttisol_formant_osc_tick.Statement.{statement}
 use Rattle.exports_formant_osc.proofs.gruttisol_formant_osc_tick.Tie as tie
 
@@ -29,7 +29,7 @@ same-length-3 : tie.Need-same-length-3
 same-length-3 c = search needs
 
 returns : tie.Need-returns
-unfolding formantTickAt heardSized
+unfolding formantOscTickAt heardSized
 returns c = c .before .before .before .before .before .before .put-ticked .ensures ∙ simp (← c .before .before .before .before .before .before .before .before .before .before .before .before .before .before .before .tick-sizes .ensures, eq-eqb _ _ (c .before .before .before .before .before .before .before .before .before .before .before .before .before .before .if1 .taken), c .before .before .before .before .before .before .before .before .before .before .tick .ensures, c .before .before .before .before .before .before .before .before .before .before .before .state .ensures)
 
 same-length-4 : tie.Need-same-length-4
@@ -42,7 +42,7 @@ same-length-6 : tie.Need-same-length-6
 same-length-6 c = search needs
 
 returns-2 : tie.Need-returns-2
-unfolding formantTickAt heardSized
+unfolding formantOscTickAt heardSized
 returns-2 c = simp (← c .before .tick-sizes .ensures, ne-eqb _ _ (c .if1 .left))
 
 pub gruttisol-formant-osc-tick-spec : {M : Type 1} → statement M
