@@ -6,7 +6,7 @@ use Prim.Native.Nat.{ℕ, _-_, _*_, _≤_, _<_}
 use native.Mathlib.Nat.{le-trans, le-of-eq, mul-assoc, mul-le-mul, mul-pos, one-mul}
 use native.Mathlib.Omega.{arith}
 use lib.Dec.{T, leb, leb→le, lit<, lit≤}
-use lib.Ieee.{Float, nan, inf, fin, binary64, add, sub, mul, div, neg, lt, le, ofBits, ofInt, toUnsigned, sum, up, down}
+use lib.Ieee.{Float, nan, inf, fin, binary64, add, sub, mul, div, neg, lt, le, ofBits, ofInt, toUnsigned, up, down}
 use lib.Ieee.Bits.{ofBits-fits}
 use lib.Ieee.Fits.{div-fits, down-pos}
 use lib.IntN.{pos}
@@ -24,7 +24,7 @@ use Rattle.formant_osc.proofs.Positive.{alpha-plus, shares}
 use Rattle.formant_osc.proofs.Reached.{tick-sounds, good, new-accepts}
 use Rattle.formant_osc.specs.Coefs.{spotOf, formantOf, getFormants, bandwidthOf, coefOf, resonatorCoefs}
 use Rattle.formant_osc.specs.Consts.{omegaLow, omegaHigh, twelve}
-use Rattle.formant_osc.specs.FormantOsc.{newFormantOsc, freqMemoOf, coefMemoOf, formantOscRung, formantOscSoundOf}
+use Rattle.formant_osc.specs.FormantOsc.{silent, newFormantOsc, freqMemoOf, coefMemoOf, formantOscRung, formantOscSoundOf}
 use Rattle.formant_osc.specs.Memo.{newCoefMemo, coefHits, coefFilled, coefRecall}
 use Rattle.formant_osc.specs.Promises.{firstRate, noControls, First-clean}
 use Rattle.formant_osc.specs.Sound.{glottalPulse, pitchOf, resonateOf, amplitudeOf, plus, rungOf}
@@ -91,19 +91,16 @@ coef-finite freq bandwidth h k p q =
     (shares alpha (div-fits binary64 _ _) (alpha-plus freq bandwidth (firstRate .0) p q) finite .0)
 
 -- ---- a silent resonator stays silent
-silent : (s : Bool) → add binary64 (fin s 0 (pos 0)) zer ≡ zer
+nought-more : (s : Bool) → add binary64 (fin s 0 (pos 0)) zer ≡ zer
 unfolding add ofBits
-silent true = refl
-silent false = refl
+nought-more true = refl
+nought-more false = refl
 
 out-silent : (b0 a1 a2 : Float) → T (isFin b0) → resonateOf b0 a1 a2 zer zer zer .out ≡ zer
 unfolding resonateOf
 out-silent b0 a1 a2 h =
     let z = times-nought b0 zer h (unfold lib.Ieee.eq ofBits in tt) in
-    ap (λ (x : Float). add binary64 x zer) (z .1) ∙ silent (z .0)
-
-abbrev rest : List Float
-rest = zer ∷ zer ∷ zer ∷ zer ∷ zer ∷ zer ∷ zer ∷ zer ∷ zer ∷ zer ∷ []
+    ap (λ (x : Float). add binary64 x zer) (z .1) ∙ nought-more (z .0)
 
 abbrev summed : Float → Float → Float → Float → Float → Float
 summed a b d e f =
@@ -114,7 +111,7 @@ unfolding add mul ofBits
 plus-silent = refl
 
 rung-silent : (c : List Float) → T (isFin (getD c 0 nan)) → T (isFin (getD c 3 nan)) → T (isFin (getD c 6 nan)) → T (isFin (getD c 9 nan))
-    → T (isFin (getD c 12 nan)) → rungOf c rest zer .sum ≡ zer
+    → T (isFin (getD c 12 nan)) → rungOf c silent zer .sum ≡ zer
 unfolding rungOf
 rung-silent c p q r t u =
     let a = out-silent _ (getD c 1 nan) (getD c 2 nan) p in
@@ -146,7 +143,7 @@ coef-at i bandwidth h k p q =
     subst (λ (by : Float). T (isFin (coefOf (formantOf (spotOf zer) i by) bandwidth (firstRate .0) .b0))) (sym factor-one)
     (coef-finite (formantOf (spotOf zer) i (fin false 1 (pos 0))) bandwidth h k p q)
 
-sum-silent : rungOf (resonatorCoefs zer zer (firstRate .0)) rest zer .sum ≡ zer
+sum-silent : rungOf (resonatorCoefs zer zer (firstRate .0)) silent zer .sum ≡ zer
 unfolding resonatorCoefs getFormants formantOf spotOf clampOf lt add sub mul div toUnsigned ofInt ofBits
 sum-silent =
     rung-silent (resonatorCoefs zer zer (firstRate .0)) (coef-at 0 (bandwidthOf 0) tt tt tt tt) (coef-at 1 (bandwidthOf 1) tt tt tt tt)
@@ -159,7 +156,7 @@ new = newFormantOsc firstRate
 
 sum-zero : formantOscRung new noControls .sum ≡ zer
 unfolding formantOscRung coefMemoOf coefRecall coefHits coefFilled newFormantOsc newCoefMemo clampOf lt ofBits
-sum-zero = ap (λ (x : Float). rungOf (resonatorCoefs zer zer (firstRate .0)) rest x .sum) pulse-zero ∙ sum-silent
+sum-zero = ap (λ (x : Float). rungOf (resonatorCoefs zer zer (firstRate .0)) silent x .sum) pulse-zero ∙ sum-silent
 
 hertz-zero : voctToHzAt zer .0 ≡ mul binary64 c4 (fin false 1 (pos 0))
 unfolding voctToHz clampOf lt neg ofInt ofBits

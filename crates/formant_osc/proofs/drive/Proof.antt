@@ -11,7 +11,8 @@ sway-requires c κs = search needs
 
 pulse-requires : tie.Need-pulse-requires
 pulse-requires c κs =
-    let known-3 = c .before .before .before .before in let swayed = known-3 .before .before in
+    let kept = c .before .before .before .before in
+    let swayed = kept .before .before in
     let began = swayed .before .before .before .before in
     ap length (swayed .sway .ensures .1) ∙ length-tab _ _ ∙ began .pre .2
 

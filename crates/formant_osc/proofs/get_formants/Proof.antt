@@ -31,15 +31,15 @@ formant-requires-5 c κs =
 returns : tie.Need-returns
 unfolding getFormants
 returns c =
-    let at-formant-2 = c .before .before .before in
+    let third = c .before .before .before in
     simp (
       c .formant5 .ensures,
       c .before .formant4 .ensures,
       c .before .before .formant3 .ensures,
-      at-formant-2 .formant2 .ensures,
-      at-formant-2 .before .formant .ensures,
-      at-formant-2 .before .before .exp2 .ensures,
-      at-formant-2 .before .before .before .spot-of .ensures,
+      third .formant2 .ensures,
+      third .before .formant .ensures,
+      third .before .before .exp2 .ensures,
+      third .before .before .before .spot-of .ensures,
     )
 
 pub get-formants-spec : {M : Type 1} → statement M

@@ -39,14 +39,14 @@ one-coef-requires-5 c κs = search needs
 returns : tie.Need-returns
 unfolding resonatorCoefs
 returns c =
-    let counted-coef-2 = c .before .before .before in
+    let third = c .before .before .before in
     simp (
       c .one-coef5 .ensures,
       c .before .one-coef4 .ensures,
       c .before .before .one-coef3 .ensures,
-      counted-coef-2 .one-coef2 .ensures,
-      counted-coef-2 .before .one-coef .ensures,
-      counted-coef-2 .before .before .get-formants .ensures,
+      third .one-coef2 .ensures,
+      third .before .one-coef .ensures,
+      third .before .before .get-formants .ensures,
     )
 
 pub resonator-coefs-spec : {M : Type 1} → statement M

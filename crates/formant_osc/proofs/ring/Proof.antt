@@ -110,11 +110,11 @@ array-read-t88 c = search needs
 
 returns : tie.Need-returns
 returns c =
-    let rung-5 = c .before .before .before .before .before in
-    let rung = rung-5 .before .before .before .before in
-    rung-by (rung .before .args .t1) (rung .before .args .t2) (rung .before .args .x) _ _ _ _ _ (rung .resonate .ensures)
-    (rung-5 .before .before .before .resonate2 .ensures) (rung-5 .before .before .resonate3 .ensures) (rung-5 .before .resonate4 .ensures)
-    (rung-5 .resonate5 .ensures)
+    let last = c .before .before .before .before .before in
+    let first = last .before .before .before .before in
+    let a = first .before .args in
+    rung-by (a .t1) (a .t2) (a .x) _ _ _ _ _ (first .resonate .ensures) (last .before .before .before .resonate2 .ensures)
+    (last .before .before .resonate3 .ensures) (last .before .resonate4 .ensures) (last .resonate5 .ensures)
 
 pub ring-spec : {M : Type 1} → statement M
 ring-spec =

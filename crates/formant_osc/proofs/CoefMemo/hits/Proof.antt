@@ -16,27 +16,27 @@ bits-requires-3 c κs = search needs
 returns : tie.Need-returns
 unfolding coefHits
 returns c =
-    let as-bits-2 = c .before .before .before .before in
-    let as-bits = as-bits-2 .before .before .before in
+    let second = c .before .before .before .before in
+    let first = second .before .before .before in
     simp (
       c .before .bits3 .ensures,
-      ← as-bits-2 .bits2 .ensures,
+      ← second .bits2 .ensures,
       eq-eqb _ _ (c .before .before .if3 .taken),
-      ← as-bits .bits .ensures,
-      eq-eqb _ _ (as-bits-2 .before .if2 .taken),
-      as-bits .before .if1 .taken,
+      ← first .bits .ensures,
+      eq-eqb _ _ (second .before .if2 .taken),
+      first .before .if1 .taken,
     )
 
 returns-2 : tie.Need-returns-2
 unfolding coefHits
 returns-2 c =
-    let as-bits = c .before .before .before .before .before in
+    let first = c .before .before .before .before .before in
     simp (
       ← c .before .before .bits2 .ensures,
       ne-eqb _ _ (c .if3 .left),
-      ← as-bits .bits .ensures,
+      ← first .bits .ensures,
       eq-eqb _ _ (c .before .before .before .if2 .taken),
-      as-bits .before .if1 .taken,
+      first .before .if1 .taken,
     )
 
 returns-3 : tie.Need-returns-3

@@ -33,10 +33,10 @@ or-requires c κs = search needs
 returns : tie.Need-returns
 unfolding formantOscBlockOf
 returns c =
-    let judged-block = c .before .before in
-    let a = judged-block .before .before .before .before .args in
+    let judged = c .before .before in
+    let a = judged .before .before .before .before .args in
     block-empty nPorts _ _ _ (a .self) (a .tally) (a .samples .now) (a .marks .now) _
-    (rw (judged-block .before .refusal .ensures) at (judged-block .block-refusal .ensures)) (c .before .if1 .taken) (c .if2 .taken)
+    (rw (judged .before .refusal .ensures) at (judged .block-refusal .ensures)) (c .before .if1 .taken) (c .if2 .taken)
 
 same-length : tie.Need-same-length
 same-length c = search needs
@@ -47,7 +47,7 @@ same-length-2 c = search needs
 returns-2 : tie.Need-returns-2
 unfolding formantOscBlockOf
 returns-2 c =
-    let known-4 = c .before .before .before in let ran = known-4 .before .before .before .before in
+    let marked = c .before .before .before in let ran = marked .before .before .before .before in
     let tested = ran .before .before .before .before in
     let a = tested .before .before .before .before .before .args in
     let r = ran .run .ensures in

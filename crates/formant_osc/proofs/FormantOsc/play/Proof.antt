@@ -22,8 +22,8 @@ drive-requires c κs =
 
 voice-requires : tie.Need-voice-requires
 voice-requires c κs =
-    let known-4 = c .before .before .before .before .before in
-    let g = known-4 .before .before .before .before .drive .ensures in tabs-alike _ _ _ _ _ (g .1 .0) (g .1 .1)
+    let split = c .before .before .before .before .before in
+    let g = split .before .before .before .before .drive .ensures in tabs-alike _ _ _ _ _ (g .1 .0) (g .1 .1)
 
 same-length : tie.Need-same-length
 same-length c = search needs
@@ -34,7 +34,7 @@ same-length-2 c = search needs
 returns : tie.Need-returns
 returns c =
     let voiced = c .before .before .before .before in
-    let ready-2 = voiced .before .before .before .before .before in let driven = ready-2 .before .before .before .before .before in
+    let lent = voiced .before .before .before .before .before in let driven = lent .before .before .before .before .before in
     let tuned = driven .before .before .before .before in
     let clamped = tuned .before .before in
     let ready = clamped .before .before .before .before .before in

@@ -18,27 +18,27 @@ both-requires c κs = search needs
 returns : tie.Need-returns
 unfolding formantOscRefusalOf
 returns c =
-    let checked-phase = c .before .before .before in
+    let checked = c .before .before .before in
     simp (
       c .if2 .taken,
       ← c .before .both .ensures,
       ← c .before .before .phase-ok2 .ensures,
-      ← checked-phase .phase-ok .ensures,
-      checked-phase .before .if1 .taken,
-      ← checked-phase .before .before .rate-ok .ensures,
+      ← checked .phase-ok .ensures,
+      checked .before .if1 .taken,
+      ← checked .before .before .rate-ok .ensures,
     )
 
 returns-2 : tie.Need-returns-2
 unfolding formantOscRefusalOf
 returns-2 c =
-    let checked-phase = c .before .before .before in
+    let checked = c .before .before .before in
     simp (
       c .if2 .left,
       ← c .before .both .ensures,
       ← c .before .before .phase-ok2 .ensures,
-      ← checked-phase .phase-ok .ensures,
-      checked-phase .before .if1 .taken,
-      ← checked-phase .before .before .rate-ok .ensures,
+      ← checked .phase-ok .ensures,
+      checked .before .if1 .taken,
+      ← checked .before .before .rate-ok .ensures,
     )
 
 returns-3 : tie.Need-returns-3

@@ -23,10 +23,10 @@ made-requires c κs = search needs
 play-requires-2 : tie.Need-play-requires-2
 unfolding coefMemoOf coefRecall
 play-requires-2 c κs =
-    let at-made = c .before .before in
-    let clamped = at-made .before .before .before in
+    let made = c .before .before in
+    let clamped = made .before .before .before in
     let p = clamped .before .before .before .before .before .pre in
-    (p .0, p .1, p .2, simp (at-made .made .ensures, ← clamped .clamp .ensures, ← at-made .before .before .hits .ensures, at-made .before .if1 .left))
+    (p .0, p .1, p .2, simp (made .made .ensures, ← clamped .clamp .ensures, ← made .before .before .hits .ensures, made .before .if1 .left))
 
 same-length : tie.Need-same-length
 same-length c = search needs

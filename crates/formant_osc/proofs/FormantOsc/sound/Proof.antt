@@ -52,8 +52,8 @@ wrap-phase-requires-2 c κs = search needs
 returns : tie.Need-returns
 unfolding formantOscSoundOf freqMemoOf coefMemoOf formantOscRung voicedOf
 returns c =
-    let checked-2 = c .before .before .before in
-    let rung = checked-2 .before .before .before .before .before in
+    let checked = c .before .before .before in
+    let rung = checked .before .before .before .before .before in
     let pulsed = rung .before .before .before in
     let pitched = pulsed .before .before .before in
     let wrapped = pitched .before .before .before .before in
@@ -61,8 +61,8 @@ returns c =
       c .wrap-phase2 .ensures,
       c .before .voiced .ensures,
       c .before .before .both .ensures,
-      checked-2 .is-finite2 .ensures,
-      checked-2 .before .is-finite .ensures,
+      checked .is-finite2 .ensures,
+      checked .before .is-finite .ensures,
       rung .ring .ensures,
       rung .before .before .recall .ensures,
       pulsed .glottal-pulse .ensures,
