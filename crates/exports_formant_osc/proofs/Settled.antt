@@ -1,7 +1,6 @@
 -- What is stored is read back, and each contract, being one equation, settles what it speaks of.
-use Rattle.answer.proofs.Flat.{flag}
+use Rattle.boundary.proofs.Flat.{flag}
 use Rattle.exports_formant_osc.proofs.Stores.{whole}
-use Rattle.exports_formant_osc.specs.Calls.{formantNewAt, formantResetAt, formantSetSampleRateAt, formantTickAt, formantBlockAt}
 use Rattle.exports_formant_osc.specs.Promises.{Read-back, Settled}
 use Rattle.exports_formant_osc.specs.State.{stateOf, floatsOf, wholesOf}
 use Rattle.laws.proofs.Settled as laws
@@ -17,9 +16,9 @@ read-back s h k =
 pub settled : Settled
 settled =
     record {
-      new = λ rate f w. laws.settled (formantNewAt rate f w);
-      tick = λ vOct vowel shift vibrato f w o. laws.settled (formantTickAt vOct vowel shift vibrato f w o);
-      block = λ vOct vowel shift vibrato f w k o m. laws.settled (formantBlockAt vOct vowel shift vibrato f w k o m);
-      reset = λ f w. laws.settled (formantResetAt f w);
-      «set_sample_rate» = λ rate f w. laws.settled (formantSetSampleRateAt rate f w);
+      new = λ rate f w. laws.settled _;
+      tick = λ vOct vowel shift vibrato f w o. laws.settled _;
+      block = λ vOct vowel shift vibrato f w k o m. laws.settled _;
+      reset = λ f w. laws.settled _;
+      «set_sample_rate» = λ rate f w. laws.settled _;
     }

@@ -4,8 +4,8 @@ use mathlib.Core.Path.{_≡_}
 use Prim.Native.Nat.{ℕ}
 use lib.Ieee.{Float}
 use lib.ListN.{length}
-use Rattle.answer.specs.Flat.{Kept, Heard, Played}
-use Rattle.exports_formant_osc.specs.Calls.{formantNewAt, formantResetAt, formantSetSampleRateAt, formantTickAt, formantBlockAt}
+use Rattle.boundary.specs.Flat.{Kept, Heard, Played}
+use Rattle.exports_formant_osc.specs.Calls.{formantOscNewAt, formantOscResetAt, formantOscSetSampleRateAt, formantOscTickAt, formantOscBlockAt}
 use Rattle.exports_formant_osc.specs.State.{stateOf, floatsOf, wholesOf}
 use Rattle.formant_osc.specs.declared.FormantOsc.{FormantOsc}
 use Rattle.laws.specs.Machine.{Settles}
@@ -16,8 +16,10 @@ Read-back = (s : FormantOsc) → length (s .«resonator_state») ≡ 10 → leng
 
 -- each contract settles the number and every lent slice at exit
 pub record Settled : Type 0 where
-  pub new : (rate : Float) (f : List Float) (w : List ℕ) → Settles (λ (k : Kept). k ≡ formantNewAt rate f w)
-  pub tick : (vOct vowel shift vibrato : Float) (f : List Float) (w : List ℕ) (o : List Float) → Settles (λ (h : Heard). h ≡ formantTickAt vOct vowel shift vibrato f w o)
-  pub block : (vOct vowel shift vibrato : Float) (f : List Float) (w k : List ℕ) (o : List Float) (m : List ℕ) → Settles (λ (p : Played). p ≡ formantBlockAt vOct vowel shift vibrato f w k o m)
-  pub reset : (f : List Float) (w : List ℕ) → Settles (λ (k : Kept). k ≡ formantResetAt f w)
-  pub «set_sample_rate» : (rate : Float) (f : List Float) (w : List ℕ) → Settles (λ (k : Kept). k ≡ formantSetSampleRateAt rate f w)
+  pub new : (rate : Float) (f : List Float) (w : List ℕ) → Settles (λ (k : Kept). k ≡ formantOscNewAt rate f w)
+  pub tick : (vOct vowel shift vibrato : Float) (f : List Float) (w : List ℕ) (o : List Float)
+      → Settles (λ (h : Heard). h ≡ formantOscTickAt vOct vowel shift vibrato f w o)
+  pub block : (vOct vowel shift vibrato : Float) (f : List Float) (w k : List ℕ) (o : List Float) (m : List ℕ)
+      → Settles (λ (p : Played). p ≡ formantOscBlockAt vOct vowel shift vibrato f w k o m)
+  pub reset : (f : List Float) (w : List ℕ) → Settles (λ (k : Kept). k ≡ formantOscResetAt f w)
+  pub «set_sample_rate» : (rate : Float) (f : List Float) (w : List ℕ) → Settles (λ (k : Kept). k ≡ formantOscSetSampleRateAt rate f w)

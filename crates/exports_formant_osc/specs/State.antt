@@ -1,4 +1,4 @@
--- A FormantOsc as 29 floats and six whole numbers, and its sample as one float.
+-- A FormantOsc as floats and whole numbers, and its sample as a float.
 use mathlib.Core.Bool.{not, cond}
 use mathlib.Core.List.{List, [], _∷_, _++_}
 use Prim.Native.Nat.{ℕ, _+_}
@@ -8,6 +8,16 @@ use lib.ListN.{getD}
 use Rattle.answer.specs.declared.Volts.{Volts}
 use Rattle.formant_osc.specs.declared.FormantOsc.{FormantOsc}
 use Rattle.laws.specs.Lists.{tab}
+
+-- how many there are
+abbrev pub nFloats : ℕ
+nFloats = 29
+
+abbrev pub nWholes : ℕ
+nWholes = 6
+
+abbrev pub nSamples : ℕ
+nSamples = 1
 
 -- n floats of a list, from its cell k on
 abbrev pub part : List Float → ℕ → ℕ → List Float

@@ -1,23 +1,21 @@
 // The FormantOsc for hosts, over lent slices. A state is floats [phase, vibrato_phase, the ten cells of resonator_state,
 // sample_rate, freq_memo.val, the fifteen of coef_memo.val] and wholes [freq_memo.key, freq_memo.valid, coef_memo.key0, key1,
 // key2, valid], a valid being 0 or not; samples are [out].
-// Each call answers a number: 0 done; of an accepted tick 11 cleared, 12 notfinite, 13 lost, 14 clean; of a refused call
-// 1 to 7 as the scope has them, or 50, 51, 52, 53 where floats, wholes, samples or counts have another length. A refused
-// call writes nothing. A block answers 0, with the ticks' samples one after another, their marks by the same numbers, and
-// the tally's five counts: begun, finished, cleared, notfinite, lost.
+// Each call answers a number: 0 done; of an accepted tick what its mark is told by; of a refused call 1 to 7 as the scope has
+// them, or 50, 51, 52, 53 where floats, wholes, samples or counts have another length. A refused call writes nothing. A block
+// answers 0, with the ticks' samples one after another, their marks by the same numbers, and the tally's counts.
 use answer::Outcome;
 use answer::Tallied;
-use answer::Tally;
 use common::Hertz;
 use common::Memo1;
 use common::Turns;
 use common::VoltsPerOctave;
 use formant_osc::CoefMemo;
-use formant_osc::FormantBlock;
-use formant_osc::FormantControls;
-use formant_osc::FormantMade;
 use formant_osc::FormantOsc;
-use formant_osc::FormantTicked;
+use formant_osc::FormantOscBlock;
+use formant_osc::FormantOscControls;
+use formant_osc::FormantOscMade;
+use formant_osc::FormantOscTicked;
 ghost use mathlib.Core.Path.{_≡_};
 ghost use mathlib.Core.List.{List};
 ghost use Prim.Native.Nat.{ℕ, _+_, _≤_};
@@ -25,28 +23,39 @@ ghost use lib.Ieee.{Float};
 ghost use lib.ListN.{length};
 ghost use lib.Seq.{sets};
 ghost use Rattle.answer.specs.Block.{block};
-ghost use Rattle.answer.specs.Flat.{kept, heard, heardOf, played, playedOf};
-ghost use Rattle.exports_formant_osc.specs.State.{stateOf, floatsOf, wholesOf, samplesOf};
-ghost use Rattle.exports_formant_osc.specs.Calls.{keptOf, formantNewAt, formantTickAt, formantBlockAt, formantResetAt, formantSetSampleRateAt};
+ghost use Rattle.boundary.specs.Flat.{nCounts, kept, heard, heardOf, played, playedOf};
+ghost use Rattle.exports_formant_osc.specs.State.{nFloats, nWholes, nSamples, part, stateOf, floatsOf, wholesOf, samplesOf};
+ghost use Rattle.exports_formant_osc.specs.Calls.{keptOf, formantOscNewAt, formantOscTickAt, formantOscBlockAt, formantOscResetAt, formantOscSetSampleRateAt};
+
+// How many floats, wholes and samples there are.
+const FLOATS: usize = 29;
+
+const WHOLES: usize = 6;
+
+const SAMPLES: usize = 1;
+
+// Cells one after another, the first from the place `at`. The arrays are filled so: a state read float by float is dear to prove.
+fn load_cells(floats: &[f64], at: usize, cells: &mut [f64])
+    requires { ⌜ at + length (now cells) ≤ length (now floats) ⌝ }
+    ensures { λ _. ⌜ now (cells .exit) ≡ part (now (floats .entry)) at (length (now (cells .entry))) ⌝ }
+{
+    let mut i = 0;
+    while i < cells.len() {
+        cells[i] = floats[at + i];
+        i += 1;
+    }
+}
 
 fn state(floats: &[f64], wholes: &[u64]) -> FormantOsc
-    requires { ⌜ (length (now floats) ≡ 29) × (length (now wholes) ≡ 6) ⌝ }
+    requires { ⌜ (length (now floats) ≡ nFloats) × (length (now wholes) ≡ nWholes) ⌝ }
     ensures { λ r. ⌜ r ≡ stateOf (now (floats .entry)) (now (wholes .entry)) ⌝ }
 {
+    let mut resonator_state = [0.0; 10];
+    load_cells(floats, 2, &mut resonator_state);
+    let mut val = [0.0; 15];
+    load_cells(floats, 14, &mut val);
     let phase = Turns(floats[0]);
     let vibrato_phase = Turns(floats[1]);
-    let resonator_state = [
-        floats[2],
-        floats[3],
-        floats[4],
-        floats[5],
-        floats[6],
-        floats[7],
-        floats[8],
-        floats[9],
-        floats[10],
-        floats[11],
-    ];
     let sample_rate = Hertz(floats[12]);
     let freq_memo = Memo1 {
         key: wholes[0],
@@ -57,23 +66,7 @@ fn state(floats: &[f64], wholes: &[u64]) -> FormantOsc
         key0: wholes[2],
         key1: wholes[3],
         key2: wholes[4],
-        val: [
-            floats[14],
-            floats[15],
-            floats[16],
-            floats[17],
-            floats[18],
-            floats[19],
-            floats[20],
-            floats[21],
-            floats[22],
-            floats[23],
-            floats[24],
-            floats[25],
-            floats[26],
-            floats[27],
-            floats[28],
-        ],
+        val,
         valid: wholes[5] != 0,
     };
     FormantOsc {
@@ -99,7 +92,7 @@ fn store_cells(cells: &[f64], at: usize, floats: &mut [f64])
 }
 
 fn store_floats(s: FormantOsc, floats: &mut [f64])
-    requires { ⌜ length (now floats) ≡ 29 ⌝ }
+    requires { ⌜ length (now floats) ≡ nFloats ⌝ }
     ensures { λ _. ⌜ now (floats .exit) ≡ floatsOf s ⌝ }
 {
     let phase = s.phase;
@@ -119,7 +112,7 @@ fn store_floats(s: FormantOsc, floats: &mut [f64])
 }
 
 fn store_wholes(s: FormantOsc, wholes: &mut [u64])
-    requires { ⌜ length (now wholes) ≡ 6 ⌝ }
+    requires { ⌜ length (now wholes) ≡ nWholes ⌝ }
     ensures { λ _. ⌜ now (wholes .exit) ≡ wholesOf s ⌝ }
 {
     let freq_memo = s.freq_memo;
@@ -133,14 +126,14 @@ fn store_wholes(s: FormantOsc, wholes: &mut [u64])
 }
 
 // What a call without samples made.
-fn put_made(m: FormantMade, floats: &mut [f64], wholes: &mut [u64]) -> u32
-    requires { ⌜ (length (now floats) ≡ 29) × (length (now wholes) ≡ 6) ⌝ }
+fn put_made(m: FormantOscMade, floats: &mut [f64], wholes: &mut [u64]) -> u32
+    requires { ⌜ (length (now floats) ≡ nFloats) × (length (now wholes) ≡ nWholes) ⌝ }
     ensures { λ r. ⌜ kept r (now (floats .exit)) (now (wholes .exit)) ≡ keptOf m (now (floats .entry)) (now (wholes .entry)) ⌝ }
 {
     let outcome = m.outcome;
     match outcome {
         Outcome::Done => {
-            let s = m.formant;
+            let s = m.formant_osc;
             store_floats(s, &mut *floats);
             store_wholes(s, &mut *wholes);
             0
@@ -155,9 +148,9 @@ pub extern "C" fn gruttisol_formant_osc_new(
     floats: &mut [f64],
     wholes: &mut [u64],
 ) -> u32
-    ensures { λ r. ⌜ kept r (now (floats .exit)) (now (wholes .exit)) ≡ formantNewAt «sample_rate» (now (floats .entry)) (now (wholes .entry)) ⌝ }
+    ensures { λ r. ⌜ kept r (now (floats .exit)) (now (wholes .exit)) ≡ formantOscNewAt «sample_rate» (now (floats .entry)) (now (wholes .entry)) ⌝ }
 {
-    let n = answer::sizes(29, 6, floats, wholes);
+    let n = boundary::sizes(FLOATS, WHOLES, floats, wholes);
     if n == 0 {
         put_made(FormantOsc::new(Hertz(sample_rate)), floats, wholes)
     } else {
@@ -166,14 +159,19 @@ pub extern "C" fn gruttisol_formant_osc_new(
 }
 
 // The sample and the state after an accepted tick; a refused one leaves them.
-fn put_ticked(t: FormantTicked, floats: &mut [f64], wholes: &mut [u64], samples: &mut [f64]) -> u32
-    requires { ⌜ (length (now floats) ≡ 29) × (length (now wholes) ≡ 6) × (length (now samples) ≡ 1) ⌝ }
-    ensures { λ r. ⌜ heard r (now (floats .exit)) (now (wholes .exit)) (now (samples .exit)) ≡ heardOf floatsOf wholesOf samplesOf (t .answer) (t .formant) (now (floats .entry)) (now (wholes .entry)) (now (samples .entry)) ⌝ }
+fn put_ticked(
+    t: FormantOscTicked,
+    floats: &mut [f64],
+    wholes: &mut [u64],
+    samples: &mut [f64],
+) -> u32
+    requires { ⌜ (length (now floats) ≡ nFloats) × (length (now wholes) ≡ nWholes) × (length (now samples) ≡ nSamples) ⌝ }
+    ensures { λ r. ⌜ heard r (now (floats .exit)) (now (wholes .exit)) (now (samples .exit)) ≡ heardOf floatsOf wholesOf samplesOf (t .answer) (t .«formant_osc») (now (floats .entry)) (now (wholes .entry)) (now (samples .entry)) ⌝ }
 {
     let answer = t.answer;
     let code = answer::host_number(answer);
     if answer::is_accepted(answer) {
-        let s = t.formant;
+        let s = t.formant_osc;
         let v = answer::samples(answer);
         store_floats(s, &mut *floats);
         store_wholes(s, &mut *wholes);
@@ -192,11 +190,11 @@ pub extern "C" fn gruttisol_formant_osc_tick(
     wholes: &mut [u64],
     samples: &mut [f64],
 ) -> u32
-    ensures { λ r. ⌜ heard r (now (floats .exit)) (now (wholes .exit)) (now (samples .exit)) ≡ formantTickAt «v_oct» vowel «formant_shift» vibrato (now (floats .entry)) (now (wholes .entry)) (now (samples .entry)) ⌝ }
+    ensures { λ r. ⌜ heard r (now (floats .exit)) (now (wholes .exit)) (now (samples .exit)) ≡ formantOscTickAt «v_oct» vowel «formant_shift» vibrato (now (floats .entry)) (now (wholes .entry)) (now (samples .entry)) ⌝ }
 {
-    let n = answer::tick_sizes(29, 6, 1, floats, wholes, samples);
+    let n = boundary::tick_sizes(FLOATS, WHOLES, SAMPLES, floats, wholes, samples);
     if n == 0 {
-        let c = FormantControls {
+        let c = FormantOscControls {
             v_oct: VoltsPerOctave(v_oct),
             vowel,
             formant_shift,
@@ -209,17 +207,17 @@ pub extern "C" fn gruttisol_formant_osc_tick(
 }
 
 // The state and the counts after a block; a refused one leaves them.
-fn put_block(b: FormantBlock, floats: &mut [f64], wholes: &mut [u64], counts: &mut [u32]) -> u32
-    requires { ⌜ (length (now floats) ≡ 29) × (length (now wholes) ≡ 6) × (length (now counts) ≡ 5) ⌝ }
-    ensures { λ r. ⌜ ((o : List Float) → (m : List ℕ) → played r (now (floats .exit)) (now (wholes .exit)) (now (counts .exit)) o m ≡ playedOf floatsOf wholesOf (block (b .refused) (b .formant) (b .tally) o m) (now (floats .entry)) (now (wholes .entry)) (now (counts .entry))) ⌝ }
+fn put_block(b: FormantOscBlock, floats: &mut [f64], wholes: &mut [u64], counts: &mut [u32]) -> u32
+    requires { ⌜ (length (now floats) ≡ nFloats) × (length (now wholes) ≡ nWholes) × (length (now counts) ≡ nCounts) ⌝ }
+    ensures { λ r. ⌜ ((o : List Float) → (m : List ℕ) → played r (now (floats .exit)) (now (wholes .exit)) (now (counts .exit)) o m ≡ playedOf floatsOf wholesOf (block (b .refused) (b .«formant_osc») (b .tally) o m) (now (floats .entry)) (now (wholes .entry)) (now (counts .entry))) ⌝ }
 {
     let refused = b.refused;
     if refused == 0 {
-        let s = b.formant;
+        let s = b.formant_osc;
         let tally = b.tally;
         store_floats(s, &mut *floats);
         store_wholes(s, &mut *wholes);
-        tally.put_counts(counts);
+        boundary::put_counts(tally, counts);
         0
     } else {
         refused
@@ -238,14 +236,14 @@ pub extern "C" fn gruttisol_formant_osc_block(
     samples: &mut [f64],
     marks: &mut [u32],
 ) -> u32
-    ensures { λ r. ⌜ played r (now (floats .exit)) (now (wholes .exit)) (now (counts .exit)) (now (samples .exit)) (now (marks .exit)) ≡ formantBlockAt «v_oct» vowel «formant_shift» vibrato (now (floats .entry)) (now (wholes .entry)) (now (counts .entry)) (now (samples .entry)) (now (marks .entry)) ⌝ }
+    ensures { λ r. ⌜ played r (now (floats .exit)) (now (wholes .exit)) (now (counts .exit)) (now (samples .exit)) (now (marks .exit)) ≡ formantOscBlockAt «v_oct» vowel «formant_shift» vibrato (now (floats .entry)) (now (wholes .entry)) (now (counts .entry)) (now (samples .entry)) (now (marks .entry)) ⌝ }
 {
-    let n = answer::sizes(29, 6, floats, wholes);
+    let n = boundary::sizes(FLOATS, WHOLES, floats, wholes);
     if n == 0 {
-        let given = Tally::from_counts(counts);
+        let given = boundary::tally_of(counts);
         match given {
             Tallied::Taken(tally) => {
-                let c = FormantControls {
+                let c = FormantOscControls {
                     v_oct: VoltsPerOctave(v_oct),
                     vowel,
                     formant_shift,
@@ -263,9 +261,9 @@ pub extern "C" fn gruttisol_formant_osc_block(
 
 #[no_mangle]
 pub extern "C" fn gruttisol_formant_osc_reset(floats: &mut [f64], wholes: &mut [u64]) -> u32
-    ensures { λ r. ⌜ kept r (now (floats .exit)) (now (wholes .exit)) ≡ formantResetAt (now (floats .entry)) (now (wholes .entry)) ⌝ }
+    ensures { λ r. ⌜ kept r (now (floats .exit)) (now (wholes .exit)) ≡ formantOscResetAt (now (floats .entry)) (now (wholes .entry)) ⌝ }
 {
-    let n = answer::sizes(29, 6, floats, wholes);
+    let n = boundary::sizes(FLOATS, WHOLES, floats, wholes);
     if n == 0 {
         put_made(state(floats, wholes).reset(), floats, wholes)
     } else {
@@ -279,9 +277,9 @@ pub extern "C" fn gruttisol_formant_osc_set_sample_rate(
     floats: &mut [f64],
     wholes: &mut [u64],
 ) -> u32
-    ensures { λ r. ⌜ kept r (now (floats .exit)) (now (wholes .exit)) ≡ formantSetSampleRateAt «sample_rate» (now (floats .entry)) (now (wholes .entry)) ⌝ }
+    ensures { λ r. ⌜ kept r (now (floats .exit)) (now (wholes .exit)) ≡ formantOscSetSampleRateAt «sample_rate» (now (floats .entry)) (now (wholes .entry)) ⌝ }
 {
-    let n = answer::sizes(29, 6, floats, wholes);
+    let n = boundary::sizes(FLOATS, WHOLES, floats, wholes);
     if n == 0 {
         put_made(
             state(floats, wholes).set_sample_rate(Hertz(sample_rate)),

@@ -1,12 +1,11 @@
 // The Wavetable for hosts, over lent slices. A state is floats [phase, sample_rate, prev_sync, freq_memo.val] and
 // wholes [freq_memo.key, freq_memo.valid], the last 0 or not; samples are [out]. The bank is 16,384 numbers.
-// Each call answers a number: 0 done; of an accepted tick 11 cleared, 12 notfinite, 13 lost, 14 clean; of a refused call
-// 1 to 7 as the scope has them, or 50, 51, 52, 53 where floats, wholes, samples or counts have another length. A refused
-// call writes nothing. A block answers 0, with the ticks' samples one after another, their marks by the same numbers, and
-// the tally's five counts: begun, finished, cleared, notfinite, lost.
+// Each call answers a number: 0 done; of an accepted tick what its mark is told by; of a refused call 1 to 7 as the scope has
+// them, or 50, 51, 52, 53 where floats, wholes, samples or counts have another length. A refused call writes nothing. A block
+// answers 0, with the ticks' samples one after another, their marks by the same numbers, and the tally's counts.
 use answer::Outcome;
 use answer::Tallied;
-use answer::Tally;
+use common::EdgeDetector;
 use common::Hertz;
 use common::Memo1;
 use common::Turns;
@@ -23,56 +22,73 @@ ghost use lib.Ieee.{Float};
 ghost use lib.ListN.{length};
 ghost use Rattle.answer.specs.Answer.{outcomeNumber};
 ghost use Rattle.answer.specs.Block.{block};
-ghost use Rattle.answer.specs.Flat.{kept, heard, heardOf, played, playedOf};
-ghost use Rattle.exports_wavetable.specs.State.{stateOf, floatsOf, wholesOf, samplesOf};
-ghost use Rattle.exports_wavetable.specs.Calls.{keptOf, wavetableNewAt, wavetableTickAt, wavetableBlockAt, wavetableResetAt, wavetableSetSampleRateAt, filledWith, wavetableFillBankAt, wavetableFillTableAt};
+ghost use Rattle.boundary.specs.Flat.{nCounts, kept, heard, heardOf, played, playedOf};
+ghost use Rattle.exports_wavetable.specs.State.{nFloats, nWholes, nSamples, stateOf, floatsOf, wholesOf, samplesOf};
+ghost use Rattle.exports_wavetable.specs.Calls.{keptOf, wavetableNewAt, wavetableTickAt, wavetableBlockAt, wavetableResetAt};
+ghost use Rattle.exports_wavetable.specs.Calls.{wavetableSetSampleRateAt, filledWith, wavetableFillBankAt, wavetableFillTableAt};
+
+// Where the edge record's floats begin, and what stands after them.
+const EDGE: usize = 2;
+
+const VAL: usize = EDGE + boundary::EDGE_FLOATS;
+
+// How many floats, wholes and samples there are.
+const FLOATS: usize = VAL + 1;
+
+const WHOLES: usize = 2;
+
+const SAMPLES: usize = 1;
 
 fn state(floats: &[f64], wholes: &[u64]) -> Wavetable
-    requires { ⌜ (length (now floats) ≡ 4) × (length (now wholes) ≡ 2) ⌝ }
+    requires { ⌜ (length (now floats) ≡ nFloats) × (length (now wholes) ≡ nWholes) ⌝ }
     ensures { λ r. ⌜ r ≡ stateOf (now (floats .entry)) (now (wholes .entry)) ⌝ }
 {
     let phase = Turns(floats[0]);
     let sample_rate = Hertz(floats[1]);
+    let edge = boundary::edge_at(floats, EDGE);
     let freq_memo = Memo1 {
         key: wholes[0],
-        val: Hertz(floats[3]),
+        val: Hertz(floats[VAL]),
         valid: wholes[1] != 0,
     };
     Wavetable {
         phase,
-        prev_sync: floats[2],
+        prev_sync: edge.prev,
         sample_rate,
         freq_memo,
     }
 }
 
 fn store(s: Wavetable, floats: &mut [f64], wholes: &mut [u64])
-    requires { ⌜ (length (now floats) ≡ 4) × (length (now wholes) ≡ 2) ⌝ }
+    requires { ⌜ (length (now floats) ≡ nFloats) × (length (now wholes) ≡ nWholes) ⌝ }
     ensures { λ _. ⌜ (now (floats .exit) ≡ floatsOf s) × (now (wholes .exit) ≡ wholesOf s) ⌝ }
 {
     let phase = s.phase;
     let sample_rate = s.sample_rate;
+    let edge = EdgeDetector { prev: s.prev_sync };
     let memo = s.freq_memo;
     let val = memo.val;
     floats[0] = phase.0;
     floats[1] = sample_rate.0;
-    floats[2] = s.prev_sync;
-    floats[3] = val.0;
+    boundary::put_edge(edge, &mut *floats, EDGE);
+    floats[VAL] = val.0;
     wholes[0] = memo.key;
     wholes[1] = memo.valid as u64;
 }
 
 // What a call without samples made.
 fn put_made(m: WavetableMade, floats: &mut [f64], wholes: &mut [u64]) -> u32
-    requires { ⌜ (length (now floats) ≡ 4) × (length (now wholes) ≡ 2) ⌝ }
+    requires { ⌜ (length (now floats) ≡ nFloats) × (length (now wholes) ≡ nWholes) ⌝ }
     ensures { λ r. ⌜ kept r (now (floats .exit)) (now (wholes .exit)) ≡ keptOf m (now (floats .entry)) (now (wholes .entry)) ⌝ }
 {
-    match m {
-        WavetableMade::Made(s) => {
+    let outcome = m.outcome;
+    let s = m.wavetable;
+    match outcome {
+        Outcome::Done => {
             store(s, floats, wholes);
             0
         }
-        WavetableMade::Refused(n) => n,
+        Outcome::Refused(n) => n,
     }
 }
 
@@ -84,7 +100,7 @@ pub extern "C" fn gruttisol_wavetable_new(
 ) -> u32
     ensures { λ r. ⌜ kept r (now (floats .exit)) (now (wholes .exit)) ≡ wavetableNewAt «sample_rate» (now (floats .entry)) (now (wholes .entry)) ⌝ }
 {
-    let n = answer::sizes(4, 2, floats, wholes);
+    let n = boundary::sizes(FLOATS, WHOLES, floats, wholes);
     if n == 0 {
         put_made(Wavetable::new(Hertz(sample_rate)), floats, wholes)
     } else {
@@ -99,8 +115,9 @@ fn put_ticked(
     wholes: &mut [u64],
     samples: &mut [f64],
 ) -> u32
-    requires { ⌜ (length (now floats) ≡ 4) × (length (now wholes) ≡ 2) × (length (now samples) ≡ 1) ⌝ }
-    ensures { λ r. ⌜ heard r (now (floats .exit)) (now (wholes .exit)) (now (samples .exit)) ≡ heardOf floatsOf wholesOf samplesOf (t .answer) (t .wavetable) (now (floats .entry)) (now (wholes .entry)) (now (samples .entry)) ⌝ }
+    requires { ⌜ (length (now floats) ≡ nFloats) × (length (now wholes) ≡ nWholes) × (length (now samples) ≡ nSamples) ⌝ }
+    ensures { λ r. ⌜ heard r (now (floats .exit)) (now (wholes .exit)) (now (samples .exit))
+        ≡ heardOf floatsOf wholesOf samplesOf (t .answer) (t .wavetable) (now (floats .entry)) (now (wholes .entry)) (now (samples .entry)) ⌝ }
 {
     let answer = t.answer;
     let code = answer::host_number(answer);
@@ -124,9 +141,10 @@ pub extern "C" fn gruttisol_wavetable_tick(
     bank: &[f64],
     samples: &mut [f64],
 ) -> u32
-    ensures { λ r. ⌜ heard r (now (floats .exit)) (now (wholes .exit)) (now (samples .exit)) ≡ wavetableTickAt «v_oct» table morph sync (now (bank .entry)) (now (floats .entry)) (now (wholes .entry)) (now (samples .entry)) ⌝ }
+    ensures { λ r. ⌜ heard r (now (floats .exit)) (now (wholes .exit)) (now (samples .exit))
+        ≡ wavetableTickAt «v_oct» table morph sync (now (bank .entry)) (now (floats .entry)) (now (wholes .entry)) (now (samples .entry)) ⌝ }
 {
-    let n = answer::tick_sizes(4, 2, 1, floats, wholes, samples);
+    let n = boundary::tick_sizes(FLOATS, WHOLES, SAMPLES, floats, wholes, samples);
     if n == 0 {
         let c = WavetableControls {
             v_oct: VoltsPerOctave(v_oct),
@@ -142,15 +160,17 @@ pub extern "C" fn gruttisol_wavetable_tick(
 
 // The state and the counts after a block; a refused one leaves them.
 fn put_block(b: WavetableBlock, floats: &mut [f64], wholes: &mut [u64], counts: &mut [u32]) -> u32
-    requires { ⌜ (length (now floats) ≡ 4) × (length (now wholes) ≡ 2) × (length (now counts) ≡ 5) ⌝ }
-    ensures { λ r. ⌜ ((o : List Float) → (m : List ℕ) → played r (now (floats .exit)) (now (wholes .exit)) (now (counts .exit)) o m ≡ playedOf floatsOf wholesOf (block (b .refused) (b .wavetable) (b .tally) o m) (now (floats .entry)) (now (wholes .entry)) (now (counts .entry))) ⌝ }
+    requires { ⌜ (length (now floats) ≡ nFloats) × (length (now wholes) ≡ nWholes) × (length (now counts) ≡ nCounts) ⌝ }
+    ensures { λ r. ⌜ ((o : List Float) → (m : List ℕ)
+        → played r (now (floats .exit)) (now (wholes .exit)) (now (counts .exit)) o m
+        ≡ playedOf floatsOf wholesOf (block (b .refused) (b .wavetable) (b .tally) o m) (now (floats .entry)) (now (wholes .entry)) (now (counts .entry))) ⌝ }
 {
     let refused = b.refused;
     if refused == 0 {
         let s = b.wavetable;
         let tally = b.tally;
         store(s, &mut *floats, &mut *wholes);
-        tally.put_counts(counts);
+        boundary::put_counts(tally, counts);
         0
     } else {
         refused
@@ -170,11 +190,13 @@ pub extern "C" fn gruttisol_wavetable_block(
     samples: &mut [f64],
     marks: &mut [u32],
 ) -> u32
-    ensures { λ r. ⌜ played r (now (floats .exit)) (now (wholes .exit)) (now (counts .exit)) (now (samples .exit)) (now (marks .exit)) ≡ wavetableBlockAt «v_oct» table morph sync (now (bank .entry)) (now (floats .entry)) (now (wholes .entry)) (now (counts .entry)) (now (samples .entry)) (now (marks .entry)) ⌝ }
+    ensures { λ r. ⌜ played r (now (floats .exit)) (now (wholes .exit)) (now (counts .exit)) (now (samples .exit)) (now (marks .exit))
+        ≡ wavetableBlockAt «v_oct» table morph sync (now (bank .entry)) (now (floats .entry)) (now (wholes .entry)) (now (counts .entry))
+        (now (samples .entry)) (now (marks .entry)) ⌝ }
 {
-    let n = answer::sizes(4, 2, floats, wholes);
+    let n = boundary::sizes(FLOATS, WHOLES, floats, wholes);
     if n == 0 {
-        let given = Tally::from_counts(counts);
+        let given = boundary::tally_of(counts);
         match given {
             Tallied::Taken(tally) => {
                 let c = WavetableControls {
@@ -197,7 +219,7 @@ pub extern "C" fn gruttisol_wavetable_block(
 pub extern "C" fn gruttisol_wavetable_reset(floats: &mut [f64], wholes: &mut [u64]) -> u32
     ensures { λ r. ⌜ kept r (now (floats .exit)) (now (wholes .exit)) ≡ wavetableResetAt (now (floats .entry)) (now (wholes .entry)) ⌝ }
 {
-    let n = answer::sizes(4, 2, floats, wholes);
+    let n = boundary::sizes(FLOATS, WHOLES, floats, wholes);
     if n == 0 {
         put_made(state(floats, wholes).reset(), floats, wholes)
     } else {
@@ -213,7 +235,7 @@ pub extern "C" fn gruttisol_wavetable_set_sample_rate(
 ) -> u32
     ensures { λ r. ⌜ kept r (now (floats .exit)) (now (wholes .exit)) ≡ wavetableSetSampleRateAt «sample_rate» (now (floats .entry)) (now (wholes .entry)) ⌝ }
 {
-    let n = answer::sizes(4, 2, floats, wholes);
+    let n = boundary::sizes(FLOATS, WHOLES, floats, wholes);
     if n == 0 {
         put_made(
             state(floats, wholes).set_sample_rate(Hertz(sample_rate)),

@@ -8,19 +8,20 @@ use native.Mathlib.Omega.{arith}
 use lib.Ieee.{Float, nan}
 use lib.ListN.{length, getD}
 use Rattle.answer.proofs.Blocks.{block-keeps}
-use Rattle.answer.specs.Answer.{accepted}
+use Rattle.answer.specs.Answer.{accepted, notfinite, told}
 use Rattle.answer.specs.Block.{afterTicks, answerAt}
-use Rattle.formant_osc.proofs.Either.{tick-either, unless-either}
+use Rattle.formant_osc.specs.Consts.{nPorts}
+use Rattle.formant_osc.proofs.Either.{tick-either, made-either}
 use Rattle.formant_osc.proofs.Spoiled.{sum-marks, rung-cell, spoiled-sum, spoiled-tick, stays-spoiled}
 use Rattle.formant_osc.proofs.Taken.{taken-accepts, taken-state, taken-mark}
 use Rattle.formant_osc.specs.Calls.{Call, Tick, Play, Reset, SetSampleRate, after, NoReset, Later}
-use Rattle.formant_osc.specs.FormantOsc.{coefMemoOf, formantRung, formantSoundOf, formantTickOf, formantNextOf}
-use Rattle.formant_osc.specs.FormantOsc.{formantBlockOf, rated, formantSetSampleRateOf}
+use Rattle.formant_osc.specs.FormantOsc.{coefMemoOf, formantOscRung, formantOscSoundOf, formantOscTickOf, formantOscNextOf}
+use Rattle.formant_osc.specs.FormantOsc.{formantOscBlockOf, rated, formantOscSetSampleRateOf}
 use Rattle.formant_osc.specs.Promises.{Spoiled, Wild-cell, Any-cell-spoils, Any-cell-stays, Blocks-any-cell}
 use Rattle.formant_osc.specs.Sound.{glottalPulse, resonateOf, rungOf}
-use Rattle.formant_osc.specs.declared.FormantControls.{FormantControls}
+use Rattle.formant_osc.specs.declared.FormantOscControls.{FormantOscControls}
 use Rattle.formant_osc.specs.declared.FormantOsc.{FormantOsc}
-use Rattle.formant_osc.specs.declared.FormantTicked.{FormantTicked}
+use Rattle.formant_osc.specs.declared.FormantOscTicked.{FormantOscTicked}
 use Rattle.laws.proofs.Always.{always}
 use Rattle.laws.proofs.Number.{add-wild-r}
 use Rattle.laws.specs.Float.{isFin}
@@ -57,38 +58,39 @@ rung-any c l x i h e = go (parity i)
     go (j, inr q) = let k : j < 5 = omega arith in (j, k, rung-second c l x j k (ap (λ (n : ℕ). isFin (getD l n nan)) (sym q) ∙ e))
 
 -- ---- the tick
-wild-sound : (s : FormantOsc) (c : FormantControls) → Wild-cell s → Spoiled (formantSoundOf s c .formant)
-unfolding formantSoundOf formantRung
+wild-sound : (s : FormantOsc) (c : FormantOscControls) → Wild-cell s → Spoiled (formantOscSoundOf s c .«formant_osc»)
+unfolding formantOscSoundOf formantOscRung
 wild-sound s c p = rung-any (coefMemoOf s c .val) (s .«resonator_state») (glottalPulse (s .phase .0)) (p .0) (p .1) (p .2)
 
 pub any-cell-spoils : Any-cell-spoils
 unfolding accepted
 any-cell-spoils s c p =
-    tick-either (λ (t : FormantTicked). accepted (t .answer) ≡ true → Spoiled (t .formant)) s c (λ a. wild-sound s c p) (λ n a. absurd (false≢true a))
+    tick-either (λ (t : FormantOscTicked). accepted (t .answer) ≡ true → Spoiled (t .«formant_osc»)) s c (λ a. wild-sound s c p) (λ n a. absurd (false≢true a))
 
 -- ---- later calls
 spoiled-wild : (s : FormantOsc) → Spoiled s → Wild-cell s
 spoiled-wild s (i, h, e) = (2 * i, omega arith, e)
 
-wild-tick : (c : FormantControls) (s : FormantOsc) → Wild-cell s → Wild-cell (formantTickOf s c .formant)
-wild-tick c s p = tick-either (λ (t : FormantTicked). Wild-cell (t .formant)) s c (spoiled-wild (formantSoundOf s c .formant) (wild-sound s c p)) (λ n. p)
+wild-tick : (c : FormantOscControls) (s : FormantOsc) → Wild-cell s → Wild-cell (formantOscTickOf s c .«formant_osc»)
+wild-tick c s p =
+    tick-either (λ (t : FormantOscTicked). Wild-cell (t .«formant_osc»)) s c (spoiled-wild (formantOscSoundOf s c .«formant_osc») (wild-sound s c p)) (λ n. p)
 
 wild-after : (s : FormantOsc) (c : Call) → Wild-cell s → NoReset c → Wild-cell (after s c)
 unfolding after
 wild-after s (Tick c) p n = wild-tick c s p
-wild-after s (Play c t o m) p n = unfold formantBlockOf in block-keeps 1 _ _ _ Wild-cell (wild-tick c) s p t o m
+wild-after s (Play c t o m) p n = unfold formantOscBlockOf in block-keeps nPorts _ _ _ Wild-cell (wild-tick c) s p t o m
 wild-after s Reset p n = absurd n
-wild-after s (SetSampleRate r) p n = unfold formantSetSampleRateOf in unless-either Wild-cell _ (rated s r) s p p
+wild-after s (SetSampleRate r) p n = unfold formantOscSetSampleRateOf in made-either Wild-cell _ s (rated s r) p p
 
 wild-later : (s : FormantOsc) {t : FormantOsc} → Wild-cell s → Later s t → Wild-cell t
 wild-later s p = always Wild-cell (λ t e. subst Wild-cell (sym e) p) wild-after
 
 pub any-cell-stays : Any-cell-stays
-any-cell-stays s t u p h c a k = stays-spoiled (formantTickOf t c .formant) u (any-cell-spoils t c (wild-later s p h) a) k
+any-cell-stays s t u p h c a k = stays-spoiled (formantOscTickOf t c .«formant_osc») u (any-cell-spoils t c (wild-later s p h) a) k
 
 -- ---- a block: each state in it but the first is spoiled
-spoiled-at : (s : FormantOsc) (c : FormantControls) → Wild-cell s → accepted (formantTickOf s c .answer) ≡ true → (i : ℕ)
-    → Spoiled (afterTicks (formantNextOf c) (suc i) s)
+spoiled-at : (s : FormantOsc) (c : FormantOscControls) → Wild-cell s → accepted (formantOscTickOf s c .answer) ≡ true → (i : ℕ)
+    → Spoiled (afterTicks (formantOscNextOf c) (suc i) s)
 unfolding afterTicks
 spoiled-at s c p a zero = any-cell-spoils s c p a
 spoiled-at s c p a (suc i) = spoiled-tick c _ (spoiled-at s c p a i)
@@ -97,15 +99,15 @@ pub blocks-any-cell : Blocks-any-cell
 unfolding answerAt
 blocks-any-cell s t p h c y o m r l = (marked, subst Spoiled (sym (taken-state t c y o m r)) (last (length m) l))
   where
-    spoiled : (i : ℕ) → Spoiled (afterTicks (formantNextOf c) (suc i) t)
+    spoiled : (i : ℕ) → Spoiled (afterTicks (formantOscNextOf c) (suc i) t)
     spoiled = spoiled-at t c (wild-later s p h) (unfold afterTicks in taken-accepts t c y o m r 0)
 
-    last : (n : ℕ) → 0 < n → Spoiled (afterTicks (formantNextOf c) n t)
+    last : (n : ℕ) → 0 < n → Spoiled (afterTicks (formantOscNextOf c) n t)
     last zero z = absurd (omega arith)
     last (suc n) z = spoiled n
 
-    marked : (i : ℕ) → suc i < length m → getD (formantBlockOf t c y o m .marks) (suc i) 0 ≡ 12
+    marked : (i : ℕ) → suc i < length m → getD (formantOscBlockOf t c y o m .marks) (suc i) 0 ≡ told notfinite
     marked i k =
-        let u = afterTicks (formantNextOf c) (suc i) t in
+        let u = afterTicks (formantOscNextOf c) (suc i) t in
         taken-mark t c y o m r (suc i) k
-        ∙ ap (λ (n : ℕ). 10 + n) (sum-marks u c (spoiled-sum u c (spoiled i)) (taken-accepts t c y o m r (suc i)))
+        ∙ ap told (sum-marks u c (spoiled-sum u c (spoiled i)) (taken-accepts t c y o m r (suc i)))

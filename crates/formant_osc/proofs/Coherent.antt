@@ -9,12 +9,12 @@ use lib.Ieee.Fits.{cond-fits}
 use borrow.Author.Tests.{eqb-true, eq-eqb}
 use Rattle.laws.proofs.Tests.{both-true}
 use Rattle.common.proofs.MemoLaws.{bits-same}
-use Rattle.formant_osc.specs.Calls.{FitCall, Tick}
+use Rattle.formant_osc.specs.Calls.{Fit}
 use Rattle.formant_osc.specs.Coefs.{resonatorCoefs}
 use Rattle.formant_osc.specs.FormantOsc.{coefMemoOf}
 use Rattle.formant_osc.specs.Memo.{coefHits, coefFilled, coefRecall}
 use Rattle.formant_osc.specs.declared.CoefMemo.{CoefMemo}
-use Rattle.formant_osc.specs.declared.FormantControls.{FormantControls}
+use Rattle.formant_osc.specs.declared.FormantOscControls.{FormantOscControls}
 use Rattle.formant_osc.specs.declared.FormantOsc.{FormantOsc}
 use Rattle.laws.specs.Float.{zer, one, F64}
 use Rattle.numeric.specs.Basic.{clampOf}
@@ -50,9 +50,12 @@ recall-is m h x y z t u v = go (m .valid && (p && (q && r))) refl
         let d = both-true q r (b .1) in
         ⊎-elim (λ (n : m .valid ≡ false). absurd (true≢false (sym (a .0) ∙ n)))
         (λ (k : Made m).
-        let i : k .0 ≡ x = bits-same (k .0) x (k .3) t (unfold coefFilled in sym (ap (λ (n : CoefMemo). n .key0) (k .6)) ∙ eqb-true (m .key0) (toBits binary64 x) (b .0)) in
-        let j : k .1 ≡ y = bits-same (k .1) y (k .4) u (unfold coefFilled in sym (ap (λ (n : CoefMemo). n .key1) (k .6)) ∙ eqb-true (m .key1) (toBits binary64 y) (d .0)) in
-        let l : k .2 ≡ z = bits-same (k .2) z (k .5) v (unfold coefFilled in sym (ap (λ (n : CoefMemo). n .key2) (k .6)) ∙ eqb-true (m .key2) (toBits binary64 z) (d .1)) in
+        let i : k .0 ≡ x =
+        bits-same (k .0) x (k .3) t (unfold coefFilled in sym (ap (λ (n : CoefMemo). n .key0) (k .6)) ∙ eqb-true (m .key0) (toBits binary64 x) (b .0)) in
+        let j : k .1 ≡ y =
+        bits-same (k .1) y (k .4) u (unfold coefFilled in sym (ap (λ (n : CoefMemo). n .key1) (k .6)) ∙ eqb-true (m .key1) (toBits binary64 y) (d .0)) in
+        let l : k .2 ≡ z =
+        bits-same (k .2) z (k .5) v (unfold coefFilled in sym (ap (λ (n : CoefMemo). n .key2) (k .6)) ∙ eqb-true (m .key2) (toBits binary64 z) (d .1)) in
         k .6 ∙ (λ w. made (i w) (j w) (l w)))
         h
 
@@ -64,18 +67,18 @@ unit-fits : (x : Float) → F64 x → F64 (clampOf x zer one)
 unit-fits x h = clamp-fits x zer one h (ofBits-fits binary64 0) (ofBits-fits binary64 0x3ff0000000000000)
 
 -- the memo after a tick
-pub tick-made : (s : FormantOsc) (c : FormantControls) → Coherent (s .«coef_memo») → FitCall (Tick c) → F64 (s .«sample_rate» .0)
+pub tick-made : (s : FormantOsc) (c : FormantOscControls) → Coherent (s .«coef_memo») → Fit c → F64 (s .«sample_rate» .0)
     → coefMemoOf s c ≡ made (clampOf (c .vowel) zer one) (c .«formant_shift») (s .«sample_rate» .0)
 unfolding coefMemoOf
 tick-made s c h f r =
     recall-is (s .«coef_memo») h (clampOf (c .vowel) zer one) (c .«formant_shift») (s .«sample_rate» .0)
     (unit-fits (c .vowel) (f .0)) (f .1) r
 
-pub tick-coherent : (s : FormantOsc) (c : FormantControls) → Coherent (s .«coef_memo») → FitCall (Tick c) → F64 (s .«sample_rate» .0) → Coherent (coefMemoOf s c)
+pub tick-coherent : (s : FormantOsc) (c : FormantOscControls) → Coherent (s .«coef_memo») → Fit c → F64 (s .«sample_rate» .0) → Coherent (coefMemoOf s c)
 tick-coherent s c h f r = inr (clampOf (c .vowel) zer one, c .«formant_shift», s .«sample_rate» .0, unit-fits (c .vowel) (f .0), f .1, r, tick-made s c h f r)
 
 -- so its coefficients are those of the tick's own vowel, shift and rate
-pub tick-coefs : (s : FormantOsc) (c : FormantControls) → Coherent (s .«coef_memo») → FitCall (Tick c) → F64 (s .«sample_rate» .0)
+pub tick-coefs : (s : FormantOsc) (c : FormantOscControls) → Coherent (s .«coef_memo») → Fit c → F64 (s .«sample_rate» .0)
     → coefMemoOf s c .val ≡ resonatorCoefs (clampOf (c .vowel) zer one) (c .«formant_shift») (s .«sample_rate» .0)
 unfolding coefFilled
 tick-coefs s c h f r = ap (λ (m : CoefMemo). m .val) (tick-made s c h f r)
@@ -87,4 +90,8 @@ coefs-again m x y z = go (coefHits m x y z) refl
   where
     go : (b : Bool) → coefHits m x y z ≡ b → coefRecall (cond b m (made x y z)) x y z ≡ cond b m (made x y z)
     go true e = simp e
-    go false e = simp (eq-eqb (toBits binary64 x) (toBits binary64 x) refl, eq-eqb (toBits binary64 y) (toBits binary64 y) refl, eq-eqb (toBits binary64 z) (toBits binary64 z) refl)
+    go false e = simp (
+      eq-eqb (toBits binary64 x) (toBits binary64 x) refl,
+      eq-eqb (toBits binary64 y) (toBits binary64 y) refl,
+      eq-eqb (toBits binary64 z) (toBits binary64 z) refl,
+    )

@@ -12,21 +12,20 @@ use lib.Ieee.Fits.{down-pos}
 use lib.IntN.{pos}
 use lib.ListN.{length, getD}
 use Rattle.answer.proofs.Blocks.{ticks-keep}
-use Rattle.answer.specs.Answer.{markNumber}
+use Rattle.answer.specs.Answer.{markNumber, notfinite}
 use Rattle.answer.specs.Block.{afterTicks, answerAt}
 use Rattle.formant_osc.proofs.Coherent.{tick-coefs}
 use Rattle.formant_osc.proofs.Reached.{tick-sounds, good}
 use Rattle.formant_osc.proofs.Spoiled.{sound-unfinished, plus-out, plus-sum, unfinished-marks}
 use Rattle.formant_osc.proofs.Taken.{taken-state}
-use Rattle.formant_osc.specs.Calls.{Tick, after, FitCall, ReachedFormant}
-use Rattle.formant_osc.specs.Coefs.{spotOf, formantOf, getFormants, coefOf, resonatorCoefs}
-use Rattle.formant_osc.specs.Consts.{bandwidth1}
-use Rattle.formant_osc.specs.FormantOsc.{coefMemoOf, formantRung, formantSoundOf, formantTickOf, formantAnswerOf, formantNextOf}
+use Rattle.formant_osc.specs.Calls.{Fit, Tick, after, ReachedFormantOsc}
+use Rattle.formant_osc.specs.Coefs.{spotOf, formantOf, getFormants, bandwidthOf, coefOf, resonatorCoefs}
+use Rattle.formant_osc.specs.FormantOsc.{coefMemoOf, formantOscRung, formantOscSoundOf, formantOscTickOf, formantOscToldOf, formantOscNextOf}
 use Rattle.formant_osc.specs.Promises.{shiftFactor, Dead, Deadly, Dead-shift, Nan-vowel, Blocks-dead, Dead-spoiled}
 use Rattle.formant_osc.specs.Sound.{glottalPulse, resonateOf, rungOf}
-use Rattle.formant_osc.specs.declared.FormantControls.{FormantControls}
+use Rattle.formant_osc.specs.declared.FormantOscControls.{FormantOscControls}
 use Rattle.formant_osc.specs.declared.FormantOsc.{FormantOsc}
-use Rattle.formant_osc.specs.declared.FormantTicked.{FormantTicked}
+use Rattle.formant_osc.specs.declared.FormantOscTicked.{FormantOscTicked}
 use Rattle.laws.proofs.Number.{add-nan-l, add-nan-r, mul-nan-l, mul-nan-r, div-nan-r, div-zero-wild}
 use Rattle.laws.proofs.Values.{round-zero}
 use Rattle.laws.specs.Float.{zer, one, two, isFin}
@@ -57,12 +56,12 @@ times-nought x by (inl e) = rw e (times-zero x)
 times-nought x by (inr e) = inl (rw e (mul-nan-r x))
 
 -- 2.0 * q of such a frequency
-twice-nought : (freq : Float) → Nought freq → Nought (mul binary64 two (div binary64 freq bandwidth1))
+twice-nought : (freq : Float) → Nought freq → Nought (mul binary64 two (div binary64 freq (bandwidthOf 0)))
 unfolding mul div ofBits
 twice-nought freq (inl e) = rw e (inl refl)
 twice-nought freq (inr (s, e)) = rw e (go s)
   where
-    go : (s : Bool) → Nought (mul binary64 two (div binary64 (fin s 0 (pos 0)) bandwidth1))
+    go : (s : Bool) → Nought (mul binary64 two (div binary64 (fin s 0 (pos 0)) (bandwidthOf 0)))
     go true = inr (true, refl)
     go false = inr (false, refl)
 
@@ -77,7 +76,7 @@ wild-share nan h = refl
 wild-share (inf s) h = refl
 wild-share (fin s m e) h = absurd (true≢false h)
 
-coef-dead : (freq rate : Float) → Nought freq → coefOf freq bandwidth1 rate .b0 ≡ nan
+coef-dead : (freq rate : Float) → Nought freq → coefOf freq (bandwidthOf 0) rate .b0 ≡ nan
 unfolding coefOf
 coef-dead freq rate d = wild-share _ (by-nought _ _ (twice-nought freq d))
 
@@ -86,7 +85,7 @@ formant-nan : (by : Float) → formantOf (spotOf nan) 0 by ≡ nan
 unfolding formantOf spotOf sub
 formant-nan by = simp (clamp-nan, mul-nan-l, add-nan-l, add-nan-r, mul-nan-r)
 
-coefs-dead : (c : FormantControls) → Deadly c → (rate : Float) → getD (resonatorCoefs (clampOf (c .vowel) zer one) (c .«formant_shift») rate) 0 nan ≡ nan
+coefs-dead : (c : FormantOscControls) → Deadly c → (rate : Float) → getD (resonatorCoefs (clampOf (c .vowel) zer one) (c .«formant_shift») rate) 0 nan ≡ nan
 unfolding resonatorCoefs getFormants
 coefs-dead c (inl e) rate = rw (e, clamp-nan) (coef-dead _ rate (inl (formant-nan _)))
 coefs-dead c (inr d) rate = unfold formantOf in coef-dead _ rate (times-nought _ (shiftFactor c) d)
@@ -109,18 +108,18 @@ unfolding rungOf
 first-dead c l x e = cell-dead _ _ _ _ _ x e
 
 -- ---- the tick
-abbrev Killed : FormantTicked → Type 0
-Killed t = (markNumber (t .answer) ≡ 2) × Dead (t .formant)
+abbrev Killed : FormantOscTicked → Type 0
+Killed t = (markNumber (t .answer) ≡ notfinite) × Dead (t .«formant_osc»)
 
-sound-dead : (s : FormantOsc) (c : FormantControls) → getD (coefMemoOf s c .val) 0 nan ≡ nan → Killed (formantSoundOf s c)
-unfolding formantSoundOf formantRung
+sound-dead : (s : FormantOsc) (c : FormantOscControls) → getD (coefMemoOf s c .val) 0 nan ≡ nan → Killed (formantOscSoundOf s c)
+unfolding formantOscSoundOf formantOscRung
 sound-dead s c e =
     let v = coefMemoOf s c .val in
     let l = s .«resonator_state» in
     let x = glottalPulse (s .phase .0) in
     (sound-unfinished s c (sum-dead v l x e), first-dead v l x e)
 
-tick-dead : (s : FormantOsc) → ReachedFormant s → (c : FormantControls) → FitCall (Tick c) → Deadly c → Killed (formantTickOf s c)
+tick-dead : (s : FormantOsc) → ReachedFormantOsc s → (c : FormantOscControls) → Fit c → Deadly c → Killed (formantOscTickOf s c)
 tick-dead s h c f d =
     let g = good h in
     let e = ap (λ (v : List Float). getD v 0 nan) (tick-coefs s c (g .coefs) f (g .fit)) ∙ coefs-dead c d (s .«sample_rate» .0) in
@@ -136,12 +135,12 @@ pub dead-spoiled : Dead-spoiled
 dead-spoiled s d = (0, lit< tt, ap isFin d)
 
 -- ---- the ticks of a block: each state in it is reached
-pub reached-at : (s : FormantOsc) → ReachedFormant s → (c : FormantControls) → FitCall (Tick c) → (i : ℕ) → ReachedFormant (afterTicks (formantNextOf c) i s)
+pub reached-at : (s : FormantOsc) → ReachedFormantOsc s → (c : FormantOscControls) → Fit c → (i : ℕ) → ReachedFormantOsc (afterTicks (formantOscNextOf c) i s)
 unfolding after
-reached-at s h c f i = ticks-keep ReachedFormant (formantNextOf c) (λ r k. more k (Tick c) f) s h i
+reached-at s h c f i = ticks-keep ReachedFormantOsc (formantOscNextOf c) (λ r k. more k (Tick c) f) s h i
 
-ticks-dead : (s : FormantOsc) → ReachedFormant s → (c : FormantControls) → FitCall (Tick c) → Deadly c → (i : ℕ)
-    → (markNumber (answerAt (formantAnswerOf c) (formantNextOf c) s i) ≡ 2) × Dead (afterTicks (formantNextOf c) (suc i) s)
+ticks-dead : (s : FormantOsc) → ReachedFormantOsc s → (c : FormantOscControls) → Fit c → Deadly c → (i : ℕ)
+    → (markNumber (answerAt (formantOscToldOf c) (formantOscNextOf c) s i) ≡ notfinite) × Dead (afterTicks (formantOscNextOf c) (suc i) s)
 unfolding answerAt afterTicks
 ticks-dead s h c f d i = tick-dead _ (reached-at s h c f i) c f d
 
@@ -151,6 +150,6 @@ blocks-dead s h c f d t o m r l = (
   subst Dead (sym (taken-state s c t o m r)) (last (length m) l),
 )
   where
-    last : (n : ℕ) → 0 < n → Dead (afterTicks (formantNextOf c) n s)
+    last : (n : ℕ) → 0 < n → Dead (afterTicks (formantOscNextOf c) n s)
     last zero z = absurd (omega arith)
     last (suc n) z = ticks-dead s h c f d n .1

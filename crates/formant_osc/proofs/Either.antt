@@ -4,20 +4,23 @@ use Prim.Native.Nat.{ℕ}
 use lib.Dec.{eqb}
 use Rattle.answer.specs.declared.Answer.the-variants as answer
 use Rattle.answer.specs.declared.Outcome.the-variants as outcome
-use Rattle.formant_osc.specs.FormantOsc.{formantRefusalOf, formantUnless, formantSoundOf, formantTickOf}
-use Rattle.formant_osc.specs.declared.FormantControls.{FormantControls}
-use Rattle.formant_osc.specs.declared.FormantMade.{FormantMade}
+use Rattle.formant_osc.specs.FormantOsc.{formantOscRefusalOf, madeUnless, formantOscSoundOf, formantOscTickOf}
+use Rattle.formant_osc.specs.declared.FormantOscControls.{FormantOscControls}
+use Rattle.formant_osc.specs.declared.FormantOscMade.{FormantOscMade}
 use Rattle.formant_osc.specs.declared.FormantOsc.{FormantOsc}
-use Rattle.formant_osc.specs.declared.FormantTicked.{FormantTicked}
+use Rattle.formant_osc.specs.declared.FormantOscTicked.{FormantOscTicked}
 
 cond-either : {A : Type 0} (P : A → Type 0) (b : Bool) (x y : A) → P x → P y → P (cond b x y)
 cond-either P true x y h k = h
 cond-either P false x y h k = k
 
-pub tick-either : (P : FormantTicked → Type 0) (s : FormantOsc) (c : FormantControls) → P (formantSoundOf s c) → ((n : ℕ) → P (record { answer = answer.Refused n; formant = s })) → P (formantTickOf s c)
-unfolding formantTickOf
-tick-either P s c h k = cond-either P (eqb (formantRefusalOf s) 0) _ _ h (k (formantRefusalOf s))
+pub tick-either : (P : FormantOscTicked → Type 0) (s : FormantOsc) (c : FormantOscControls) → P (formantOscSoundOf s c)
+    → ((n : ℕ) → P (record { answer = answer.Refused n; «formant_osc» = s })) → P (formantOscTickOf s c)
+unfolding formantOscTickOf
+tick-either P s c h k = cond-either P (eqb (formantOscRefusalOf s) 0) _ _ h (k (formantOscRefusalOf s))
 
-pub unless-either : (P : FormantOsc → Type 0) (n : ℕ) (s t : FormantOsc) → P s → P t → P (formantUnless n s t .formant)
-unfolding formantUnless
-unless-either P n s t h k = cond-either (λ (m : FormantMade). P (m .formant)) (eqb n 0) (record { outcome = outcome.Done; formant = s }) (record { outcome = outcome.Refused n; formant = t }) h k
+pub made-either : (P : FormantOsc → Type 0) (n : ℕ) (old new : FormantOsc) → P old → P new → P (madeUnless n old new .«formant_osc»)
+unfolding madeUnless
+made-either P n old new h k =
+    cond-either (λ (m : FormantOscMade). P (m .«formant_osc»)) (eqb n 0) (record { outcome = outcome.Done; «formant_osc» = new })
+    (record { outcome = outcome.Refused n; «formant_osc» = old }) k h

@@ -6,13 +6,13 @@ use Prim.Native.Nat.{ℕ, _-_, _*_, _≤_, _<_}
 use native.Mathlib.Nat.{le-trans, le-of-eq, mul-assoc, mul-le-mul, mul-pos, one-mul}
 use native.Mathlib.Omega.{arith}
 use lib.Dec.{T, leb, leb→le, lit<, lit≤}
-use lib.Ieee.{Float, nan, inf, fin, binary64, add, sub, mul, div, neg, lt, le, ofBits, ofInt, toUnsigned, sum, up, down}
+use lib.Ieee.{Float, nan, inf, fin, binary64, add, sub, mul, div, neg, lt, le, ofBits, ofInt, toUnsigned, up, down}
 use lib.Ieee.Bits.{ofBits-fits}
 use lib.Ieee.Fits.{div-fits, down-pos}
 use lib.IntN.{pos}
 use lib.ListN.{getD}
 use Rattle.answer.proofs.Laws.{mark-says}
-use Rattle.answer.specs.Answer.{markNumber}
+use Rattle.answer.specs.Answer.{markNumber, volts1, clean}
 use Rattle.answer.specs.Mark.{allFinite, ruleOf}
 use Rattle.common.proofs.Bounds.{sin-within}
 use Rattle.common.specs.Consts.{c4, five, half}
@@ -22,15 +22,14 @@ use Rattle.common.specs.Pitch.{voctToHz}
 use Rattle.common.specs.Tests.{rateOk}
 use Rattle.formant_osc.proofs.Positive.{alpha-plus, shares}
 use Rattle.formant_osc.proofs.Reached.{tick-sounds, good, new-accepts}
-use Rattle.formant_osc.specs.Coefs.{spotOf, formantOf, getFormants, coefOf, resonatorCoefs}
-use Rattle.formant_osc.specs.Consts.{pi, omegaLow, omegaHigh, twelve, amplitude3, amplitude4, amplitude5}
-use Rattle.formant_osc.specs.Consts.{bandwidth1, bandwidth2, bandwidth3, bandwidth4, bandwidth5}
-use Rattle.formant_osc.specs.FormantOsc.{newFormantOsc, formantAtRest, freqMemoOf, coefMemoOf, formantRung, formantSoundOf}
+use Rattle.formant_osc.specs.Coefs.{spotOf, formantOf, getFormants, bandwidthOf, coefOf, resonatorCoefs}
+use Rattle.formant_osc.specs.Consts.{omegaLow, omegaHigh, twelve}
+use Rattle.formant_osc.specs.FormantOsc.{silent, newFormantOsc, freqMemoOf, coefMemoOf, formantOscRung, formantOscSoundOf}
 use Rattle.formant_osc.specs.Memo.{newCoefMemo, coefHits, coefFilled, coefRecall}
 use Rattle.formant_osc.specs.Promises.{firstRate, noControls, First-clean}
-use Rattle.formant_osc.specs.Sound.{glottalPulse, pitchOf, resonateOf, plus, rungOf, onlyOf}
+use Rattle.formant_osc.specs.Sound.{glottalPulse, pitchOf, resonateOf, amplitudeOf, plus, rungOf}
 use Rattle.formant_osc.specs.declared.FormantOsc.{FormantOsc}
-use Rattle.formant_osc.specs.declared.FormantTicked.{FormantTicked}
+use Rattle.formant_osc.specs.declared.FormantOscTicked.{FormantOscTicked}
 use Rattle.laws.proofs.Interval.{Under, round-under, Within, within-finite, isWithin, within-of}
 use Rattle.laws.proofs.Number.{value-finite}
 use Rattle.laws.proofs.Sign.{Plus}
@@ -39,7 +38,7 @@ use Rattle.laws.proofs.Zeros.{times-nought}
 use Rattle.laws.specs.Float.{zer, one, two, isFin}
 use Rattle.laws.specs.Machine.{begun}
 use Rattle.numeric.proofs.Laws.{exp2-whole, sin-zero}
-use Rattle.numeric.specs.Basic.{clampOf}
+use Rattle.numeric.specs.Basic.{pi, clampOf}
 use Rattle.numeric.specs.Power.{exp2Of}
 use Rattle.numeric.specs.Trig.{sinOf}
 
@@ -92,26 +91,27 @@ coef-finite freq bandwidth h k p q =
     (shares alpha (div-fits binary64 _ _) (alpha-plus freq bandwidth (firstRate .0) p q) finite .0)
 
 -- ---- a silent resonator stays silent
-silent : (s : Bool) → add binary64 (fin s 0 (pos 0)) zer ≡ zer
+nought-more : (s : Bool) → add binary64 (fin s 0 (pos 0)) zer ≡ zer
 unfolding add ofBits
-silent true = refl
-silent false = refl
+nought-more true = refl
+nought-more false = refl
 
 out-silent : (b0 a1 a2 : Float) → T (isFin b0) → resonateOf b0 a1 a2 zer zer zer .out ≡ zer
 unfolding resonateOf
 out-silent b0 a1 a2 h =
     let z = times-nought b0 zer h (unfold lib.Ieee.eq ofBits in tt) in
-    ap (λ (x : Float). add binary64 x zer) (z .1) ∙ silent (z .0)
+    ap (λ (x : Float). add binary64 x zer) (z .1) ∙ nought-more (z .0)
 
-abbrev rest : List Float
-rest = zer ∷ zer ∷ zer ∷ zer ∷ zer ∷ zer ∷ zer ∷ zer ∷ zer ∷ zer ∷ []
+abbrev summed : Float → Float → Float → Float → Float → Float
+summed a b d e f =
+    plus (plus (plus (plus (plus zer a (amplitudeOf 0)) b (amplitudeOf 1)) d (amplitudeOf 2)) e (amplitudeOf 3)) f (amplitudeOf 4)
 
-plus-silent : plus (plus (plus (plus (plus zer zer one) zer half) zer amplitude3) zer amplitude4) zer amplitude5 ≡ zer
+plus-silent : summed zer zer zer zer zer ≡ zer
 unfolding add mul ofBits
 plus-silent = refl
 
 rung-silent : (c : List Float) → T (isFin (getD c 0 nan)) → T (isFin (getD c 3 nan)) → T (isFin (getD c 6 nan)) → T (isFin (getD c 9 nan))
-    → T (isFin (getD c 12 nan)) → rungOf c rest zer .sum ≡ zer
+    → T (isFin (getD c 12 nan)) → rungOf c silent zer .sum ≡ zer
 unfolding rungOf
 rung-silent c p q r t u =
     let a = out-silent _ (getD c 1 nan) (getD c 2 nan) p in
@@ -119,7 +119,7 @@ rung-silent c p q r t u =
     let d = out-silent _ (getD c 7 nan) (getD c 8 nan) r in
     let e = out-silent _ (getD c 10 nan) (getD c 11 nan) t in
     let f = out-silent _ (getD c 13 nan) (getD c 14 nan) u in
-    (λ i. plus (plus (plus (plus (plus zer (a i) one) (b i) half) (d i) amplitude3) (e i) amplitude4) (f i) amplitude5) ∙ plus-silent
+    (λ i. summed (a i) (b i) (d i) (e i) (f i)) ∙ plus-silent
 
 -- ---- the pulse, the factor and the pitch of zeros
 pulse-zero : glottalPulse zer ≡ zer
@@ -143,34 +143,35 @@ coef-at i bandwidth h k p q =
     subst (λ (by : Float). T (isFin (coefOf (formantOf (spotOf zer) i by) bandwidth (firstRate .0) .b0))) (sym factor-one)
     (coef-finite (formantOf (spotOf zer) i (fin false 1 (pos 0))) bandwidth h k p q)
 
-sum-silent : rungOf (resonatorCoefs zer zer (firstRate .0)) rest zer .sum ≡ zer
+sum-silent : rungOf (resonatorCoefs zer zer (firstRate .0)) silent zer .sum ≡ zer
 unfolding resonatorCoefs getFormants formantOf spotOf clampOf lt add sub mul div toUnsigned ofInt ofBits
 sum-silent =
-    rung-silent (resonatorCoefs zer zer (firstRate .0)) (coef-at 0 bandwidth1 tt tt tt tt) (coef-at 1 bandwidth2 tt tt tt tt) (coef-at 2 bandwidth3 tt tt tt tt)
-    (coef-at 3 bandwidth4 tt tt tt tt) (coef-at 4 bandwidth5 tt tt tt tt)
+    rung-silent (resonatorCoefs zer zer (firstRate .0)) (coef-at 0 (bandwidthOf 0) tt tt tt tt) (coef-at 1 (bandwidthOf 1) tt tt tt tt)
+    (coef-at 2 (bandwidthOf 2) tt tt tt tt)
+    (coef-at 3 (bandwidthOf 3) tt tt tt tt) (coef-at 4 (bandwidthOf 4) tt tt tt tt)
 
 -- ---- the tick
 abbrev new : FormantOsc
 new = newFormantOsc firstRate
 
-sum-zero : formantRung new noControls .sum ≡ zer
-unfolding formantRung coefMemoOf coefRecall coefHits coefFilled newFormantOsc formantAtRest newCoefMemo clampOf lt ofBits
-sum-zero = ap (λ (x : Float). rungOf (resonatorCoefs zer zer (firstRate .0)) rest x .sum) pulse-zero ∙ sum-silent
+sum-zero : formantOscRung new noControls .sum ≡ zer
+unfolding formantOscRung coefMemoOf coefRecall coefHits coefFilled newFormantOsc newCoefMemo clampOf lt ofBits
+sum-zero = ap (λ (x : Float). rungOf (resonatorCoefs zer zer (firstRate .0)) silent x .sum) pulse-zero ∙ sum-silent
 
 hertz-zero : voctToHzAt zer .0 ≡ mul binary64 c4 (fin false 1 (pos 0))
 unfolding voctToHz clampOf lt neg ofInt ofBits
 hertz-zero = ap (mul binary64 c4) (exp2-whole (pos 0) (lit≤ tt))
 
 hertz-first : freqMemoOf new noControls .val .0 ≡ mul binary64 c4 (fin false 1 (pos 0))
-unfolding freqMemoOf recall1 hits1 filled1 newFormantOsc formantAtRest
+unfolding freqMemoOf recall1 hits1 filled1 newFormantOsc
 hertz-first = ap (λ (x : Float). voctToHzAt x .0) tone-zero ∙ hertz-zero
 
-sound-clean : markNumber (formantSoundOf new noControls .answer) ≡ 4
-unfolding formantSoundOf incrementOf newFormantOsc formantAtRest ruleOf allFinite onlyOf clampOf lt neg add mul div ofBits
-sound-clean = simp (sum-zero, hertz-first) (mark-says (onlyOf (mul binary64 (clampOf zer (neg one) one) five)) false true true .number)
+sound-clean : markNumber (formantOscSoundOf new noControls .answer) ≡ clean
+unfolding formantOscSoundOf incrementOf newFormantOsc ruleOf allFinite clampOf lt neg add mul div ofBits
+sound-clean = simp (sum-zero, hertz-first) (mark-says (volts1 (mul binary64 (clampOf zer (neg one) one) five)) false true true .number)
 
 pub first-clean : First-clean
 unfolding rateOk le lt ofBits
 first-clean =
     let g = good (begun new (new-accepts firstRate .1 refl (ofBits-fits binary64 0x40e7700000000000))) in
-    ap (λ (t : FormantTicked). markNumber (t .answer)) (tick-sounds new noControls g) ∙ sound-clean
+    ap (λ (t : FormantOscTicked). markNumber (t .answer)) (tick-sounds new noControls g) ∙ sound-clean

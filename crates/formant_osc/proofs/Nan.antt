@@ -6,7 +6,7 @@ use Prim.Native.Nat.{ℕ}
 use native.Mathlib.Omega.{arith}
 use lib.Ieee.{Float, nan, binary64, add, div, fits}
 use Rattle.answer.proofs.Laws.{mark-says}
-use Rattle.answer.specs.Answer.{markNumber}
+use Rattle.answer.specs.Answer.{markNumber, clean, notfinite, lost}
 use Rattle.answer.specs.Block.{answerAt}
 use Rattle.answer.specs.Mark.{allFinite, ruleOf, markOf}
 use Rattle.answer.specs.declared.Volts.{Volts}
@@ -19,23 +19,23 @@ use Rattle.common.specs.declared.Memo1.{Memo1}
 use Rattle.formant_osc.proofs.Dead.{dead-shift, nan-vowel, reached-at}
 use Rattle.formant_osc.proofs.Reached.{tick-sounds, good}
 use Rattle.formant_osc.proofs.Taken.{taken-mark}
-use Rattle.formant_osc.specs.Calls.{ReachedFormant}
-use Rattle.formant_osc.specs.FormantOsc.{freqMemoOf, formantSoundOf, formantTickOf}
+use Rattle.formant_osc.specs.Calls.{ReachedFormantOsc}
+use Rattle.formant_osc.specs.FormantOsc.{freqMemoOf, formantOscSoundOf, formantOscTickOf}
 use Rattle.formant_osc.specs.Promises.{shiftFactor, Nan-never-clean, Blocks-never-clean}
 use Rattle.formant_osc.specs.Sound.{pitchOf}
-use Rattle.formant_osc.specs.declared.FormantControls.{FormantControls}
+use Rattle.formant_osc.specs.declared.FormantOscControls.{FormantOscControls}
 use Rattle.formant_osc.specs.declared.FormantOsc.{FormantOsc}
-use Rattle.formant_osc.specs.declared.FormantTicked.{FormantTicked}
+use Rattle.formant_osc.specs.declared.FormantOscTicked.{FormantOscTicked}
 use Rattle.laws.proofs.Number.{add-nan-l, add-nan-r, mul-nan-l, mul-nan-r, div-nan-l}
 use Rattle.laws.specs.Float.{zer, one, isFin}
 use Rattle.numeric.proofs.Laws.{clamp-nan, exp2-nan}
 use Rattle.numeric.specs.Basic.{clampOf}
 
 -- ---- the pitch, and what is heard of it
-abbrev tone : FormantOsc → FormantControls → Float
+abbrev tone : FormantOsc → FormantOscControls → Float
 tone s c = pitchOf (c .«v_oct») (clampOf (c .vibrato) zer one) (s .«vibrato_phase» .0) .0
 
-tone-nan : (s : FormantOsc) (c : FormantControls) → (c .«v_oct» .0 ≡ nan) ⊎ (c .vibrato ≡ nan) → tone s c ≡ nan
+tone-nan : (s : FormantOsc) (c : FormantOscControls) → (c .«v_oct» .0 ≡ nan) ⊎ (c .vibrato ≡ nan) → tone s c ≡ nan
 unfolding pitchOf
 tone-nan s c (inl e) = rw e (add-nan-l _)
 tone-nan s c (inr e) = rw (e, clamp-nan, mul-nan-r, mul-nan-l, div-nan-l) (add-nan-r _)
@@ -44,7 +44,7 @@ hertz-nan : voctToHzAt nan .0 ≡ nan
 unfolding voctToHz
 hertz-nan = simp (clamp-nan, exp2-nan, mul-nan-r)
 
-memo-nan : (s : FormantOsc) (c : FormantControls) → Coherent1 voctToHzAt (s .«freq_memo») → tone s c ≡ nan → freqMemoOf s c .val .0 ≡ nan
+memo-nan : (s : FormantOsc) (c : FormantOscControls) → Coherent1 voctToHzAt (s .«freq_memo») → tone s c ≡ nan → freqMemoOf s c .val .0 ≡ nan
 unfolding freqMemoOf filled1 fits
 memo-nan s c h e =
     ap (λ (x : Float). recall1 voctToHzAt (s .«freq_memo») x .val .0) e
@@ -52,38 +52,38 @@ memo-nan s c h e =
     ∙ hertz-nan
 
 -- ---- a phase that isn't finite is notfinite or lost
-unclean : (v : Volts) (sums phases : Bool) → phases ≡ false → markNumber (markOf v false sums phases) ≢ 4
+unclean : (v : Volts) (sums phases : Bool) → phases ≡ false → markNumber (markOf v false sums phases) ≢ clean
 unfolding ruleOf
 unclean v sums phases e q = go (sums && allFinite v) (sym (mark-says v false sums phases .number ∙ ap (ruleOf false (sums && allFinite v)) e) ∙ q)
   where
-    go : (b : Bool) → _≡_ {A = ℕ} (cond b 3 2) 4 → ⊥
+    go : (b : Bool) → cond b lost notfinite ≡ clean → ⊥
     go true h = omega arith
     go false h = omega arith
 
 phases-lost : (phase freq rate : Float) (other : Bool) → freq ≡ nan → (isFin (add binary64 phase (div binary64 freq rate)) && other) ≡ false
 phases-lost phase freq rate other e = rw (e, div-nan-l, add-nan-r) refl
 
-sound-lost : (s : FormantOsc) (c : FormantControls) → freqMemoOf s c .val .0 ≡ nan → markNumber (formantSoundOf s c .answer) ≢ 4
-unfolding formantSoundOf incrementOf
+sound-lost : (s : FormantOsc) (c : FormantOscControls) → freqMemoOf s c .val .0 ≡ nan → markNumber (formantOscSoundOf s c .answer) ≢ clean
+unfolding formantOscSoundOf incrementOf
 sound-lost s c e = unclean _ _ _ (phases-lost _ _ _ _ e)
 
-tick-lost : (s : FormantOsc) → ReachedFormant s → (c : FormantControls) → (c .«v_oct» .0 ≡ nan) ⊎ (c .vibrato ≡ nan)
-    → markNumber (formantTickOf s c .answer) ≢ 4
+tick-lost : (s : FormantOsc) → ReachedFormantOsc s → (c : FormantOscControls) → (c .«v_oct» .0 ≡ nan) ⊎ (c .vibrato ≡ nan)
+    → markNumber (formantOscTickOf s c .answer) ≢ clean
 tick-lost s h c d =
     let g = good h in
-    subst (λ (t : FormantTicked). markNumber (t .answer) ≢ 4) (sym (tick-sounds s c g)) (sound-lost s c (memo-nan s c (g .pitch) (tone-nan s c d)))
+    subst (λ (t : FormantOscTicked). markNumber (t .answer) ≢ clean) (sym (tick-sounds s c g)) (sound-lost s c (memo-nan s c (g .pitch) (tone-nan s c d)))
 
 -- ---- a shift that is NaN has that factor
-factor-nan : (c : FormantControls) → c .«formant_shift» ≡ nan → shiftFactor c ≡ nan
+factor-nan : (c : FormantOscControls) → c .«formant_shift» ≡ nan → shiftFactor c ≡ nan
 factor-nan c e = rw (e, div-nan-l) exp2-nan
 
-two-unclean : (n : ℕ) → n ≡ 2 → n ≢ 4
-two-unclean n e q = omega arith
+unfinished-unclean : (n : ℕ) → n ≡ notfinite → n ≢ clean
+unfinished-unclean n e q = omega arith
 
 pub nan-never-clean : Nan-never-clean
 nan-never-clean s h c f (inl e) = tick-lost s h c (inl e)
-nan-never-clean s h c f (inr (inl e)) = two-unclean _ (nan-vowel s h c f e .0)
-nan-never-clean s h c f (inr (inr (inl e))) = two-unclean _ (dead-shift s h c f (inr (factor-nan c e)) .0)
+nan-never-clean s h c f (inr (inl e)) = unfinished-unclean _ (nan-vowel s h c f e .0)
+nan-never-clean s h c f (inr (inr (inl e))) = unfinished-unclean _ (dead-shift s h c f (inr (factor-nan c e)) .0)
 nan-never-clean s h c f (inr (inr (inr e))) = tick-lost s h c (inr e)
 
 -- ---- the ticks of a block: each state in it is reached

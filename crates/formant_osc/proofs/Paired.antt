@@ -14,28 +14,23 @@ use lib.ListN.{getD}
 use Rattle.answer.proofs.Blocks.{block-keeps}
 use Rattle.common.proofs.Bounds.{cos-within, half-within, phase-within, sin-within, zer-within}
 use Rattle.common.specs.Consts.{five, half}
-use Rattle.common.specs.Memo.{newMemo1}
-use Rattle.common.specs.declared.Hertz.{Hertz}
-use Rattle.common.specs.declared.Memo1.{Memo1}
 use Rattle.formant_osc.proofs.Cells.{parity}
 use Rattle.formant_osc.proofs.Coherent.{tick-coefs}
-use Rattle.formant_osc.proofs.Either.{tick-either, unless-either}
+use Rattle.formant_osc.proofs.Either.{tick-either, made-either}
 use Rattle.formant_osc.proofs.Positive.{coef-shares, formant-plus}
 use Rattle.formant_osc.proofs.Reached.{Good, first-good, tick-good, after-good}
 use Rattle.formant_osc.proofs.Spoiled.{stays-spoiled, blocks-spoiled}
-use Rattle.formant_osc.specs.Calls.{Call, Tick, Play, Reset, SetSampleRate, after, First, FitCall, ReachedFormant}
-use Rattle.formant_osc.specs.Coefs.{spotOf, formantOf, getFormants, coefOf, resonatorCoefs}
-use Rattle.formant_osc.specs.Consts.{pi, opened, closed, bandwidth1, bandwidth2, bandwidth3, bandwidth4, bandwidth5}
-use Rattle.formant_osc.specs.FormantOsc.{formantAtRest, newFormantOsc, formantNewOf, formantRung, formantSoundOf, formantTickOf}
-use Rattle.formant_osc.specs.FormantOsc.{formantBlockOf, formantResetOf, rated, formantSetSampleRateOf, formantRefusalOf}
-use Rattle.formant_osc.specs.Memo.{newCoefMemo}
+use Rattle.formant_osc.specs.Calls.{Call, Tick, Play, Reset, SetSampleRate, Fit, after, First, FitCall, ReachedFormantOsc}
+use Rattle.formant_osc.specs.Coefs.{spotOf, formantOf, getFormants, bandwidthOf, coefOf, resonatorCoefs}
+use Rattle.formant_osc.specs.Consts.{nPorts, opened, closed}
+use Rattle.formant_osc.specs.FormantOsc.{silent, newFormantOsc, restarted, formantOscNewOf, formantOscRung, formantOscSoundOf, formantOscTickOf}
+use Rattle.formant_osc.specs.FormantOsc.{formantOscBlockOf, formantOscResetOf, rated, formantOscSetSampleRateOf, formantOscRefusalOf}
 use Rattle.formant_osc.specs.Promises.{Spoiled, Reached-cells, Never-clean-again, Blocks-never-again}
 use Rattle.formant_osc.specs.Sound.{glottalPulse, resonateOf, rungOf}
-use Rattle.formant_osc.specs.declared.CoefMemo.{CoefMemo}
-use Rattle.formant_osc.specs.declared.FormantControls.{FormantControls}
-use Rattle.formant_osc.specs.declared.FormantMade.{FormantMade}
+use Rattle.formant_osc.specs.declared.FormantOscControls.{FormantOscControls}
+use Rattle.formant_osc.specs.declared.FormantOscMade.{FormantOscMade}
 use Rattle.formant_osc.specs.declared.FormantOsc.{FormantOsc}
-use Rattle.formant_osc.specs.declared.FormantTicked.{FormantTicked}
+use Rattle.formant_osc.specs.declared.FormantOscTicked.{FormantOscTicked}
 use Rattle.formant_osc.specs.declared.Resonated.{Resonated}
 use Rattle.laws.proofs.Always.{always}
 use Rattle.laws.proofs.Greatest.{mul-finite, sub-finite}
@@ -48,7 +43,7 @@ use Rattle.laws.proofs.Tests.{of-true}
 use Rattle.laws.specs.Float.{zer, one, isFin}
 use Rattle.numeric.proofs.BasicLaws.{own-plus}
 use Rattle.numeric.proofs.Laws.{exp2-positive}
-use Rattle.numeric.specs.Basic.{clampOf}
+use Rattle.numeric.specs.Basic.{pi, clampOf}
 use Rattle.numeric.specs.Power.{exp2Of}
 use Rattle.numeric.specs.Trig.{sinOf, cosOf}
 
@@ -128,15 +123,15 @@ module _ (vowel shift rate : Float) (l : List Float) (x : Float) (w : Within 0 x
 
   rung-paired : Paired (rungOf (resonatorCoefs vowel shift rate) l x .state)
   unfolding rungOf resonatorCoefs getFormants
-  rung-paired zero h = one-pair 0 bandwidth1 _ _ h (unfold ofBits in tt)
-  rung-paired (suc zero) h = one-pair 1 bandwidth2 _ _ h (unfold ofBits in tt)
-  rung-paired (suc (suc zero)) h = one-pair 2 bandwidth3 _ _ h (unfold ofBits in tt)
-  rung-paired (suc (suc (suc zero))) h = one-pair 3 bandwidth4 _ _ h (unfold ofBits in tt)
-  rung-paired (suc (suc (suc (suc zero)))) h = one-pair 4 bandwidth5 _ _ h (unfold ofBits in tt)
+  rung-paired zero h = one-pair 0 (bandwidthOf 0) _ _ h (unfold ofBits in tt)
+  rung-paired (suc zero) h = one-pair 1 (bandwidthOf 1) _ _ h (unfold ofBits in tt)
+  rung-paired (suc (suc zero)) h = one-pair 2 (bandwidthOf 2) _ _ h (unfold ofBits in tt)
+  rung-paired (suc (suc (suc zero))) h = one-pair 3 (bandwidthOf 3) _ _ h (unfold ofBits in tt)
+  rung-paired (suc (suc (suc (suc zero)))) h = one-pair 4 (bandwidthOf 4) _ _ h (unfold ofBits in tt)
   rung-paired (suc (suc (suc (suc (suc i))))) h = absurd (omega arith)
 
-sound-paired : (s : FormantOsc) (c : FormantControls) → Good s → FitCall (Tick c) → Paired (formantSoundOf s c .formant .«resonator_state»)
-unfolding formantSoundOf formantRung
+sound-paired : (s : FormantOsc) (c : FormantOscControls) → Good s → Fit c → Paired (formantOscSoundOf s c .«formant_osc» .«resonator_state»)
+unfolding formantOscSoundOf formantOscRung
 sound-paired s c g f =
     subst (λ (k : List Float). Paired (rungOf k (s .«resonator_state») (glottalPulse (s .phase .0)) .state)) (sym (tick-coefs s c (g .coefs) f (g .fit)))
     (rung-paired (clampOf (c .vowel) zer one) (c .«formant_shift») (s .«sample_rate» .0) (s .«resonator_state») (glottalPulse (s .phase .0))
@@ -147,36 +142,34 @@ abbrev Well : FormantOsc → Type 0
 Well s = Good s × Paired (s .«resonator_state»)
 
 -- at rest every cell is 0
-rest-paired : (r : Hertz) (freqs : Memo1) (coefs : CoefMemo) → Paired (formantAtRest r freqs coefs .«resonator_state»)
-unfolding formantAtRest
-rest-paired r freqs coefs zero h e = e
-rest-paired r freqs coefs (suc zero) h e = e
-rest-paired r freqs coefs (suc (suc zero)) h e = e
-rest-paired r freqs coefs (suc (suc (suc zero))) h e = e
-rest-paired r freqs coefs (suc (suc (suc (suc zero)))) h e = e
-rest-paired r freqs coefs (suc (suc (suc (suc (suc i))))) h e = absurd (omega arith)
+rest-paired : Paired silent
+rest-paired zero h e = e
+rest-paired (suc zero) h e = e
+rest-paired (suc (suc zero)) h e = e
+rest-paired (suc (suc (suc zero))) h e = e
+rest-paired (suc (suc (suc (suc zero)))) h e = e
+rest-paired (suc (suc (suc (suc (suc i))))) h e = absurd (omega arith)
 
 abbrev At : FormantOsc → Type 0
 At s = Paired (s .«resonator_state»)
 
 first-well : (s : FormantOsc) → First s → Well s
-unfolding formantNewOf newFormantOsc
+unfolding formantOscNewOf newFormantOsc
 first-well s f =
     let new = newFormantOsc (f .0) in
-    let rest = rest-paired (f .0) newMemo1 newCoefMemo in
-    (first-good s f, subst At (ap (λ (m : FormantMade). m .formant) (f .2)) (unless-either At _ new new rest rest))
+    (first-good s f, subst At (ap (λ (m : FormantOscMade). m .«formant_osc») (f .2)) (made-either At _ new new rest-paired rest-paired))
 
-tick-well : (c : FormantControls) → FitCall (Tick c) → (s : FormantOsc) → Well s → Well (formantTickOf s c .formant)
-tick-well c f s (g, p) = (tick-good c f s g, tick-either (λ (t : FormantTicked). At (t .formant)) s c (sound-paired s c g f) (λ n. p))
+tick-well : (c : FormantOscControls) → Fit c → (s : FormantOsc) → Well s → Well (formantOscTickOf s c .«formant_osc»)
+tick-well c f s (g, p) = (tick-good c f s g, tick-either (λ (t : FormantOscTicked). At (t .«formant_osc»)) s c (sound-paired s c g f) (λ n. p))
 
 after-well : (s : FormantOsc) (c : Call) → Well s → FitCall c → Well (after s c)
 unfolding after
 after-well s (Tick c) h f = tick-well c f s h
-after-well s (Play c t o m) h f = unfold formantBlockOf in block-keeps 1 _ _ _ Well (tick-well c f) s h t o m
-after-well s Reset (g, p) f = (after-good s Reset g f, unfold formantResetOf in unless-either At (formantRefusalOf s) _ s (rest-paired _ _ _) p)
-after-well s (SetSampleRate r) (g, p) f = (after-good s (SetSampleRate r) g f, unfold formantSetSampleRateOf in unless-either At _ (rated s r) s p p)
+after-well s (Play c t o m) h f = unfold formantOscBlockOf in block-keeps nPorts _ _ _ Well (tick-well c f) s h t o m
+after-well s Reset (g, p) f = (after-good s Reset g f, unfold formantOscResetOf restarted in made-either At (formantOscRefusalOf s) s _ p rest-paired)
+after-well s (SetSampleRate r) (g, p) f = (after-good s (SetSampleRate r) g f, unfold formantOscSetSampleRateOf in made-either At _ s (rated s r) p p)
 
-well : {s : FormantOsc} → ReachedFormant s → Well s
+well : {s : FormantOsc} → ReachedFormantOsc s → Well s
 well = always Well first-well after-well
 
 -- ---- the promises

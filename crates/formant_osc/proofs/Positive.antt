@@ -20,7 +20,7 @@ use Rattle.formant_osc.proofs.Coherent.{clamp-fits}
 use Rattle.formant_osc.proofs.Dead.{wild-share}
 use Rattle.formant_osc.proofs.Parts.{spot-few}
 use Rattle.formant_osc.specs.Coefs.{spotOf, formantOf, coefOf}
-use Rattle.formant_osc.specs.Consts.{pi, formants, omegaLow, omegaHigh}
+use Rattle.formant_osc.specs.Consts.{formants, omegaLow, omegaHigh}
 use Rattle.formant_osc.specs.declared.Spot.{Spot}
 use Rattle.laws.proofs.Greatest.{over-round, add-finite}
 use Rattle.laws.proofs.Interval.{Within}
@@ -34,7 +34,7 @@ use Rattle.laws.proofs.Values.{add-round, ofInt-val, round-zero, sub-round, sum
 use Rattle.laws.specs.Float.{F64, zer, one, two, isFin}
 use Rattle.numeric.proofs.BasicLaws.{own-plus}
 use Rattle.numeric.proofs.Laws.{clamp-nan, clamp-range, sin-outside, sin-positive, whole-below, whole-monotone, whole-real}
-use Rattle.numeric.specs.Basic.{clampOf, wholeOf, realOf}
+use Rattle.numeric.specs.Basic.{pi, clampOf, wholeOf, realOf}
 use Rattle.numeric.specs.Promises.{Inside}
 use Rattle.numeric.specs.Trig.{sinOf}
 

@@ -2,27 +2,29 @@
 use mathlib.Core.Bool.{Bool, true, false, false≢true, _&&_}
 use mathlib.Core.List.{List}
 use mathlib.Core.Path.{_≡_, refl, sym, ap, _∙_, subst}
-use Prim.Native.Nat.{ℕ, zero, suc, _+_, _<_, _*_}
+use Prim.Native.Nat.{ℕ, zero, suc, _<_, _*_}
 use native.Mathlib.Omega.{arith}
 use lib.Ieee.{Float, nan}
 use lib.ListN.{length, getD}
 use Rattle.answer.proofs.Blocks.{ticks-keep, block-keeps}
 use Rattle.answer.proofs.Laws.{mark-says}
-use Rattle.answer.specs.Answer.{markNumber, accepted}
+use Rattle.answer.specs.Answer.{markNumber, accepted, notfinite, clean, told}
 use Rattle.answer.specs.Block.{afterTicks, answerAt, markAt}
 use Rattle.answer.specs.Mark.{allFinite, ruleOf, markOf}
 use Rattle.answer.specs.declared.Tally.{Tally}
 use Rattle.answer.specs.declared.Volts.{Volts}
-use Rattle.formant_osc.proofs.Either.{tick-either, unless-either}
-use Rattle.formant_osc.proofs.Taken.{taken-accepts, taken-marks, told}
+use Rattle.formant_osc.specs.Consts.{nPorts}
+use Rattle.formant_osc.proofs.Either.{tick-either, made-either}
+use Rattle.formant_osc.proofs.Taken.{taken-accepts, taken-marks, is-told}
 use Rattle.formant_osc.specs.Calls.{Call, Tick, Play, Reset, SetSampleRate, after, NoReset, Later}
-use Rattle.formant_osc.specs.FormantOsc.{coefMemoOf, formantRung, formantSoundOf, formantTickOf, formantAnswerOf, formantNextOf, formantBlockOf}
-use Rattle.formant_osc.specs.FormantOsc.{rated, formantSetSampleRateOf}
+use Rattle.formant_osc.specs.FormantOsc.{coefMemoOf, formantOscRung, formantOscSoundOf, formantOscTickOf}
+use Rattle.formant_osc.specs.FormantOsc.{formantOscToldOf, formantOscNextOf, formantOscBlockOf}
+use Rattle.formant_osc.specs.FormantOsc.{rated, formantOscSetSampleRateOf}
 use Rattle.formant_osc.specs.Promises.{Sum-marks, Clean-finite, Spoiled, Stays-spoiled, Blocks-spoiled}
 use Rattle.formant_osc.specs.Sound.{glottalPulse, resonateOf, plus, rungOf}
-use Rattle.formant_osc.specs.declared.FormantControls.{FormantControls}
+use Rattle.formant_osc.specs.declared.FormantOscControls.{FormantOscControls}
 use Rattle.formant_osc.specs.declared.FormantOsc.{FormantOsc}
-use Rattle.formant_osc.specs.declared.FormantTicked.{FormantTicked}
+use Rattle.formant_osc.specs.declared.FormantOscTicked.{FormantOscTicked}
 use Rattle.laws.proofs.Always.{always}
 use Rattle.laws.proofs.Number.{add-wild-l, add-wild-r, mul-wild-l, mul-wild-r}
 use Rattle.laws.proofs.Over.{tab-ext}
@@ -30,16 +32,17 @@ use Rattle.laws.specs.Float.{isFin}
 use Rattle.laws.specs.Lists.{tab}
 
 -- ---- the mark
-unfinished : (v : Volts) (sums phases : Bool) → sums ≡ false → markNumber (markOf v false sums phases) ≡ 2
+unfinished : (v : Volts) (sums phases : Bool) → sums ≡ false → markNumber (markOf v false sums phases) ≡ notfinite
 unfolding ruleOf
 unfinished v sums phases e = mark-says v false sums phases .number ∙ ap (λ (b : Bool). ruleOf false (b && allFinite v) phases) e
 
-pub sound-unfinished : (s : FormantOsc) (c : FormantControls) → isFin (formantRung s c .sum) ≡ false → markNumber (formantSoundOf s c .answer) ≡ 2
-unfolding formantSoundOf
+pub sound-unfinished : (s : FormantOsc) (c : FormantOscControls) → isFin (formantOscRung s c .sum) ≡ false
+    → markNumber (formantOscSoundOf s c .answer) ≡ notfinite
+unfolding formantOscSoundOf
 sound-unfinished s c e = unfinished _ _ _ e
 
-abbrev Unfinished : FormantTicked → Type 0
-Unfinished t = accepted (t .answer) ≡ true → markNumber (t .answer) ≡ 2
+abbrev Unfinished : FormantOscTicked → Type 0
+Unfinished t = accepted (t .answer) ≡ true → markNumber (t .answer) ≡ notfinite
 
 pub sum-marks : Sum-marks
 unfolding accepted
@@ -47,9 +50,10 @@ sum-marks s c e = tick-either Unfinished s c (λ a. sound-unfinished s c e) (λ 
 
 pub clean-finite : Clean-finite
 unfolding markNumber
-clean-finite s c = tick-either (λ (t : FormantTicked). markNumber (t .answer) ≡ 4 → isFin (formantRung s c .sum) ≡ true) s c (go (isFin (formantRung s c .sum)) refl) (λ n h. absurd (omega arith))
+clean-finite s c = tick-either (λ (t : FormantOscTicked). markNumber (t .answer) ≡ clean → isFin (formantOscRung s c .sum) ≡ true) s c
+    (go (isFin (formantOscRung s c .sum)) refl) (λ n h. absurd (omega arith))
   where
-    go : (b : Bool) → isFin (formantRung s c .sum) ≡ b → markNumber (formantSoundOf s c .answer) ≡ 4 → b ≡ true
+    go : (b : Bool) → isFin (formantOscRung s c .sum) ≡ b → markNumber (formantOscSoundOf s c .answer) ≡ clean → b ≡ true
     go true e h = refl
     go false e h = absurd (let k = sound-unfinished s c e in omega arith)
 
@@ -88,23 +92,23 @@ rung-cell c l x (suc (suc (suc (suc zero)))) h e = cell-wild _ _ _ _ _ x e
 rung-cell c l x (suc (suc (suc (suc (suc i))))) h e = absurd (omega arith)
 
 -- ---- a spoiled state sounds notfinite, and stays spoiled until a reset
-pub spoiled-sum : (s : FormantOsc) (c : FormantControls) → Spoiled s → isFin (formantRung s c .sum) ≡ false
-unfolding formantRung
+pub spoiled-sum : (s : FormantOsc) (c : FormantOscControls) → Spoiled s → isFin (formantOscRung s c .sum) ≡ false
+unfolding formantOscRung
 spoiled-sum s c p = rung-sum (coefMemoOf s c .val) (s .«resonator_state») (glottalPulse (s .phase .0)) (p .0) (p .1) (p .2)
 
-spoiled-sound : (s : FormantOsc) (c : FormantControls) → Spoiled s → Spoiled (formantSoundOf s c .formant)
-unfolding formantSoundOf formantRung
+spoiled-sound : (s : FormantOsc) (c : FormantOscControls) → Spoiled s → Spoiled (formantOscSoundOf s c .«formant_osc»)
+unfolding formantOscSoundOf formantOscRung
 spoiled-sound s c p = (p .0, p .1, rung-cell (coefMemoOf s c .val) (s .«resonator_state») (glottalPulse (s .phase .0)) (p .0) (p .1) (p .2))
 
-pub spoiled-tick : (c : FormantControls) (s : FormantOsc) → Spoiled s → Spoiled (formantTickOf s c .formant)
-spoiled-tick c s p = tick-either (λ (t : FormantTicked). Spoiled (t .formant)) s c (spoiled-sound s c p) (λ n. p)
+pub spoiled-tick : (c : FormantOscControls) (s : FormantOsc) → Spoiled s → Spoiled (formantOscTickOf s c .«formant_osc»)
+spoiled-tick c s p = tick-either (λ (t : FormantOscTicked). Spoiled (t .«formant_osc»)) s c (spoiled-sound s c p) (λ n. p)
 
 spoiled-after : (s : FormantOsc) (c : Call) → Spoiled s → NoReset c → Spoiled (after s c)
 unfolding after
 spoiled-after s (Tick c) p n = spoiled-tick c s p
-spoiled-after s (Play c t o m) p n = unfold formantBlockOf in block-keeps 1 _ _ _ Spoiled (spoiled-tick c) s p t o m
+spoiled-after s (Play c t o m) p n = unfold formantOscBlockOf in block-keeps nPorts _ _ _ Spoiled (spoiled-tick c) s p t o m
 spoiled-after s Reset p n = absurd n
-spoiled-after s (SetSampleRate r) p n = unfold formantSetSampleRateOf in unless-either Spoiled _ (rated s r) s p p
+spoiled-after s (SetSampleRate r) p n = unfold formantOscSetSampleRateOf in made-either Spoiled _ s (rated s r) p p
 
 spoiled-later : (s : FormantOsc) {t : FormantOsc} → Spoiled s → Later s t → Spoiled t
 spoiled-later s p = always Spoiled (λ t e. subst Spoiled (sym e) p) spoiled-after
@@ -113,18 +117,20 @@ pub stays-spoiled : Stays-spoiled
 stays-spoiled s t p h c = sum-marks t c (spoiled-sum t c (spoiled-later s p h))
 
 -- ---- and so do its blocks: one that is taken, each of whose ticks is notfinite
-pub unfinished-marks : (s : FormantOsc) (c : FormantControls) (t : Tally) (o : List Float) (m : List ℕ) → formantBlockOf s c t o m .refused ≡ 0
-    → ((i : ℕ) → markNumber (answerAt (formantAnswerOf c) (formantNextOf c) s i) ≡ 2) → formantBlockOf s c t o m .marks ≡ tab (λ i. 12) (length m)
-unfinished-marks s c t o m r h = taken-marks s c t o m r ∙ tab-ext (markAt (formantAnswerOf c) (formantNextOf c) s) (λ i. 12) (length m) (λ i l. twelve i)
+pub unfinished-marks : (s : FormantOsc) (c : FormantOscControls) (t : Tally) (o : List Float) (m : List ℕ) → formantOscBlockOf s c t o m .refused ≡ 0
+    → ((i : ℕ) → markNumber (answerAt (formantOscToldOf c) (formantOscNextOf c) s i) ≡ notfinite)
+    → formantOscBlockOf s c t o m .marks ≡ tab (λ i. told notfinite) (length m)
+unfinished-marks s c t o m r h =
+    taken-marks s c t o m r ∙ tab-ext (markAt (formantOscToldOf c) (formantOscNextOf c) s) (λ i. told notfinite) (length m) (λ i l. each i)
   where
-    twelve : (i : ℕ) → markAt (formantAnswerOf c) (formantNextOf c) s i ≡ 12
-    twelve i = told (answerAt (formantAnswerOf c) (formantNextOf c) s i) (taken-accepts s c t o m r i) ∙ ap (λ (n : ℕ). 10 + n) (h i)
+    each : (i : ℕ) → markAt (formantOscToldOf c) (formantOscNextOf c) s i ≡ told notfinite
+    each i = is-told (answerAt (formantOscToldOf c) (formantOscNextOf c) s i) (taken-accepts s c t o m r i) ∙ ap told (h i)
 
 pub blocks-spoiled : Blocks-spoiled
 unfolding answerAt
 blocks-spoiled s t p h c y o m r =
     unfinished-marks t c y o m r
     (λ i.
-    let u = afterTicks (formantNextOf c) i t in
-    let k = ticks-keep Spoiled (formantNextOf c) (spoiled-tick c) t (spoiled-later s p h) i in
+    let u = afterTicks (formantOscNextOf c) i t in
+    let k = ticks-keep Spoiled (formantOscNextOf c) (spoiled-tick c) t (spoiled-later s p h) i in
     sum-marks u c (spoiled-sum u c k) (taken-accepts t c y o m r i))

@@ -11,7 +11,8 @@ use Rattle.common.specs.Consts.{half}
 use Rattle.common.specs.Phase.{turns}
 use Rattle.common.specs.Tests.{phaseOk}
 use Rattle.common.specs.declared.VoltsPerOctave.{VoltsPerOctave}
-use Rattle.formant_osc.specs.Consts.{pi, twelve}
+use Rattle.numeric.specs.Basic.{pi}
+use Rattle.formant_osc.specs.Consts.{twelve}
 use Rattle.formant_osc.specs.Sound.{pitchOf}
 use Rattle.laws.proofs.Interval.{within-finite, within-mul, within-of}
 use Rattle.laws.proofs.Tests.{of-true}
@@ -26,7 +27,8 @@ angle p = mul binary64 (mul binary64 p two) pi
 sine-finite : (p : Float) → T (phaseOk (turns p)) → T (isFin (sinOf (angle p)))
 sine-finite p h =
     let turned = within-mul 0 1 p two (lit≤ tt) (phase-within p (is-true (phaseOk (turns p)) h)) two-within in
-    within-finite 0 (sinOf (angle p)) (sin-within 3 (angle p) (lit≤ tt) (within-mul 1 2 (mul binary64 p two) pi (lit≤ tt) turned (unfold ofBits in within-of 2 pi tt)))
+    within-finite 0 (sinOf (angle p))
+    (sin-within 3 (angle p) (lit≤ tt) (within-mul 1 2 (mul binary64 p two) pi (lit≤ tt) turned (unfold ofBits in within-of 2 pi tt)))
 
 -- ---- so no depth of it is a zero, of either sign
 part-nought : (s : Bool) → (t : Bool) × (div binary64 (mul binary64 (fin s 0 (pos 0)) half) twelve ≡ fin t 0 (pos 0))

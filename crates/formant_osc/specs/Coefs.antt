@@ -4,11 +4,11 @@ use Prim.Native.Nat.{ℕ, _+_, _*_, min}
 use lib.ListN.{getD}
 use lib.Ieee.{Float, nan, binary64, add, sub, mul, div, neg}
 use Rattle.laws.specs.Float.{zer, one, two}
-use Rattle.numeric.specs.Basic.{clampOf, wholeOf, realOf}
+use Rattle.numeric.specs.Basic.{pi, clampOf, wholeOf, realOf}
 use Rattle.numeric.specs.Power.{exp2Of}
 use Rattle.numeric.specs.Trig.{sinOf, cosOf}
 use Rattle.common.specs.Consts.{four, five}
-use Rattle.formant_osc.specs.Consts.{pi, formants, bandwidth1, bandwidth2, bandwidth3, bandwidth4, bandwidth5, omegaLow, omegaHigh}
+use Rattle.formant_osc.specs.Consts.{formants, bandwidths, omegaLow, omegaHigh}
 use Rattle.formant_osc.specs.declared.Spot.{Spot}
 use Rattle.formant_osc.specs.declared.Coef.{Coef}
 
@@ -51,8 +51,12 @@ abbrev pub rows : Coef → Coef → Coef → Coef → Coef → List Float
 rows a b c d e =
     a .b0 ∷ a .a1 ∷ a .a2 ∷ b .b0 ∷ b .a1 ∷ b .a2 ∷ c .b0 ∷ c .a1 ∷ c .a2 ∷ d .b0 ∷ d .a1 ∷ d .a2 ∷ e .b0 ∷ e .a1 ∷ e .a2 ∷ []
 
+-- the i-th: freq = formants[i], bandwidth = BANDWIDTHS[i]
+abbrev pub bandwidthOf : ℕ → Float
+bandwidthOf i = getD bandwidths i nan
+
 unfoldable pub resonatorCoefs : Float → Float → Float → List Float
 resonatorCoefs vowel shift rate =
     let f = getFormants vowel shift in
-    rows (coefOf (getD f 0 nan) bandwidth1 rate) (coefOf (getD f 1 nan) bandwidth2 rate) (coefOf (getD f 2 nan) bandwidth3 rate)
-    (coefOf (getD f 3 nan) bandwidth4 rate) (coefOf (getD f 4 nan) bandwidth5 rate)
+    rows (coefOf (getD f 0 nan) (bandwidthOf 0) rate) (coefOf (getD f 1 nan) (bandwidthOf 1) rate) (coefOf (getD f 2 nan) (bandwidthOf 2) rate)
+    (coefOf (getD f 3 nan) (bandwidthOf 3) rate) (coefOf (getD f 4 nan) (bandwidthOf 4) rate)

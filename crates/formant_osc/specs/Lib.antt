@@ -3,6 +3,6 @@ pub mod Coefs
 pub mod Memo
 pub mod Sound
 pub mod FormantOsc
-pub mod Held
+pub mod Shortcuts
 pub mod Calls
 pub mod Promises

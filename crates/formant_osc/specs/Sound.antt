@@ -1,14 +1,15 @@
 -- The parts of FormantOsc::tick_generic, written from oscillators.rs.
 use mathlib.Core.Bool.{cond}
 use mathlib.Core.List.{List, [], _∷_}
+use Prim.Native.Nat.{ℕ}
 use lib.ListN.{getD}
 use lib.Ieee.{Float, nan, binary64, add, sub, mul, div, neg, lt}
-use Rattle.laws.specs.Float.{zer, one, two}
+use Rattle.laws.specs.Float.{zer, two}
+use Rattle.numeric.specs.Basic.{pi}
 use Rattle.numeric.specs.Trig.{sinOf, cosOf}
 use Rattle.common.specs.Consts.{half}
 use Rattle.common.specs.declared.VoltsPerOctave.{VoltsPerOctave}
-use Rattle.answer.specs.declared.Volts.{Volts}
-use Rattle.formant_osc.specs.Consts.{pi, opened, closed, twelve, amplitude3, amplitude4, amplitude5}
+use Rattle.formant_osc.specs.Consts.{opened, closed, twelve, amplitudes}
 use Rattle.formant_osc.specs.declared.Resonated.{Resonated}
 use Rattle.formant_osc.specs.declared.Rung.{Rung}
 
@@ -33,7 +34,10 @@ resonateOf c0 c1 c2 s0 s1 x =
     let out = add binary64 (mul binary64 c0 x) s0 in
     record { out = out; s0 = add binary64 (mul binary64 (neg c1) out) s1; s1 = sub binary64 (mul binary64 (neg c0) x) (mul binary64 c2 out) }
 
--- output += formant_out * amplitude
+-- output += formant_out * AMPLITUDES[i]
+abbrev pub amplitudeOf : ℕ → Float
+amplitudeOf i = getD amplitudes i nan
+
 abbrev pub plus : Float → Float → Float → Float
 plus output out amplitude = add binary64 output (mul binary64 out amplitude)
 
@@ -41,7 +45,10 @@ plus output out amplitude = add binary64 output (mul binary64 out amplitude)
 abbrev pub rungFrom : Resonated → Resonated → Resonated → Resonated → Resonated → Rung
 rungFrom a b d e f =
     record {
-      sum = plus (plus (plus (plus (plus zer (a .out) one) (b .out) half) (d .out) amplitude3) (e .out) amplitude4) (f .out) amplitude5;
+      sum =
+          plus
+          (plus (plus (plus (plus zer (a .out) (amplitudeOf 0)) (b .out) (amplitudeOf 1)) (d .out) (amplitudeOf 2)) (e .out) (amplitudeOf 3))
+          (f .out) (amplitudeOf 4);
       state = a .s0 ∷ a .s1 ∷ b .s0 ∷ b .s1 ∷ d .s0 ∷ d .s1 ∷ e .s0 ∷ e .s1 ∷ f .s0 ∷ f .s1 ∷ [];
     }
 
@@ -53,7 +60,3 @@ rungOf c s x =
     (resonateOf (getD c 6 nan) (getD c 7 nan) (getD c 8 nan) (getD s 4 nan) (getD s 5 nan) x)
     (resonateOf (getD c 9 nan) (getD c 10 nan) (getD c 11 nan) (getD s 6 nan) (getD s 7 nan) x)
     (resonateOf (getD c 12 nan) (getD c 13 nan) (getD c 14 nan) (getD s 8 nan) (getD s 9 nan) x)
-
--- an oscillator with one output
-unfoldable pub onlyOf : Float → Volts
-onlyOf out = record { p10 = out; p11 = zer; p12 = zer; p13 = zer; p14 = zer }

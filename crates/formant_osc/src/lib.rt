@@ -3,14 +3,13 @@
 use answer::Answer;
 use answer::Outcome;
 use answer::Tally;
-use answer::Volts;
 use common::Hertz;
 use common::Memo1;
 use common::Turns;
 use common::VoltsPerOctave;
 ghost use mathlib.Core.Path.{_≡_};
 ghost use mathlib.Core.Bool.{true, _&&_};
-ghost use Prim.Native.Nat.{_≤_, _<_, min};
+ghost use Prim.Native.Nat.{_≤_, _<_};
 ghost use lib.Ieee.{nan};
 ghost use lib.ListN.{length, getD, set};
 ghost use Rattle.laws.specs.Lists.{tab};
@@ -19,11 +18,15 @@ ghost use Rattle.common.specs.Phase.{turns, incrementOf};
 ghost use Rattle.common.specs.Tests.{phaseOk};
 ghost use Rattle.answer.specs.Answer.{hostNumber, voltsOf};
 ghost use Rattle.answer.specs.Block.{afterTicks, joined, block, markAt, frameAt};
-ghost use Rattle.formant_osc.specs.Coefs.{spotOf, formantOf, getFormants, coefOf, resonatorCoefs};
+ghost use Rattle.formant_osc.specs.Consts.{nPorts};
+ghost use Rattle.formant_osc.specs.Coefs.{spotOf, formantOf, getFormants, bandwidthOf, coefOf, resonatorCoefs};
 ghost use Rattle.formant_osc.specs.Memo.{newCoefMemo, coefHits, coefFilled, coefRecall};
-ghost use Rattle.formant_osc.specs.Sound.{glottalPulse, pitchOf, resonateOf, rungOf, onlyOf};
-ghost use Rattle.formant_osc.specs.FormantOsc.{formantAtRest, formantRefusalOf, formantNewOf, coefMemoOf, formantSoundOf, formantTickOf, formantAnswerOf, formantNextOf, formantBlockOf, formantResetOf, formantSetSampleRateOf};
-ghost use Rattle.formant_osc.specs.Held.{driveNext, pulseAt, keptMark, keptAt, strideAt, swayAt, swayed, phaseAt, pulseMarkAt, voicedOf, voicedAt, cellsAt};
+ghost use Rattle.formant_osc.specs.Sound.{glottalPulse, pitchOf, resonateOf, rungOf};
+ghost use Rattle.formant_osc.specs.FormantOsc.{formantOscRefusalOf, formantOscRateRefusalOf, formantOscNewOf, coefMemoOf, formantOscSoundOf};
+ghost use Rattle.formant_osc.specs.FormantOsc.{formantOscTickOf, formantOscToldOf, formantOscNextOf, formantOscBlockOf, formantOscResetOf};
+ghost use Rattle.formant_osc.specs.FormantOsc.{formantOscSetSampleRateOf};
+ghost use Rattle.formant_osc.specs.Shortcuts.{driveNext, pulseAt, flag, isFlagged, flagAt, strideAt, swayed, phaseAt, phaseFlagAt};
+ghost use Rattle.formant_osc.specs.Shortcuts.{voicedOf, voicedAt, cellsAt};
 
 // The Rust's Memo<3, [[f64; 3]; 5]>: b0/norm, a1/norm and a2/norm of each of the five resonators, one after another.
 pub struct CoefMemo {
@@ -45,29 +48,29 @@ pub struct FormantOsc {
 }
 
 // The inputs, in port order.
-pub struct FormantControls {
+pub struct FormantOscControls {
     pub v_oct: VoltsPerOctave,
     pub vowel: f64,
     pub formant_shift: f64,
     pub vibrato: f64,
 }
 
-pub struct FormantTicked {
+pub struct FormantOscTicked {
     pub answer: Answer,
-    pub formant: FormantOsc,
+    pub formant_osc: FormantOsc,
 }
 
 // What a block leaves beside its samples and marks: `refused` is 0, or the number that refused it.
-pub struct FormantBlock {
+pub struct FormantOscBlock {
     pub refused: u32,
-    pub formant: FormantOsc,
+    pub formant_osc: FormantOsc,
     pub tally: Tally,
 }
 
 // What new, reset and set_sample_rate say, beside the state after it.
-pub struct FormantMade {
+pub struct FormantOscMade {
     pub outcome: Outcome,
-    pub formant: FormantOsc,
+    pub formant_osc: FormantOsc,
 }
 
 // The lower vowel of two, and how much of the upper.
@@ -132,18 +135,23 @@ const FORMANTS: [f64; 25] = [
     4500.0,
 ];
 
-fn least(a: usize, b: usize) -> usize
-    ensures { λ r. ⌜ r ≡ min a b ⌝ }
-{
-    if a < b { a } else { b }
-}
+// The bandwidth of each formant, and how loud it is.
+const BANDWIDTHS: [f64; 5] = [80.0, 90.0, 120.0, 150.0, 200.0];
+
+const AMPLITUDES: [f64; 5] = [1.0, 0.5, 0.25, 0.1, 0.05];
+
+// In hertz.
+const VIBRATO_RATE: f64 = 5.5;
+
+// Outputs.
+const PORTS: usize = 1;
 
 // Where a vowel lies among the five.
 fn spot_of(vowel: f64) -> Spot
     ensures { λ r. ⌜ r ≡ spotOf vowel ⌝ }
 {
     let idx = numeric::clamp(vowel, 0.0, 1.0) * 4.0;
-    let index = least(numeric::to_usize(idx), 3);
+    let index = numeric::least(numeric::to_usize(idx), 3);
     let frac = idx - numeric::of_u64(index as u64);
     Spot { index, frac }
 }
@@ -174,16 +182,18 @@ fn get_formants(vowel: f64, shift: f64) -> [f64; 5]
     ]
 }
 
-// One turn of the loop in resonator_coefs.
-fn one_coef(freq: Hertz, bandwidth: Hertz, sample_rate: Hertz) -> Coef
-    ensures { λ r. ⌜ r ≡ coefOf (freq .0) (bandwidth .0) («sample_rate» .0) ⌝ }
+// Turn i of the loop in resonator_coefs.
+fn one_coef(freq: Hertz, i: usize, sample_rate: Hertz) -> Coef
+    requires { ⌜ i < 5 ⌝ }
+    ensures { λ r. ⌜ r ≡ coefOf (freq .0) (bandwidthOf i) («sample_rate» .0) ⌝ }
 {
+    let bandwidth = BANDWIDTHS[i];
     let omega = numeric::clamp(
-        2.0 * 3.141592653589793 * freq.0 / sample_rate.0,
+        2.0 * numeric::PI * freq.0 / sample_rate.0,
         0.01,
-        3.141592653589793 * 0.45,
+        numeric::PI * 0.45,
     );
-    let q = freq.0 / bandwidth.0;
+    let q = freq.0 / bandwidth;
     let alpha = numeric::sin(omega) / (2.0 * q);
     let a1 = -2.0 * numeric::cos(omega);
     let norm = 1.0 + alpha;
@@ -198,11 +208,11 @@ fn resonator_coefs(vowel: f64, shift: f64, sample_rate: Hertz) -> [f64; 15]
     ensures { λ r. ⌜ r ≡ resonatorCoefs vowel shift («sample_rate» .0) ⌝ }
 {
     let f = get_formants(vowel, shift);
-    let a = one_coef(Hertz(f[0]), Hertz(80.0), sample_rate);
-    let b = one_coef(Hertz(f[1]), Hertz(90.0), sample_rate);
-    let c = one_coef(Hertz(f[2]), Hertz(120.0), sample_rate);
-    let d = one_coef(Hertz(f[3]), Hertz(150.0), sample_rate);
-    let e = one_coef(Hertz(f[4]), Hertz(200.0), sample_rate);
+    let a = one_coef(Hertz(f[0]), 0, sample_rate);
+    let b = one_coef(Hertz(f[1]), 1, sample_rate);
+    let c = one_coef(Hertz(f[2]), 2, sample_rate);
+    let d = one_coef(Hertz(f[3]), 3, sample_rate);
+    let e = one_coef(Hertz(f[4]), 4, sample_rate);
     [
         a.b0,
         a.a1,
@@ -293,9 +303,9 @@ fn glottal_pulse(phase: Turns) -> f64
 {
     let p = phase.0;
     if p < 0.4 {
-        numeric::sin(p / 0.4 * 3.141592653589793 * 0.5)
+        numeric::sin(p / 0.4 * numeric::PI * 0.5)
     } else if p < 0.8 {
-        numeric::cos((p - 0.4) / 0.4 * 3.141592653589793 * 0.5)
+        numeric::cos((p - 0.4) / 0.4 * numeric::PI * 0.5)
     } else {
         0.0
     }
@@ -305,7 +315,7 @@ fn glottal_pulse(phase: Turns) -> f64
 fn vibrated(v_oct: VoltsPerOctave, depth: f64, vibrato_phase: Turns) -> VoltsPerOctave
     ensures { λ r. ⌜ r ≡ pitchOf «v_oct» depth («vibrato_phase» .0) ⌝ }
 {
-    let vibrato = numeric::sin(vibrato_phase.0 * 2.0 * 3.141592653589793);
+    let vibrato = numeric::sin(vibrato_phase.0 * 2.0 * numeric::PI);
     let semitones = vibrato * depth * 0.5;
     VoltsPerOctave(v_oct.0 + semitones / 12.0)
 }
@@ -345,21 +355,13 @@ fn ring(c: [f64; 15], s: [f64; 10], x: f64) -> Rung
     let e = resonate(c[9], c[10], c[11], s[6], s[7], x);
     let f = resonate(c[12], c[13], c[14], s[8], s[9], x);
     Rung {
-        sum: 0.0 + a.out * 1.0 + b.out * 0.5 + d.out * 0.25 + e.out * 0.1 + f.out * 0.05,
+        sum: 0.0
+            + a.out * AMPLITUDES[0]
+            + b.out * AMPLITUDES[1]
+            + d.out * AMPLITUDES[2]
+            + e.out * AMPLITUDES[3]
+            + f.out * AMPLITUDES[4],
         state: [a.s0, a.s1, b.s0, b.s1, d.s0, d.s1, e.s0, e.s1, f.s0, f.s1],
-    }
-}
-
-// The sample volts of an oscillator with one output.
-fn only(out: f64) -> Volts
-    ensures { λ r. ⌜ r ≡ onlyOf out ⌝ }
-{
-    Volts {
-        p10: out,
-        p11: 0.0,
-        p12: 0.0,
-        p13: 0.0,
-        p14: 0.0,
     }
 }
 
@@ -408,50 +410,54 @@ fn tuned(still: bool, memo: Memo1, v_oct: VoltsPerOctave, depth: f64, vibrato_ph
     }
 }
 
-// What a host would be told of a tick as far as its phases go: 14 clean, 13 lost.
-fn kept_mark(phases: bool) -> u32
-    ensures { λ r. ⌜ r ≡ keptMark phases ⌝ }
+// Whether a phase stays finite waits in the place of tick i's mark. It is no mark.
+fn flag(b: bool) -> u32
+    ensures { λ r. ⌜ r ≡ flag b ⌝ }
 {
-    if phases { 14 } else { 13 }
+    if b { 1 } else { 0 }
+}
+
+fn is_flagged(n: u32) -> bool
+    ensures { λ r. ⌜ r ≡ isFlagged n ⌝ }
+{
+    n != 0
 }
 
 // What a tick answers to the resonators' sum.
 fn voiced(sum: f64, phases: bool) -> Answer
     ensures { λ r. ⌜ r ≡ voicedOf sum phases ⌝ }
 {
-    let volts = only(numeric::clamp(sum, -1.0, 1.0) * 5.0);
+    let volts = answer::volts1(numeric::clamp(sum, -1.0, 1.0) * 5.0);
     answer::mark(volts, false, numeric::is_finite(sum), phases)
 }
 
 // A block goes over its ticks three times, each time with little to wait for, so that a processor works at several ticks at
-// once; with all in one loop it couldn't. The first time: what the phase grows by, in the place of the sample, and in the
-// mark's place what the vibrato's phase makes of it.
+// once; with all in one loop it couldn't. The first time: what the phase grows by, in the place of the sample. The vibrato's
+// phase moves too, and stays finite.
 fn sway(
     start: Driver,
     v_oct: VoltsPerOctave,
     depth: f64,
     sample_rate: Hertz,
     samples: &mut [f64],
-    marks: &mut [u32],
 ) -> Driver
-    requires { ⌜ (phaseOk (start .«vibrato_phase») ≡ true) × (recall1 voctToHzAt (start .«freq_memo») (pitchOf «v_oct» depth (start .«vibrato_phase» .0) .0) ≡ start .«freq_memo») × (length (now samples) ≡ length (now marks)) ⌝ }
-    ensures { λ r. ⌜ r ≡ swayed «v_oct» depth «sample_rate» (length (now (marks .entry))) start ⌝ }
-    ensures { λ r. ⌜ now (samples .exit) ≡ tab (λ i. strideAt «v_oct» depth «sample_rate» start i .0) (length (now (marks .entry))) ⌝ }
-    ensures { λ r. ⌜ now (marks .exit) ≡ tab (swayAt «v_oct» depth «sample_rate» start) (length (now (marks .entry))) ⌝ }
+    requires { ⌜ (phaseOk (start .«vibrato_phase») ≡ true)
+        × (recall1 voctToHzAt (start .«freq_memo») (pitchOf «v_oct» depth (start .«vibrato_phase» .0) .0) ≡ start .«freq_memo») ⌝ }
+    ensures { λ r. ⌜ r ≡ swayed «v_oct» depth «sample_rate» (length (now (samples .entry))) start ⌝ }
+    ensures { λ r. ⌜ now (samples .exit) ≡ tab (λ i. strideAt «v_oct» depth «sample_rate» start i .0) (length (now (samples .entry))) ⌝ }
 {
     let memo = start.freq_memo;
     let still = both(depth == 0.0, v_oct.0 != 0.0);
     let step = common::increment(memo.val, sample_rate);
-    let vibrato_step = common::increment(Hertz(5.5), sample_rate);
+    let vibrato_step = common::increment(Hertz(VIBRATO_RATE), sample_rate);
     let mut vibrato_phase = start.vibrato_phase;
     let mut freq_memo = memo;
     let mut i = 0;
-    while i < marks.len() {
+    while i < samples.len() {
         let next = Turns(vibrato_phase.0 + vibrato_step.0);
         freq_memo = tuned(still, freq_memo, v_oct, depth, vibrato_phase);
         let turns = stride(still, step, freq_memo.val, sample_rate);
         keep_turns(turns, i, &mut *samples);
-        marks[i] = kept_mark(numeric::is_finite(next.0));
         vibrato_phase = common::wrap_phase(next);
         i += 1;
     }
@@ -463,19 +469,20 @@ fn sway(
     }
 }
 
-// The second time: the pulse that goes into the resonators, and in the mark's place what both phases make of it.
+// The second time: the pulse that goes into the resonators, and in the mark's place whether the phase stays finite.
 fn pulse(start: Turns, samples: &mut [f64], marks: &mut [u32]) -> Turns
     requires { ⌜ length (now samples) ≡ length (now marks) ⌝ }
     ensures { λ r. ⌜ r ≡ phaseAt (now (samples .entry)) start (length (now (marks .entry))) ⌝ }
-    ensures { λ r. ⌜ now (samples .exit) ≡ tab (λ i. glottalPulse (phaseAt (now (samples .entry)) start i .0)) (length (now (marks .entry))) ⌝ }
-    ensures { λ r. ⌜ now (marks .exit) ≡ tab (pulseMarkAt (now (samples .entry)) (now (marks .entry)) start) (length (now (marks .entry))) ⌝ }
+    ensures { λ r. ⌜ now (samples .exit)
+        ≡ tab (λ i. glottalPulse (phaseAt (now (samples .entry)) start i .0)) (length (now (marks .entry))) ⌝ }
+    ensures { λ r. ⌜ now (marks .exit) ≡ tab (phaseFlagAt (now (samples .entry)) start) (length (now (marks .entry))) ⌝ }
 {
     let mut phase = start;
     let mut i = 0;
     while i < marks.len() {
         let next = Turns(phase.0 + kept_turns(samples, i).0);
         samples[i] = glottal_pulse(phase);
-        marks[i] = kept_mark(both(numeric::is_finite(next.0), marks[i] == 14));
+        marks[i] = flag(numeric::is_finite(next.0));
         phase = common::wrap_phase(next);
         i += 1;
     }
@@ -491,12 +498,14 @@ fn drive(
     samples: &mut [f64],
     marks: &mut [u32],
 ) -> Driver
-    requires { ⌜ (phaseOk (start .«vibrato_phase») ≡ true) × (recall1 voctToHzAt (start .«freq_memo») (pitchOf «v_oct» depth (start .«vibrato_phase» .0) .0) ≡ start .«freq_memo») × (length (now samples) ≡ length (now marks)) ⌝ }
+    requires { ⌜ (phaseOk (start .«vibrato_phase») ≡ true)
+        × (recall1 voctToHzAt (start .«freq_memo») (pitchOf «v_oct» depth (start .«vibrato_phase» .0) .0) ≡ start .«freq_memo»)
+        × (length (now samples) ≡ length (now marks)) ⌝ }
     ensures { λ r. ⌜ r ≡ afterTicks (driveNext «v_oct» depth «sample_rate») (length (now (marks .entry))) start ⌝ }
     ensures { λ r. ⌜ now (samples .exit) ≡ tab (pulseAt «v_oct» depth «sample_rate» start) (length (now (marks .entry))) ⌝ }
-    ensures { λ r. ⌜ now (marks .exit) ≡ tab (keptAt «v_oct» depth «sample_rate» start) (length (now (marks .entry))) ⌝ }
+    ensures { λ r. ⌜ now (marks .exit) ≡ tab (flagAt «v_oct» depth «sample_rate» start) (length (now (marks .entry))) ⌝ }
 {
-    let swayed = sway(start, v_oct, depth, sample_rate, &mut *samples, &mut *marks);
+    let swayed = sway(start, v_oct, depth, sample_rate, &mut *samples);
     let vibrato_phase = swayed.vibrato_phase;
     let freq_memo = swayed.freq_memo;
     Driver {
@@ -510,16 +519,17 @@ fn drive(
 fn voice(c: [f64; 15], start: [f64; 10], samples: &mut [f64], marks: &mut [u32]) -> [f64; 10]
     requires { ⌜ length (now samples) ≡ length (now marks) ⌝ }
     ensures { λ r. ⌜ r ≡ cellsAt c (now (samples .entry)) start (length (now (marks .entry))) ⌝ }
-    ensures { λ r. ⌜ now (samples .exit) ≡ tab (λ i. voltsOf (voicedAt c start (now (samples .entry)) (now (marks .entry)) i) .p10) (length (now (marks .entry))) ⌝ }
-    ensures { λ r. ⌜ now (marks .exit) ≡ tab (λ i. hostNumber (voicedAt c start (now (samples .entry)) (now (marks .entry)) i)) (length (now (marks .entry))) ⌝ }
+    ensures { λ r. ⌜ now (samples .exit)
+        ≡ tab (λ i. voltsOf (voicedAt c start (now (samples .entry)) (now (marks .entry)) i) .p10) (length (now (marks .entry))) ⌝ }
+    ensures { λ r. ⌜ now (marks .exit)
+        ≡ tab (λ i. hostNumber (voicedAt c start (now (samples .entry)) (now (marks .entry)) i)) (length (now (marks .entry))) ⌝ }
 {
     let mut cells = start;
     let mut i = 0;
     while i < marks.len() {
         let rung = ring(c, cells, samples[i]);
-        let heard = voiced(rung.sum, marks[i] == 14);
-        samples[i] = answer::samples(heard).p10;
-        marks[i] = answer::host_number(heard);
+        let heard = voiced(rung.sum, is_flagged(marks[i]));
+        answer::put(heard, PORTS, i, &mut *samples, &mut *marks);
         cells = rung.state;
         i += 1;
     }
@@ -527,22 +537,9 @@ fn voice(c: [f64; 15], start: [f64; 10], samples: &mut [f64], marks: &mut [u32])
 }
 
 impl FormantOsc {
-    fn at_rest(sample_rate: Hertz, freq_memo: Memo1, coef_memo: CoefMemo) -> Self
-        ensures { λ r. ⌜ r ≡ formantAtRest «sample_rate» «freq_memo» «coef_memo» ⌝ }
-    {
-        FormantOsc {
-            phase: Turns(0.0),
-            vibrato_phase: Turns(0.0),
-            resonator_state: [0.0; 10],
-            sample_rate,
-            freq_memo,
-            coef_memo,
-        }
-    }
-
     // 0, or the number that refuses this state: 1 its rate, 2 a phase.
     fn refusal(self) -> u32
-        ensures { λ r. ⌜ r ≡ formantRefusalOf self ⌝ }
+        ensures { λ r. ⌜ r ≡ formantOscRefusalOf self ⌝ }
     {
         let sample_rate = self.sample_rate;
         let phase = self.phase;
@@ -555,27 +552,45 @@ impl FormantOsc {
         }
     }
 
-    // A refused new hands back the state with the bad rate, which every later call refuses.
-    pub fn new(sample_rate: Hertz) -> FormantMade
-        ensures { λ r. ⌜ r ≡ formantNewOf «sample_rate» ⌝ }
+    // What refuses a change to this rate: 1 on the new rate and on the old, then 2.
+    fn rate_refusal(self, sample_rate: Hertz) -> u32
+        ensures { λ r. ⌜ r ≡ formantOscRateRefusalOf self «sample_rate» ⌝ }
     {
-        let formant = FormantOsc::at_rest(sample_rate, Memo1::new(), CoefMemo::new());
         if common::rate_ok(sample_rate) {
-            FormantMade {
+            self.refusal()
+        } else {
+            1
+        }
+    }
+
+    // A refused new hands out the state with the bad rate, which every later call refuses.
+    pub fn new(sample_rate: Hertz) -> FormantOscMade
+        ensures { λ r. ⌜ r ≡ formantOscNewOf «sample_rate» ⌝ }
+    {
+        let formant_osc = FormantOsc {
+            phase: Turns(0.0),
+            vibrato_phase: Turns(0.0),
+            resonator_state: [0.0; 10],
+            sample_rate,
+            freq_memo: Memo1::new(),
+            coef_memo: CoefMemo::new(),
+        };
+        if common::rate_ok(sample_rate) {
+            FormantOscMade {
                 outcome: Outcome::Done,
-                formant,
+                formant_osc,
             }
         } else {
-            FormantMade {
+            FormantOscMade {
                 outcome: Outcome::Refused(1),
-                formant,
+                formant_osc,
             }
         }
     }
 
     // An accepted tick: the Rust's tick_generic.
-    fn sound(self, c: FormantControls) -> FormantTicked
-        ensures { λ r. ⌜ r ≡ formantSoundOf self c ⌝ }
+    fn sound(self, c: FormantOscControls) -> FormantOscTicked
+        ensures { λ r. ⌜ r ≡ formantOscSoundOf self c ⌝ }
     {
         let phase = self.phase;
         let vibrato_phase = self.vibrato_phase;
@@ -585,7 +600,7 @@ impl FormantOsc {
         let coefs = self.coef_memo;
         // Here, far from the other phase: side by side the two become one pair, which the next tick can't read before the
         // whole of this one is done.
-        let vibrato_inc = common::increment(Hertz(5.5), sample_rate);
+        let vibrato_inc = common::increment(Hertz(VIBRATO_RATE), sample_rate);
         let vibrato_next = Turns(vibrato_phase.0 + vibrato_inc.0);
         let vibrato_wrapped = common::wrap_phase(vibrato_next);
         let v_oct = c.v_oct;
@@ -604,9 +619,9 @@ impl FormantOsc {
             numeric::is_finite(next.0),
             numeric::is_finite(vibrato_next.0),
         );
-        FormantTicked {
+        FormantOscTicked {
             answer: voiced(sum, phases),
-            formant: FormantOsc {
+            formant_osc: FormantOsc {
                 phase: common::wrap_phase(next),
                 vibrato_phase: vibrato_wrapped,
                 resonator_state,
@@ -617,16 +632,16 @@ impl FormantOsc {
         }
     }
 
-    pub fn tick(self, c: FormantControls) -> FormantTicked
-        ensures { λ r. ⌜ r ≡ formantTickOf self c ⌝ }
+    pub fn tick(self, c: FormantOscControls) -> FormantOscTicked
+        ensures { λ r. ⌜ r ≡ formantOscTickOf self c ⌝ }
     {
         let n = self.refusal();
         if n == 0 {
             self.sound(c)
         } else {
-            FormantTicked {
+            FormantOscTicked {
                 answer: Answer::Refused(n),
-                formant: self,
+                formant_osc: self,
             }
         }
     }
@@ -634,15 +649,16 @@ impl FormantOsc {
     // The ticks of a block, whose coefficients are those of the first.
     fn play(
         self,
-        c: FormantControls,
+        c: FormantOscControls,
         coef_memo: CoefMemo,
         samples: &mut [f64],
         marks: &mut [u32],
     ) -> Self
-        requires { ⌜ (formantRefusalOf self ≡ 0) × (0 < length (now marks)) × (length (now samples) ≡ length (now marks)) × («coef_memo» ≡ coefMemoOf self c) ⌝ }
-        ensures { λ r. ⌜ r ≡ afterTicks (formantNextOf c) (length (now (marks .entry))) self ⌝ }
-        ensures { λ r. ⌜ now (samples .exit) ≡ joined (frameAt 1 (formantAnswerOf c) (formantNextOf c) self) (length (now (marks .entry))) ⌝ }
-        ensures { λ r. ⌜ now (marks .exit) ≡ tab (markAt (formantAnswerOf c) (formantNextOf c) self) (length (now (marks .entry))) ⌝ }
+        requires { ⌜ (formantOscRefusalOf self ≡ 0) × (0 < length (now marks)) × (length (now samples) ≡ length (now marks))
+            × («coef_memo» ≡ coefMemoOf self c) ⌝ }
+        ensures { λ r. ⌜ r ≡ afterTicks (formantOscNextOf c) (length (now (marks .entry))) self ⌝ }
+        ensures { λ r. ⌜ now (samples .exit) ≡ joined (frameAt nPorts (formantOscToldOf c) (formantOscNextOf c) self) (length (now (marks .entry))) ⌝ }
+        ensures { λ r. ⌜ now (marks .exit) ≡ tab (markAt (formantOscToldOf c) (formantOscNextOf c) self) (length (now (marks .entry))) ⌝ }
     {
         let phase = self.phase;
         let vibrato_phase = self.vibrato_phase;
@@ -673,11 +689,11 @@ impl FormantOsc {
 
     // The same with the coefficients known already or made now. This isn't by `recall`, which stays a tick's alone: with
     // two callers it would be compiled as a call, and a tick would copy its memo for it.
-    fn run(self, c: FormantControls, samples: &mut [f64], marks: &mut [u32]) -> Self
-        requires { ⌜ (formantRefusalOf self ≡ 0) × (0 < length (now marks)) × (length (now samples) ≡ length (now marks)) ⌝ }
-        ensures { λ r. ⌜ r ≡ afterTicks (formantNextOf c) (length (now (marks .entry))) self ⌝ }
-        ensures { λ r. ⌜ now (samples .exit) ≡ joined (frameAt 1 (formantAnswerOf c) (formantNextOf c) self) (length (now (marks .entry))) ⌝ }
-        ensures { λ r. ⌜ now (marks .exit) ≡ tab (markAt (formantAnswerOf c) (formantNextOf c) self) (length (now (marks .entry))) ⌝ }
+    fn run(self, c: FormantOscControls, samples: &mut [f64], marks: &mut [u32]) -> Self
+        requires { ⌜ (formantOscRefusalOf self ≡ 0) × (0 < length (now marks)) × (length (now samples) ≡ length (now marks)) ⌝ }
+        ensures { λ r. ⌜ r ≡ afterTicks (formantOscNextOf c) (length (now (marks .entry))) self ⌝ }
+        ensures { λ r. ⌜ now (samples .exit) ≡ joined (frameAt nPorts (formantOscToldOf c) (formantOscNextOf c) self) (length (now (marks .entry))) ⌝ }
+        ensures { λ r. ⌜ now (marks .exit) ≡ tab (markAt (formantOscToldOf c) (formantOscNextOf c) self) (length (now (marks .entry))) ⌝ }
     {
         let sample_rate = self.sample_rate;
         let coefs = self.coef_memo;
@@ -693,82 +709,79 @@ impl FormantOsc {
     // As many ticks with these controls as there are marks, a sample each.
     pub fn block(
         self,
-        c: FormantControls,
+        c: FormantOscControls,
         tally: Tally,
         samples: &mut [f64],
         marks: &mut [u32],
-    ) -> FormantBlock
-        ensures { λ r. ⌜ block (r .refused) (r .formant) (r .tally) (now (samples .exit)) (now (marks .exit)) ≡ formantBlockOf self c tally (now (samples .entry)) (now (marks .entry)) ⌝ }
+    ) -> FormantOscBlock
+        ensures { λ r. ⌜ block (r .refused) (r .«formant_osc») (r .tally) (now (samples .exit)) (now (marks .exit))
+            ≡ formantOscBlockOf self c tally (now (samples .entry)) (now (marks .entry)) ⌝ }
     {
         let n = marks.len();
-        let refused = answer::block_refusal(samples.len() == n, self.refusal(), tally, n);
+        let refused = answer::block_refusal(PORTS, samples.len(), self.refusal(), tally, n);
         if refused == 0 {
             if n == 0 {
-                FormantBlock {
+                FormantOscBlock {
                     refused: 0,
-                    formant: self,
+                    formant_osc: self,
                     tally,
                 }
             } else {
-                let formant = self.run(c, samples, marks);
-                FormantBlock {
+                let formant_osc = self.run(c, samples, marks);
+                FormantOscBlock {
                     refused: 0,
-                    formant,
+                    formant_osc,
                     tally: tally.take_marks(marks).or(tally),
                 }
             }
         } else {
-            FormantBlock {
+            FormantOscBlock {
                 refused,
-                formant: self,
+                formant_osc: self,
                 tally,
             }
         }
     }
 
     // The memos stay.
-    pub fn reset(self) -> FormantMade
-        ensures { λ r. ⌜ r ≡ formantResetOf self ⌝ }
+    pub fn reset(self) -> FormantOscMade
+        ensures { λ r. ⌜ r ≡ formantOscResetOf self ⌝ }
     {
         let n = self.refusal();
         if n == 0 {
-            let sample_rate = self.sample_rate;
-            let freq_memo = self.freq_memo;
-            let coef_memo = self.coef_memo;
-            FormantMade {
+            let start = Turns(0.0);
+            let silent = [0.0; 10];
+            let mut formant_osc = self;
+            formant_osc.phase = start;
+            formant_osc.vibrato_phase = start;
+            formant_osc.resonator_state = silent;
+            FormantOscMade {
                 outcome: Outcome::Done,
-                formant: FormantOsc::at_rest(sample_rate, freq_memo, coef_memo),
+                formant_osc,
             }
         } else {
-            FormantMade {
+            FormantOscMade {
                 outcome: Outcome::Refused(n),
-                formant: self,
+                formant_osc: self,
             }
         }
     }
 
-    pub fn set_sample_rate(self, sample_rate: Hertz) -> FormantMade
-        ensures { λ r. ⌜ r ≡ formantSetSampleRateOf self «sample_rate» ⌝ }
+    pub fn set_sample_rate(self, sample_rate: Hertz) -> FormantOscMade
+        ensures { λ r. ⌜ r ≡ formantOscSetSampleRateOf self «sample_rate» ⌝ }
     {
-        if common::rate_ok(sample_rate) {
-            let n = self.refusal();
-            if n == 0 {
-                let mut formant = self;
-                formant.sample_rate = sample_rate;
-                FormantMade {
-                    outcome: Outcome::Done,
-                    formant,
-                }
-            } else {
-                FormantMade {
-                    outcome: Outcome::Refused(n),
-                    formant: self,
-                }
+        let n = self.rate_refusal(sample_rate);
+        if n == 0 {
+            let mut formant_osc = self;
+            formant_osc.sample_rate = sample_rate;
+            FormantOscMade {
+                outcome: Outcome::Done,
+                formant_osc,
             }
         } else {
-            FormantMade {
-                outcome: Outcome::Refused(1),
-                formant: self,
+            FormantOscMade {
+                outcome: Outcome::Refused(n),
+                formant_osc: self,
             }
         }
     }

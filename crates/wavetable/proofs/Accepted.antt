@@ -1,29 +1,30 @@
 -- What the tick's tests say.
 use mathlib.Core.Bool.{Bool, true, false, cond}
 use mathlib.Core.Path.{_≡_, refl}
-use Prim.Native.Nat.{ℕ, _≤_}
+use Prim.Native.Nat.{ℕ, _+_, _≤_}
 use native.Mathlib.Omega.{arith}
 use lib.Dec.{eqb}
 use lib.Ieee.{Float}
 use borrow.Author.Tests.{eqb-true, eqb-false}
 use Rattle.common.proofs.PhaseLaws.{accepted-state}
 use Rattle.common.specs.Tests.{rateOk, phaseOk}
-use Rattle.wavetable.specs.Held.{PairFits, pairOf}
+use Rattle.wavetable.specs.Shortcuts.{PairFits, pairOf}
+use Rattle.wavetable.specs.Consts.{tableSize, bankSize}
 use Rattle.wavetable.specs.Reads.{startOf, tableIndexOf}
 use Rattle.wavetable.specs.Wavetable.{wavetableRefusalOf, wavetableTickRefusalOf}
 use Rattle.wavetable.specs.declared.Pair.{Pair}
 use Rattle.wavetable.specs.declared.Wavetable.{Wavetable}
 
 -- no number refuses the tick: the state is accepted, and its bank has the size
-passed : (n size : ℕ) → cond (eqb n 0) (cond (eqb size 16384) 0 4) n ≡ 0 → (n ≡ 0) × (size ≡ 16384)
-passed n size h = go (eqb n 0) (eqb size 16384) refl refl h
+passed : (n size : ℕ) → cond (eqb n 0) (cond (eqb size bankSize) 0 4) n ≡ 0 → (n ≡ 0) × (size ≡ bankSize)
+passed n size h = go (eqb n 0) (eqb size bankSize) refl refl h
   where
-    go : (a b : Bool) → eqb n 0 ≡ a → eqb size 16384 ≡ b → cond a (cond b 0 4) n ≡ 0 → (n ≡ 0) × (size ≡ 16384)
-    go true true p q h = (eqb-true n 0 p, eqb-true size 16384 q)
+    go : (a b : Bool) → eqb n 0 ≡ a → eqb size bankSize ≡ b → cond a (cond b 0 4) n ≡ 0 → (n ≡ 0) × (size ≡ bankSize)
+    go true true p q h = (eqb-true n 0 p, eqb-true size bankSize q)
     go true false p q h = absurd (let z : _≡_ {A = ℕ} 4 0 = h in omega arith)
     go false b p q h = absurd (eqb-false n 0 p h)
 
-pub bank-sized : (s : Wavetable) (size : ℕ) → wavetableTickRefusalOf s size ≡ 0 → size ≡ 16384
+pub bank-sized : (s : Wavetable) (size : ℕ) → wavetableTickRefusalOf s size ≡ 0 → size ≡ bankSize
 unfolding wavetableTickRefusalOf
 bank-sized s size h = passed (wavetableRefusalOf s) size h .1
 
@@ -38,7 +39,7 @@ unfolding tableIndexOf
 index-few index pos e = omega arith
 
 -- a level lies in the bank
-pub start-few : (first table level : ℕ) → first ≡ startOf table level → first ≤ 16128
+pub start-few : (first table level : ℕ) → first ≡ startOf table level → first + tableSize ≤ bankSize
 unfolding startOf
 start-few first table level e = omega arith
 

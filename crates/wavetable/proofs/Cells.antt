@@ -13,7 +13,7 @@ use borrow.Author.Tests.{eqb-true, eqb-false, leb-true}
 use Rattle.laws.proofs.Over.{by-cells, length-tab, tab-ext, tab-append}
 use Rattle.laws.specs.Lists.{tab}
 use Rattle.wavetable.specs.Bank.{plainOf, seriesOf, sumOf, termsOf, scaleOf, isSeries, cellOf, tableCell, tableOf, bankCell, bankOf}
-use Rattle.wavetable.specs.Columns.{Right}
+use Rattle.wavetable.specs.Shortcuts.{Right}
 
 pub plain-cell : (t j : ℕ) (v : Float) → isSeries t ≡ false → v ≡ plainOf t (j / 256) (j % 256) → v ≡ tableCell t j
 unfolding tableCell cellOf

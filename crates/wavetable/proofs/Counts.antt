@@ -64,4 +64,5 @@ same t l m e = subst (λ (x : ℕ). termsOf t x ≤ termsOf t l) e (le-refl (ter
 
 pub terms-anti : (t l m : ℕ) → l ≤ m → termsOf t m ≤ termsOf t l
 terms-anti t l zero h = same t l 0 (omega arith)
-terms-anti t l (suc m) h = ⊎-elim (λ (e : l ≡ suc m). same t l (suc m) e) (λ (k : l < suc m). le-trans (terms-fall t m) (terms-anti t l m (le-of-suc-le-suc k))) (eq-or-lt-of-le h)
+terms-anti t l (suc m) h =
+    ⊎-elim (λ (e : l ≡ suc m). same t l (suc m) e) (λ (k : l < suc m). le-trans (terms-fall t m) (terms-anti t l m (le-of-suc-le-suc k))) (eq-or-lt-of-le h)

@@ -5,38 +5,50 @@ use mathlib.Core.Logic.{inl}
 use mathlib.Core.Path.{_≡_, refl, sym, ap, _∙_}
 use Prim.Native.Nat.{ℕ}
 use lib.Dec.{eqb}
-use lib.Ieee.{Float, le}
+use lib.Ieee.{Float}
 use lib.ListN.{length}
 use borrow.Author.Tests.{eq-eqb}
 use Rattle.answer.proofs.Blocks.{block-fits, block-refusal, block-same}
 use Rattle.answer.specs.Block.{blockOf}
-use Rattle.common.proofs.EdgeLaws.{rises-new, gate-above, rises-five}
+use Rattle.common.proofs.EdgeLaws.{rising-like, rising-comes}
 use Rattle.common.proofs.MemoLaws.{recall1-is}
-use Rattle.common.specs.Consts.{gateThreshold, five}
-use Rattle.common.specs.Edge.{risesAbove}
+use Rattle.common.specs.Edge.{resetOf, risingAboveOf, risingOf}
 use Rattle.common.specs.Memo.{newMemo1, voctToHzAt}
 use Rattle.common.specs.Phase.{restartOf}
-use Rattle.laws.specs.Float.{F64}
 use Rattle.laws.specs.Machine.{replies, more}
 use Rattle.wavetable.proofs.Accepted.{bank-sized}
-use Rattle.wavetable.proofs.Reached.{Good, refused-sized, tick-sounds, tick-accepted, good-new, good, never-refused}
-use Rattle.wavetable.specs.Calls.{after, reply, Tick, Ticked}
-use Rattle.wavetable.specs.Promises.{takesEdge, Forgets, Block-forgets, Edge-comes}
-use Rattle.wavetable.specs.Wavetable.{wavetableAtRest, newWavetable, wavetableTickRefusalOf, wavetableNewOf, wavetableSoundOf, wavetableTickOf, wavetableAnswerOf, wavetableNextOf, wavetableBlockOf}
+use Rattle.wavetable.proofs.Reached.{Good, refused-sized, tick-sounds, tick-accepted, new-good, good, never-refused}
+use Rattle.wavetable.specs.Calls.{Fit, after, reply, Tick, Ticked}
+use Rattle.wavetable.specs.Promises.{taken, Forgets, Block-forgets, Edge-comes}
+use Rattle.wavetable.specs.Consts.{bankSize}
+use Rattle.wavetable.specs.Wavetable.{nPorts, newWavetable, newLike, edgeOf, madeUnless, wavetableTickRefusalOf, wavetableNewOf, wavetableSoundOf}
+use Rattle.wavetable.specs.Wavetable.{wavetableTickOf, wavetableToldOf, wavetableNextOf, wavetableBlockOf}
+use Rattle.common.specs.declared.EdgeDetector.{EdgeDetector}
+use Rattle.common.specs.declared.Risen.{Risen}
 use Rattle.wavetable.specs.declared.Wavetable.{Wavetable}
 use Rattle.wavetable.specs.declared.WavetableControls.{WavetableControls}
 use Rattle.wavetable.specs.declared.WavetableTicked.{WavetableTicked}
 
-struck : (s : Wavetable) (c : WavetableControls) (bank : List Float) → Good s → F64 (c .«v_oct» .0) → takesEdge s c ≡ true
-    → wavetableSoundOf s c bank ≡ wavetableSoundOf (newWavetable (s .«sample_rate»)) c bank
-unfolding wavetableSoundOf newWavetable wavetableAtRest restartOf
-struck s c bank g f e =
-    simp (recall1-is voctToHzAt (s .«freq_memo») (g .memo) (c .«v_oct» .0) f, recall1-is voctToHzAt newMemo1 (inl refl) (c .«v_oct» .0) f, e, rises-new gateThreshold (s .«prev_sync») (c .sync) gate-above e)
+-- a new one takes the edge too
+new-struck : (s : Wavetable) (c : WavetableControls) → taken s c ≡ true → taken (newLike s) c ≡ true
+unfolding newLike newWavetable resetOf
+new-struck s c e = ap (λ (r : Risen). r .rising) (rising-like (edgeOf s) (c .sync) e) ∙ e
 
-struck-tick : (s : Wavetable) (c : WavetableControls) (bank : List Float) → Good s → F64 (c .«v_oct» .0) → eqb (length bank) 16384 ≡ true → takesEdge s c ≡ true
-    → wavetableTickOf s c bank ≡ wavetableTickOf (newWavetable (s .«sample_rate»)) c bank
+struck : (s : Wavetable) (c : WavetableControls) (bank : List Float) → Good s → Fit c → taken s c ≡ true
+    → wavetableSoundOf s c bank ≡ wavetableSoundOf (newLike s) c bank
+unfolding wavetableSoundOf newLike newWavetable restartOf
+struck s c bank g f e =
+    simp (
+      recall1-is voctToHzAt (s .«freq_memo») (g .memo) (c .«v_oct» .0) f,
+      recall1-is voctToHzAt newMemo1 (inl refl) (c .«v_oct» .0) f,
+      e,
+      new-struck s c e,
+    )
+
+struck-tick : (s : Wavetable) (c : WavetableControls) (bank : List Float) → Good s → Fit c → eqb (length bank) bankSize ≡ true → taken s c ≡ true
+    → wavetableTickOf s c bank ≡ wavetableTickOf (newLike s) c bank
 struck-tick s c bank g f b e =
-    tick-sounds s c bank g b ∙ struck s c bank g f e ∙ sym (tick-sounds (newWavetable (s .«sample_rate»)) c bank (good-new (s .«sample_rate») (g .rate)) b)
+    tick-sounds s c bank g b ∙ struck s c bank g f e ∙ sym (tick-sounds (newLike s) c bank (new-good s g) b)
 
 pub forgets : Forgets
 unfolding replies after reply
@@ -44,7 +56,7 @@ forgets s h c bank f a e =
     let g = good h in
     let q = struck-tick s c bank g f (sym (tick-accepted s c bank g) ∙ a) e in
     record {
-      new = unfold wavetableNewOf in simp (g .rate);
+      new = unfold wavetableNewOf newLike madeUnless in simp (g .rate);
       state = ap (λ (t : WavetableTicked). t .wavetable) q;
       same = λ cs. ap (λ (t : WavetableTicked). Ticked (t .answer) ∷ replies after reply (t .wavetable) cs) q;
     }
@@ -54,27 +66,28 @@ pub block-forgets : Block-forgets
 unfolding wavetableBlockOf
 block-forgets s h c t bank o m f z l e =
     let g = good h in
-    let new = newWavetable (s .«sample_rate») in
-    let fits = sym (block-refusal 1 (wavetableTickRefusalOf s (length bank)) (wavetableAnswerOf c bank) (wavetableNextOf c bank) s t o m) ∙ z in
-    let b = bank-sized s (length bank) (block-fits 1 _ t o m _ refl fits .1) in
+    let new = newLike s in
+    let fits = sym (block-refusal nPorts (wavetableTickRefusalOf s (length bank)) (wavetableToldOf c bank) (wavetableNextOf c bank) s t o m) ∙ z in
+    let b = bank-sized s (length bank) (block-fits nPorts _ t o m _ refl fits .1) in
     let q = struck-tick s c bank g f (eq-eqb _ _ b) e in
     let same = ap (λ (x : WavetableTicked). x .answer) q in
     let leaves = ap (λ (x : WavetableTicked). x .wavetable) q in
-    let k = refused-sized s (length bank) g ∙ sym (refused-sized new (length bank) (good-new (s .«sample_rate») (g .rate))) in
-    block-same (wavetableNextOf c bank) s new leaves 1 _ (wavetableAnswerOf c bank) t o m same (fits, l)
-    ∙ ap (λ (n : ℕ). blockOf 1 n (wavetableAnswerOf c bank) (wavetableNextOf c bank) new t o m) k
+    let k = refused-sized s (length bank) g ∙ sym (refused-sized new (length bank) (new-good s g)) in
+    block-same (wavetableNextOf c bank) s new leaves nPorts _ (wavetableToldOf c bank) t o m same (fits, l)
+    ∙ ap (λ (n : ℕ). blockOf nPorts n (wavetableToldOf c bank) (wavetableNextOf c bank) new t o m) k
 
 -- ---- an edge can be had
-held : (s : Wavetable) (c : WavetableControls) (bank : List Float) → wavetableSoundOf s c bank .wavetable .«prev_sync» ≡ c .sync
-unfolding wavetableSoundOf
-held s c bank = refl
-
-rises : (kept prev v : Float) → kept ≡ prev → le prev gateThreshold ≡ true → v ≡ five → risesAbove gateThreshold kept v ≡ true
-rises kept prev v e l q = rw (e, q) (rises-five prev l)
+-- the tick leaves the edge record that the sync makes
+kept : (s : Wavetable) (c : WavetableControls) (bank : List Float) → edgeOf (wavetableSoundOf s c bank .wavetable) ≡ risingOf (edgeOf s) (c .sync) .edge
+unfolding wavetableSoundOf risingOf risingAboveOf
+kept s c bank = refl
 
 pub edge-comes : Edge-comes
 unfolding after
-edge-comes s h c d bank f b l e = (
-  never-refused (after s (Tick c bank)) (more h (Tick c bank) f) .ticks d bank ∙ eq-eqb _ _ b,
-  rises (wavetableTickOf s c bank .wavetable .«prev_sync») (c .sync) (d .sync) (ap (λ (t : WavetableTicked). t .wavetable .«prev_sync») (tick-sounds s c bank (good h) (eq-eqb _ _ b)) ∙ held s c bank) l e,
-)
+edge-comes s h c d bank f b l e =
+    let sounds = tick-sounds s c bank (good h) (eq-eqb _ _ b) in (
+      never-refused (after s (Tick c bank)) (more h (Tick c bank) f) .tick d bank ∙ eq-eqb _ _ b,
+      ap (λ (t : WavetableTicked). taken (t .wavetable) d) sounds
+          ∙ ap (λ (e : EdgeDetector). risingOf e (d .sync) .rising) (kept s c bank)
+          ∙ rw e (rising-comes (edgeOf s) (c .sync) l),
+    )

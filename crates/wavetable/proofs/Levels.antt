@@ -15,8 +15,9 @@ use Rattle.laws.proofs.Values.{ofInt-val}
 use Rattle.numeric.proofs.Laws.{whole-monotone, whole-real, whole-below}
 use Rattle.numeric.specs.Basic.{wholeOf, realOf}
 use Rattle.wavetable.proofs.Counts.{harmonics-least, harmonics-most}
+use Rattle.wavetable.specs.Consts.{numMips}
 use Rattle.wavetable.specs.Harmonics.{maxHarmonic}
-use Rattle.wavetable.specs.Levels.{levelWithin}
+use Rattle.wavetable.specs.Shortcuts.{levelWithin}
 use Rattle.wavetable.specs.Reads.{allowedOf, levelFrom, selectLevel}
 
 step : (t level most : ℕ) → level < 8 → levelWithin t most (8 - level) ≡ cond (leb (maxHarmonic t level) most) level (levelWithin t most (8 - (level + 1)))
@@ -66,6 +67,6 @@ unfolding levelFrom levelWithin
 same t a zero = refl
 same t a (suc n) = rw (whole-test (maxHarmonic t (7 - n)) a (harmonics-least t (7 - n)) (harmonics-most t (7 - n)), same t a n)
 
-pub select-is : (t : ℕ) (inc : Float) → selectLevel t inc ≡ levelWithin t (wholeOf (allowedOf inc)) 8
+pub select-is : (t : ℕ) (inc : Float) → selectLevel t inc ≡ levelWithin t (wholeOf (allowedOf inc)) numMips
 unfolding selectLevel
 select-is t inc = same t (allowedOf inc) 8

@@ -2,22 +2,22 @@
 use mathlib.Core.Bool.{Bool, true, cond, _&&_}
 use mathlib.Core.List.{List}
 use Prim.Native.Nat.{ℕ, zero, suc, _+_, _*_, _/_, _%_}
-use lib.Dec.{eqb, leb}
+use lib.Dec.{eqb, leb, ltb}
 use lib.Ieee.{Float, binary64, add, mul, div, le, neg, ofBits}
 use lib.ListN.{length}
 use Rattle.common.specs.Consts.{three, four, half}
 use Rattle.laws.specs.Float.{zer, one, two}
 use Rattle.laws.specs.Lists.{tab}
-use Rattle.numeric.specs.Basic.{realOf}
+use Rattle.numeric.specs.Basic.{pi, realOf}
 use Rattle.numeric.specs.Trig.{sinOf}
-use Rattle.wavetable.specs.Consts.{pi, tableSize, eight, quarter, eighth}
+use Rattle.wavetable.specs.Consts.{tableSize, numTables, partSize, bankSize, tableSizeReal, eight, quarter, eighth}
 use Rattle.wavetable.specs.Harmonics.{maxHarmonic}
 use Rattle.answer.specs.declared.Outcome.{Outcome}
 use Rattle.answer.specs.declared.Outcome.the-variants.{Done, Refused}
 
--- the closure partial at place i: sin(phase * harmonic * 2.0 * pi), phase = i / 256
+-- the closure partial at place i: sin(phase * harmonic * 2.0 * pi), phase = i / TABLE_SIZE
 unfoldable pub partialOf : Float → ℕ → Float
-partialOf harmonic i = sinOf (mul binary64 (mul binary64 (mul binary64 (div binary64 (realOf i) tableSize) harmonic) two) pi)
+partialOf harmonic i = sinOf (mul binary64 (mul binary64 (mul binary64 (div binary64 (realOf i) tableSizeReal) harmonic) two) pi)
 
 -- ---- triangle (1), saw (2), square (3), pulses (4 and 5): sums of terms, from 0.0
 -- h = 1, then h += 2
@@ -119,19 +119,19 @@ isSeries table = leb 1 table && leb table 5
 unfoldable pub cellOf : ℕ → ℕ → ℕ → Float
 cellOf table level i = cond (isSeries table) (seriesOf table level i) (plainOf table level i)
 
--- number j of a table: 8 levels of 256
+-- number j of a table: its levels one after another
 unfoldable pub tableCell : ℕ → ℕ → Float
-tableCell table j = cellOf table (j / 256) (j % 256)
+tableCell table j = cellOf table (j / tableSize) (j % tableSize)
 
 unfoldable pub tableOf : ℕ → List Float
-tableOf table = tab (tableCell table) 2048
+tableOf table = tab (tableCell table) partSize
 
--- number j of the bank: 8 tables of 2,048
+-- number j of the bank: its tables one after another
 unfoldable pub bankCell : ℕ → Float
-bankCell j = tableCell (j / 2048) (j % 2048)
+bankCell j = tableCell (j / partSize) (j % partSize)
 
 unfoldable pub bankOf : List Float
-bankOf = tab bankCell 16384
+bankOf = tab bankCell bankSize
 
 -- ---- the fills: what they say, and the slice after them; l is the slice as it stood
 pub record Filled : Type 0 where
@@ -141,10 +141,10 @@ pub record Filled : Type 0 where
 abbrev pub filled : Outcome → List Float → Filled
 filled o l = record { outcome = o; cells = l }
 
--- 4: a part that hasn't 2,048 numbers, or a table above 7
+-- 4: a part that hasn't a table's 2,048 numbers, or no such table
 unfoldable pub fillTableOf : ℕ → List Float → Filled
-fillTableOf table l = cond (eqb (length l) 2048 && leb table 7) (filled Done (tableOf table)) (filled (Refused 4) l)
+fillTableOf table l = cond (eqb (length l) partSize && ltb table numTables) (filled Done (tableOf table)) (filled (Refused 4) l)
 
 -- 4: a bank that hasn't 16,384 numbers
 unfoldable pub fillBankOf : List Float → Filled
-fillBankOf l = cond (eqb (length l) 16384) (filled Done bankOf) (filled (Refused 4) l)
+fillBankOf l = cond (eqb (length l) bankSize) (filled Done bankOf) (filled (Refused 4) l)

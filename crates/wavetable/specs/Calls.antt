@@ -5,14 +5,15 @@ use Prim.Native.Nat.{ℕ}
 use lib.Ieee.{Float}
 use Rattle.laws.specs.Float.{F64}
 use Rattle.laws.specs.Machine.{Reached}
-use Rattle.wavetable.specs.Wavetable.{madeNumber, madeOr, wavetableNewOf, wavetableTickOf, wavetableBlockOf, wavetableResetOf, wavetableSetSampleRateOf}
+use Rattle.wavetable.specs.Wavetable.{wavetableNewOf, wavetableTickOf, wavetableBlockOf, wavetableResetOf, wavetableSetSampleRateOf}
 use Rattle.common.specs.declared.Hertz.{Hertz}
+use Rattle.answer.specs.Answer.{outcomeNumber}
 use Rattle.answer.specs.Block.{Block}
 use Rattle.answer.specs.declared.Answer.{Answer}
+use Rattle.answer.specs.declared.Outcome.the-variants as outcome
 use Rattle.answer.specs.declared.Tally.{Tally}
 use Rattle.wavetable.specs.declared.Wavetable.{Wavetable}
 use Rattle.wavetable.specs.declared.WavetableControls.{WavetableControls}
-use Rattle.wavetable.specs.declared.WavetableMade.the-variants as made
 
 -- a block is lent its tally, its bank, samples and marks
 pub data Call : Type 0 where
@@ -27,28 +28,32 @@ pub data Reply : Type 0 where
   Played : Block Wavetable → Reply
   Told : ℕ → Reply
 
+-- the keys of the memo are f64s, as every control is
+abbrev pub Fit : WavetableControls → Type 0
+Fit c = F64 (c .«v_oct» .0)
+
+abbrev pub FitCall : Call → Type 0
+FitCall (Tick c bank) = Fit c
+FitCall (Play c t bank o m) = Fit c
+FitCall Reset = Unit {0}
+FitCall (SetSampleRate r) = Unit {0}
+
+-- the state after a call; a refused one leaves it
 unfoldable pub after : Wavetable → Call → Wavetable
 after s (Tick c bank) = wavetableTickOf s c bank .wavetable
 after s (Play c t bank o m) = wavetableBlockOf s c t bank o m .state
-after s Reset = madeOr s (wavetableResetOf s)
-after s (SetSampleRate r) = madeOr s (wavetableSetSampleRateOf s r)
+after s Reset = wavetableResetOf s .wavetable
+after s (SetSampleRate r) = wavetableSetSampleRateOf s r .wavetable
 
 unfoldable pub reply : Wavetable → Call → Reply
 reply s (Tick c bank) = Ticked (wavetableTickOf s c bank .answer)
 reply s (Play c t bank o m) = Played (wavetableBlockOf s c t bank o m)
-reply s Reset = Told (madeNumber (wavetableResetOf s))
-reply s (SetSampleRate r) = Told (madeNumber (wavetableSetSampleRateOf s r))
-
--- the pitch is an f64, as every control is
-abbrev pub FitCall : Call → Type 0
-FitCall (Tick c bank) = F64 (c .«v_oct» .0)
-FitCall (Play c t bank o m) = F64 (c .«v_oct» .0)
-FitCall Reset = Unit {0}
-FitCall (SetSampleRate r) = Unit {0}
+reply s Reset = Told (outcomeNumber (wavetableResetOf s .outcome))
+reply s (SetSampleRate r) = Told (outcomeNumber (wavetableSetSampleRateOf s r .outcome))
 
 -- an accepted new one
 abbrev pub First : Wavetable → Type 0
-First s = (r : Hertz) × (wavetableNewOf r ≡ made.Made s)
+First s = (r : Hertz) × (wavetableNewOf r ≡ record { outcome = outcome.Done; wavetable = s })
 
 abbrev pub ReachedWavetable : Wavetable → Type 0
 ReachedWavetable = Reached First FitCall after

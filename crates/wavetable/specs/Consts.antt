@@ -1,16 +1,30 @@
--- The Rust's constants of the Wavetable, by their bits.
+-- The Rust's constants of the Wavetable: sizes, and floats by their bits.
+use Prim.Native.Nat.{ℕ, _*_}
 use lib.Ieee.{Float, binary64, ofBits}
 
--- core::f64::consts::PI
-abbrev pub pi : Float
-pi = ofBits binary64 0x400921fb54442d18
+-- TABLE_SIZE, NUM_TABLES and NUM_MIPS
+abbrev pub tableSize : ℕ
+tableSize = 256
+
+abbrev pub numTables : ℕ
+numTables = 8
+
+abbrev pub numMips : ℕ
+numMips = 8
+
+-- numbers in a table with all its levels, and in the bank
+abbrev pub partSize : ℕ
+partSize = numMips * tableSize
+
+abbrev pub bankSize : ℕ
+bankSize = numTables * partSize
 
 -- TABLE_SIZE as f64: 256, and NUM_TABLES - 1 as f64: 7
-abbrev pub tableSize : Float
-tableSize = ofBits binary64 0x4070000000000000
+abbrev pub tableSizeReal : Float
+tableSizeReal = ofBits binary64 0x4070000000000000
 
-abbrev pub lastTable : Float
-lastTable = ofBits binary64 0x401c000000000000
+abbrev pub lastTableReal : Float
+lastTableReal = ofBits binary64 0x401c000000000000
 
 -- the smallest increment that select_level takes: 1e-9
 abbrev pub leastInc : Float

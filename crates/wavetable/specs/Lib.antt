@@ -1,10 +1,8 @@
 pub mod Consts
 pub mod Harmonics
 pub mod Bank
-pub mod Columns
-pub mod Levels
 pub mod Reads
 pub mod Wavetable
-pub mod Held
+pub mod Shortcuts
 pub mod Calls
 pub mod Promises

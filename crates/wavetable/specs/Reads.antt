@@ -8,43 +8,43 @@ use Rattle.common.specs.Consts.{five, half}
 use Rattle.laws.specs.Float.{zer, one}
 use Rattle.numeric.specs.Basic.{fabsOf, clampOf, minOf, maxOf, wholeOf, realOf}
 use Rattle.numeric.specs.Floor.{floorOf}
-use Rattle.wavetable.specs.Consts.{tableSize, lastTable, leastInc}
+use Rattle.wavetable.specs.Consts.{tableSize, numTables, numMips, partSize, tableSizeReal, lastTableReal, leastInc}
 use Rattle.wavetable.specs.Harmonics.{maxHarmonic}
 
 -- floor(0.5 / inc), inc = fabs(phase_inc).max(1e-9)
 unfoldable pub allowedOf : Float → Float
 allowedOf inc = floorOf (div binary64 half (maxOf (fabsOf inc) leastInc))
 
--- of the last n levels the first whose largest harmonic is allowed; none gives 7
+-- of the last n levels the first whose largest harmonic is allowed; none gives the last, NUM_MIPS - 1
 unfoldable pub levelFrom : ℕ → Float → ℕ → ℕ
 levelFrom table allowed zero = 7
 levelFrom table allowed (suc n) = cond (le (realOf (maxHarmonic table (7 - n))) allowed) (7 - n) (levelFrom table allowed n)
 
 unfoldable pub selectLevel : ℕ → Float → ℕ
-selectLevel table inc = levelFrom table (allowedOf inc) 8
+selectLevel table inc = levelFrom table (allowedOf inc) numMips
 
 -- table[idx0] * (1.0 - frac) + table[idx1] * frac, the table's first number at `first`
 abbrev pub between : List Float → ℕ → ℕ → Float → Float
 between bank first idx0 frac =
     add binary64
     (mul binary64 (getD bank (first + idx0) nan) (sub binary64 one frac))
-    (mul binary64 (getD bank (first + (idx0 + 1) % 256) nan) frac)
+    (mul binary64 (getD bank (first + (idx0 + 1) % tableSize) nan) frac)
 
--- where tables[table_idx % 8][level.min(7)] begins in the bank
+-- where tables[table_idx % NUM_TABLES][level.min(NUM_MIPS - 1)] begins in the bank
 unfoldable pub startOf : ℕ → ℕ → ℕ
-startOf table level = table % 8 * 2048 + min level 7 * 256
+startOf table level = table % numTables * partSize + min level 7 * tableSize
 
--- that level at pos = phase * 256
+-- that level at pos = phase * (TABLE_SIZE as f64)
 unfoldable pub readTable : List Float → ℕ → ℕ → Float → Float
 readTable bank table level phase =
-    let pos = mul binary64 phase tableSize in
-    between bank (startOf table level) (wholeOf pos % 256) (sub binary64 pos (floorOf pos))
+    let pos = mul binary64 phase tableSizeReal in
+    between bank (startOf table level) (wholeOf pos % tableSize) (sub binary64 pos (floorOf pos))
 
--- table_pos: table.clamp(0.0, 1.0) * 7
+-- table_pos: table.clamp(0.0, 1.0) * ((NUM_TABLES - 1) as f64)
 unfoldable pub tablePosOf : Float → Float
-tablePosOf table = mul binary64 (clampOf table zer one) lastTable
+tablePosOf table = mul binary64 (clampOf table zer one) lastTableReal
 
--- table_idx: (table_pos as usize).min(6)
+-- table_idx: (table_pos as usize).min(NUM_TABLES - 2)
 unfoldable pub tableIndexOf : Float → ℕ
 tableIndexOf pos = min (wholeOf pos) 6
 

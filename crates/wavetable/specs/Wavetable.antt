@@ -5,34 +5,38 @@ use Prim.Native.Nat.{ℕ}
 use lib.Dec.{eqb}
 use lib.Ieee.{Float, binary64, add}
 use lib.ListN.{length}
+use Rattle.answer.specs.Answer.{volts1}
 use Rattle.answer.specs.Block.{Block, blockOf}
 use Rattle.answer.specs.Mark.{markOf}
-use Rattle.common.specs.Consts.{gateThreshold}
-use Rattle.common.specs.Edge.{risesAbove}
+use Rattle.common.specs.Edge.{risingOf}
 use Rattle.common.specs.Memo.{newMemo1, recall1, voctToHzAt}
 use Rattle.common.specs.Phase.{turns, wrapOf, incrementOf, restartOf}
 use Rattle.common.specs.Tests.{rateOk, phaseOk}
 use Rattle.laws.specs.Float.{zer, isFin}
+use Rattle.wavetable.specs.Consts.{bankSize}
 use Rattle.wavetable.specs.Reads.{tablePosOf, tableIndexOf, blendOf, mixOf}
+use Rattle.common.specs.declared.EdgeDetector.{EdgeDetector}
 use Rattle.common.specs.declared.Hertz.{Hertz}
-use Rattle.common.specs.declared.Memo1.{Memo1}
-use Rattle.answer.specs.declared.Volts.{Volts}
 use Rattle.answer.specs.declared.Answer.{Answer}
 use Rattle.answer.specs.declared.Answer.the-variants as answer
+use Rattle.answer.specs.declared.Outcome.the-variants as outcome
 use Rattle.answer.specs.declared.Tally.{Tally}
 use Rattle.wavetable.specs.declared.Wavetable.{Wavetable}
 use Rattle.wavetable.specs.declared.WavetableControls.{WavetableControls}
 use Rattle.wavetable.specs.declared.WavetableTicked.{WavetableTicked}
 use Rattle.wavetable.specs.declared.WavetableMade.{WavetableMade}
-use Rattle.wavetable.specs.declared.WavetableMade.the-variants as made
 
--- phase and last sync sample at 0, with this rate and this memo
-unfoldable pub wavetableAtRest : Hertz → Memo1 → Wavetable
-wavetableAtRest r memo = record { phase = turns zer; «prev_sync» = zer; «sample_rate» = r; «freq_memo» = memo }
+-- one output
+abbrev pub nPorts : ℕ
+nPorts = 1
 
 -- Wavetable::new; the bank isn't the state's
 unfoldable pub newWavetable : Hertz → Wavetable
-newWavetable r = wavetableAtRest r newMemo1
+newWavetable r = record { phase = turns zer; «prev_sync» = zer; «sample_rate» = r; «freq_memo» = newMemo1 }
+
+-- a new one like this
+unfoldable pub newLike : Wavetable → Wavetable
+newLike s = newWavetable (s .«sample_rate»)
 
 -- 0, or what refuses a state: 1 its rate, 2 its phase
 unfoldable pub wavetableRefusalOf : Wavetable → ℕ
@@ -40,20 +44,28 @@ wavetableRefusalOf s = cond (rateOk (s .«sample_rate»)) (cond (phaseOk (s .pha
 
 -- and after them what refuses a bank of this size: 4
 unfoldable pub wavetableTickRefusalOf : Wavetable → ℕ → ℕ
-wavetableTickRefusalOf s size = let n = wavetableRefusalOf s in cond (eqb n 0) (cond (eqb size 16384) 0 4) n
+wavetableTickRefusalOf s size = let n = wavetableRefusalOf s in cond (eqb n 0) (cond (eqb size bankSize) 0 4) n
 
--- 1 on the rate
+-- what refuses a rate change: 1 on the new rate and on the old, then 2
+unfoldable pub wavetableRateRefusalOf : Wavetable → Hertz → ℕ
+wavetableRateRefusalOf s r = cond (rateOk r) (wavetableRefusalOf s) 1
+
+-- the new state and that all is done, unless n refuses; then the old one
+unfoldable pub madeUnless : ℕ → Wavetable → Wavetable → WavetableMade
+madeUnless n old new = cond (eqb n 0) (record { outcome = outcome.Done; wavetable = new }) (record { outcome = outcome.Refused n; wavetable = old })
+
+-- 1 on the rate; a refused new hands out the state with the bad rate, which every call refuses
 unfoldable pub wavetableNewOf : Hertz → WavetableMade
-wavetableNewOf r = cond (rateOk r) (made.Made (newWavetable r)) (made.Refused 1)
+wavetableNewOf r = madeUnless (cond (rateOk r) 0 1) (newWavetable r) (newWavetable r)
 
--- port 10 alone
-abbrev pub outVolts : Float → Volts
-outVolts out = record { p10 = out; p11 = zer; p12 = zer; p13 = zer; p14 = zer }
+-- the last sync sample as an edge record: the Rust keeps it plain
+abbrev pub edgeOf : Wavetable → EdgeDetector
+edgeOf s = record { prev = s .«prev_sync» }
 
 -- tick_generic, line by line
 unfoldable pub wavetableSoundOf : Wavetable → WavetableControls → List Float → WavetableTicked
 wavetableSoundOf s c bank =
-    let phase = restartOf (s .phase) (risesAbove gateThreshold (s .«prev_sync») (c .sync)) .0 in
+    let phase = restartOf (s .phase) (risingOf (edgeOf s) (c .sync) .rising) .0 in
     let memo = recall1 voctToHzAt (s .«freq_memo») (c .«v_oct» .0) in
     let inc = incrementOf (memo .val) (s .«sample_rate») .0 in
     let pos = tablePosOf (c .table) in
@@ -61,7 +73,7 @@ wavetableSoundOf s c bank =
     let out = mixOf bank index (blendOf pos index (c .morph)) inc phase in
     let next = add binary64 phase inc in
     record {
-      answer = markOf (outVolts out) false true (isFin next);
+      answer = markOf (volts1 out) false true (isFin next);
       wavetable = record { phase = turns (wrapOf next); «prev_sync» = c .sync; «sample_rate» = s .«sample_rate»; «freq_memo» = memo };
     }
 
@@ -71,39 +83,26 @@ wavetableTickOf s c bank =
     let n = wavetableTickRefusalOf s (length bank) in
     cond (eqb n 0) (wavetableSoundOf s c bank) (record { answer = answer.Refused n; wavetable = s })
 
--- a block of as many ticks with these controls and this bank as there are marks: one sample a tick
-abbrev pub wavetableAnswerOf : WavetableControls → List Float → Wavetable → Answer
-wavetableAnswerOf c bank s = wavetableTickOf s c bank .answer
+-- a block of as many ticks with these controls and this bank as there are marks
+abbrev pub wavetableToldOf : WavetableControls → List Float → Wavetable → Answer
+wavetableToldOf c bank s = wavetableTickOf s c bank .answer
 
 abbrev pub wavetableNextOf : WavetableControls → List Float → Wavetable → Wavetable
 wavetableNextOf c bank s = wavetableTickOf s c bank .wavetable
 
 unfoldable pub wavetableBlockOf : Wavetable → WavetableControls → Tally → List Float → List Float → List ℕ → Block Wavetable
-wavetableBlockOf s c t bank o m = blockOf 1 (wavetableTickRefusalOf s (length bank)) (wavetableAnswerOf c bank) (wavetableNextOf c bank) s t o m
+wavetableBlockOf s c t bank o m = blockOf nPorts (wavetableTickRefusalOf s (length bank)) (wavetableToldOf c bank) (wavetableNextOf c bank) s t o m
 
--- ---- calls without samples
--- their number: 0 of what was made, or that of the refusal
-abbrev pub madeNumber : WavetableMade → ℕ
-madeNumber (made.Made s) = 0
-madeNumber (made.Refused n) = n
+-- reset: self.phase = 0.0; self.prev_sync = 0.0
+unfoldable pub restarted : Wavetable → Wavetable
+restarted s = record { phase = turns zer; «prev_sync» = zer; «sample_rate» = s .«sample_rate»; «freq_memo» = s .«freq_memo» }
 
--- what was made; a refusal leaves s
-abbrev pub madeOr : Wavetable → WavetableMade → Wavetable
-madeOr s (made.Made t) = t
-madeOr s (made.Refused n) = s
-
--- s, unless n refuses
-unfoldable pub madeUnless : ℕ → Wavetable → WavetableMade
-madeUnless n s = cond (eqb n 0) (made.Made s) (made.Refused n)
-
--- reset: the rate and the memo stay
 unfoldable pub wavetableResetOf : Wavetable → WavetableMade
-wavetableResetOf s = madeUnless (wavetableRefusalOf s) (wavetableAtRest (s .«sample_rate») (s .«freq_memo»))
+wavetableResetOf s = madeUnless (wavetableRefusalOf s) s (restarted s)
 
--- set_sample_rate: all but the rate stays
-abbrev pub rated : Wavetable → Hertz → Wavetable
+-- self.sample_rate = sample_rate
+unfoldable pub rated : Wavetable → Hertz → Wavetable
 rated s r = record { phase = s .phase; «prev_sync» = s .«prev_sync»; «sample_rate» = r; «freq_memo» = s .«freq_memo» }
 
--- 1 on the new rate and on the old, then 2
 unfoldable pub wavetableSetSampleRateOf : Wavetable → Hertz → WavetableMade
-wavetableSetSampleRateOf s r = cond (rateOk r) (madeUnless (wavetableRefusalOf s) (rated s r)) (made.Refused 1)
+wavetableSetSampleRateOf s r = madeUnless (wavetableRateRefusalOf s r) s (rated s r)

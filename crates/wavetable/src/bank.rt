@@ -7,20 +7,17 @@ ghost use mathlib.Core.Bool.{true, false};
 ghost use Prim.Native.Nat.{_≤_, _<_, _+_};
 ghost use lib.ListN.{length};
 ghost use Rattle.laws.specs.Lists.{tab};
-ghost use Rattle.wavetable.specs.Bank.{partialOf, harmonicOf, turned, termOf, termsOf, sumOf, scaleOf, gatedOf, vowelOf, isSeries, plainOf, tableOf, bankOf, filled, fillTableOf, fillBankOf};
-ghost use Rattle.wavetable.specs.Columns.{firstSign, factorOf, Right};
-
-const PI: f64 = 3.141592653589793;
-
-// Numbers in a table.
-const PART_SIZE: usize = 2048;
+ghost use Rattle.wavetable.specs.Bank.{partialOf, harmonicOf, turned, termOf, termsOf, sumOf, scaleOf, gatedOf};
+ghost use Rattle.wavetable.specs.Bank.{vowelOf, isSeries, plainOf, tableOf, bankOf, filled, fillTableOf, fillBankOf};
+ghost use Rattle.wavetable.specs.Consts.{tableSize, numTables, numMips, partSize, bankSize};
+ghost use Rattle.wavetable.specs.Shortcuts.{firstSign, factorOf, Right};
 
 // A sine of this harmonic at place i of 256.
 fn partial(harmonic: f64, i: usize) -> f64
     ensures { λ r. ⌜ r ≡ partialOf harmonic i ⌝ }
 {
     let phase = crate::real(i) / 256.0;
-    numeric::sin(phase * harmonic * 2.0 * PI)
+    numeric::sin(phase * harmonic * 2.0 * numeric::PI)
 }
 
 // The harmonic of a series' term k: odd ones only in triangle and square.
@@ -50,10 +47,10 @@ fn factor(table: usize, k: usize, sign: f64) -> f64
 {
     if table == 4 {
         let h = crate::real(harmonic(table, k));
-        numeric::sin(PI * h * 0.25) / h
+        numeric::sin(numeric::PI * h * 0.25) / h
     } else if table == 5 {
         let h = crate::real(harmonic(table, k));
-        numeric::sin(PI * h * 0.125) / h
+        numeric::sin(numeric::PI * h * 0.125) / h
     } else {
         sign
     }
@@ -93,7 +90,7 @@ fn term(table: usize, k: usize, i: usize, a: f64) -> f64
 
 // How many terms a level has.
 fn terms(table: usize, level: usize) -> usize
-    requires { ⌜ (table < 8) × (level < 8) ⌝ }
+    requires { ⌜ (table < numTables) × (level < numMips) ⌝ }
     ensures { λ r. ⌜ r ≡ termsOf table level ⌝ }
 {
     let n = crate::max_harmonic(table, level);
@@ -124,11 +121,11 @@ fn scale(table: usize) -> f64
     ensures { λ r. ⌜ r ≡ scaleOf table ⌝ }
 {
     if table == 1 {
-        8.0 / (PI * PI)
+        8.0 / (numeric::PI * numeric::PI)
     } else if table == 2 {
-        2.0 / PI
+        2.0 / numeric::PI
     } else if table == 3 {
-        4.0 / PI
+        4.0 / numeric::PI
     } else {
         2.0
     }
@@ -136,30 +133,31 @@ fn scale(table: usize) -> f64
 
 // Place i of each level of a series, from the poorest level to the richest: each goes on where the last stopped.
 fn column(part: &mut [f64], table: usize, i: usize, factors: &[f64; 64])
-    requires { ⌜ (length (now part) ≡ 2048) × (i < 256) × (isSeries table ≡ true) × (now factors ≡ tab (factorOf table) 64) × Right table (now part) i 8 ⌝ }
-    ensures { λ _. ⌜ Right table (now (part .exit)) (i + 1) 8 ⌝ }
+    requires { ⌜ (length (now part) ≡ partSize) × (i < tableSize) × (isSeries table ≡ true) × (now factors ≡ tab (factorOf table) 64)
+        × Right table (now part) i numMips ⌝ }
+    ensures { λ _. ⌜ Right table (now (part .exit)) (i + 1) numMips ⌝ }
 {
     let by = scale(table);
-    let mut level = 8;
+    let mut level = crate::NUM_MIPS;
     let mut k = 0;
     let mut sum = 0.0;
     while level > 0 {
         let next = level - 1;
         let n = terms(table, next);
         sum = extend(table, i, factors, sum, k, n);
-        part[256 * next + i] = sum * by;
+        part[crate::TABLE_SIZE * next + i] = sum * by;
         k = n;
         level = next;
     }
 }
 
 fn fill_series(part: &mut [f64], table: usize)
-    requires { ⌜ (length (now part) ≡ 2048) × (isSeries table ≡ true) ⌝ }
+    requires { ⌜ (length (now part) ≡ partSize) × (isSeries table ≡ true) ⌝ }
     ensures { λ _. ⌜ now (part .exit) ≡ tableOf table ⌝ }
 {
     let f = factors(table);
     let mut i = 0;
-    while i < 256 {
+    while i < crate::TABLE_SIZE {
         column(part, table, i, &f);
         i += 1;
     }
@@ -195,7 +193,7 @@ fn vowel(table: usize, most: f64, i: usize) -> f64
 
 // A number of the sine and of the vowels.
 fn plain(table: usize, level: usize, i: usize) -> f64
-    requires { ⌜ (table < 8) × (level < 8) ⌝ }
+    requires { ⌜ (table < numTables) × (level < numMips) ⌝ }
     ensures { λ r. ⌜ r ≡ plainOf table level i ⌝ }
 {
     if table == 0 {
@@ -207,12 +205,12 @@ fn plain(table: usize, level: usize, i: usize) -> f64
 }
 
 fn fill_plain(part: &mut [f64], table: usize)
-    requires { ⌜ (length (now part) ≡ 2048) × (table < 8) × (isSeries table ≡ false) ⌝ }
+    requires { ⌜ (length (now part) ≡ partSize) × (table < numTables) × (isSeries table ≡ false) ⌝ }
     ensures { λ _. ⌜ now (part .exit) ≡ tableOf table ⌝ }
 {
     let mut j = 0;
-    while j < 2048 {
-        part[j] = plain(table, j / 256, j % 256);
+    while j < crate::PART_SIZE {
+        part[j] = plain(table, j / crate::TABLE_SIZE, j % crate::TABLE_SIZE);
         j += 1;
     }
 }
@@ -225,7 +223,7 @@ fn is_series(table: usize) -> bool
 }
 
 fn fill_part(part: &mut [f64], table: usize)
-    requires { ⌜ (length (now part) ≡ 2048) × (table < 8) ⌝ }
+    requires { ⌜ (length (now part) ≡ partSize) × (table < numTables) ⌝ }
     ensures { λ _. ⌜ now (part .exit) ≡ tableOf table ⌝ }
 {
     if is_series(table) {
@@ -239,8 +237,8 @@ fn fill_part(part: &mut [f64], table: usize)
 pub fn fill_table(part: &mut [f64], table: usize) -> Outcome
     ensures { λ r. ⌜ filled r (now (part .exit)) ≡ fillTableOf table (now (part .entry)) ⌝ }
 {
-    if part.len() == PART_SIZE {
-        if table <= 7 {
+    if part.len() == crate::PART_SIZE {
+        if table < crate::NUM_TABLES {
             fill_part(part, table);
             Outcome::Done
         } else {
@@ -252,13 +250,13 @@ pub fn fill_table(part: &mut [f64], table: usize) -> Outcome
 }
 
 fn fill_all(bank: &mut [f64])
-    requires { ⌜ length (now bank) ≡ 16384 ⌝ }
+    requires { ⌜ length (now bank) ≡ bankSize ⌝ }
     ensures { λ _. ⌜ now (bank .exit) ≡ bankOf ⌝ }
 {
     let mut table = 0;
-    while table < 8 {
-        let a = 2048 * table;
-        let e = a + 2048;
+    while table < crate::NUM_TABLES {
+        let a = crate::PART_SIZE * table;
+        let e = a + crate::PART_SIZE;
         fill_part(&mut bank[a..e], table);
         table += 1;
     }

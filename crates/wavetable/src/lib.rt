@@ -3,32 +3,29 @@
 pub mod bank;
 
 use answer::Answer;
+use answer::Outcome;
 use answer::Tally;
-use answer::Volts;
-use common::GATE_THRESHOLD_V;
+use common::EdgeDetector;
 use common::Hertz;
 use common::Memo1;
 use common::Turns;
 use common::VoltsPerOctave;
 ghost use mathlib.Core.Path.{_≡_};
-ghost use mathlib.Core.Bool.{true, false};
-ghost use Prim.Native.Nat.{_≤_, _<_, _*_, min};
+ghost use Prim.Native.Nat.{_≤_, _<_, _+_, _*_};
 ghost use lib.Ieee.{binary64, sub};
-ghost use lib.ListN.{length, set};
-ghost use lib.Seq.{sets};
+ghost use lib.ListN.{length};
 ghost use Rattle.laws.specs.Lists.{tab};
-ghost use Rattle.answer.specs.Answer.{hostNumber, voltsOf};
-ghost use Rattle.answer.specs.Mark.{markOf};
-ghost use Rattle.answer.specs.Block.{afterTicks, portsOf, joined, block, markAt, frameAt};
-ghost use Rattle.common.specs.Consts.{gateThreshold};
-ghost use Rattle.common.specs.Edge.{risesAbove};
+ghost use Rattle.answer.specs.Block.{afterTicks, joined, block, markAt, frameAt};
+ghost use Rattle.common.specs.Edge.{risingOf};
 ghost use Rattle.numeric.specs.Basic.{wholeOf, realOf};
 ghost use Rattle.numeric.specs.Floor.{floorOf};
+ghost use Rattle.wavetable.specs.Consts.{tableSize, numTables, numMips, bankSize};
 ghost use Rattle.wavetable.specs.Harmonics.{maxHarmonic};
-ghost use Rattle.wavetable.specs.Levels.{levelWithin};
 ghost use Rattle.wavetable.specs.Reads.{allowedOf, startOf, between, tablePosOf, tableIndexOf, blendOf};
-ghost use Rattle.wavetable.specs.Held.{PairFits, pairOf, mixAt, heldAnswer, heldNext};
-ghost use Rattle.wavetable.specs.Wavetable.{wavetableRefusalOf, wavetableTickRefusalOf, wavetableAtRest, wavetableNewOf, outVolts, wavetableSoundOf, wavetableTickOf, wavetableAnswerOf, wavetableNextOf, wavetableBlockOf, wavetableResetOf, wavetableSetSampleRateOf};
+ghost use Rattle.wavetable.specs.Shortcuts.{levelWithin, PairFits, pairOf, mixAt, heldAnswer, heldNext};
+ghost use Rattle.wavetable.specs.Wavetable.{nPorts, wavetableRefusalOf, wavetableTickRefusalOf, wavetableRateRefusalOf, wavetableSoundOf};
+ghost use Rattle.wavetable.specs.Wavetable.{wavetableNewOf, wavetableTickOf, wavetableToldOf, wavetableNextOf, wavetableBlockOf};
+ghost use Rattle.wavetable.specs.Wavetable.{wavetableResetOf, wavetableSetSampleRateOf};
 
 pub struct Wavetable {
     pub phase: Turns,
@@ -57,9 +54,10 @@ pub struct WavetableBlock {
     pub tally: Tally,
 }
 
-pub enum WavetableMade {
-    Made(Wavetable),
-    Refused(u32),
+// What new, reset and set_sample_rate say, beside the state after it.
+pub struct WavetableMade {
+    pub outcome: Outcome,
+    pub wavetable: Wavetable,
 }
 
 // What is read of the bank: where the levels of two neighbouring tables begin, and how much of the upper one is heard.
@@ -69,8 +67,20 @@ struct Pair {
     blend: f64,
 }
 
-// Numbers in a bank: 8 tables, each of 8 levels, each of 256 numbers.
-const BANK_SIZE: usize = 16384;
+// Numbers in a level of a table, tables in a bank, and levels of a table.
+const TABLE_SIZE: usize = 256;
+
+const NUM_TABLES: usize = 8;
+
+const NUM_MIPS: usize = 8;
+
+// Numbers in a table with all its levels, and in the bank.
+const PART_SIZE: usize = NUM_MIPS * TABLE_SIZE;
+
+const BANK_SIZE: usize = NUM_TABLES * PART_SIZE;
+
+// Outputs.
+const PORTS: usize = 1;
 
 // The largest harmonic in the first level of each table.
 const BASE_HARMONICS: [usize; 8] = [1, 31, 64, 63, 64, 64, 10, 10];
@@ -82,15 +92,9 @@ fn real(n: usize) -> f64
     numeric::of_u64(n as u64)
 }
 
-fn least(a: usize, b: usize) -> usize
-    ensures { λ r. ⌜ r ≡ min a b ⌝ }
-{
-    if a < b { a } else { b }
-}
-
 // The largest harmonic in a level of a table: halved from level to level, at least 1.
 fn max_harmonic(table: usize, level: usize) -> usize
-    requires { ⌜ (table < 8) × (level < 8) ⌝ }
+    requires { ⌜ (table < numTables) × (level < numMips) ⌝ }
     ensures { λ r. ⌜ r ≡ maxHarmonic table level ⌝ }
 {
     let n = BASE_HARMONICS[table] >> level;
@@ -107,32 +111,32 @@ fn allowed(phase_inc: Turns) -> usize
 
 // The first level of a table whose harmonics are all allowed, or else the last.
 fn select_level(table: usize, most: usize) -> usize
-    requires { ⌜ table < 8 ⌝ }
-    ensures { λ r. ⌜ r ≡ levelWithin table most 8 ⌝ }
+    requires { ⌜ table < numTables ⌝ }
+    ensures { λ r. ⌜ r ≡ levelWithin table most numMips ⌝ }
 {
     let mut level = 0;
-    while level < 8 {
+    while level < NUM_MIPS {
         if max_harmonic(table, level) <= most {
             return level;
         }
         level += 1;
     }
-    7
+    NUM_MIPS - 1
 }
 
 // Where a level of a table begins in the bank.
 fn start(table_idx: usize, level: usize) -> usize
     ensures { λ r. ⌜ r ≡ startOf «table_idx» level ⌝ }
 {
-    table_idx % 8 * 2048 + least(level, 7) * 256
+    table_idx % NUM_TABLES * PART_SIZE + numeric::least(level, NUM_MIPS - 1) * TABLE_SIZE
 }
 
 // The level that begins there, between two of its numbers.
 fn read_table(bank: &[f64], first: usize, idx0: usize, frac: f64) -> f64
-    requires { ⌜ (length (now bank) ≡ 16384) × (first ≤ 16128) × (idx0 < 256) ⌝ }
+    requires { ⌜ (length (now bank) ≡ bankSize) × (first + tableSize ≤ bankSize) × (idx0 < tableSize) ⌝ }
     ensures { λ r. ⌜ r ≡ between (now (bank .entry)) first idx0 frac ⌝ }
 {
-    let idx1 = (idx0 + 1) % 256;
+    let idx1 = (idx0 + 1) % TABLE_SIZE;
     bank[first + idx0] * (1.0 - frac) + bank[first + idx1] * frac
 }
 
@@ -148,11 +152,12 @@ fn fraction(pos: f64, whole: usize) -> f64
     }
 }
 
-// What the Rust asks of the sync input; it keeps the last sample itself.
+// Whether the sync input has an edge. The Rust keeps its last sample plain; the rule is the edge record's.
 fn synced(prev_sync: f64, sync: f64) -> bool
-    ensures { λ r. ⌜ r ≡ risesAbove gateThreshold «prev_sync» sync ⌝ }
+    ensures { λ r. ⌜ r ≡ risingOf (record { prev = «prev_sync» }) sync .rising ⌝ }
 {
-    sync > GATE_THRESHOLD_V && prev_sync <= GATE_THRESHOLD_V
+    let edge = EdgeDetector { prev: prev_sync };
+    edge.rising(sync).rising
 }
 
 // From 0, the first table, to 7, the last. The clamp lets a NaN pass.
@@ -166,7 +171,7 @@ fn table_pos(table: f64) -> f64
 fn table_index(pos: f64) -> usize
     ensures { λ r. ⌜ r ≡ tableIndexOf pos ⌝ }
 {
-    least(numeric::to_usize(pos), 6)
+    numeric::least(numeric::to_usize(pos), NUM_TABLES - 2)
 }
 
 // How much of the upper table; 1 where a control is NaN, since `min` gives the other number.
@@ -195,61 +200,40 @@ fn choose(table: f64, morph: f64, phase_inc: Turns) -> Pair
 
 // The sample in volts: both tables at their levels, blended. What the two reads share is worked out once.
 fn mix(bank: &[f64], pair: Pair, phase: Turns) -> f64
-    requires { ⌜ (length (now bank) ≡ 16384) × PairFits pair ⌝ }
+    requires { ⌜ (length (now bank) ≡ bankSize) × PairFits pair ⌝ }
     ensures { λ r. ⌜ r ≡ mixAt (now (bank .entry)) pair (phase .0) ⌝ }
 {
     let blend = pair.blend;
     let pos = phase.0 * 256.0;
     let whole = numeric::to_usize(pos);
-    let idx0 = whole % 256;
+    let idx0 = whole % TABLE_SIZE;
     let frac = fraction(pos, whole);
     let sample0 = read_table(bank, pair.first0, idx0, frac);
     let sample1 = read_table(bank, pair.first1, idx0, frac);
     (sample0 * (1.0 - blend) + sample1 * blend) * 5.0
 }
 
-// The mark of a sample; `phases`: the phase plus its increment is finite.
-fn mark(out: f64, phases: bool) -> Answer
-    ensures { λ r. ⌜ r ≡ markOf (outVolts out) false true phases ⌝ }
-{
-    let volts = Volts {
-        p10: out,
-        p11: 0.0,
-        p12: 0.0,
-        p13: 0.0,
-        p14: 0.0,
-    };
-    answer::mark(volts, false, true, phases)
-}
-
-// What tick i of a block answers.
-fn put(a: Answer, i: usize, samples: &mut [f64], marks: &mut [u32])
-    requires { ⌜ (i < length (now marks)) × (length (now samples) ≡ 1 * length (now marks)) ⌝ }
-    ensures { λ _. ⌜ (now (samples .exit) ≡ sets (now (samples .entry)) (1 * i) (portsOf 1 (voltsOf a))) × (now (marks .exit) ≡ set (now (marks .entry)) i (hostNumber a)) ⌝ }
-{
-    samples[i] = answer::samples(a).p10;
-    marks[i] = answer::host_number(a);
-}
-
 impl Wavetable {
-    fn at_rest(sample_rate: Hertz, freq_memo: Memo1) -> Self
-        ensures { λ r. ⌜ r ≡ wavetableAtRest «sample_rate» «freq_memo» ⌝ }
-    {
-        Wavetable {
-            phase: Turns(0.0),
-            prev_sync: 0.0,
-            sample_rate,
-            freq_memo,
-        }
-    }
-
+    // A refused new hands out the state with the bad rate, which every later call refuses.
     pub fn new(sample_rate: Hertz) -> WavetableMade
         ensures { λ r. ⌜ r ≡ wavetableNewOf «sample_rate» ⌝ }
     {
+        let wavetable = Wavetable {
+            phase: Turns(0.0),
+            prev_sync: 0.0,
+            sample_rate,
+            freq_memo: Memo1::new(),
+        };
         if common::rate_ok(sample_rate) {
-            WavetableMade::Made(Wavetable::at_rest(sample_rate, Memo1::new()))
+            WavetableMade {
+                outcome: Outcome::Done,
+                wavetable,
+            }
         } else {
-            WavetableMade::Refused(1)
+            WavetableMade {
+                outcome: Outcome::Refused(1),
+                wavetable,
+            }
         }
     }
 
@@ -278,9 +262,20 @@ impl Wavetable {
         }
     }
 
+    // What refuses a change to this rate: 1 on the new rate and on the old, then 2.
+    fn rate_refusal(self, sample_rate: Hertz) -> u32
+        ensures { λ r. ⌜ r ≡ wavetableRateRefusalOf self «sample_rate» ⌝ }
+    {
+        if common::rate_ok(sample_rate) {
+            self.refusal()
+        } else {
+            1
+        }
+    }
+
     // An accepted tick: the Rust's tick_generic.
     fn sound(self, c: WavetableControls, bank: &[f64]) -> WavetableTicked
-        requires { ⌜ length (now bank) ≡ 16384 ⌝ }
+        requires { ⌜ length (now bank) ≡ bankSize ⌝ }
         ensures { λ r. ⌜ r ≡ wavetableSoundOf self c (now (bank .entry)) ⌝ }
     {
         let old = self.phase;
@@ -294,7 +289,7 @@ impl Wavetable {
         let out = mix(bank, choose(c.table, c.morph, phase_inc), phase);
         let next = Turns(phase.0 + phase_inc.0);
         WavetableTicked {
-            answer: mark(out, numeric::is_finite(next.0)),
+            answer: answer::mark(answer::volts1(out), false, true, numeric::is_finite(next.0)),
             wavetable: Wavetable {
                 phase: common::wrap_phase(next),
                 prev_sync: c.sync,
@@ -327,17 +322,19 @@ impl Wavetable {
         samples: &mut [f64],
         marks: &mut [u32],
     ) -> Turns
-        requires { ⌜ (length (now bank) ≡ 16384) × PairFits pair × (length (now samples) ≡ 1 * length (now marks)) ⌝ }
+        requires { ⌜ (length (now bank) ≡ bankSize) × PairFits pair × (length (now samples) ≡ nPorts * length (now marks)) ⌝ }
         ensures { λ r. ⌜ r ≡ afterTicks (heldNext step) (length (now (marks .entry))) first ⌝ }
-        ensures { λ r. ⌜ now (samples .exit) ≡ joined (frameAt 1 (heldAnswer (now (bank .entry)) pair step) (heldNext step) first) (length (now (marks .entry))) ⌝ }
+        ensures { λ r. ⌜ now (samples .exit)
+            ≡ joined (frameAt nPorts (heldAnswer (now (bank .entry)) pair step) (heldNext step) first) (length (now (marks .entry))) ⌝ }
         ensures { λ r. ⌜ now (marks .exit) ≡ tab (markAt (heldAnswer (now (bank .entry)) pair step) (heldNext step) first) (length (now (marks .entry))) ⌝ }
     {
         let mut phase = first;
         let mut i = 0;
         while i < marks.len() {
             let next = Turns(phase.0 + step.0);
-            let heard = mark(mix(bank, pair, phase), numeric::is_finite(next.0));
-            put(heard, i, &mut *samples, &mut *marks);
+            let out = mix(bank, pair, phase);
+            let heard = answer::mark(answer::volts1(out), false, true, numeric::is_finite(next.0));
+            answer::put(heard, PORTS, i, &mut *samples, &mut *marks);
             phase = common::wrap_phase(next);
             i += 1;
         }
@@ -346,10 +343,12 @@ impl Wavetable {
 
     // The ticks of a block. Only the first can take the edge, and the memo holds from then on.
     fn run(self, c: WavetableControls, bank: &[f64], samples: &mut [f64], marks: &mut [u32]) -> Self
-        requires { ⌜ (wavetableTickRefusalOf self (length (now bank)) ≡ 0) × (0 < length (now marks)) × (length (now samples) ≡ 1 * length (now marks)) ⌝ }
+        requires { ⌜ (wavetableTickRefusalOf self (length (now bank)) ≡ 0) × (0 < length (now marks)) × (length (now samples) ≡ nPorts * length (now marks)) ⌝ }
         ensures { λ r. ⌜ r ≡ afterTicks (wavetableNextOf c (now (bank .entry))) (length (now (marks .entry))) self ⌝ }
-        ensures { λ r. ⌜ now (samples .exit) ≡ joined (frameAt 1 (wavetableAnswerOf c (now (bank .entry))) (wavetableNextOf c (now (bank .entry))) self) (length (now (marks .entry))) ⌝ }
-        ensures { λ r. ⌜ now (marks .exit) ≡ tab (markAt (wavetableAnswerOf c (now (bank .entry))) (wavetableNextOf c (now (bank .entry))) self) (length (now (marks .entry))) ⌝ }
+        ensures { λ r. ⌜ now (samples .exit)
+            ≡ joined (frameAt nPorts (wavetableToldOf c (now (bank .entry))) (wavetableNextOf c (now (bank .entry))) self) (length (now (marks .entry))) ⌝ }
+        ensures { λ r. ⌜ now (marks .exit)
+            ≡ tab (markAt (wavetableToldOf c (now (bank .entry))) (wavetableNextOf c (now (bank .entry))) self) (length (now (marks .entry))) ⌝ }
     {
         let old = self.phase;
         let sample_rate = self.sample_rate;
@@ -377,11 +376,12 @@ impl Wavetable {
         samples: &mut [f64],
         marks: &mut [u32],
     ) -> WavetableBlock
-        ensures { λ r. ⌜ block (r .refused) (r .wavetable) (r .tally) (now (samples .exit)) (now (marks .exit)) ≡ wavetableBlockOf self c tally (now (bank .entry)) (now (samples .entry)) (now (marks .entry)) ⌝ }
+        ensures { λ r. ⌜ block (r .refused) (r .wavetable) (r .tally) (now (samples .exit)) (now (marks .exit))
+            ≡ wavetableBlockOf self c tally (now (bank .entry)) (now (samples .entry)) (now (marks .entry)) ⌝ }
     {
         let n = marks.len();
         let number = self.tick_refusal(bank.len());
-        let refused = answer::block_refusal(samples.len() == n, number, tally, n);
+        let refused = answer::block_refusal(PORTS, samples.len(), number, tally, n);
         if refused == 0 {
             if n == 0 {
                 WavetableBlock {
@@ -412,34 +412,38 @@ impl Wavetable {
     {
         let n = self.refusal();
         if n == 0 {
-            let sample_rate = self.sample_rate;
-            let freq_memo = self.freq_memo;
-            WavetableMade::Made(Wavetable::at_rest(sample_rate, freq_memo))
+            let start = Turns(0.0);
+            let mut wavetable = self;
+            wavetable.phase = start;
+            wavetable.prev_sync = 0.0;
+            WavetableMade {
+                outcome: Outcome::Done,
+                wavetable,
+            }
         } else {
-            WavetableMade::Refused(n)
+            WavetableMade {
+                outcome: Outcome::Refused(n),
+                wavetable: self,
+            }
         }
     }
 
     pub fn set_sample_rate(self, sample_rate: Hertz) -> WavetableMade
         ensures { λ r. ⌜ r ≡ wavetableSetSampleRateOf self «sample_rate» ⌝ }
     {
-        if common::rate_ok(sample_rate) {
-            let n = self.refusal();
-            if n == 0 {
-                let phase = self.phase;
-                let prev_sync = self.prev_sync;
-                let freq_memo = self.freq_memo;
-                WavetableMade::Made(Wavetable {
-                    phase,
-                    prev_sync,
-                    sample_rate,
-                    freq_memo,
-                })
-            } else {
-                WavetableMade::Refused(n)
+        let n = self.rate_refusal(sample_rate);
+        if n == 0 {
+            let mut wavetable = self;
+            wavetable.sample_rate = sample_rate;
+            WavetableMade {
+                outcome: Outcome::Done,
+                wavetable,
             }
         } else {
-            WavetableMade::Refused(1)
+            WavetableMade {
+                outcome: Outcome::Refused(n),
+                wavetable: self,
+            }
         }
     }
 }

@@ -1,5 +1,5 @@
 use borrow.Author.Tests.{eq-eqb, ne-eqb}
-use Rattle.answer.specs.Flat.{countsPut, playedOf}
+use Rattle.boundary.specs.Flat.{countsPut, playedOf}
 use borrow.Author.Needs.{needs}
 use Rattle.exports_formant_osc.proofs.put_block.Statement.{statement}
 use Rattle.exports_formant_osc.proofs.put_block.Tie as tie

@@ -1,5 +1,4 @@
-use Rattle.answer.specs.Flat.{keptBy}
-use Rattle.exports_formant_osc.specs.Calls.{keptOf}
+use Rattle.boundary.specs.Flat.{keptBy}
 use borrow.Author.Needs.{needs}
 use Rattle.exports_formant_osc.proofs.put_made.Statement.{statement}
 use Rattle.exports_formant_osc.proofs.put_made.Tie as tie
@@ -23,11 +22,11 @@ same-length-2 : tie.Need-same-length-2
 same-length-2 c = search needs
 
 returns : tie.Need-returns
-unfolding keptOf keptBy
+unfolding keptBy
 returns c = simp (c .before .before .before .before .before .before .before .before .before .enum-told .given .1, c .before .before .before .before .before .before .store-floats .ensures, c .before .before .store-wholes .ensures)
 
 returns-2 : tie.Need-returns-2
-unfolding keptOf keptBy
+unfolding keptBy
 returns-2 c = simp (c .before .outcome .given .1)
 
 pub put-made-spec : {M : Type 1} → statement M

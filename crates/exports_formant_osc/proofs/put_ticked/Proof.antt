@@ -1,6 +1,6 @@
 use borrow.Author.Needs.{needs}
 use Rattle.answer.specs.Answer.{voltsOf}
-use Rattle.answer.specs.Flat.{heardOf}
+use Rattle.boundary.specs.Flat.{heardOf}
 use Rattle.exports_formant_osc.specs.State.{samplesOf}
 use Rattle.laws.proofs.Slices.{stored}
 use Rattle.exports_formant_osc.proofs.put_ticked.Statement.{statement}

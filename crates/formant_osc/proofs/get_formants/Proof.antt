@@ -24,11 +24,23 @@ formant-requires-4 : tie.Need-formant-requires-4
 formant-requires-4 c κs = (spot-few _ _ (c .before .before .before .before .spot-of .ensures), omega arith)
 
 formant-requires-5 : tie.Need-formant-requires-5
-formant-requires-5 c κs = (spot-few _ _ (c .before .before .before .before .before .spot-of .ensures), omega arith)
+formant-requires-5 c κs =
+    let spotted = c .before .before .before .before .before in
+    (spot-few _ _ (spotted .spot-of .ensures), omega arith)
 
 returns : tie.Need-returns
 unfolding getFormants
-returns c = simp (c .formant5 .ensures, c .before .formant4 .ensures, c .before .before .formant3 .ensures, c .before .before .before .formant2 .ensures, c .before .before .before .before .formant .ensures, c .before .before .before .before .before .exp2 .ensures, c .before .before .before .before .before .before .spot-of .ensures)
+returns c =
+    let third = c .before .before .before in
+    simp (
+      c .formant5 .ensures,
+      c .before .formant4 .ensures,
+      c .before .before .formant3 .ensures,
+      third .formant2 .ensures,
+      third .before .formant .ensures,
+      third .before .before .exp2 .ensures,
+      third .before .before .before .spot-of .ensures,
+    )
 
 pub get-formants-spec : {M : Type 1} → statement M
 get-formants-spec =

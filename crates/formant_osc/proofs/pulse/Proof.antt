@@ -6,7 +6,7 @@ use lib.ListN.{length, length-set}
 use Rattle.laws.specs.Lists.{over}
 use Rattle.laws.proofs.Over.{over-done, over-none, over-more}
 use Rattle.common.specs.declared.Turns.{Turns}
-use Rattle.formant_osc.specs.Held.{phaseAt, pulseMarkAt}
+use Rattle.formant_osc.specs.Shortcuts.{phaseAt, phaseFlagAt}
 use Rattle.formant_osc.specs.Sound.{glottalPulse}
 use Rattle.formant_osc.proofs.Held.{pulse-turn}
 use Rattle.formant_osc.proofs.pulse.Statement.{statement}
@@ -14,7 +14,12 @@ use Rattle.formant_osc.proofs.pulse.Tie as tie
 
 abbrev Inv-loop : tie.InvT-loop
 Inv-loop samples₀ marks₀ phase₀ i₀ samples marks phase i =
-    (i ≤ length marks₀) × (length samples ≡ length samples₀) × (length marks ≡ length marks₀) × (samples ≡ over (λ k. glottalPulse (phaseAt samples₀ phase₀ k .0)) i samples₀) × (marks ≡ over (pulseMarkAt samples₀ marks₀ phase₀) i marks₀) × (phase ≡ phaseAt samples₀ phase₀ i)
+    (i ≤ length marks₀)
+    × (length samples ≡ length samples₀)
+    × (length marks ≡ length marks₀)
+    × (samples ≡ over (λ k. glottalPulse (phaseAt samples₀ phase₀ k .0)) i samples₀)
+    × (marks ≡ over (phaseFlagAt samples₀ phase₀) i marks₀)
+    × (phase ≡ phaseAt samples₀ phase₀ i)
 
 abbrev μ-loop : tie.MeasureT-loop
 μ-loop samples₀ marks₀ phase₀ i₀ samples marks phase i = length marks₀ - i
@@ -38,17 +43,8 @@ slice-write-samples c = omega arith
 is-finite-requires : tie.Need-is-finite-requires Inv-loop μ-loop
 is-finite-requires c κs = tt
 
-mul-both : tie.Need-mul-both Inv-loop μ-loop
-mul-both c = omega arith
-
-slice-read-both : tie.Need-slice-read-both Inv-loop μ-loop
-slice-read-both c = omega arith
-
-both-requires : tie.Need-both-requires Inv-loop μ-loop
-both-requires c κs = tt
-
-kept-mark-requires : tie.Need-kept-mark-requires Inv-loop μ-loop
-kept-mark-requires c κs = tt
+flag-requires : tie.Need-flag-requires Inv-loop μ-loop
+flag-requires c κs = tt
 
 mul-marks : tie.Need-mul-marks Inv-loop μ-loop
 mul-marks c = omega arith
@@ -67,18 +63,18 @@ loop-less c = omega arith
 
 loop-again : tie.Need-loop-again Inv-loop μ-loop
 loop-again c =
-    let l = c .before .before .before .before .before .before .before .before .before .before .before in
-    let s = l .loop .inv in
-    let z = l .before .before .before .pre in
-    let k = c .before .before .before .before .before .before .before .before .kept-turns .ensures in
-    let f = c .before .before .before .before .is-finite .ensures in
-    let b = c .before .before .both .ensures in
-    let g = c .before .before .before .before .before .glottal-pulse .ensures in
-    let w = pulse-turn _ _ _ _ _ _ _ _ _ _ _ _ _ _ (omega arith) (omega arith) (s .3) (s .4) (s .5) k (c .wrap-phase .ensures) f b (c .before .kept-mark .ensures) in (
+    let pulsed = c .before .before .before in
+    let fetched = pulsed .before .before .before in
+    let looped = fetched .before .before .before in
+    let s = looped .loop .inv in
+    let z = looped .before .before .before .pre in
+    let k = fetched .kept-turns .ensures in
+    let f = c .before .before .is-finite .ensures in
+    let w = pulse-turn _ _ _ _ _ _ _ _ _ _ (omega arith) (s .3) (s .5) k (c .wrap-phase .ensures) f (c .before .flag .ensures) in (
       omega arith,
       simp length-set (s .1),
       simp length-set (s .2),
-      over-more _ _ _ _ _ (omega arith) (s .3) (g ∙ ap (λ (p : Turns). glottalPulse (p .0)) (s .5)),
+      over-more _ _ _ _ _ (omega arith) (s .3) (pulsed .glottal-pulse .ensures ∙ ap (λ (p : Turns). glottalPulse (p .0)) (s .5)),
       over-more _ _ _ _ _ (omega arith) (s .4) (w .1),
       w .0,
     )
@@ -91,10 +87,11 @@ same-length-2 c = c .before .loop .inv .2
 
 returns : tie.Need-returns Inv-loop μ-loop
 returns c =
+    let entered = c .before .before .before .before in
     let s = c .before .loop .inv in
-    let a = c .before .before .before .before .args in
+    let a = entered .args in
     let n : c .before .loop .i ≡ length (a .marks .now) = le-antisymm (s .0) (omega arith) in
-    (s .5 ∙ ap (phaseAt (a .samples .now) (a .start)) n, (over-done _ _ _ _ _ n (c .before .before .before .before .pre) (s .3), over-done _ _ _ _ _ n refl (s .4)))
+    (s .5 ∙ ap (phaseAt (a .samples .now) (a .start)) n, (over-done _ _ _ _ _ n (entered .pre) (s .3), over-done _ _ _ _ _ n refl (s .4)))
 
 pub pulse-spec : {M : Type 1} → statement M
 pulse-spec =
@@ -108,10 +105,7 @@ pulse-spec =
     mul-samples
     slice-write-samples
     is-finite-requires
-    mul-both
-    slice-read-both
-    both-requires
-    kept-mark-requires
+    flag-requires
     mul-marks
     slice-write-marks
     wrap-phase-requires

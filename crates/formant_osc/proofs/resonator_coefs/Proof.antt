@@ -38,7 +38,16 @@ one-coef-requires-5 c κs = search needs
 
 returns : tie.Need-returns
 unfolding resonatorCoefs
-returns c = simp (c .one-coef5 .ensures, c .before .one-coef4 .ensures, c .before .before .one-coef3 .ensures, c .before .before .before .one-coef2 .ensures, c .before .before .before .before .one-coef .ensures, c .before .before .before .before .before .get-formants .ensures)
+returns c =
+    let third = c .before .before .before in
+    simp (
+      c .one-coef5 .ensures,
+      c .before .one-coef4 .ensures,
+      c .before .before .one-coef3 .ensures,
+      third .one-coef2 .ensures,
+      third .before .one-coef .ensures,
+      third .before .before .get-formants .ensures,
+    )
 
 pub resonator-coefs-spec : {M : Type 1} → statement M
 resonator-coefs-spec =

@@ -93,8 +93,28 @@ array-read-resonate-25 c = search needs
 resonate-requires-5 : tie.Need-resonate-requires-5
 resonate-requires-5 c κs = search needs
 
+array-read-t13 : tie.Need-array-read-t13
+array-read-t13 c = search needs
+
+array-read-t19 : tie.Need-array-read-t19
+array-read-t19 c = search needs
+
+array-read-t76 : tie.Need-array-read-t76
+array-read-t76 c = search needs
+
+array-read-t82 : tie.Need-array-read-t82
+array-read-t82 c = search needs
+
+array-read-t88 : tie.Need-array-read-t88
+array-read-t88 c = search needs
+
 returns : tie.Need-returns
-returns c = rung-by (c .before .before .before .before .before .before .before .before .before .before .args .t1) (c .before .before .before .before .before .before .before .before .before .before .args .t2) (c .before .before .before .before .before .before .before .before .before .before .args .x) _ _ _ _ _ (c .before .before .before .before .before .before .before .before .before .resonate .ensures) (c .before .before .before .before .before .before .before .before .resonate2 .ensures) (c .before .before .before .before .before .before .before .resonate3 .ensures) (c .before .before .before .before .before .before .resonate4 .ensures) (c .before .before .before .before .before .resonate5 .ensures)
+returns c =
+    let last = c .before .before .before .before .before in
+    let first = last .before .before .before .before in
+    let a = first .before .args in
+    rung-by (a .t1) (a .t2) (a .x) _ _ _ _ _ (first .resonate .ensures) (last .before .before .before .resonate2 .ensures)
+    (last .before .before .resonate3 .ensures) (last .before .resonate4 .ensures) (last .resonate5 .ensures)
 
 pub ring-spec : {M : Type 1} → statement M
 ring-spec =
@@ -130,4 +150,9 @@ ring-spec =
     array-read-resonate-24
     array-read-resonate-25
     resonate-requires-5
+    array-read-t13
+    array-read-t19
+    array-read-t76
+    array-read-t82
+    array-read-t88
     returns)

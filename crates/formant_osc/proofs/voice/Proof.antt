@@ -1,21 +1,25 @@
 use mathlib.Core.Path.{_≡_, refl, ap, _∙_}
-use Prim.Native.Nat.{_-_, _≤_}
+use Prim.Native.Nat.{_-_, _<_, _≤_}
 use native.Mathlib.Nat.{le-antisymm}
 use native.Mathlib.Omega.{arith}
-use lib.ListN.{length, length-set}
+use lib.ListN.{length}
 use Rattle.answer.specs.Answer.{hostNumber, voltsOf}
 use Rattle.laws.specs.Lists.{over}
 use Rattle.laws.proofs.Over.{over-done, over-none, over-more}
 use Rattle.answer.specs.declared.Answer.{Answer}
-use Rattle.answer.specs.declared.Volts.{Volts}
-use Rattle.formant_osc.specs.Held.{cellsAt, voicedAt}
-use Rattle.formant_osc.proofs.Held.{voiced-turn}
+use Rattle.formant_osc.specs.Shortcuts.{cellsAt, voicedAt}
+use Rattle.formant_osc.proofs.Held.{voiced-turn, one-put}
 use Rattle.formant_osc.proofs.voice.Statement.{statement}
 use Rattle.formant_osc.proofs.voice.Tie as tie
 
 abbrev Inv-loop : tie.InvT-loop
 Inv-loop c samples₀ marks₀ cells₀ i₀ samples marks cells i =
-    (i ≤ length marks₀) × (length samples ≡ length samples₀) × (length marks ≡ length marks₀) × (samples ≡ over (λ k. voltsOf (voicedAt c cells₀ samples₀ marks₀ k) .p10) i samples₀) × (marks ≡ over (λ k. hostNumber (voicedAt c cells₀ samples₀ marks₀ k)) i marks₀) × (cells ≡ cellsAt c samples₀ cells₀ i)
+    (i ≤ length marks₀)
+    × (length samples ≡ length samples₀)
+    × (length marks ≡ length marks₀)
+    × (samples ≡ over (λ k. voltsOf (voicedAt c cells₀ samples₀ marks₀ k) .p10) i samples₀)
+    × (marks ≡ over (λ k. hostNumber (voicedAt c cells₀ samples₀ marks₀ k)) i marks₀)
+    × (cells ≡ cellsAt c samples₀ cells₀ i)
 
 abbrev μ-loop : tie.MeasureT-loop
 μ-loop c samples₀ marks₀ cells₀ i₀ samples marks cells i = length marks₀ - i
@@ -33,45 +37,56 @@ slice-read-ring c = omega arith
 ring-requires : tie.Need-ring-requires Inv-loop μ-loop
 ring-requires c κs = tt
 
-mul-voiced : tie.Need-mul-voiced Inv-loop μ-loop
-mul-voiced c = omega arith
+mul-is-flagged : tie.Need-mul-is-flagged Inv-loop μ-loop
+mul-is-flagged c = omega arith
 
-slice-read-voiced : tie.Need-slice-read-voiced Inv-loop μ-loop
-slice-read-voiced c = omega arith
+slice-read-is-flagged : tie.Need-slice-read-is-flagged Inv-loop μ-loop
+slice-read-is-flagged c = omega arith
+
+is-flagged-requires : tie.Need-is-flagged-requires Inv-loop μ-loop
+is-flagged-requires c κs = tt
 
 voiced-requires : tie.Need-voiced-requires Inv-loop μ-loop
 voiced-requires c κs = tt
 
-samples-requires : tie.Need-samples-requires Inv-loop μ-loop
-samples-requires c κs = tt
-
-mul-samples : tie.Need-mul-samples Inv-loop μ-loop
-mul-samples c = omega arith
-
-slice-write-samples : tie.Need-slice-write-samples Inv-loop μ-loop
-slice-write-samples c = omega arith
-
-host-number-requires : tie.Need-host-number-requires Inv-loop μ-loop
-host-number-requires c κs = tt
-
-mul-marks : tie.Need-mul-marks Inv-loop μ-loop
-mul-marks c = omega arith
-
-slice-write-marks : tie.Need-slice-write-marks Inv-loop μ-loop
-slice-write-marks c = omega arith
+put-requires : tie.Need-put-requires Inv-loop μ-loop
+put-requires c κs = tt
 
 add-i : tie.Need-add-i Inv-loop μ-loop
-add-i c = omega arith
+add-i c =
+    let put = c .before .before .before .before .before in
+    let voiced = put .before .before .before in let rung = voiced .before .before .before in
+    let looped = rung .before .before .before in
+    omega (arith, rung .before .before .loop-test .taken, looped .loop .inv .2, looped .before .before .before .good)
 
 loop-less : tie.Need-loop-less Inv-loop μ-loop
-loop-less c = omega arith
+loop-less c =
+    let put = c .before .before .before .before .before in
+    let voiced = put .before .before .before in let rung = voiced .before .before .before in
+    omega (arith, rung .before .before .loop-test .taken, rung .before .before .before .loop .inv .2)
 
 loop-again : tie.Need-loop-again Inv-loop μ-loop
 loop-again c =
-    let s = c .before .before .before .before .before .before .before .before .loop .inv in
-    let p = c .before .before .before .before .before .before .before .before .before .before .before .pre in
-    let t = voiced-turn _ _ _ _ _ _ _ _ _ _ _ _ (omega arith) (omega arith) (s .3) (s .4) (s .5) (c .before .before .before .before .before .ring .ensures) (c .before .before .before .voiced .ensures) in
-    (omega arith, simp length-set (s .1), simp length-set (s .2), over-more _ _ _ _ _ (omega arith) (s .3) (ap (λ (v : Volts). v .p10) (c .before .before .samples .ensures) ∙ ap (λ (a : Answer). voltsOf a .p10) (t .0)), over-more _ _ _ _ _ (omega arith) (s .4) (c .before .host-number .ensures ∙ ap hostNumber (t .0)), t .1)
+    let put = c .before .before .before .before .before in
+    let voiced = put .before .before .before in
+    let rung = voiced .before .before .before in
+    let looped = rung .before .before .before in
+    let s = looped .loop .inv in
+    let p = put .put .ensures in
+    let k = put .put .kept in
+    let z = looped .before .before .before .pre in
+    let i = rw (s .2) at (rung .before .before .loop-test .taken) in
+    let j : looped .loop .i < length (looped .loop .samples) = omega (arith, i, s .1, z) in
+    let h : looped .loop .i < length (looped .before .before .before .args .samples .now) = omega (arith, i, z) in
+    let t = voiced-turn _ _ _ _ _ _ _ _ _ _ _ _ _ h i (s .3) (s .4) (s .5) (rung .ring .ensures) (voiced .before .is-flagged .ensures)
+    (voiced .voiced .ensures) in (
+      omega (arith, i),
+      k .1 .1 .1 .0 ∙ s .1,
+      k .1 .1 .1 .1 .0 ∙ s .2,
+      rw (p .0, one-put _ _ _ j) (over-more _ _ _ _ _ h (s .3) (ap (λ (a : Answer). voltsOf a .p10) (t .0))),
+      rw (p .1) (over-more _ _ _ _ _ i (s .4) (ap hostNumber (t .0))),
+      t .1,
+    )
 
 same-length : tie.Need-same-length Inv-loop μ-loop
 same-length c = c .before .loop .inv .1
@@ -81,10 +96,11 @@ same-length-2 c = c .before .loop .inv .2
 
 returns : tie.Need-returns Inv-loop μ-loop
 returns c =
+    let entered = c .before .before .before .before in
     let s = c .before .loop .inv in
-    let a = c .before .before .before .before .args in
+    let a = entered .args in
     let n : c .before .loop .i ≡ length (a .marks .now) = le-antisymm (s .0) (omega arith) in
-    (s .5 ∙ ap (λ k. cellsAt (a .c) (a .samples .now) (a .start) k) n, (over-done _ _ _ _ _ n (c .before .before .before .before .pre) (s .3), over-done _ _ _ _ _ n refl (s .4)))
+    (s .5 ∙ ap (λ k. cellsAt (a .c) (a .samples .now) (a .start) k) n, (over-done _ _ _ _ _ n (entered .pre) (s .3), over-done _ _ _ _ _ n refl (s .4)))
 
 pub voice-spec : {M : Type 1} → statement M
 voice-spec =
@@ -96,15 +112,11 @@ voice-spec =
     mul-ring
     slice-read-ring
     ring-requires
-    mul-voiced
-    slice-read-voiced
+    mul-is-flagged
+    slice-read-is-flagged
+    is-flagged-requires
     voiced-requires
-    samples-requires
-    mul-samples
-    slice-write-samples
-    host-number-requires
-    mul-marks
-    slice-write-marks
+    put-requires
     add-i
     loop-less
     loop-again

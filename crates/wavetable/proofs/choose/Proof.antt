@@ -2,7 +2,7 @@ use native.Mathlib.Omega.{arith}
 use borrow.Author.Needs.{needs}
 use Rattle.wavetable.proofs.Accepted.{index-few}
 use Rattle.wavetable.proofs.Levels.{select-is}
-use Rattle.wavetable.specs.Held.{pairOf}
+use Rattle.wavetable.specs.Shortcuts.{pairOf}
 use Rattle.wavetable.proofs.choose.Statement.{statement}
 use Rattle.wavetable.proofs.choose.Tie as tie
 
@@ -38,7 +38,19 @@ blended-requires c κs = search needs
 
 returns : tie.Need-returns
 unfolding pairOf
-returns c = simp (c .blended .ensures, c .before .start2 .ensures, c .before .before .select-level2 .ensures, c .before .before .before .start .ensures, c .before .before .before .before .select-level .ensures, c .before .before .before .before .before .allowed .ensures, c .before .before .before .before .before .before .table-index .ensures, c .before .before .before .before .before .before .before .table-pos .ensures, select-is)
+returns c =
+    let selected = c .before .before .before .before in
+    simp (
+      c .blended .ensures,
+      c .before .start2 .ensures,
+      c .before .before .select-level2 .ensures,
+      c .before .before .before .start .ensures,
+      selected .select-level .ensures,
+      selected .before .allowed .ensures,
+      selected .before .before .table-index .ensures,
+      selected .before .before .before .table-pos .ensures,
+      select-is,
+    )
 
 pub choose-spec : {M : Type 1} → statement M
 choose-spec =

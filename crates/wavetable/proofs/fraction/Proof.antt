@@ -11,7 +11,8 @@ floor-requires : tie.Need-floor-requires
 floor-requires c κs = search needs
 
 returns : tie.Need-returns
-returns c = fraction-is _ _ _ (of-true _ (c .before .before .before .good .0 .1)) (c .before .before .before .pre) (c .real .ensures) (c .before .before .if1 .taken) (c .before .if2 .taken)
+returns c = fraction-is _ _ _ (of-true _ (c .before .before .before .good .0 .1)) (c .before .before .before .pre) (c .real .ensures)
+    (c .before .before .if1 .taken) (c .before .if2 .taken)
 
 returns-2 : tie.Need-returns-2
 returns-2 c = simp (c .floor .ensures)

@@ -1,6 +1,6 @@
 use native.Mathlib.Omega.{arith}
 use borrow.Author.Needs.{needs}
-use Rattle.wavetable.specs.Held.{mixAt}
+use Rattle.wavetable.specs.Shortcuts.{mixAt}
 use Rattle.wavetable.proofs.mix.Statement.{statement}
 use Rattle.wavetable.proofs.mix.Tie as tie
 
@@ -14,7 +14,9 @@ read-table-requires : tie.Need-read-table-requires
 read-table-requires c κs = (c .before .before .before .before .pre .0, c .before .before .before .before .pre .1 .0, omega arith)
 
 read-table-requires-2 : tie.Need-read-table-requires-2
-read-table-requires-2 c κs = (c .before .before .before .before .before .pre .0, c .before .before .before .before .before .pre .1 .1, omega arith)
+read-table-requires-2 c κs =
+    let began = c .before .before .before .before .before in
+    (began .pre .0, began .pre .1 .1, omega arith)
 
 returns : tie.Need-returns
 unfolding mixAt

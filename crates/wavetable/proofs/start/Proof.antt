@@ -6,6 +6,9 @@ use Rattle.wavetable.proofs.start.Tie as tie
 mul-result : tie.Need-mul-result
 mul-result c = search needs
 
+sub-least : tie.Need-sub-least
+sub-least c = search needs
+
 least-requires : tie.Need-least-requires
 least-requires c κs = search needs
 
@@ -20,4 +23,4 @@ unfolding startOf
 returns c = simp (c .least .ensures)
 
 pub start-spec : {M : Type 1} → statement M
-start-spec = tie.close (tie.spec mul-result least-requires mul-result-2 add-result returns)
+start-spec = tie.close (tie.spec mul-result sub-least least-requires mul-result-2 add-result returns)

@@ -1,14 +1,12 @@
-use Rattle.common.specs.Edge.{risesAbove}
+use borrow.Author.Needs.{needs}
 use Rattle.wavetable.proofs.synced.Statement.{statement}
 use Rattle.wavetable.proofs.synced.Tie as tie
 
-returns : tie.Need-returns
-unfolding risesAbove
-returns c = simp (c .if1 .taken)
+rising-requires : tie.Need-rising-requires
+rising-requires c κs = search needs
 
-returns-2 : tie.Need-returns-2
-unfolding risesAbove
-returns-2 c = simp (c .if1 .left)
+returns : tie.Need-returns
+returns c = simp (c .rising .ensures)
 
 pub synced-spec : {M : Type 1} → statement M
-synced-spec = tie.close (tie.spec returns returns-2)
+synced-spec = tie.close (tie.spec rising-requires returns)

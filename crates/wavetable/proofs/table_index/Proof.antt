@@ -6,6 +6,9 @@ use Rattle.wavetable.proofs.table_index.Tie as tie
 to-usize-requires : tie.Need-to-usize-requires
 to-usize-requires c κs = search needs
 
+sub-least : tie.Need-sub-least
+sub-least c = search needs
+
 least-requires : tie.Need-least-requires
 least-requires c κs = search needs
 
@@ -14,4 +17,4 @@ unfolding tableIndexOf
 returns c = simp (c .least .ensures, c .before .to-usize .ensures)
 
 pub table-index-spec : {M : Type 1} → statement M
-table-index-spec = tie.close (tie.spec to-usize-requires least-requires returns)
+table-index-spec = tie.close (tie.spec to-usize-requires sub-least least-requires returns)

@@ -15,11 +15,29 @@ bits-requires-3 c κs = search needs
 
 returns : tie.Need-returns
 unfolding coefHits
-returns c = simp (c .before .bits3 .ensures, ← c .before .before .before .before .bits2 .ensures, eq-eqb _ _ (c .before .before .if3 .taken), ← c .before .before .before .before .before .before .before .bits .ensures, eq-eqb _ _ (c .before .before .before .before .before .if2 .taken), c .before .before .before .before .before .before .before .before .if1 .taken)
+returns c =
+    let second = c .before .before .before .before in
+    let first = second .before .before .before in
+    simp (
+      c .before .bits3 .ensures,
+      ← second .bits2 .ensures,
+      eq-eqb _ _ (c .before .before .if3 .taken),
+      ← first .bits .ensures,
+      eq-eqb _ _ (second .before .if2 .taken),
+      first .before .if1 .taken,
+    )
 
 returns-2 : tie.Need-returns-2
 unfolding coefHits
-returns-2 c = simp (← c .before .before .bits2 .ensures, ne-eqb _ _ (c .if3 .left), ← c .before .before .before .before .before .bits .ensures, eq-eqb _ _ (c .before .before .before .if2 .taken), c .before .before .before .before .before .before .if1 .taken)
+returns-2 c =
+    let first = c .before .before .before .before .before in
+    simp (
+      ← c .before .before .bits2 .ensures,
+      ne-eqb _ _ (c .if3 .left),
+      ← first .bits .ensures,
+      eq-eqb _ _ (c .before .before .before .if2 .taken),
+      first .before .if1 .taken,
+    )
 
 returns-3 : tie.Need-returns-3
 unfolding coefHits

@@ -1,5 +1,5 @@
-use Rattle.formant_osc.specs.FormantOsc.{newFormantOsc, formantUnless, formantNewOf}
 use borrow.Author.Needs.{needs}
+use Rattle.formant_osc.specs.FormantOsc.{newFormantOsc, madeUnless, formantOscNewOf}
 use Rattle.formant_osc.proofs.FormantOsc.new.Statement.{statement}
 use Rattle.formant_osc.proofs.FormantOsc.new.Tie as tie
 
@@ -9,21 +9,16 @@ new-requires c κs = search needs
 new-requires-2 : tie.Need-new-requires-2
 new-requires-2 c κs = search needs
 
-at-rest-requires : tie.Need-at-rest-requires
-at-rest-requires c κs = search needs
-
 rate-ok-requires : tie.Need-rate-ok-requires
 rate-ok-requires c κs = search needs
 
 returns : tie.Need-returns
-unfolding formantNewOf formantUnless newFormantOsc
-returns c = simp (c .if1 .taken, ← c .before .rate-ok .ensures, c .before .before .at-rest .ensures, c .before .before .before .new2 .ensures, c .before .before .before .before .new .ensures)
+unfolding formantOscNewOf madeUnless newFormantOsc
+returns c = simp (c .if1 .taken, ← c .before .rate-ok .ensures, c .before .before .new2 .ensures, c .before .before .before .new .ensures)
 
 returns-2 : tie.Need-returns-2
-unfolding formantNewOf formantUnless newFormantOsc
-returns-2 c = simp (c .if1 .left, ← c .before .rate-ok .ensures, c .before .before .at-rest .ensures, c .before .before .before .new2 .ensures, c .before .before .before .before .new .ensures)
+unfolding formantOscNewOf madeUnless newFormantOsc
+returns-2 c = simp (c .if1 .left, ← c .before .rate-ok .ensures, c .before .before .new2 .ensures, c .before .before .before .new .ensures)
 
 pub new-spec : {M : Type 1} → statement M
-new-spec =
-    tie.close
-    (tie.spec new-requires new-requires-2 at-rest-requires rate-ok-requires returns returns-2)
+new-spec = tie.close (tie.spec new-requires new-requires-2 rate-ok-requires returns returns-2)

@@ -15,10 +15,15 @@ voct-to-hz-requires : tie.Need-voct-to-hz-requires
 voct-to-hz-requires c κs = search needs
 
 drive-requires : tie.Need-drive-requires
-drive-requires c κs = (accepts _ (c .before .before .before .before .before .before .before .before .before .before .before .before .before .before .pre .0) .2, recalled-again _ _ _ _ (c .before .before .before .voct-to-hz .ensures) (c .before .before .before .before .pitch .ensures), c .before .before .before .before .before .before .before .before .before .before .before .before .before .before .pre .2)
+drive-requires c κs =
+    let pitched = c .before .before .before .before in
+    let ready = pitched .before .before .before .before .before in let began = ready .before .before .before .before .before in
+    (accepts _ (began .pre .0) .2, recalled-again _ _ _ _ (c .before .before .before .voct-to-hz .ensures) (pitched .pitch .ensures), began .pre .2)
 
 voice-requires : tie.Need-voice-requires
-voice-requires c κs = let g = c .before .before .before .before .before .before .before .before .before .drive .ensures in tabs-alike _ _ _ _ _ (g .1 .0) (g .1 .1)
+voice-requires c κs =
+    let split = c .before .before .before .before .before in
+    let g = split .before .before .before .before .drive .ensures in tabs-alike _ _ _ _ _ (g .1 .0) (g .1 .1)
 
 same-length : tie.Need-same-length
 same-length c = search needs
@@ -28,11 +33,17 @@ same-length-2 c = search needs
 
 returns : tie.Need-returns
 returns c =
-    let a = c .before .before .before .before .before .before .before .before .before .before .before .before .before .before .before .before .before .before .before .before .before .before .before .before .before .before .before .before .before .args in
-    let p = c .before .before .before .before .before .before .before .before .before .before .before .before .before .before .before .before .before .before .before .before .before .before .before .before .before .before .before .before .before .pre in
-    let g = c .before .before .before .before .before .before .before .before .before .before .before .before .before .before .drive .ensures in
-    let v = c .before .before .before .before .voice .ensures in
-    ran (a .self) (a .c) (length (a .marks .now)) _ _ _ _ _ _ _ _ _ _ (p .0) (p .1) (c .before .before .before .before .before .before .before .before .before .before .before .before .before .before .before .before .before .before .before .before .clamp .ensures) (c .before .before .before .before .before .before .before .before .before .before .before .before .before .before .before .before .before .before .before .pitch .ensures) (c .before .before .before .before .before .before .before .before .before .before .before .before .before .before .before .before .before .before .voct-to-hz .ensures) (p .3) (g .0) (g .1 .0) (g .1 .1) (v .0) (v .1 .0) (v .1 .1)
+    let voiced = c .before .before .before .before in
+    let lent = voiced .before .before .before .before .before in let driven = lent .before .before .before .before .before in
+    let tuned = driven .before .before .before .before in
+    let clamped = tuned .before .before in
+    let ready = clamped .before .before .before .before .before in
+    let a = ready .before .before .before .before .args in
+    let p = ready .before .before .before .before .pre in
+    let g = driven .drive .ensures in
+    let v = voiced .voice .ensures in
+    ran (a .self) (a .c) (length (a .marks .now)) _ _ _ _ _ _ _ _ _ _ (p .0) (p .1) (clamped .clamp .ensures) (tuned .before .pitch .ensures)
+    (tuned .voct-to-hz .ensures) (p .3) (g .0) (g .1 .0) (g .1 .1) (v .0) (v .1 .0) (v .1 .1)
 
 pub play-spec : {M : Type 1} → statement M
 play-spec =

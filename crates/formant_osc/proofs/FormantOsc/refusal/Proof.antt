@@ -1,4 +1,4 @@
-use Rattle.formant_osc.specs.FormantOsc.{formantRefusalOf}
+use Rattle.formant_osc.specs.FormantOsc.{formantOscRefusalOf}
 use borrow.Author.Needs.{needs}
 use Rattle.formant_osc.proofs.FormantOsc.refusal.Statement.{statement}
 use Rattle.formant_osc.proofs.FormantOsc.refusal.Tie as tie
@@ -16,15 +16,33 @@ both-requires : tie.Need-both-requires
 both-requires c κs = search needs
 
 returns : tie.Need-returns
-unfolding formantRefusalOf
-returns c = simp (c .if2 .taken, ← c .before .both .ensures, ← c .before .before .phase-ok2 .ensures, ← c .before .before .before .phase-ok .ensures, c .before .before .before .before .if1 .taken, ← c .before .before .before .before .before .rate-ok .ensures)
+unfolding formantOscRefusalOf
+returns c =
+    let checked = c .before .before .before in
+    simp (
+      c .if2 .taken,
+      ← c .before .both .ensures,
+      ← c .before .before .phase-ok2 .ensures,
+      ← checked .phase-ok .ensures,
+      checked .before .if1 .taken,
+      ← checked .before .before .rate-ok .ensures,
+    )
 
 returns-2 : tie.Need-returns-2
-unfolding formantRefusalOf
-returns-2 c = simp (c .if2 .left, ← c .before .both .ensures, ← c .before .before .phase-ok2 .ensures, ← c .before .before .before .phase-ok .ensures, c .before .before .before .before .if1 .taken, ← c .before .before .before .before .before .rate-ok .ensures)
+unfolding formantOscRefusalOf
+returns-2 c =
+    let checked = c .before .before .before in
+    simp (
+      c .if2 .left,
+      ← c .before .both .ensures,
+      ← c .before .before .phase-ok2 .ensures,
+      ← checked .phase-ok .ensures,
+      checked .before .if1 .taken,
+      ← checked .before .before .rate-ok .ensures,
+    )
 
 returns-3 : tie.Need-returns-3
-unfolding formantRefusalOf
+unfolding formantOscRefusalOf
 returns-3 c = simp (c .if1 .left, ← c .before .rate-ok .ensures)
 
 pub refusal-spec : {M : Type 1} → statement M

@@ -12,14 +12,21 @@ hits-requires c κs = search needs
 
 play-requires : tie.Need-play-requires
 unfolding coefMemoOf coefRecall
-play-requires c κs = let p = c .before .before .before .before .before .before .before .before .before .pre in (p .0, p .1, p .2, simp (← c .before .before .before .before .clamp .ensures, ← c .before .before .before .hits .ensures, c .before .before .if1 .taken))
+play-requires c κs =
+    let clamped = c .before .before .before .before in
+    let p = clamped .before .before .before .before .before .pre in
+    (p .0, p .1, p .2, simp (← clamped .clamp .ensures, ← c .before .before .before .hits .ensures, c .before .before .if1 .taken))
 
 made-requires : tie.Need-made-requires
 made-requires c κs = search needs
 
 play-requires-2 : tie.Need-play-requires-2
 unfolding coefMemoOf coefRecall
-play-requires-2 c κs = let p = c .before .before .before .before .before .before .before .before .before .before .pre in (p .0, p .1, p .2, simp (c .before .before .made .ensures, ← c .before .before .before .before .before .clamp .ensures, ← c .before .before .before .before .hits .ensures, c .before .before .before .if1 .left))
+play-requires-2 c κs =
+    let made = c .before .before in
+    let clamped = made .before .before .before in
+    let p = clamped .before .before .before .before .before .pre in
+    (p .0, p .1, p .2, simp (made .made .ensures, ← clamped .clamp .ensures, ← made .before .before .hits .ensures, made .before .if1 .left))
 
 same-length : tie.Need-same-length
 same-length c = search needs

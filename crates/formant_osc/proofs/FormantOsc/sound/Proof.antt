@@ -1,5 +1,5 @@
-use Rattle.formant_osc.specs.FormantOsc.{freqMemoOf, coefMemoOf, formantRung, formantSoundOf}
-use Rattle.formant_osc.specs.Held.{voicedOf}
+use Rattle.formant_osc.specs.FormantOsc.{freqMemoOf, coefMemoOf, formantOscRung, formantOscSoundOf}
+use Rattle.formant_osc.specs.Shortcuts.{voicedOf}
 use borrow.Author.Needs.{needs}
 use Rattle.formant_osc.proofs.FormantOsc.sound.Statement.{statement}
 use Rattle.formant_osc.proofs.FormantOsc.sound.Tie as tie
@@ -50,8 +50,30 @@ wrap-phase-requires-2 : tie.Need-wrap-phase-requires-2
 wrap-phase-requires-2 c κs = search needs
 
 returns : tie.Need-returns
-unfolding formantSoundOf freqMemoOf coefMemoOf formantRung voicedOf
-returns c = simp (c .wrap-phase2 .ensures, c .before .voiced .ensures, c .before .before .both .ensures, c .before .before .before .is-finite2 .ensures, c .before .before .before .before .is-finite .ensures, c .before .before .before .before .before .before .before .before .ring .ensures, c .before .before .before .before .before .before .before .before .before .before .recall .ensures, c .before .before .before .before .before .before .before .before .before .before .before .glottal-pulse .ensures, c .before .before .before .before .before .before .before .before .before .before .before .before .increment2 .ensures, c .before .before .before .before .before .before .before .before .before .before .before .before .before .voct-to-hz .ensures, c .before .before .before .before .before .before .before .before .before .before .before .before .before .before .pitch .ensures, c .before .before .before .before .before .before .before .before .before .before .before .before .before .before .before .clamp2 .ensures, c .before .before .before .before .before .before .before .before .before .before .before .before .before .before .before .before .clamp .ensures, c .before .before .before .before .before .before .before .before .before .before .before .before .before .before .before .before .before .before .wrap-phase .ensures, c .before .before .before .before .before .before .before .before .before .before .before .before .before .before .before .before .before .before .before .before .before .increment .ensures)
+unfolding formantOscSoundOf freqMemoOf coefMemoOf formantOscRung voicedOf
+returns c =
+    let checked = c .before .before .before in
+    let rung = checked .before .before .before .before .before in
+    let pulsed = rung .before .before .before in
+    let pitched = pulsed .before .before .before in
+    let wrapped = pitched .before .before .before .before in
+    simp (
+      c .wrap-phase2 .ensures,
+      c .before .voiced .ensures,
+      c .before .before .both .ensures,
+      checked .is-finite2 .ensures,
+      checked .before .is-finite .ensures,
+      rung .ring .ensures,
+      rung .before .before .recall .ensures,
+      pulsed .glottal-pulse .ensures,
+      pulsed .before .increment2 .ensures,
+      pulsed .before .before .voct-to-hz .ensures,
+      pitched .pitch .ensures,
+      pitched .before .clamp2 .ensures,
+      pitched .before .before .clamp .ensures,
+      wrapped .wrap-phase .ensures,
+      wrapped .before .before .before .increment .ensures,
+    )
 
 pub sound-spec : {M : Type 1} → statement M
 sound-spec =

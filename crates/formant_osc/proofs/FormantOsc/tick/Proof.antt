@@ -1,5 +1,5 @@
 use borrow.Author.Tests.{ne-eqb, eq-eqb}
-use Rattle.formant_osc.specs.FormantOsc.{formantTickOf}
+use Rattle.formant_osc.specs.FormantOsc.{formantOscTickOf}
 use borrow.Author.Needs.{needs}
 use Rattle.formant_osc.proofs.FormantOsc.tick.Statement.{statement}
 use Rattle.formant_osc.proofs.FormantOsc.tick.Tie as tie
@@ -11,11 +11,11 @@ sound-requires : tie.Need-sound-requires
 sound-requires c κs = search needs
 
 returns : tie.Need-returns
-unfolding formantTickOf
+unfolding formantOscTickOf
 returns c = simp (c .sound .ensures, eq-eqb _ _ (c .before .if1 .taken), ← c .before .before .refusal .ensures)
 
 returns-2 : tie.Need-returns-2
-unfolding formantTickOf
+unfolding formantOscTickOf
 returns-2 c = simp (ne-eqb _ _ (c .if1 .left), ← c .before .refusal .ensures)
 
 pub tick-spec : {M : Type 1} → statement M

@@ -1,24 +1,11 @@
-use mathlib.Core.List.{List}
-use mathlib.Core.Path.{_≡_, ap, _∙_}
-use Prim.Native.Nat.{ℕ, _*_}
-use native.Mathlib.Nat.{one-mul}
+use mathlib.Core.Path.{ap, _∙_}
 use native.Mathlib.Omega.{arith}
-use lib.Dec.{eqb}
-use lib.Ieee.{Float}
-use lib.ListN.{length}
 use borrow.Author.Needs.{needs}
 use Rattle.answer.proofs.Blocks.{block-refused, block-fits, block-empty, block-done}
-use Rattle.answer.specs.Block.{blockRefusalOf}
 use Rattle.answer.specs.Tally.{tallyOr}
-use Rattle.answer.specs.declared.Tally.{Tally}
-use Rattle.wavetable.specs.Wavetable.{wavetableBlockOf}
+use Rattle.wavetable.specs.Wavetable.{nPorts, wavetableBlockOf}
 use Rattle.wavetable.proofs.Wavetable.block.Statement.{statement}
 use Rattle.wavetable.proofs.Wavetable.block.Tie as tie
-
--- one sample a tick
-single : (o : List Float) (m : List ℕ) (t : Tally) (w number n : ℕ) → w ≡ number → n ≡ blockRefusalOf (eqb (length o) (length m)) w t (length m)
-    → n ≡ blockRefusalOf (eqb (length o) (1 * length m)) number t (length m)
-single o m t w number n q e = rw (one-mul (length m), ← q) e
 
 tick-refusal-requires : tie.Need-tick-refusal-requires
 tick-refusal-requires c κs = search needs
@@ -27,7 +14,13 @@ block-refusal-requires : tie.Need-block-refusal-requires
 block-refusal-requires c κs = search needs
 
 run-requires : tie.Need-run-requires
-run-requires c κs = let a = c .before .before .before .before .before .before .before .before .before .args in let f = block-fits 1 _ (a .tally) (a .samples .now) (a .marks .now) _ (single (a .samples .now) (a .marks .now) (a .tally) _ _ _ (c .before .before .before .before .before .tick-refusal .ensures) (c .before .before .before .before .block-refusal .ensures)) (c .before .before .before .if1 .taken) in let z = c .before .before .if2 .left in (f .1, omega arith, f .0)
+run-requires c κs =
+    let judged = c .before .before .before .before in
+    let a = judged .before .before .before .before .before .args in
+    let f = block-fits nPorts _ (a .tally) (a .samples .now) (a .marks .now) _
+    (rw (judged .before .tick-refusal .ensures) at (judged .block-refusal .ensures)) (c .before .before .before .if1 .taken) in
+    let z = c .before .before .if2 .left in
+    (f .1, omega arith, f .0)
 
 take-marks-requires : tie.Need-take-marks-requires
 take-marks-requires c κs = search needs
@@ -37,7 +30,11 @@ or-requires c κs = search needs
 
 returns : tie.Need-returns
 unfolding wavetableBlockOf
-returns c = let a = c .before .before .before .before .before .before .before .args in block-empty 1 _ _ _ (a .self) (a .tally) (a .samples .now) (a .marks .now) _ (single (a .samples .now) (a .marks .now) (a .tally) _ _ _ (c .before .before .before .tick-refusal .ensures) (c .before .before .block-refusal .ensures)) (c .before .if1 .taken) (c .if2 .taken)
+returns c =
+    let judged = c .before .before in
+    let a = judged .before .before .before .before .before .args in
+    block-empty nPorts _ _ _ (a .self) (a .tally) (a .samples .now) (a .marks .now) _
+    (rw (judged .before .tick-refusal .ensures) at (judged .block-refusal .ensures)) (c .before .if1 .taken) (c .if2 .taken)
 
 same-length : tie.Need-same-length
 same-length c = search needs
@@ -47,11 +44,22 @@ same-length-2 c = search needs
 
 returns-2 : tie.Need-returns-2
 unfolding wavetableBlockOf
-returns-2 c = let a = c .before .before .before .before .before .before .before .before .before .before .before .before .before .before .before .before .before .args in let r = c .before .before .before .before .before .before .before .run .ensures in block-done 1 _ _ _ (a .self) (a .tally) (a .samples .now) (a .marks .now) _ (single (a .samples .now) (a .marks .now) (a .tally) _ _ _ (c .before .before .before .before .before .before .before .before .before .before .before .before .before .tick-refusal .ensures) (c .before .before .before .before .before .before .before .before .before .before .before .before .block-refusal .ensures)) (c .before .before .before .before .before .before .before .before .before .before .before .if1 .taken) _ _ _ _ (r .0) (r .1 .0) (r .1 .1) (c .or .ensures ∙ ap (tallyOr (a .tally)) (c .before .take-marks .ensures))
+returns-2 c =
+    let marked = c .before .before .before .before .before in let tested = marked .before .before .before .before .before in
+    let judged = tested .before .before in
+    let a = judged .before .before .before .before .before .args in
+    let r = marked .before .before .run .ensures in
+    block-done nPorts _ _ _ (a .self) (a .tally) (a .samples .now) (a .marks .now) _
+    (rw (judged .before .tick-refusal .ensures) at (judged .block-refusal .ensures)) (tested .before .if1 .taken) _ _ _ _ (r .0) (r .1 .0)
+    (r .1 .1) (c .or .ensures ∙ ap (tallyOr (a .tally)) (c .before .take-marks .ensures))
 
 returns-3 : tie.Need-returns-3
 unfolding wavetableBlockOf
-returns-3 c = let a = c .before .before .before .before .before .before .args in block-refused 1 _ _ _ (a .self) (a .tally) (a .samples .now) (a .marks .now) _ (single (a .samples .now) (a .marks .now) (a .tally) _ _ _ (c .before .before .tick-refusal .ensures) (c .before .block-refusal .ensures)) (c .if1 .left)
+returns-3 c =
+    let judged = c .before .before in
+    let a = judged .before .before .before .before .args in
+    block-refused nPorts _ _ _ (a .self) (a .tally) (a .samples .now) (a .marks .now) _
+    (rw (judged .tick-refusal .ensures) at (c .before .block-refusal .ensures)) (c .if1 .left)
 
 pub block-spec : {M : Type 1} → statement M
 block-spec =

@@ -4,6 +4,7 @@ use borrow.Author.Needs.{needs}
 use Rattle.answer.proofs.Blocks.{held-after, held-marks, held-frames}
 use Rattle.wavetable.proofs.Accepted.{bank-sized, pair-fits}
 use Rattle.wavetable.proofs.Held.{holds}
+use Rattle.wavetable.specs.Wavetable.{nPorts}
 use Rattle.wavetable.proofs.Wavetable.run.Statement.{statement}
 use Rattle.wavetable.proofs.Wavetable.run.Tie as tie
 
@@ -23,7 +24,12 @@ choose-requires : tie.Need-choose-requires
 choose-requires c κs = search needs
 
 glide-requires : tie.Need-glide-requires
-glide-requires c κs = (bank-sized _ _ (c .before .before .before .before .before .before .before .before .before .before .before .before .before .before .before .pre .0), pair-fits _ _ _ _ (c .before .before .choose .ensures), c .before .before .before .before .before .before .before .before .before .before .before .before .before .before .before .pre .2)
+glide-requires c κs =
+    let chosen = c .before .before in
+    let synced = chosen .before .before .before .before .before in
+    let lent = synced .before .before .before .before .before in
+    let began = lent .before .before .before in
+    (bank-sized _ _ (began .pre .0), pair-fits _ _ _ _ (chosen .choose .ensures), began .pre .2)
 
 same-length : tie.Need-same-length
 same-length c = search needs
@@ -32,7 +38,38 @@ same-length-2 : tie.Need-same-length-2
 same-length-2 c = search needs
 
 returns : tie.Need-returns
-returns c = let a = c .before .before .before .before .before .before .before .before .before .before .before .before .before .before .before .before .before .before .before .before .args in let p = c .before .before .before .before .before .before .before .before .before .before .before .before .before .before .before .before .before .before .before .before .pre in let g = c .before .before .before .before .glide .ensures in let w = holds (a .self) (a .c) (a .bank .now) (p .0) in let n = length (a .marks .now) in (simp (g .0, c .before .before .before .before .before .before .before .before .increment .ensures, c .before .before .before .before .before .before .before .before .before .before .voct-to-hz .ensures, c .before .before .before .before .before .before .before .before .before .before .before .restart .ensures, c .before .before .before .before .before .before .before .before .before .before .before .before .synced .ensures) (sym (held-after _ _ _ _ _ _ _ _ w n (p .1))), (g .1 .0 ∙ simp (c .before .before .before .before .before .before .before .choose .ensures, c .before .before .before .before .before .before .before .before .increment .ensures, c .before .before .before .before .before .before .before .before .before .before .voct-to-hz .ensures, c .before .before .before .before .before .before .before .before .before .before .before .restart .ensures, c .before .before .before .before .before .before .before .before .before .before .before .before .synced .ensures) (sym (held-frames _ _ _ _ _ _ _ _ w 1 n)), g .1 .1 ∙ simp (c .before .before .before .before .before .before .before .choose .ensures, c .before .before .before .before .before .before .before .before .increment .ensures, c .before .before .before .before .before .before .before .before .before .before .voct-to-hz .ensures, c .before .before .before .before .before .before .before .before .before .before .before .restart .ensures, c .before .before .before .before .before .before .before .before .before .before .before .before .synced .ensures) (sym (held-marks _ _ _ _ _ _ _ _ w n))))
+returns c =
+    let glided = c .before .before .before .before in
+    let chosen = glided .before .before .before in
+    let tuned = chosen .before .before .before in
+    let synced = tuned .before .before in
+    let lent = synced .before .before .before .before .before in
+    let a = lent .before .before .before .args in
+    let p = lent .before .before .before .pre in
+    let g = glided .glide .ensures in
+    let w = holds (a .self) (a .c) (a .bank .now) (p .0) in
+    let n = length (a .marks .now) in (
+      simp (g .0, chosen .before .increment .ensures, tuned .voct-to-hz .ensures, tuned .before .restart .ensures, synced .synced .ensures)
+          (sym (held-after _ _ _ _ _ _ _ _ w n (p .1))),
+      (
+        g .1 .0
+            ∙ simp (
+              chosen .choose .ensures,
+              chosen .before .increment .ensures,
+              tuned .voct-to-hz .ensures,
+              tuned .before .restart .ensures,
+              synced .synced .ensures,
+            ) (sym (held-frames _ _ _ _ _ _ _ _ w nPorts n)),
+        g .1 .1
+            ∙ simp (
+              chosen .choose .ensures,
+              chosen .before .increment .ensures,
+              tuned .voct-to-hz .ensures,
+              tuned .before .restart .ensures,
+              synced .synced .ensures,
+            ) (sym (held-marks _ _ _ _ _ _ _ _ w n)),
+      ),
+    )
 
 pub run-spec : {M : Type 1} → statement M
 run-spec =

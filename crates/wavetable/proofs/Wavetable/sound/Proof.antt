@@ -21,7 +21,12 @@ choose-requires : tie.Need-choose-requires
 choose-requires c κs = search needs
 
 mix-requires : tie.Need-mix-requires
-mix-requires c κs = (c .before .before .before .before .before .before .before .before .before .before .before .pre, pair-fits _ _ _ _ (c .choose .ensures))
+mix-requires c κs =
+    let synced = c .before .before .before .before .before in let known = synced .before .before .before .before .before in
+    (known .before .pre, pair-fits _ _ _ _ (c .choose .ensures))
+
+volts1-requires : tie.Need-volts1-requires
+volts1-requires c κs = search needs
 
 is-finite-requires : tie.Need-is-finite-requires
 is-finite-requires c κs = search needs
@@ -34,7 +39,24 @@ wrap-phase-requires c κs = search needs
 
 returns : tie.Need-returns
 unfolding wavetableSoundOf
-returns c = simp (c .wrap-phase .ensures, c .before .mark .ensures, c .before .before .is-finite .ensures, c .before .before .before .before .before .mix .ensures, c .before .before .before .before .before .before .choose .ensures, c .before .before .before .before .before .before .before .increment .ensures, c .before .before .before .before .before .before .before .before .before .voct-to-hz .ensures, c .before .before .before .before .before .before .before .before .before .before .restart .ensures, c .before .before .before .before .before .before .before .before .before .before .before .synced .ensures, mix-pair)
+returns c =
+    let marked = c .before in
+    let mixed = marked .before .before .before .before .before in
+    let stepped = mixed .before .before in
+    let started = stepped .before .before .before in
+    simp (
+      c .wrap-phase .ensures,
+      marked .mark .ensures,
+      marked .before .is-finite .ensures,
+      marked .before .before .volts1 .ensures,
+      mixed .mix .ensures,
+      mixed .before .choose .ensures,
+      stepped .increment .ensures,
+      stepped .before .before .voct-to-hz .ensures,
+      started .restart .ensures,
+      started .before .synced .ensures,
+      mix-pair,
+    )
 
 pub sound-spec : {M : Type 1} → statement M
 sound-spec =
@@ -46,6 +68,7 @@ sound-spec =
     increment-requires
     choose-requires
     mix-requires
+    volts1-requires
     is-finite-requires
     mark-requires
     wrap-phase-requires

@@ -7,12 +7,13 @@ use borrow.Author.Needs.{needs}
 use Rattle.wavetable.proofs.Cells.{series-cell, series-within, right-more, right-next}
 use Rattle.wavetable.proofs.Counts.{terms-anti, terms-most}
 use Rattle.wavetable.specs.Bank.{sumOf, termsOf}
-use Rattle.wavetable.specs.Columns.{Right}
+use Rattle.wavetable.specs.Shortcuts.{Right}
 use Rattle.wavetable.proofs.bank.column.Statement.{statement}
 use Rattle.wavetable.proofs.bank.column.Tie as tie
 
 abbrev Inv-loop : tie.InvT-loop
-Inv-loop part₀ table i factors by level₀ k₀ sum₀ part level k sum = (level ≤ 8) × (length part ≡ 2048) × ((l : ℕ) → l < level → k ≤ termsOf table l) × (sum ≡ sumOf table k i) × Right table part i level
+Inv-loop part₀ table i factors by level₀ k₀ sum₀ part level k sum =
+    (level ≤ 8) × (length part ≡ 2048) × ((l : ℕ) → l < level → k ≤ termsOf table l) × (sum ≡ sumOf table k i) × Right table part i level
 
 abbrev μ-loop : tie.MeasureT-loop
 μ-loop part₀ table i factors by level₀ k₀ sum₀ part level k sum = level
@@ -35,8 +36,14 @@ extend-requires c κs =
     let a = c .before .before .before .before .before in
     let s = c .before .before .loop .inv in
     let e = c .terms .ensures in
-    let w = series-within (a .args .table) (a .pre .2) in
-    (le-trans (s .2 (c .before .before .loop .level - 1) (omega arith)) (le-of-eq (sym e)), le-trans (le-of-eq e) (terms-most (a .args .table) (c .before .before .loop .level - 1)), s .3, a .pre .3, w .0, w .1)
+    let w = series-within (a .args .table) (a .pre .2) in (
+      le-trans (s .2 (c .before .before .loop .level - 1) (omega arith)) (le-of-eq (sym e)),
+      le-trans (le-of-eq e) (terms-most (a .args .table) (c .before .before .loop .level - 1)),
+      s .3,
+      a .pre .3,
+      w .0,
+      w .1,
+    )
 
 mul-part : tie.Need-mul-part Inv-loop μ-loop
 mul-part c = omega arith
@@ -55,15 +62,17 @@ loop-less c = omega arith
 
 loop-again : tie.Need-loop-again Inv-loop μ-loop
 loop-again c =
-    let a = c .before .before .before .before .before .before in
-    let s = c .before .before .before .loop .inv in
+    let looped = c .before .before .before in
+    let a = looped .before .before .before in
+    let s = looped .loop .inv in
     let e = c .before .terms .ensures in (
       omega arith,
       simp length-set (s .1),
-      λ l h. le-trans (le-of-eq e) (terms-anti (a .args .table) l (c .before .before .before .loop .level - 1) (omega arith)),
+      λ l h. le-trans (le-of-eq e) (terms-anti (a .args .table) l (looped .loop .level - 1) (omega arith)),
       c .extend .ensures,
-      right-more (a .args .table) (a .args .i) (c .before .before .before .loop .level - 1) (c .before .before .before .loop .level) (c .before .before .before .loop .part) _ (omega arith) (s .1) (a .pre .1) (omega arith)
-          (series-cell _ _ _ _ _ (a .pre .2) (c .extend .ensures ∙ ap (λ x. sumOf (a .args .table) x (a .args .i)) e) (c .before .before .before .before .scale .ensures)) (s .4),
+      right-more (a .args .table) (a .args .i) (looped .loop .level - 1) (looped .loop .level) (looped .loop .part) _ (omega arith) (s .1) (a .pre .1)
+          (omega arith)
+          (series-cell _ _ _ _ _ (a .pre .2) (c .extend .ensures ∙ ap (λ x. sumOf (a .args .table) x (a .args .i)) e) (looped .before .scale .ensures)) (s .4),
     )
 
 same-length : tie.Need-same-length Inv-loop μ-loop

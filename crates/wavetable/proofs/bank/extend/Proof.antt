@@ -26,7 +26,9 @@ element-copy-out-term : tie.Need-element-copy-out-term Inv-loop μ-loop
 element-copy-out-term c = omega arith
 
 term-requires : tie.Need-term-requires Inv-loop μ-loop
-term-requires c κs = (omega arith, c .before .before .before .pre .4, c .before .before .before .pre .5, ap (λ l. getD l (c .before .before .loop .j) nan) (c .before .before .before .pre .3) ∙ getD-tab nan _ 64 _ (omega arith))
+term-requires c κs =
+    let began = c .before .before .before in
+    (omega arith, began .pre .4, began .pre .5, ap (λ l. getD l (c .before .before .loop .j) nan) (began .pre .3) ∙ getD-tab nan _ 64 _ (omega arith))
 
 add-j : tie.Need-add-j Inv-loop μ-loop
 add-j c = omega arith
@@ -39,7 +41,9 @@ unfolding sumOf
 loop-again c = let s = c .before .before .before .loop .inv in (omega arith, omega arith, rw (add-one, s .2, c .term .ensures))
 
 returns : tie.Need-returns Inv-loop μ-loop
-returns c = let s = c .before .loop .inv in s .2 ∙ ap (λ k. sumOf (c .before .before .args .table) k (c .before .before .args .i)) (le-antisymm (s .1) (c .loop-test .left))
+returns c =
+    let s = c .before .loop .inv in
+    s .2 ∙ ap (λ k. sumOf (c .before .before .args .table) k (c .before .before .args .i)) (le-antisymm (s .1) (c .loop-test .left))
 
 pub extend-spec : {M : Type 1} → statement M
 extend-spec =

@@ -1,7 +1,7 @@
 use borrow.Author.Needs.{needs}
 use borrow.Author.Tests.{eq-eqb, ne-eqb}
 use Rattle.wavetable.specs.Bank.{coefOf}
-use Rattle.wavetable.specs.Columns.{factorOf}
+use Rattle.wavetable.specs.Shortcuts.{factorOf}
 use Rattle.wavetable.proofs.bank.factor.Statement.{statement}
 use Rattle.wavetable.proofs.bank.factor.Tie as tie
 
@@ -29,7 +29,13 @@ returns c = simp (eq-eqb _ _ (c .before .before .before .if1 .taken), c .sin .en
 
 returns-2 : tie.Need-returns-2
 unfolding factorOf coefOf
-returns-2 c = simp (ne-eqb _ _ (c .before .before .before .before .if1 .left), eq-eqb _ _ (c .before .before .before .if2 .taken), c .sin2 .ensures, c .before .real2 .ensures, c .before .before .harmonic2 .ensures)
+returns-2 c = simp (
+  ne-eqb _ _ (c .before .before .before .before .if1 .left),
+  eq-eqb _ _ (c .before .before .before .if2 .taken),
+  c .sin2 .ensures,
+  c .before .real2 .ensures,
+  c .before .before .harmonic2 .ensures,
+)
 
 returns-3 : tie.Need-returns-3
 unfolding factorOf

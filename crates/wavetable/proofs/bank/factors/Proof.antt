@@ -8,7 +8,7 @@ use lib.ListN.{length, length-set, getD}
 use borrow.Author.Needs.{needs}
 use Rattle.laws.proofs.Over.{cells-more, by-cells}
 use Rattle.wavetable.specs.Bank.{turned}
-use Rattle.wavetable.specs.Columns.{firstSign, factorOf}
+use Rattle.wavetable.specs.Shortcuts.{firstSign, factorOf}
 use Rattle.wavetable.proofs.bank.factors.Statement.{statement}
 use Rattle.wavetable.proofs.bank.factors.Tie as tie
 
@@ -42,7 +42,13 @@ loop-less c = omega arith
 
 loop-again : tie.Need-loop-again Inv-loop μ-loop
 unfolding turned
-loop-again c = let s = c .before .before .loop .inv in (omega arith, simp length-set (s .1), cells-more nan _ _ (c .before .before .loop .f) _ (omega arith) (c .factor .ensures) (s .2), rw add-one (ap neg (s .3)))
+loop-again c =
+    let s = c .before .before .loop .inv in (
+      omega arith,
+      simp length-set (s .1),
+      cells-more nan _ _ (c .before .before .loop .f) _ (omega arith) (c .factor .ensures) (s .2),
+      rw add-one (ap neg (s .3)),
+    )
 
 returns : tie.Need-returns Inv-loop μ-loop
 returns c = let s = c .before .loop .inv in by-cells nan _ 64 _ (s .1) (λ i h. s .2 i (omega arith))

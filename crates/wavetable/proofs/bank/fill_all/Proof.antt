@@ -47,8 +47,13 @@ loop-less c = omega arith
 
 loop-again : tie.Need-loop-again Inv-loop μ-loop
 loop-again c =
-    let s = c .before .before .before .before .before .loop .inv in
-    (omega arith, c .before .bank .given .1 ∙ s .1, next-table (c .before .before .before .before .before .loop .table) (c .before .before .before .before .before .loop .bank) _ _ (s .1) (c .before .before .before .before .loop-test .taken) (s .2) (c .before .before .fill-part .ensures))
+    let going = c .before .before .before .before in
+    let s = going .before .loop .inv in (
+      omega arith,
+      c .before .bank .given .1
+          ∙ s .1,
+      next-table (going .before .loop .table) (going .before .loop .bank) _ _ (s .1) (going .loop-test .taken) (s .2) (c .before .before .fill-part .ensures),
+    )
 
 same-length : tie.Need-same-length Inv-loop μ-loop
 same-length c = c .before .loop .inv .1 ∙ sym (c .before .before .before .pre)

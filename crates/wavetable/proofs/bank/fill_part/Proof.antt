@@ -10,7 +10,8 @@ fill-series-requires : tie.Need-fill-series-requires
 fill-series-requires c κs = (c .before .before .before .before .pre .0, sym (c .before .before .is-series .ensures) ∙ c .before .if1 .taken)
 
 fill-plain-requires : tie.Need-fill-plain-requires
-fill-plain-requires c κs = (c .before .before .before .before .pre .0, c .before .before .before .before .pre .1, sym (c .before .before .is-series .ensures) ∙ c .before .if1 .left)
+fill-plain-requires c κs =
+    (c .before .before .before .before .pre .0, c .before .before .before .before .pre .1, sym (c .before .before .is-series .ensures) ∙ c .before .if1 .left)
 
 same-length : tie.Need-same-length
 same-length c = search needs

@@ -35,14 +35,20 @@ loop-less : tie.Need-loop-less Inv-loop μ-loop
 loop-less c = omega arith
 
 loop-again : tie.Need-loop-again Inv-loop μ-loop
-loop-again c = let s = c .before .before .loop .inv in let a = c .before .before .before .before in (omega arith, simp length-set (s .1), over-more _ _ _ _ _ (omega arith) (s .2) (plain-cell _ _ _ (a .pre .2) (c .plain .ensures)))
+loop-again c =
+    let s = c .before .before .loop .inv in
+    let a = c .before .before .before .before in
+    (omega arith, simp length-set (s .1), over-more _ _ _ _ _ (omega arith) (s .2) (plain-cell _ _ _ (a .pre .2) (c .plain .ensures)))
 
 same-length : tie.Need-same-length Inv-loop μ-loop
 same-length c = c .before .loop .inv .1
 
 returns : tie.Need-returns Inv-loop μ-loop
 unfolding tableOf
-returns c = let s = c .before .loop .inv in let a = c .before .before .before in s .2 ∙ ap (λ k. over (tableCell (a .args .table)) k (a .args .part .now)) (le-antisymm (s .0) (c .loop-test .left)) ∙ over-all _ 2048 _ (a .pre .0)
+returns c =
+    let s = c .before .loop .inv in
+    let a = c .before .before .before in
+    s .2 ∙ ap (λ k. over (tableCell (a .args .table)) k (a .args .part .now)) (le-antisymm (s .0) (c .loop-test .left)) ∙ over-all _ 2048 _ (a .pre .0)
 
 pub fill-plain-spec : {M : Type 1} → statement M
 fill-plain-spec =

@@ -4,7 +4,7 @@ use native.Mathlib.Omega.{arith}
 use lib.ListN.{length}
 use borrow.Author.Needs.{needs}
 use Rattle.wavetable.proofs.Cells.{right-none, right-all}
-use Rattle.wavetable.specs.Columns.{Right}
+use Rattle.wavetable.specs.Shortcuts.{Right}
 use Rattle.wavetable.proofs.bank.fill_series.Statement.{statement}
 use Rattle.wavetable.proofs.bank.fill_series.Tie as tie
 
@@ -21,7 +21,10 @@ loop-holds : tie.Need-loop-holds Inv-loop μ-loop
 loop-holds c = (omega arith, c .before .before .pre .0, right-none (c .before .before .args .table) (c .before .before .args .part .now))
 
 column-requires : tie.Need-column-requires Inv-loop μ-loop
-column-requires c κs = let s = c .before .before .before .loop .inv in (s .1, c .before .before .loop-test .taken, c .before .before .before .before .before .before .pre .1, c .before .before .before .before .factors .ensures, s .2)
+column-requires c κs =
+    let at-factors = c .before .before .before .before in
+    let s = c .before .before .before .loop .inv in
+    (s .1, c .before .before .loop-test .taken, at-factors .before .before .pre .1, at-factors .factors .ensures, s .2)
 
 add-i : tie.Need-add-i Inv-loop μ-loop
 add-i c = omega arith
@@ -30,7 +33,10 @@ loop-less : tie.Need-loop-less Inv-loop μ-loop
 loop-less c = omega arith
 
 loop-again : tie.Need-loop-again Inv-loop μ-loop
-loop-again c = (omega arith, c .before .before .column .kept .0 ∙ c .before .before .before .before .before .before .loop .inv .1, c .before .before .column .ensures)
+loop-again c =
+    let filled-column = c .before .before in
+    let looped = filled-column .before .before .before .before in
+    (omega arith, filled-column .column .kept .0 ∙ looped .loop .inv .1, filled-column .column .ensures)
 
 same-length : tie.Need-same-length Inv-loop μ-loop
 same-length c = c .before .loop .inv .1 ∙ sym (c .before .before .before .before .pre .0)

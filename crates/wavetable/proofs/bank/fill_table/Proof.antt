@@ -1,5 +1,5 @@
 use borrow.Author.Needs.{needs}
-use borrow.Author.Tests.{eq-eqb, ne-eqb, le-leb, lt-leb}
+use borrow.Author.Tests.{eq-eqb, ne-eqb, lt-ltb, le-ltb}
 use Rattle.wavetable.specs.Bank.{fillTableOf}
 use Rattle.wavetable.proofs.bank.fill_table.Statement.{statement}
 use Rattle.wavetable.proofs.bank.fill_table.Tie as tie
@@ -12,11 +12,13 @@ same-length c = search needs
 
 returns : tie.Need-returns
 unfolding fillTableOf
-returns c = let e = eq-eqb _ _ (c .before .before .before .before .before .if1 .taken) in let f = le-leb _ _ (c .before .before .before .before .if2 .taken) in simp (e, f, c .before .before .fill-part .ensures)
+returns c =
+    let tested-2 = c .before .before .before .before in
+    let e = eq-eqb _ _ (tested-2 .before .if1 .taken) in let f = lt-ltb _ _ (tested-2 .if2 .taken) in simp (e, f, c .before .before .fill-part .ensures)
 
 returns-2 : tie.Need-returns-2
 unfolding fillTableOf
-returns-2 c = let e = eq-eqb _ _ (c .before .if1 .taken) in let f = lt-leb _ _ (c .if2 .left) in simp (e, f)
+returns-2 c = let e = eq-eqb _ _ (c .before .if1 .taken) in let f = le-ltb _ _ (c .if2 .left) in simp (e, f)
 
 returns-3 : tie.Need-returns-3
 unfolding fillTableOf

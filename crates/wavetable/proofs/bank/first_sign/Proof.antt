@@ -1,5 +1,5 @@
 use borrow.Author.Tests.{eq-eqb, ne-eqb}
-use Rattle.wavetable.specs.Columns.{firstSign}
+use Rattle.wavetable.specs.Shortcuts.{firstSign}
 use Rattle.wavetable.proofs.bank.first_sign.Statement.{statement}
 use Rattle.wavetable.proofs.bank.first_sign.Tie as tie
 
