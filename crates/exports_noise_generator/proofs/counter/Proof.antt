@@ -4,12 +4,9 @@ use borrow.Author.Needs.{needs}
 use Rattle.exports_noise_generator.proofs.counter.Statement.{statement}
 use Rattle.exports_noise_generator.proofs.counter.Tie as tie
 
-cast-result : tie.Need-cast-result
-cast-result c = search needs
-
 returns : tie.Need-returns
 unfolding counterOf
 returns c = refl
 
 pub counter-spec : {M : Type 1} → statement M
-counter-spec = tie.close (tie.spec cast-result returns)
+counter-spec = tie.close (tie.spec (λ c. search needs) returns)

@@ -6,15 +6,6 @@ use borrow.Author.Needs.{needs}
 use Rattle.exports_noise_generator.proofs.gruttisol_noise_generator_needed.Statement.{statement}
 use Rattle.exports_noise_generator.proofs.gruttisol_noise_generator_needed.Tie as tie
 
-slice-aggregate-state : tie.Need-slice-aggregate-state
-slice-aggregate-state c = search needs
-
-state-requires : tie.Need-state-requires
-state-requires c κs = search needs
-
-needed-requires : tie.Need-needed-requires
-needed-requires c κs = search needs
-
 returns : tie.Need-returns
 unfolding noiseGeneratorNeededAt neededOf stateOf
 returns c = simp (eq-eqb _ _ (c .before .before .before .if1 .taken), c .needed .ensures, c .before .state .ensures)
@@ -25,4 +16,4 @@ returns-2 c = simp (ne-eqb _ _ (c .if1 .left))
 
 pub gruttisol-noise-generator-needed-spec : {M : Type 1} → statement M
 gruttisol-noise-generator-needed-spec =
-    tie.close (tie.spec slice-aggregate-state state-requires needed-requires returns returns-2)
+    tie.close (tie.spec (λ c. search needs) (λ c κs. search needs) (λ c κs. search needs) returns returns-2)

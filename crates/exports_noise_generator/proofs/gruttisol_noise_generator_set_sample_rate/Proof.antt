@@ -4,25 +4,13 @@ use borrow.Author.Needs.{needs}
 use Rattle.exports_noise_generator.proofs.gruttisol_noise_generator_set_sample_rate.Statement.{statement}
 use Rattle.exports_noise_generator.proofs.gruttisol_noise_generator_set_sample_rate.Tie as tie
 
-sizes-requires : tie.Need-sizes-requires
-sizes-requires c κs = search needs
-
 state-requires : tie.Need-state-requires
 state-requires c κs = sized _ _ _ _ _ (c .before .before .before .sizes .ensures) (c .before .before .if1 .taken)
-
-set-sample-rate-requires : tie.Need-set-sample-rate-requires
-set-sample-rate-requires c κs = search needs
 
 store-requires : tie.Need-store-requires
 store-requires c κs =
     let retuned = c .before .before in let tested = retuned .before .before .before .before in
     sized _ _ _ _ _ (tested .before .sizes .ensures) (tested .if1 .taken)
-
-same-length : tie.Need-same-length
-same-length c = search needs
-
-same-length-2 : tie.Need-same-length-2
-same-length-2 c = search needs
 
 returns : tie.Need-returns
 unfolding noiseGeneratorSetSampleRateAt
@@ -33,12 +21,6 @@ returns c =
     kept-done _ _ _ _ _ (tested .before .sizes .ensures) (tested .if1 .taken) _ _
     (simp (tested .if1 .taken, stored .store .ensures .0, stored .store .ensures .1, made .set-sample-rate .ensures, made .before .state .ensures))
 
-same-length-3 : tie.Need-same-length-3
-same-length-3 c = search needs
-
-same-length-4 : tie.Need-same-length-4
-same-length-4 c = search needs
-
 returns-2 : tie.Need-returns-2
 unfolding noiseGeneratorSetSampleRateAt
 returns-2 c = kept-refused _ _ _ _ _ (c .before .sizes .ensures) (c .if1 .left) _
@@ -47,13 +29,13 @@ pub gruttisol-noise-generator-set-sample-rate-spec : {M : Type 1} → statement 
 gruttisol-noise-generator-set-sample-rate-spec =
     tie.close
     (tie.spec
-    sizes-requires
+    (λ c κs. search needs)
     state-requires
-    set-sample-rate-requires
+    (λ c κs. search needs)
     store-requires
-    same-length
-    same-length-2
+    (λ c. search needs)
+    (λ c. search needs)
     returns
-    same-length-3
-    same-length-4
+    (λ c. search needs)
+    (λ c. search needs)
     returns-2)

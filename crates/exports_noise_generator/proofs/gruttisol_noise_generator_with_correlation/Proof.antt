@@ -4,20 +4,8 @@ use borrow.Author.Needs.{needs}
 use Rattle.exports_noise_generator.proofs.gruttisol_noise_generator_with_correlation.Statement.{statement}
 use Rattle.exports_noise_generator.proofs.gruttisol_noise_generator_with_correlation.Tie as tie
 
-sizes-requires : tie.Need-sizes-requires
-sizes-requires c κs = search needs
-
-with-correlation-requires : tie.Need-with-correlation-requires
-with-correlation-requires c κs = search needs
-
 store-requires : tie.Need-store-requires
 store-requires c κs = sized _ _ _ _ _ (c .before .before .before .before .sizes .ensures) (c .before .before .before .if1 .taken)
-
-same-length : tie.Need-same-length
-same-length c = search needs
-
-same-length-2 : tie.Need-same-length-2
-same-length-2 c = search needs
 
 returns : tie.Need-returns
 unfolding noiseGeneratorWithCorrelationAt
@@ -28,12 +16,6 @@ returns c =
     kept-done _ _ _ _ _ (tested .before .sizes .ensures) (tested .if1 .taken) _ _
     (simp (tested .if1 .taken, stored .store .ensures .0, stored .store .ensures .1, made .with-correlation .ensures))
 
-same-length-3 : tie.Need-same-length-3
-same-length-3 c = search needs
-
-same-length-4 : tie.Need-same-length-4
-same-length-4 c = search needs
-
 returns-2 : tie.Need-returns-2
 unfolding noiseGeneratorWithCorrelationAt
 returns-2 c = kept-refused _ _ _ _ _ (c .before .sizes .ensures) (c .if1 .left) _
@@ -42,12 +24,12 @@ pub gruttisol-noise-generator-with-correlation-spec : {M : Type 1} → statement
 gruttisol-noise-generator-with-correlation-spec =
     tie.close
     (tie.spec
-    sizes-requires
-    with-correlation-requires
+    (λ c κs. search needs)
+    (λ c κs. search needs)
     store-requires
-    same-length
-    same-length-2
+    (λ c. search needs)
+    (λ c. search needs)
     returns
-    same-length-3
-    same-length-4
+    (λ c. search needs)
+    (λ c. search needs)
     returns-2)

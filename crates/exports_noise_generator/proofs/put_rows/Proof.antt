@@ -18,27 +18,6 @@ abbrev μ-loop : tie.MeasureT-loop
 loop-holds : tie.Need-loop-holds Inv-loop μ-loop
 loop-holds c = (omega arith, refl, refl)
 
-mul-floats : tie.Need-mul-floats Inv-loop μ-loop
-mul-floats c = omega arith
-
-array-read-floats : tie.Need-array-read-floats Inv-loop μ-loop
-array-read-floats c = omega arith
-
-add-floats : tie.Need-add-floats Inv-loop μ-loop
-add-floats c = omega arith
-
-mul-floats-2 : tie.Need-mul-floats-2 Inv-loop μ-loop
-mul-floats-2 c = omega arith
-
-slice-write-floats : tie.Need-slice-write-floats Inv-loop μ-loop
-slice-write-floats c = omega arith
-
-add-i : tie.Need-add-i Inv-loop μ-loop
-add-i c = omega arith
-
-loop-less : tie.Need-loop-less Inv-loop μ-loop
-loop-less c = omega arith
-
 loop-again : tie.Need-loop-again Inv-loop μ-loop
 loop-again c =
     let l = c .before .loop in
@@ -60,13 +39,13 @@ put-rows-spec =
     Inv-loop
     μ-loop
     loop-holds
-    mul-floats
-    array-read-floats
-    add-floats
-    mul-floats-2
-    slice-write-floats
-    add-i
-    loop-less
+    (λ c. omega arith)
+    (λ c. omega arith)
+    (λ c. omega arith)
+    (λ c. omega arith)
+    (λ c. omega arith)
+    (λ c. omega arith)
+    (λ c. omega arith)
     loop-again
     same-length
     returns)

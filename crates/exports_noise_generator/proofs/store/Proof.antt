@@ -9,12 +9,6 @@ use borrow.Author.Needs.{needs}
 use Rattle.exports_noise_generator.proofs.store.Statement.{statement}
 use Rattle.exports_noise_generator.proofs.store.Tie as tie
 
-put-rows-requires : tie.Need-put-rows-requires
-put-rows-requires c κs = search needs
-
-slice-write-floats : tie.Need-slice-write-floats
-slice-write-floats c = search needs
-
 put-rows-requires-2 : tie.Need-put-rows-requires-2
 put-rows-requires-2 c κs =
     let put = c .before .before .before in
@@ -55,15 +49,6 @@ slice-write-floats-4 c =
     let z = both-kept (a .floats .now) m k 16 (a .s .pink .«running_sum») (start .pre .0) (put .put-rows .kept .1 .1 .0) (put2 .put-rows2 .kept .1 .1 .0) in
     simp length-set (omega (arith, z))
 
-cast-wholes : tie.Need-cast-wholes
-cast-wholes c = search needs
-
-slice-write-wholes : tie.Need-slice-write-wholes
-slice-write-wholes c = search needs
-
-cast-wholes-2 : tie.Need-cast-wholes-2
-cast-wholes-2 c = search needs
-
 slice-write-wholes-2 : tie.Need-slice-write-wholes-2
 slice-write-wholes-2 c = simp length-set (omega arith)
 
@@ -77,9 +62,6 @@ same-length c =
     let k = put2 .put-rows2 .last .1 .1 .0 in
     let z = both-kept (a .floats .now) m k 16 (a .s .pink .«running_sum») (start .pre .0) (put .put-rows .kept .1 .1 .0) (put2 .put-rows2 .kept .1 .1 .0) in
     simp length-set (omega (arith, z))
-
-same-length-2 : tie.Need-same-length-2
-same-length-2 c = search needs
 
 returns : tie.Need-returns
 unfolding floatsOf wholesOf
@@ -99,16 +81,16 @@ pub store-spec : {M : Type 1} → statement M
 store-spec =
     tie.close
     (tie.spec
-    put-rows-requires
-    slice-write-floats
+    (λ c κs. search needs)
+    (λ c. search needs)
     put-rows-requires-2
     slice-write-floats-2
     slice-write-floats-3
     slice-write-floats-4
-    cast-wholes
-    slice-write-wholes
-    cast-wholes-2
+    (λ c. search needs)
+    (λ c. search needs)
+    (λ c. search needs)
     slice-write-wholes-2
     same-length
-    same-length-2
+    (λ c. search needs)
     returns)

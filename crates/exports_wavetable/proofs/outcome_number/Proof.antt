@@ -3,12 +3,6 @@ use Rattle.answer.specs.Answer.{outcomeNumber}
 use Rattle.exports_wavetable.proofs.outcome_number.Statement.{statement}
 use Rattle.exports_wavetable.proofs.outcome_number.Tie as tie
 
-enum-told : tie.Need-enum-told
-enum-told c = search needs
-
-enum-known-o : tie.Need-enum-known-o
-enum-known-o c = search needs
-
 returns : tie.Need-returns
 unfolding outcomeNumber
 returns c = simp (c .enum-told .given .1)
@@ -18,4 +12,4 @@ unfolding outcomeNumber
 returns-2 c = simp (c .before .o .given .1)
 
 pub outcome-number-spec : {M : Type 1} → statement M
-outcome-number-spec = tie.close (tie.spec enum-told enum-known-o returns returns-2)
+outcome-number-spec = tie.close (tie.spec (λ c. search needs) (λ c. search needs) returns returns-2)

@@ -6,21 +6,12 @@ use Rattle.formant_osc.proofs.Held.{driven}
 use Rattle.formant_osc.proofs.drive.Statement.{statement}
 use Rattle.formant_osc.proofs.drive.Tie as tie
 
-sway-requires : tie.Need-sway-requires
-sway-requires c κs = search needs
-
 pulse-requires : tie.Need-pulse-requires
 pulse-requires c κs =
     let kept = c .before .before .before .before in
     let swayed = kept .before .before in
     let began = swayed .before .before .before .before in
     ap length (swayed .sway .ensures .1) ∙ length-tab _ _ ∙ began .pre .2
-
-same-length : tie.Need-same-length
-same-length c = search needs
-
-same-length-2 : tie.Need-same-length-2
-same-length-2 c = search needs
 
 returns : tie.Need-returns
 returns c =
@@ -35,4 +26,4 @@ returns c =
     (p .0) (p .1 .0) (p .1 .1)
 
 pub drive-spec : {M : Type 1} → statement M
-drive-spec = tie.close (tie.spec sway-requires pulse-requires same-length same-length-2 returns)
+drive-spec = tie.close (tie.spec (λ c κs. search needs) pulse-requires (λ c. search needs) (λ c. search needs) returns)

@@ -5,12 +5,6 @@ use borrow.Author.Needs.{needs}
 use Rattle.formant_osc.proofs.get_formants.Statement.{statement}
 use Rattle.formant_osc.proofs.get_formants.Tie as tie
 
-spot-of-requires : tie.Need-spot-of-requires
-spot-of-requires c κs = search needs
-
-exp2-requires : tie.Need-exp2-requires
-exp2-requires c κs = search needs
-
 formant-requires : tie.Need-formant-requires
 formant-requires c κs = (spot-few _ _ (c .before .spot-of .ensures), omega arith)
 
@@ -46,8 +40,8 @@ pub get-formants-spec : {M : Type 1} → statement M
 get-formants-spec =
     tie.close
     (tie.spec
-    spot-of-requires
-    exp2-requires
+    (λ c κs. search needs)
+    (λ c κs. search needs)
     formant-requires
     formant-requires-2
     formant-requires-3

@@ -3,12 +3,6 @@ use borrow.Author.Needs.{needs}
 use Rattle.formant_osc.proofs.glottal_pulse.Statement.{statement}
 use Rattle.formant_osc.proofs.glottal_pulse.Tie as tie
 
-sin-requires : tie.Need-sin-requires
-sin-requires c κs = search needs
-
-cos-requires : tie.Need-cos-requires
-cos-requires c κs = search needs
-
 returns : tie.Need-returns
 unfolding glottalPulse
 returns c = simp (c .sin .ensures, c .before .if1 .taken)
@@ -22,4 +16,4 @@ unfolding glottalPulse
 returns-3 c = simp (c .if2 .left, c .before .if1 .left)
 
 pub glottal-pulse-spec : {M : Type 1} → statement M
-glottal-pulse-spec = tie.close (tie.spec sin-requires cos-requires returns returns-2 returns-3)
+glottal-pulse-spec = tie.close (tie.spec (λ c κs. search needs) (λ c κs. search needs) returns returns-2 returns-3)

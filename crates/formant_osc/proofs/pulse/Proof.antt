@@ -28,39 +28,6 @@ loop-holds : tie.Need-loop-holds Inv-loop μ-loop
 unfolding phaseAt
 loop-holds c = (omega arith, refl, refl, over-none _ _, over-none _ _, refl)
 
-kept-turns-requires : tie.Need-kept-turns-requires Inv-loop μ-loop
-kept-turns-requires c κs = omega arith
-
-glottal-pulse-requires : tie.Need-glottal-pulse-requires Inv-loop μ-loop
-glottal-pulse-requires c κs = tt
-
-mul-samples : tie.Need-mul-samples Inv-loop μ-loop
-mul-samples c = omega arith
-
-slice-write-samples : tie.Need-slice-write-samples Inv-loop μ-loop
-slice-write-samples c = omega arith
-
-is-finite-requires : tie.Need-is-finite-requires Inv-loop μ-loop
-is-finite-requires c κs = tt
-
-flag-requires : tie.Need-flag-requires Inv-loop μ-loop
-flag-requires c κs = tt
-
-mul-marks : tie.Need-mul-marks Inv-loop μ-loop
-mul-marks c = omega arith
-
-slice-write-marks : tie.Need-slice-write-marks Inv-loop μ-loop
-slice-write-marks c = omega arith
-
-wrap-phase-requires : tie.Need-wrap-phase-requires Inv-loop μ-loop
-wrap-phase-requires c κs = tt
-
-add-i : tie.Need-add-i Inv-loop μ-loop
-add-i c = omega arith
-
-loop-less : tie.Need-loop-less Inv-loop μ-loop
-loop-less c = omega arith
-
 loop-again : tie.Need-loop-again Inv-loop μ-loop
 loop-again c =
     let pulsed = c .before .before .before in
@@ -100,17 +67,17 @@ pulse-spec =
     Inv-loop
     μ-loop
     loop-holds
-    kept-turns-requires
-    glottal-pulse-requires
-    mul-samples
-    slice-write-samples
-    is-finite-requires
-    flag-requires
-    mul-marks
-    slice-write-marks
-    wrap-phase-requires
-    add-i
-    loop-less
+    (λ c κs. omega arith)
+    (λ c κs. tt)
+    (λ c. omega arith)
+    (λ c. omega arith)
+    (λ c κs. tt)
+    (λ c κs. tt)
+    (λ c. omega arith)
+    (λ c. omega arith)
+    (λ c κs. tt)
+    (λ c. omega arith)
+    (λ c. omega arith)
     loop-again
     same-length
     same-length-2

@@ -31,15 +31,6 @@ Inv-loop start v-oct depth sample-rate samples₀ still step vibrato-step vibrat
 abbrev μ-loop : tie.MeasureT-loop
 μ-loop start v-oct depth sample-rate samples₀ still step vibrato-step vibrato-phase₀ freq-memo₀ i₀ samples vibrato-phase freq-memo i = length samples₀ - i
 
-both-requires : tie.Need-both-requires Inv-loop μ-loop
-both-requires c κs = tt
-
-increment-requires : tie.Need-increment-requires Inv-loop μ-loop
-increment-requires c κs = tt
-
-increment-requires-2 : tie.Need-increment-requires-2 Inv-loop μ-loop
-increment-requires-2 c κs = tt
-
 loop-holds : tie.Need-loop-holds Inv-loop μ-loop
 unfolding afterTicks
 loop-holds c =
@@ -67,12 +58,6 @@ stride-requires c κs =
     let h = still-tuned _ _ _ _ _ _ _ f (weighed .both .ensures) (began .pre .0) (s .5) (began .pre .1) (s .6) in
     still-step _ _ _ _ _ _ _ _ _ h (c .tuned .ensures) (s .6) (looped .before .before .before .increment .ensures)
 
-keep-turns-requires : tie.Need-keep-turns-requires Inv-loop μ-loop
-keep-turns-requires c κs = omega arith
-
-wrap-phase-requires : tie.Need-wrap-phase-requires Inv-loop μ-loop
-wrap-phase-requires c κs = tt
-
 add-i : tie.Need-add-i Inv-loop μ-loop
 add-i c =
     let stridden = c .before .before .before .before .before in
@@ -81,9 +66,6 @@ add-i c =
     let weighed = looped .before .before .before .before in
     let entered = weighed .before .before .before .before in
     omega (arith, going .loop-test .taken, looped .loop .inv .1, entered .good)
-
-loop-less : tie.Need-loop-less Inv-loop μ-loop
-loop-less c = omega arith
 
 loop-again : tie.Need-loop-again Inv-loop μ-loop
 unfolding eq ne
@@ -126,16 +108,16 @@ sway-spec =
     (tie.spec
     Inv-loop
     μ-loop
-    both-requires
-    increment-requires
-    increment-requires-2
+    (λ c κs. tt)
+    (λ c κs. tt)
+    (λ c κs. tt)
     loop-holds
     tuned-requires
     stride-requires
-    keep-turns-requires
-    wrap-phase-requires
+    (λ c κs. omega arith)
+    (λ c κs. tt)
     add-i
-    loop-less
+    (λ c. omega arith)
     loop-again
     same-length
     returns)

@@ -28,30 +28,6 @@ loop-holds : tie.Need-loop-holds Inv-loop μ-loop
 unfolding cellsAt
 loop-holds c = (omega arith, refl, refl, over-none _ _, over-none _ _, refl)
 
-mul-ring : tie.Need-mul-ring Inv-loop μ-loop
-mul-ring c = omega arith
-
-slice-read-ring : tie.Need-slice-read-ring Inv-loop μ-loop
-slice-read-ring c = omega arith
-
-ring-requires : tie.Need-ring-requires Inv-loop μ-loop
-ring-requires c κs = tt
-
-mul-is-flagged : tie.Need-mul-is-flagged Inv-loop μ-loop
-mul-is-flagged c = omega arith
-
-slice-read-is-flagged : tie.Need-slice-read-is-flagged Inv-loop μ-loop
-slice-read-is-flagged c = omega arith
-
-is-flagged-requires : tie.Need-is-flagged-requires Inv-loop μ-loop
-is-flagged-requires c κs = tt
-
-voiced-requires : tie.Need-voiced-requires Inv-loop μ-loop
-voiced-requires c κs = tt
-
-put-requires : tie.Need-put-requires Inv-loop μ-loop
-put-requires c κs = tt
-
 add-i : tie.Need-add-i Inv-loop μ-loop
 add-i c =
     let put = c .before .before .before .before .before in
@@ -109,14 +85,14 @@ voice-spec =
     Inv-loop
     μ-loop
     loop-holds
-    mul-ring
-    slice-read-ring
-    ring-requires
-    mul-is-flagged
-    slice-read-is-flagged
-    is-flagged-requires
-    voiced-requires
-    put-requires
+    (λ c. omega arith)
+    (λ c. omega arith)
+    (λ c κs. tt)
+    (λ c. omega arith)
+    (λ c. omega arith)
+    (λ c κs. tt)
+    (λ c κs. tt)
+    (λ c κs. tt)
     add-i
     loop-less
     loop-again

@@ -3,12 +3,6 @@ use borrow.Author.Needs.{needs}
 use Rattle.karplus_strong.proofs.after.Statement.{statement}
 use Rattle.karplus_strong.proofs.after.Tie as tie
 
-add-if1 : tie.Need-add-if1
-add-if1 c = search needs
-
-add-result : tie.Need-add-result
-add-result c = search needs
-
 returns : tie.Need-returns
 returns c = next-place _ _ (c .if1 .taken)
 
@@ -16,4 +10,4 @@ returns-2 : tie.Need-returns-2
 returns-2 c = first-place _ _ (c .before .pre) (c .if1 .left)
 
 pub after-spec : {M : Type 1} → statement M
-after-spec = tie.close (tie.spec add-if1 add-result returns returns-2)
+after-spec = tie.close (tie.spec (λ c. search needs) (λ c. search needs) returns returns-2)

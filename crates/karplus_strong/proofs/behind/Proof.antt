@@ -3,12 +3,6 @@ use borrow.Author.Needs.{needs}
 use Rattle.karplus_strong.proofs.behind.Statement.{statement}
 use Rattle.karplus_strong.proofs.behind.Tie as tie
 
-sub-result : tie.Need-sub-result
-sub-result c = search needs
-
-add-result : tie.Need-add-result
-add-result c = search needs
-
 returns : tie.Need-returns
 returns c = back-near _ _ _ (c .before .pre) (c .if1 .taken)
 
@@ -19,4 +13,4 @@ returns-3 : tie.Need-returns-3
 returns-3 c = back-oldest _ _ _ (c .before .before .pre) (c .if2 .left)
 
 pub behind-spec : {M : Type 1} → statement M
-behind-spec = tie.close (tie.spec sub-result add-result returns returns-2 returns-3)
+behind-spec = tie.close (tie.spec (λ c. search needs) (λ c. search needs) returns returns-2 returns-3)

@@ -21,18 +21,6 @@ loop-holds : tie.Need-loop-holds Inv-loop μ-loop
 unfolding blankAt
 loop-holds c = (omega arith, omega arith, refl, over-same nan _ _ _ (omega arith) (λ i h. simp (lt-ltb i _ h)))
 
-mul-line : tie.Need-mul-line Inv-loop μ-loop
-mul-line c = omega arith
-
-slice-write-line : tie.Need-slice-write-line Inv-loop μ-loop
-slice-write-line c = omega arith
-
-add-i : tie.Need-add-i Inv-loop μ-loop
-add-i c = omega arith
-
-loop-less : tie.Need-loop-less Inv-loop μ-loop
-loop-less c = omega arith
-
 loop-again : tie.Need-loop-again Inv-loop μ-loop
 unfolding blankAt
 loop-again c = let s = c .before .loop .inv in (
@@ -53,4 +41,4 @@ returns c =
     (le-antisymm (s .1) (c .loop-test .left))
 
 pub blank-spec : {M : Type 1} → statement M
-blank-spec = tie.close (tie.spec Inv-loop μ-loop loop-holds mul-line slice-write-line add-i loop-less loop-again same-length returns)
+blank-spec = tie.close (tie.spec Inv-loop μ-loop loop-holds (λ c. omega arith) (λ c. omega arith) (λ c. omega arith) (λ c. omega arith) loop-again same-length returns)

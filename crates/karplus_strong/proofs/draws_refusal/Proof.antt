@@ -7,9 +7,6 @@ use borrow.Author.Needs.{needs}
 use Rattle.karplus_strong.proofs.draws_refusal.Statement.{statement}
 use Rattle.karplus_strong.proofs.draws_refusal.Tie as tie
 
-whole-requires : tie.Need-whole-requires
-whole-requires c κs = search needs
-
 add-draws-refusal : tie.Need-add-draws-refusal
 add-draws-refusal c =
     let a = c .before .before .before in
@@ -17,15 +14,9 @@ add-draws-refusal c =
     let q = cut-small (a .args .period) (subst T (sym (a .good .1 .0 .1)) tt) (a .pre) in
     omega arith
 
-draws-refusal-requires : tie.Need-draws-refusal-requires
-draws-refusal-requires c κs = search needs
-
 returns : tie.Need-returns
 unfolding struckLen
 returns c = simp (c .before .before .if1 .taken, c .draws-refusal .ensures, c .before .whole .ensures)
 
-returns-2 : tie.Need-returns-2
-returns-2 c = search needs
-
 pub draws-refusal-spec : {M : Type 1} → statement M
-draws-refusal-spec = tie.close (tie.spec whole-requires add-draws-refusal draws-refusal-requires returns returns-2)
+draws-refusal-spec = tie.close (tie.spec (λ c κs. search needs) add-draws-refusal (λ c κs. search needs) returns (λ c. search needs))

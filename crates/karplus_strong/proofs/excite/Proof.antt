@@ -3,21 +3,6 @@ use borrow.Author.Needs.{needs}
 use Rattle.karplus_strong.proofs.excite.Statement.{statement}
 use Rattle.karplus_strong.proofs.excite.Tie as tie
 
-fill-requires : tie.Need-fill-requires
-fill-requires c κs = search needs
-
-sum-requires : tie.Need-sum-requires
-sum-requires c κs = search needs
-
-of-u64-requires : tie.Need-of-u64-requires
-of-u64-requires c κs = search needs
-
-level-requires : tie.Need-level-requires
-level-requires c κs = search needs
-
-same-length : tie.Need-same-length
-same-length c = search needs
-
 returns : tie.Need-returns
 returns c =
     let cast-64 = c .before .before .before .before in
@@ -25,4 +10,4 @@ returns c =
     struck-by _ _ _ _ _ _ _ _ (filled .fill .ensures) (cast-64 .before .sum .ensures) (cast-64 .of-u64 .ensures) (c .before .before .level .ensures)
 
 pub excite-spec : {M : Type 1} → statement M
-excite-spec = tie.close (tie.spec fill-requires sum-requires of-u64-requires level-requires same-length returns)
+excite-spec = tie.close (tie.spec (λ c κs. search needs) (λ c κs. search needs) (λ c κs. search needs) (λ c κs. search needs) (λ c. search needs) returns)

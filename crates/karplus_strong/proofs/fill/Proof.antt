@@ -19,27 +19,6 @@ abbrev μ-loop : tie.MeasureT-loop
 loop-holds : tie.Need-loop-holds Inv-loop μ-loop
 loop-holds c = (omega arith, refl, over-none _ _)
 
-mul-pulse : tie.Need-mul-pulse Inv-loop μ-loop
-mul-pulse c = omega arith
-
-shared-slice-read-pulse : tie.Need-shared-slice-read-pulse Inv-loop μ-loop
-shared-slice-read-pulse c = omega arith
-
-pulse-requires : tie.Need-pulse-requires Inv-loop μ-loop
-pulse-requires c κs = search needs
-
-mul-line : tie.Need-mul-line Inv-loop μ-loop
-mul-line c = omega arith
-
-slice-write-line : tie.Need-slice-write-line Inv-loop μ-loop
-slice-write-line c = omega arith
-
-add-i : tie.Need-add-i Inv-loop μ-loop
-add-i c = omega arith
-
-loop-less : tie.Need-loop-less Inv-loop μ-loop
-loop-less c = omega arith
-
 loop-again : tie.Need-loop-again Inv-loop μ-loop
 unfolding excitedAt
 loop-again c =
@@ -59,5 +38,5 @@ returns c =
 pub fill-spec : {M : Type 1} → statement M
 fill-spec =
     tie.close
-    (tie.spec Inv-loop μ-loop loop-holds mul-pulse shared-slice-read-pulse pulse-requires mul-line slice-write-line add-i loop-less loop-again same-length
+    (tie.spec Inv-loop μ-loop loop-holds (λ c. omega arith) (λ c. omega arith) (λ c κs. search needs) (λ c. omega arith) (λ c. omega arith) (λ c. omega arith) (λ c. omega arith) loop-again same-length
     returns)

@@ -3,9 +3,6 @@ use borrow.Author.Needs.{needs}
 use Rattle.karplus_strong.proofs.finite_or.Statement.{statement}
 use Rattle.karplus_strong.proofs.finite_or.Tie as tie
 
-is-finite-requires : tie.Need-is-finite-requires
-is-finite-requires c κs = search needs
-
 returns : tie.Need-returns
 unfolding finiteOr
 returns c = simp (c .if1 .taken, ← c .before .is-finite .ensures)
@@ -15,4 +12,4 @@ unfolding finiteOr
 returns-2 c = simp (c .if1 .left, ← c .before .is-finite .ensures)
 
 pub finite-or-spec : {M : Type 1} → statement M
-finite-or-spec = tie.close (tie.spec is-finite-requires returns returns-2)
+finite-or-spec = tie.close (tie.spec (λ c κs. search needs) returns returns-2)

@@ -19,24 +19,6 @@ abbrev μ-loop : tie.MeasureT-loop
 loop-holds : tie.Need-loop-holds Inv-loop μ-loop
 loop-holds c = (omega arith, refl, over-none _ _)
 
-mul-line : tie.Need-mul-line Inv-loop μ-loop
-mul-line c = omega arith
-
-slice-read-line : tie.Need-slice-read-line Inv-loop μ-loop
-slice-read-line c = omega arith
-
-mul-line-2 : tie.Need-mul-line-2 Inv-loop μ-loop
-mul-line-2 c = omega arith
-
-slice-write-line : tie.Need-slice-write-line Inv-loop μ-loop
-slice-write-line c = omega arith
-
-add-i : tie.Need-add-i Inv-loop μ-loop
-add-i c = omega arith
-
-loop-less : tie.Need-loop-less Inv-loop μ-loop
-loop-less c = omega arith
-
 loop-again : tie.Need-loop-again Inv-loop μ-loop
 unfolding levelAt
 loop-again c =
@@ -57,4 +39,4 @@ returns c =
     (le-antisymm (s .0) (c .loop-test .left))
 
 pub level-spec : {M : Type 1} → statement M
-level-spec = tie.close (tie.spec Inv-loop μ-loop loop-holds mul-line slice-read-line mul-line-2 slice-write-line add-i loop-less loop-again same-length returns)
+level-spec = tie.close (tie.spec Inv-loop μ-loop loop-holds (λ c. omega arith) (λ c. omega arith) (λ c. omega arith) (λ c. omega arith) (λ c. omega arith) (λ c. omega arith) loop-again same-length returns)

@@ -5,17 +5,11 @@ use borrow.Author.Needs.{needs}
 use Rattle.karplus_strong.proofs.period_of.Statement.{statement}
 use Rattle.karplus_strong.proofs.period_of.Tie as tie
 
-max-len-for-requires : tie.Need-max-len-for-requires
-max-len-for-requires c κs = search needs
-
 int-to-float-clamp : tie.Need-int-to-float-clamp
 int-to-float-clamp c =
     let sized = c .before in
     let began = sized .before .before .before .before .before in
     held _ (rw (sized .max-len-for .ensures) (max-len-range _ (began .pre .0) .1))
-
-clamp-requires : tie.Need-clamp-requires
-clamp-requires c κs = search needs
 
 returns : tie.Need-returns
 returns c =
@@ -32,4 +26,4 @@ unfolding periodOf
 returns-3 c = simp (c .clamp .ensures, c .before .before .max-len-for .ensures)
 
 pub period-of-spec : {M : Type 1} → statement M
-period-of-spec = tie.close (tie.spec max-len-for-requires int-to-float-clamp clamp-requires returns returns-2 returns-3)
+period-of-spec = tie.close (tie.spec (λ c κs. search needs) int-to-float-clamp (λ c κs. search needs) returns returns-2 returns-3)

@@ -4,9 +4,6 @@ use borrow.Author.Needs.{needs}
 use Rattle.karplus_strong.proofs.pulse.Statement.{statement}
 use Rattle.karplus_strong.proofs.pulse.Tie as tie
 
-bipolar-requires : tie.Need-bipolar-requires
-bipolar-requires c κs = search needs
-
 returns : tie.Need-returns
 unfolding pulseOf impulseOf
 returns c = simp (c .before .bipolar .ensures, lt-ltb _ _ (c .if1 .taken))
@@ -16,4 +13,4 @@ unfolding pulseOf impulseOf
 returns-2 c = simp (c .before .bipolar .ensures, le-ltb _ _ (c .if1 .left))
 
 pub pulse-spec : {M : Type 1} → statement M
-pulse-spec = tie.close (tie.spec bipolar-requires returns returns-2)
+pulse-spec = tie.close (tie.spec (λ c κs. search needs) returns returns-2)

@@ -17,18 +17,6 @@ loop-holds : tie.Need-loop-holds Inv-loop μ-loop
 unfolding sumTo
 loop-holds c = (omega arith, refl)
 
-mul-sum : tie.Need-mul-sum Inv-loop μ-loop
-mul-sum c = omega arith
-
-shared-slice-read-sum : tie.Need-shared-slice-read-sum Inv-loop μ-loop
-shared-slice-read-sum c = omega arith
-
-add-i : tie.Need-add-i Inv-loop μ-loop
-add-i c = omega arith
-
-loop-less : tie.Need-loop-less Inv-loop μ-loop
-loop-less c = omega arith
-
 loop-again : tie.Need-loop-again Inv-loop μ-loop
 unfolding sumTo
 loop-again c = let s = c .before .before .loop .inv in (omega arith, rw (add-one, s .1))
@@ -37,4 +25,4 @@ returns : tie.Need-returns Inv-loop μ-loop
 returns c = let s = c .before .loop .inv in s .1 ∙ ap (λ k. sumTo (c .before .before .args .line .now) k) (le-antisymm (s .0) (c .loop-test .left))
 
 pub sum-spec : {M : Type 1} → statement M
-sum-spec = tie.close (tie.spec Inv-loop μ-loop loop-holds mul-sum shared-slice-read-sum add-i loop-less loop-again returns)
+sum-spec = tie.close (tie.spec Inv-loop μ-loop loop-holds (λ c. omega arith) (λ c. omega arith) (λ c. omega arith) (λ c. omega arith) loop-again returns)

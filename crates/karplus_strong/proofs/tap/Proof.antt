@@ -5,15 +5,6 @@ use borrow.Author.Needs.{needs}
 use Rattle.karplus_strong.proofs.tap.Statement.{statement}
 use Rattle.karplus_strong.proofs.tap.Tie as tie
 
-behind-requires : tie.Need-behind-requires
-behind-requires c κs = search needs
-
-add-behind : tie.Need-add-behind
-add-behind c = search needs
-
-behind-requires-2 : tie.Need-behind-requires-2
-behind-requires-2 c κs = search needs
-
 mul-result : tie.Need-mul-result
 mul-result c = let q = in-line _ _ _ _ _ (c .before .behind .ensures) (c .before .before .before .pre .0) (c .before .before .before .pre .1) in omega arith
 
@@ -35,4 +26,4 @@ returns : tie.Need-returns
 returns c = tap-by _ _ _ _ _ _ _ (c .before .before .before .behind .ensures) (c .before .before .behind2 .ensures)
 
 pub tap-spec : {M : Type 1} → statement M
-tap-spec = tie.close (tie.spec behind-requires add-behind behind-requires-2 mul-result shared-slice-read-result mul-result-2 shared-slice-read-result-2 returns)
+tap-spec = tie.close (tie.spec (λ c κs. search needs) (λ c. search needs) (λ c κs. search needs) mul-result shared-slice-read-result mul-result-2 shared-slice-read-result-2 returns)

@@ -5,12 +5,6 @@ use borrow.Author.Needs.{needs}
 use Rattle.karplus_strong.proofs.tuned.Statement.{statement}
 use Rattle.karplus_strong.proofs.tuned.Tie as tie
 
-target-delay-requires : tie.Need-target-delay-requires
-target-delay-requires c κs = search needs
-
-to-usize-requires : tie.Need-to-usize-requires
-to-usize-requires c κs = search needs
-
 int-to-float-t8 : tie.Need-int-to-float-t8
 unfolding filterCoefOf apCoefOf
 int-to-float-t8 c = held _ (rw (c .before .to-usize .ensures, c .before .before .target-delay .ensures) (c .before .before .before .pre))
@@ -20,4 +14,4 @@ unfolding filterCoefOf apCoefOf
 returns c = tuning-by _ _ _ _ _ _ _ refl refl (c .before .before .target-delay .ensures) (c .before .to-usize .ensures)
 
 pub tuned-spec : {M : Type 1} → statement M
-tuned-spec = tie.close (tie.spec target-delay-requires to-usize-requires int-to-float-t8 returns)
+tuned-spec = tie.close (tie.spec (λ c κs. search needs) (λ c κs. search needs) int-to-float-t8 returns)

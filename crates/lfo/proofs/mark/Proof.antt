@@ -4,12 +4,6 @@ use Rattle.answer.proofs.Laws.{mark-known}
 use Rattle.lfo.proofs.mark.Statement.{statement}
 use Rattle.lfo.proofs.mark.Tie as tie
 
-marked-requires : tie.Need-marked-requires
-marked-requires c κs = search needs
-
-mark-requires : tie.Need-mark-requires
-mark-requires c κs = search needs
-
 returns : tie.Need-returns
 returns c = c .marked .ensures ∙ mark-known _ _ _ (c .before .before .pre (c .before .if1 .taken))
 
@@ -17,4 +11,4 @@ returns-2 : tie.Need-returns-2
 returns-2 c = c .mark .ensures
 
 pub mark-spec : {M : Type 1} → statement M
-mark-spec = tie.close (tie.spec marked-requires mark-requires returns returns-2)
+mark-spec = tie.close (tie.spec (λ c κs. search needs) (λ c κs. search needs) returns returns-2)

@@ -3,15 +3,9 @@ use Rattle.lfo.specs.Waves.{rateToHz}
 use Rattle.lfo.proofs.rate_to_hz.Statement.{statement}
 use Rattle.lfo.proofs.rate_to_hz.Tie as tie
 
-clamp-requires : tie.Need-clamp-requires
-clamp-requires c κs = search needs
-
-pow3000-requires : tie.Need-pow3000-requires
-pow3000-requires c κs = search needs
-
 returns : tie.Need-returns
 unfolding rateToHz
 returns c = simp (c .pow3000 .ensures, c .before .clamp .ensures)
 
 pub rate-to-hz-spec : {M : Type 1} → statement M
-rate-to-hz-spec = tie.close (tie.spec clamp-requires pow3000-requires returns)
+rate-to-hz-spec = tie.close (tie.spec (λ c κs. search needs) (λ c κs. search needs) returns)

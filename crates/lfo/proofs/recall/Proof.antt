@@ -3,15 +3,6 @@ use Rattle.common.specs.Memo.{recall1}
 use Rattle.lfo.proofs.recall.Statement.{statement}
 use Rattle.lfo.proofs.recall.Tie as tie
 
-hits-requires : tie.Need-hits-requires
-hits-requires c κs = search needs
-
-rate-to-hz-requires : tie.Need-rate-to-hz-requires
-rate-to-hz-requires c κs = search needs
-
-filled-requires : tie.Need-filled-requires
-filled-requires c κs = search needs
-
 returns : tie.Need-returns
 unfolding recall1
 returns c = simp (c .if1 .taken, ← c .before .hits .ensures)
@@ -22,4 +13,4 @@ returns-2 c = simp (c .filled .ensures, c .before .rate-to-hz .ensures, c .befor
 
 pub recall-spec : {M : Type 1} → statement M
 recall-spec =
-    tie.close (tie.spec hits-requires rate-to-hz-requires filled-requires returns returns-2)
+    tie.close (tie.spec (λ c κs. search needs) (λ c κs. search needs) (λ c κs. search needs) returns returns-2)

@@ -3,9 +3,6 @@ use Rattle.lfo.specs.Waves.{triWave}
 use Rattle.lfo.proofs.tri.Statement.{statement}
 use Rattle.lfo.proofs.tri.Tie as tie
 
-fabs-requires : tie.Need-fabs-requires
-fabs-requires c κs = search needs
-
 returns : tie.Need-returns
 unfolding triWave
 returns c = simp (c .fabs .ensures, c .before .before .if1 .taken)
@@ -15,4 +12,4 @@ unfolding triWave
 returns-2 c = simp (c .if1 .left)
 
 pub tri-spec : {M : Type 1} → statement M
-tri-spec = tie.close (tie.spec fabs-requires returns returns-2)
+tri-spec = tie.close (tie.spec (λ c κs. search needs) returns returns-2)

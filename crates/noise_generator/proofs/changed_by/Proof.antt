@@ -4,15 +4,6 @@ use borrow.Author.Needs.{needs}
 use Rattle.noise_generator.proofs.changed_by.Statement.{statement}
 use Rattle.noise_generator.proofs.changed_by.Tie as tie
 
-add-climbed : tie.Need-add-climbed
-add-climbed c = search needs
-
-climbed-requires : tie.Need-climbed-requires
-climbed-requires c κs = search needs
-
-climbed-requires-2 : tie.Need-climbed-requires-2
-climbed-requires-2 c κs = search needs
-
 sub-result : tie.Need-sub-result
 sub-result c =
     let a = c .before .before .args in
@@ -31,4 +22,4 @@ returns c =
 
 pub changed-by-spec : {M : Type 1} → statement M
 changed-by-spec =
-    tie.close (tie.spec add-climbed climbed-requires climbed-requires-2 sub-result returns)
+    tie.close (tie.spec (λ c. search needs) (λ c κs. search needs) (λ c κs. search needs) sub-result returns)

@@ -16,15 +16,6 @@ abbrev μ-loop : tie.MeasureT-loop
 loop-holds : tie.Need-loop-holds Inv-loop μ-loop
 loop-holds c = (omega arith, climbed-none 16 _, omega arith)
 
-add-sum : tie.Need-add-sum Inv-loop μ-loop
-add-sum c = omega arith
-
-add-i : tie.Need-add-i Inv-loop μ-loop
-add-i c = omega arith
-
-loop-less : tie.Need-loop-less Inv-loop μ-loop
-loop-less c = omega arith
-
 loop-again : tie.Need-loop-again Inv-loop μ-loop
 loop-again c = let l = c .before .loop in (omega arith, climbed-more 16 (l .i) _ (l .sum) (l .rest) (c .loop-test .taken) (l .inv .1), omega arith)
 
@@ -33,4 +24,4 @@ returns c = let l = c .before .loop in climbed-done 16 (l .i) _ (l .sum) (l .res
 
 pub climbed-spec : {M : Type 1} → statement M
 climbed-spec =
-    tie.close (tie.spec Inv-loop μ-loop loop-holds add-sum add-i loop-less loop-again returns)
+    tie.close (tie.spec Inv-loop μ-loop loop-holds (λ c. omega arith) (λ c. omega arith) (λ c. omega arith) loop-again returns)

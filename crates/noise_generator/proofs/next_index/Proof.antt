@@ -3,12 +3,9 @@ use Rattle.noise_generator.specs.Pink.{nextIndex}
 use Rattle.noise_generator.proofs.next_index.Statement.{statement}
 use Rattle.noise_generator.proofs.next_index.Tie as tie
 
-wrapping-add-u32-requires : tie.Need-wrapping-add-u32-requires
-wrapping-add-u32-requires c κs = search needs
-
 returns : tie.Need-returns
 unfolding nextIndex
 returns c = c .wrapping-add-u32 .ensures
 
 pub next-index-spec : {M : Type 1} → statement M
-next-index-spec = tie.close (tie.spec wrapping-add-u32-requires returns)
+next-index-spec = tie.close (tie.spec (λ c κs. search needs) returns)

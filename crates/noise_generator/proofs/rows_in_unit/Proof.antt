@@ -16,23 +16,8 @@ abbrev μ-loop : tie.MeasureT-loop
 loop-holds : tie.Need-loop-holds Inv-loop μ-loop
 loop-holds c = (omega arith, unit-none (c .args .t1))
 
-mul-in-unit : tie.Need-mul-in-unit Inv-loop μ-loop
-mul-in-unit c = omega arith
-
-array-read-in-unit : tie.Need-array-read-in-unit Inv-loop μ-loop
-array-read-in-unit c = omega arith
-
-in-unit-requires : tie.Need-in-unit-requires Inv-loop μ-loop
-in-unit-requires c κs = search needs
-
 returns : tie.Need-returns Inv-loop μ-loop
 returns c e = absurd (false≢true e)
-
-add-i : tie.Need-add-i Inv-loop μ-loop
-add-i c = omega arith
-
-loop-less : tie.Need-loop-less Inv-loop μ-loop
-loop-less c = omega arith
 
 loop-again : tie.Need-loop-again Inv-loop μ-loop
 loop-again c =
@@ -49,11 +34,11 @@ rows-in-unit-spec =
     Inv-loop
     μ-loop
     loop-holds
-    mul-in-unit
-    array-read-in-unit
-    in-unit-requires
+    (λ c. omega arith)
+    (λ c. omega arith)
+    (λ c κs. search needs)
     returns
-    add-i
-    loop-less
+    (λ c. omega arith)
+    (λ c. omega arith)
     loop-again
     returns-2)

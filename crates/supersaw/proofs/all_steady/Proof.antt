@@ -20,30 +20,9 @@ loop-holds : tie.Need-loop-holds Inv-loop μ-loop
 unfolding all
 loop-holds c = (omega arith, refl)
 
-mul-t7 : tie.Need-mul-t7 Inv-loop μ-loop
-mul-t7 c = omega arith
-
-array-read-t10 : tie.Need-array-read-t10 Inv-loop μ-loop
-array-read-t10 c = omega arith
-
-mul-t12 : tie.Need-mul-t12 Inv-loop μ-loop
-mul-t12 c = omega arith
-
-array-read-t15 : tie.Need-array-read-t15 Inv-loop μ-loop
-array-read-t15 c = omega arith
-
-steady-requires : tie.Need-steady-requires Inv-loop μ-loop
-steady-requires c κs = search needs
-
 returns : tie.Need-returns Inv-loop μ-loop
 unfolding lanesSteady
 returns c = all-stops _ 8 _ _ (c .before .before .loop-test .taken) (c .before .steady .ensures) (c .if1 .taken)
-
-add-i : tie.Need-add-i Inv-loop μ-loop
-add-i c = omega arith
-
-loop-less : tie.Need-loop-less Inv-loop μ-loop
-loop-less c = omega arith
 
 loop-again : tie.Need-loop-again Inv-loop μ-loop
 loop-again c = (omega arith, all-more _ _ _ (c .before .before .before .loop .inv .1) (c .before .steady .ensures) (c .if1 .left))
@@ -59,13 +38,13 @@ all-steady-spec =
     Inv-loop
     μ-loop
     loop-holds
-    mul-t7
-    array-read-t10
-    mul-t12
-    array-read-t15
-    steady-requires
+    (λ c. omega arith)
+    (λ c. omega arith)
+    (λ c. omega arith)
+    (λ c. omega arith)
+    (λ c κs. search needs)
     returns
-    add-i
-    loop-less
+    (λ c. omega arith)
+    (λ c. omega arith)
     loop-again
     returns-2)

@@ -22,24 +22,9 @@ loop-holds : tie.Need-loop-holds Inv-loop μ-loop
 unfolding all
 loop-holds c = (omega arith, refl)
 
-mul-t5 : tie.Need-mul-t5 Inv-loop μ-loop
-mul-t5 c = omega arith
-
-array-read-t8 : tie.Need-array-read-t8 Inv-loop μ-loop
-array-read-t8 c = omega arith
-
-phase-ok-requires : tie.Need-phase-ok-requires Inv-loop μ-loop
-phase-ok-requires c κs = search needs
-
 returns : tie.Need-returns Inv-loop μ-loop
 unfolding phasesOk
 returns c = all-stops _ 7 _ _ (c .before .before .loop-test .taken) (c .before .phase-ok .ensures) (c .if1 .taken)
-
-add-i : tie.Need-add-i Inv-loop μ-loop
-add-i c = omega arith
-
-loop-less : tie.Need-loop-less Inv-loop μ-loop
-loop-less c = omega arith
 
 loop-again : tie.Need-loop-again Inv-loop μ-loop
 loop-again c = (omega arith, all-more _ _ _ (c .before .before .before .loop .inv .1) (c .before .phase-ok .ensures) (c .if1 .left))
@@ -55,11 +40,11 @@ phases-ok-spec =
     Inv-loop
     μ-loop
     loop-holds
-    mul-t5
-    array-read-t8
-    phase-ok-requires
+    (λ c. omega arith)
+    (λ c. omega arith)
+    (λ c κs. search needs)
     returns
-    add-i
-    loop-less
+    (λ c. omega arith)
+    (λ c. omega arith)
     loop-again
     returns-2)

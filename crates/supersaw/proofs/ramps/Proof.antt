@@ -22,24 +22,6 @@ abbrev μ-loop : tie.MeasureT-loop
 loop-holds : tie.Need-loop-holds Inv-loop μ-loop
 loop-holds c = (omega arith, search needs, over-none _ _)
 
-mul-s : tie.Need-mul-s Inv-loop μ-loop
-mul-s c = omega arith
-
-array-read-s : tie.Need-array-read-s Inv-loop μ-loop
-array-read-s c = omega arith
-
-mul-s-2 : tie.Need-mul-s-2 Inv-loop μ-loop
-mul-s-2 c = omega arith
-
-array-write-s : tie.Need-array-write-s Inv-loop μ-loop
-array-write-s c = omega arith
-
-add-i : tie.Need-add-i Inv-loop μ-loop
-add-i c = omega arith
-
-loop-less : tie.Need-loop-less Inv-loop μ-loop
-loop-less c = omega arith
-
 loop-again : tie.Need-loop-again Inv-loop μ-loop
 loop-again c = (omega arith, c .before .loop .inv .1, over-more _ _ _ _ _ (omega arith) (c .before .loop .inv .2) (refl))
 
@@ -54,11 +36,11 @@ ramps-spec =
     Inv-loop
     μ-loop
     loop-holds
-    mul-s
-    array-read-s
-    mul-s-2
-    array-write-s
-    add-i
-    loop-less
+    (λ c. omega arith)
+    (λ c. omega arith)
+    (λ c. omega arith)
+    (λ c. omega arith)
+    (λ c. omega arith)
+    (λ c. omega arith)
     loop-again
     returns)

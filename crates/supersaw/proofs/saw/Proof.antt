@@ -3,12 +3,9 @@ use borrow.Author.Needs.{needs}
 use Rattle.supersaw.proofs.saw.Statement.{statement}
 use Rattle.supersaw.proofs.saw.Tie as tie
 
-polyblep-requires : tie.Need-polyblep-requires
-polyblep-requires c κs = search needs
-
 returns : tie.Need-returns
 unfolding sawOf
 returns c = simp (c .polyblep .ensures)
 
 pub saw-spec : {M : Type 1} → statement M
-saw-spec = tie.close (tie.spec polyblep-requires returns)
+saw-spec = tie.close (tie.spec (λ c κs. search needs) returns)

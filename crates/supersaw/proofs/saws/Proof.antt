@@ -20,33 +20,6 @@ abbrev μ-loop : tie.MeasureT-loop
 loop-holds : tie.Need-loop-holds Inv-loop μ-loop
 loop-holds c = (omega arith, search needs, over-none _ _)
 
-mul-t10 : tie.Need-mul-t10 Inv-loop μ-loop
-mul-t10 c = omega arith
-
-array-read-t13 : tie.Need-array-read-t13 Inv-loop μ-loop
-array-read-t13 c = omega arith
-
-mul-t15 : tie.Need-mul-t15 Inv-loop μ-loop
-mul-t15 c = omega arith
-
-array-read-t18 : tie.Need-array-read-t18 Inv-loop μ-loop
-array-read-t18 c = omega arith
-
-saw-requires : tie.Need-saw-requires Inv-loop μ-loop
-saw-requires c κs = search needs
-
-mul-s : tie.Need-mul-s Inv-loop μ-loop
-mul-s c = omega arith
-
-array-write-s : tie.Need-array-write-s Inv-loop μ-loop
-array-write-s c = omega arith
-
-add-i : tie.Need-add-i Inv-loop μ-loop
-add-i c = omega arith
-
-loop-less : tie.Need-loop-less Inv-loop μ-loop
-loop-less c = omega arith
-
 loop-again : tie.Need-loop-again Inv-loop μ-loop
 loop-again c = (omega arith, c .before .before .loop .inv .1, over-more _ _ _ _ _ (omega arith) (c .before .before .loop .inv .2) (c .saw .ensures))
 
@@ -61,14 +34,14 @@ saws-spec =
     Inv-loop
     μ-loop
     loop-holds
-    mul-t10
-    array-read-t13
-    mul-t15
-    array-read-t18
-    saw-requires
-    mul-s
-    array-write-s
-    add-i
-    loop-less
+    (λ c. omega arith)
+    (λ c. omega arith)
+    (λ c. omega arith)
+    (λ c. omega arith)
+    (λ c κs. search needs)
+    (λ c. omega arith)
+    (λ c. omega arith)
+    (λ c. omega arith)
+    (λ c. omega arith)
     loop-again
     returns)

@@ -21,30 +21,6 @@ abbrev μ-loop : tie.MeasureT-loop
 loop-holds : tie.Need-loop-holds Inv-loop μ-loop
 loop-holds c = (omega arith, search needs, over-none _ _)
 
-mul-x : tie.Need-mul-x Inv-loop μ-loop
-mul-x c = omega arith
-
-array-read-x : tie.Need-array-read-x Inv-loop μ-loop
-array-read-x c = omega arith
-
-mul-x-2 : tie.Need-mul-x-2 Inv-loop μ-loop
-mul-x-2 c = omega arith
-
-array-read-x-2 : tie.Need-array-read-x-2 Inv-loop μ-loop
-array-read-x-2 c = omega arith
-
-mul-x-3 : tie.Need-mul-x-3 Inv-loop μ-loop
-mul-x-3 c = omega arith
-
-array-write-x : tie.Need-array-write-x Inv-loop μ-loop
-array-write-x c = omega arith
-
-add-i : tie.Need-add-i Inv-loop μ-loop
-add-i c = omega arith
-
-loop-less : tie.Need-loop-less Inv-loop μ-loop
-loop-less c = omega arith
-
 loop-again : tie.Need-loop-again Inv-loop μ-loop
 loop-again c = (omega arith, c .before .loop .inv .1, over-more _ _ _ _ _ (omega arith) (c .before .loop .inv .2) (refl))
 
@@ -59,13 +35,13 @@ sums-spec =
     Inv-loop
     μ-loop
     loop-holds
-    mul-x
-    array-read-x
-    mul-x-2
-    array-read-x-2
-    mul-x-3
-    array-write-x
-    add-i
-    loop-less
+    (λ c. omega arith)
+    (λ c. omega arith)
+    (λ c. omega arith)
+    (λ c. omega arith)
+    (λ c. omega arith)
+    (λ c. omega arith)
+    (λ c. omega arith)
+    (λ c. omega arith)
     loop-again
     returns)

@@ -3,12 +3,6 @@ use Rattle.numeric.proofs.BasicLaws.{fabs-twice}
 use Rattle.vco.proofs.calm.Statement.{statement}
 use Rattle.vco.proofs.calm.Tie as tie
 
-pw-edge-requires : tie.Need-pw-edge-requires
-pw-edge-requires c κs = search needs
-
-fabs-requires : tie.Need-fabs-requires
-fabs-requires c κs = search needs
-
 quiet-requires : tie.Need-quiet-requires
 quiet-requires c κs = let s = c .before .before in (s .pre .0, simp (c .fabs .ensures) (fabs-twice (s .args .dt .0)))
 
@@ -16,4 +10,4 @@ returns : tie.Need-returns
 returns c = λ e. simp (c .before .fabs .ensures, c .before .before .pw-edge .ensures) at (c .quiet .ensures e)
 
 pub calm-spec : {M : Type 1} → statement M
-calm-spec = tie.close (tie.spec pw-edge-requires fabs-requires quiet-requires returns)
+calm-spec = tie.close (tie.spec (λ c κs. search needs) (λ c κs. search needs) quiet-requires returns)

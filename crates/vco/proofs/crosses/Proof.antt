@@ -3,12 +3,6 @@ use borrow.Author.Needs.{needs}
 use Rattle.vco.proofs.crosses.Statement.{statement}
 use Rattle.vco.proofs.crosses.Tie as tie
 
-enum-told : tie.Need-enum-told
-enum-told c = search needs
-
-enum-told-2 : tie.Need-enum-told-2
-enum-told-2 c = search needs
-
 returns : tie.Need-returns
 unfolding crossesOf
 returns c = simp (c .enum-told .given .1)
@@ -18,4 +12,4 @@ unfolding crossesOf
 returns-2 c = simp (c .enum-told2 .given .1)
 
 pub crosses-spec : {M : Type 1} → statement M
-crosses-spec = tie.close (tie.spec enum-told enum-told-2 returns returns-2)
+crosses-spec = tie.close (tie.spec (λ c. search needs) (λ c. search needs) returns returns-2)

@@ -7,15 +7,6 @@ use borrow.Author.Needs.{needs}
 use Rattle.vco.proofs.quiet.Statement.{statement}
 use Rattle.vco.proofs.quiet.Tie as tie
 
-enum-told : tie.Need-enum-told
-enum-told c = search needs
-
-enum-told-2 : tie.Need-enum-told-2
-enum-told-2 c = search needs
-
-fabs-requires : tie.Need-fabs-requires
-fabs-requires c κs = search needs
-
 returns : tie.Need-returns
 returns c e = absurd (false≢true e)
 
@@ -44,4 +35,4 @@ returns-5 c e = absurd (false≢true e)
 pub quiet-spec : {M : Type 1} → statement M
 quiet-spec =
     tie.close
-    (tie.spec enum-told enum-told-2 fabs-requires returns returns-2 returns-3 returns-4 returns-5)
+    (tie.spec (λ c. search needs) (λ c. search needs) (λ c κs. search needs) returns returns-2 returns-3 returns-4 returns-5)

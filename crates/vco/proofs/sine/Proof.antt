@@ -3,9 +3,6 @@ use borrow.Author.Needs.{needs}
 use Rattle.vco.proofs.sine.Statement.{statement}
 use Rattle.vco.proofs.sine.Tie as tie
 
-sin-requires : tie.Need-sin-requires
-sin-requires c κs = search needs
-
 returns : tie.Need-returns
 unfolding sineOf
 returns c = simp (c .sin .ensures, c .before .before .if1 .taken)
@@ -15,4 +12,4 @@ unfolding sineOf
 returns-2 c = simp (c .if1 .left)
 
 pub sine-spec : {M : Type 1} → statement M
-sine-spec = tie.close (tie.spec sin-requires returns returns-2)
+sine-spec = tie.close (tie.spec (λ c κs. search needs) returns returns-2)

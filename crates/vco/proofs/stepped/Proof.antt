@@ -3,15 +3,6 @@ use borrow.Author.Needs.{needs}
 use Rattle.vco.proofs.stepped.Statement.{statement}
 use Rattle.vco.proofs.stepped.Tie as tie
 
-enum-known-at : tie.Need-enum-known-at
-enum-known-at c = search needs
-
-polyblep-requires : tie.Need-polyblep-requires
-polyblep-requires c κs = search needs
-
-enum-told : tie.Need-enum-told
-enum-told c = search needs
-
 returns : tie.Need-returns
 unfolding steppedOf
 returns c = simp (c .polyblep .ensures, c .before .before .before .at .given .1)
@@ -21,4 +12,4 @@ unfolding steppedOf
 returns-2 c = simp (c .enum-told .given .1)
 
 pub stepped-spec : {M : Type 1} → statement M
-stepped-spec = tie.close (tie.spec enum-known-at polyblep-requires enum-told returns returns-2)
+stepped-spec = tie.close (tie.spec (λ c. search needs) (λ c κs. search needs) (λ c. search needs) returns returns-2)

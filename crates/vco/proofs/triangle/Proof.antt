@@ -3,12 +3,9 @@ use borrow.Author.Needs.{needs}
 use Rattle.vco.proofs.triangle.Statement.{statement}
 use Rattle.vco.proofs.triangle.Tie as tie
 
-fabs-requires : tie.Need-fabs-requires
-fabs-requires c κs = search needs
-
 returns : tie.Need-returns
 unfolding triOf
 returns c = simp (c .fabs .ensures)
 
 pub triangle-spec : {M : Type 1} → statement M
-triangle-spec = tie.close (tie.spec fabs-requires returns)
+triangle-spec = tie.close (tie.spec (λ c κs. search needs) returns)

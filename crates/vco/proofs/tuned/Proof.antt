@@ -3,15 +3,6 @@ use borrow.Author.Needs.{needs}
 use Rattle.vco.proofs.tuned.Statement.{statement}
 use Rattle.vco.proofs.tuned.Tie as tie
 
-hits-requires : tie.Need-hits-requires
-hits-requires c κs = search needs
-
-frequency-requires : tie.Need-frequency-requires
-frequency-requires c κs = search needs
-
-filled-requires : tie.Need-filled-requires
-filled-requires c κs = search needs
-
 returns : tie.Need-returns
 unfolding recall3
 returns c = simp (c .if1 .taken, ← c .before .hits .ensures)
@@ -22,4 +13,4 @@ returns-2 c = simp (c .filled .ensures, c .before .frequency .ensures, c .before
 
 pub tuned-spec : {M : Type 1} → statement M
 tuned-spec =
-    tie.close (tie.spec hits-requires frequency-requires filled-requires returns returns-2)
+    tie.close (tie.spec (λ c κs. search needs) (λ c κs. search needs) (λ c κs. search needs) returns returns-2)

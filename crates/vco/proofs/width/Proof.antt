@@ -2,11 +2,8 @@ use borrow.Author.Needs.{needs}
 use Rattle.vco.proofs.width.Statement.{statement}
 use Rattle.vco.proofs.width.Tie as tie
 
-clamp-requires : tie.Need-clamp-requires
-clamp-requires c κs = search needs
-
 returns : tie.Need-returns
 returns c = c .clamp .ensures
 
 pub width-spec : {M : Type 1} → statement M
-width-spec = tie.close (tie.spec clamp-requires returns)
+width-spec = tie.close (tie.spec (λ c κs. search needs) returns)

@@ -6,20 +6,8 @@ use Rattle.wavetable.specs.Shortcuts.{pairOf}
 use Rattle.wavetable.proofs.choose.Statement.{statement}
 use Rattle.wavetable.proofs.choose.Tie as tie
 
-table-pos-requires : tie.Need-table-pos-requires
-table-pos-requires c κs = search needs
-
-table-index-requires : tie.Need-table-index-requires
-table-index-requires c κs = search needs
-
-allowed-requires : tie.Need-allowed-requires
-allowed-requires c κs = search needs
-
 select-level-requires : tie.Need-select-level-requires
 select-level-requires c κs = let k = index-few _ _ (c .before .table-index .ensures) in omega arith
-
-start-requires : tie.Need-start-requires
-start-requires c κs = search needs
 
 add-start : tie.Need-add-start
 add-start c = let k = index-few _ _ (c .before .before .before .table-index .ensures) in omega arith
@@ -29,12 +17,6 @@ add-select-level c = let k = index-few _ _ (c .before .before .before .table-ind
 
 select-level-requires-2 : tie.Need-select-level-requires-2
 select-level-requires-2 c κs = let k = index-few _ _ (c .before .before .before .table-index .ensures) in omega arith
-
-start-requires-2 : tie.Need-start-requires-2
-start-requires-2 c κs = search needs
-
-blended-requires : tie.Need-blended-requires
-blended-requires c κs = search needs
 
 returns : tie.Need-returns
 unfolding pairOf
@@ -56,14 +38,14 @@ pub choose-spec : {M : Type 1} → statement M
 choose-spec =
     tie.close
     (tie.spec
-    table-pos-requires
-    table-index-requires
-    allowed-requires
+    (λ c κs. search needs)
+    (λ c κs. search needs)
+    (λ c κs. search needs)
     select-level-requires
-    start-requires
+    (λ c κs. search needs)
     add-start
     add-select-level
     select-level-requires-2
-    start-requires-2
-    blended-requires
+    (λ c κs. search needs)
+    (λ c κs. search needs)
     returns)

@@ -4,15 +4,6 @@ use Rattle.wavetable.specs.Harmonics.{maxHarmonic}
 use Rattle.wavetable.proofs.max_harmonic.Statement.{statement}
 use Rattle.wavetable.proofs.max_harmonic.Tie as tie
 
-mul-n : tie.Need-mul-n
-mul-n c = search needs
-
-array-read-n : tie.Need-array-read-n
-array-read-n c = search needs
-
-shr-n : tie.Need-shr-n
-shr-n c = search needs
-
 returns : tie.Need-returns
 unfolding maxHarmonic
 returns c = one-or _ (c .if1 .taken)
@@ -22,4 +13,4 @@ unfolding maxHarmonic
 returns-2 c = more-or _ (c .if1 .left)
 
 pub max-harmonic-spec : {M : Type 1} → statement M
-max-harmonic-spec = tie.close (tie.spec mul-n array-read-n shr-n returns returns-2)
+max-harmonic-spec = tie.close (tie.spec (λ c. search needs) (λ c. search needs) (λ c. search needs) returns returns-2)

@@ -4,9 +4,6 @@ use Rattle.wavetable.specs.Shortcuts.{mixAt}
 use Rattle.wavetable.proofs.mix.Statement.{statement}
 use Rattle.wavetable.proofs.mix.Tie as tie
 
-to-usize-requires : tie.Need-to-usize-requires
-to-usize-requires c κs = search needs
-
 fraction-requires : tie.Need-fraction-requires
 fraction-requires c κs = c .to-usize .ensures
 
@@ -26,7 +23,7 @@ pub mix-spec : {M : Type 1} → statement M
 mix-spec =
     tie.close
     (tie.spec
-    to-usize-requires
+    (λ c κs. search needs)
     fraction-requires
     read-table-requires
     read-table-requires-2

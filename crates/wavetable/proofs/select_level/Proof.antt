@@ -22,19 +22,10 @@ returns : tie.Need-returns Inv-loop μ-loop
 returns c =
     level-here _ _ _ _ (c .before .before .loop-test .taken) (c .before .max-harmonic .ensures) (c .if1 .taken) (c .before .before .before .loop .inv .1)
 
-add-level : tie.Need-add-level Inv-loop μ-loop
-add-level c = omega arith
-
-loop-less : tie.Need-loop-less Inv-loop μ-loop
-loop-less c = omega arith
-
 loop-again : tie.Need-loop-again Inv-loop μ-loop
 loop-again c =
     let going = c .before .before in
     (omega arith, level-on _ _ _ _ (going .loop-test .taken) (c .before .max-harmonic .ensures) (c .if1 .left) (going .before .loop .inv .1))
-
-sub-result : tie.Need-sub-result Inv-loop μ-loop
-sub-result c = omega arith
 
 returns-2 : tie.Need-returns-2 Inv-loop μ-loop
 returns-2 c = level-none _ _ _ (c .loop-test .left) (c .before .loop .inv .1)
@@ -42,4 +33,4 @@ returns-2 c = level-none _ _ _ (c .loop-test .left) (c .before .loop .inv .1)
 pub select-level-spec : {M : Type 1} → statement M
 select-level-spec =
     tie.close
-    (tie.spec Inv-loop μ-loop loop-holds max-harmonic-requires returns add-level loop-less loop-again sub-result returns-2)
+    (tie.spec Inv-loop μ-loop loop-holds max-harmonic-requires returns (λ c. omega arith) (λ c. omega arith) loop-again (λ c. omega arith) returns-2)

@@ -4,15 +4,6 @@ use borrow.Author.Needs.{needs}
 use Rattle.formant_osc.proofs.CoefMemo.hits.Statement.{statement}
 use Rattle.formant_osc.proofs.CoefMemo.hits.Tie as tie
 
-bits-requires : tie.Need-bits-requires
-bits-requires c κs = search needs
-
-bits-requires-2 : tie.Need-bits-requires-2
-bits-requires-2 c κs = search needs
-
-bits-requires-3 : tie.Need-bits-requires-3
-bits-requires-3 c κs = search needs
-
 returns : tie.Need-returns
 unfolding coefHits
 returns c =
@@ -50,4 +41,4 @@ returns-4 c = simp (c .if1 .left)
 pub hits-spec : {M : Type 1} → statement M
 hits-spec =
     tie.close
-    (tie.spec bits-requires bits-requires-2 bits-requires-3 returns returns-2 returns-3 returns-4)
+    (tie.spec (λ c κs. search needs) (λ c κs. search needs) (λ c κs. search needs) returns returns-2 returns-3 returns-4)

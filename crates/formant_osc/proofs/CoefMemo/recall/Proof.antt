@@ -3,12 +3,6 @@ use borrow.Author.Needs.{needs}
 use Rattle.formant_osc.proofs.CoefMemo.recall.Statement.{statement}
 use Rattle.formant_osc.proofs.CoefMemo.recall.Tie as tie
 
-hits-requires : tie.Need-hits-requires
-hits-requires c κs = search needs
-
-made-requires : tie.Need-made-requires
-made-requires c κs = search needs
-
 returns : tie.Need-returns
 unfolding coefRecall
 returns c = simp (c .if1 .taken, ← c .before .hits .ensures)
@@ -18,4 +12,4 @@ unfolding coefRecall
 returns-2 c = simp (c .made .ensures, c .before .if1 .left, ← c .before .before .hits .ensures)
 
 pub recall-spec : {M : Type 1} → statement M
-recall-spec = tie.close (tie.spec hits-requires made-requires returns returns-2)
+recall-spec = tie.close (tie.spec (λ c κs. search needs) (λ c κs. search needs) returns returns-2)

@@ -5,15 +5,6 @@ use borrow.Author.Needs.{needs}
 use Rattle.formant_osc.proofs.FormantOsc.play.Statement.{statement}
 use Rattle.formant_osc.proofs.FormantOsc.play.Tie as tie
 
-clamp-requires : tie.Need-clamp-requires
-clamp-requires c κs = search needs
-
-pitch-requires : tie.Need-pitch-requires
-pitch-requires c κs = search needs
-
-voct-to-hz-requires : tie.Need-voct-to-hz-requires
-voct-to-hz-requires c κs = search needs
-
 drive-requires : tie.Need-drive-requires
 drive-requires c κs =
     let pitched = c .before .before .before .before in
@@ -24,12 +15,6 @@ voice-requires : tie.Need-voice-requires
 voice-requires c κs =
     let split = c .before .before .before .before .before in
     let g = split .before .before .before .before .drive .ensures in tabs-alike _ _ _ _ _ (g .1 .0) (g .1 .1)
-
-same-length : tie.Need-same-length
-same-length c = search needs
-
-same-length-2 : tie.Need-same-length-2
-same-length-2 c = search needs
 
 returns : tie.Need-returns
 returns c =
@@ -49,11 +34,11 @@ pub play-spec : {M : Type 1} → statement M
 play-spec =
     tie.close
     (tie.spec
-    clamp-requires
-    pitch-requires
-    voct-to-hz-requires
+    (λ c κs. search needs)
+    (λ c κs. search needs)
+    (λ c κs. search needs)
     drive-requires
     voice-requires
-    same-length
-    same-length-2
+    (λ c. search needs)
+    (λ c. search needs)
     returns)

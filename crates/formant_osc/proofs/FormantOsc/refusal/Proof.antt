@@ -3,18 +3,6 @@ use borrow.Author.Needs.{needs}
 use Rattle.formant_osc.proofs.FormantOsc.refusal.Statement.{statement}
 use Rattle.formant_osc.proofs.FormantOsc.refusal.Tie as tie
 
-rate-ok-requires : tie.Need-rate-ok-requires
-rate-ok-requires c κs = search needs
-
-phase-ok-requires : tie.Need-phase-ok-requires
-phase-ok-requires c κs = search needs
-
-phase-ok-requires-2 : tie.Need-phase-ok-requires-2
-phase-ok-requires-2 c κs = search needs
-
-both-requires : tie.Need-both-requires
-both-requires c κs = search needs
-
 returns : tie.Need-returns
 unfolding formantOscRefusalOf
 returns c =
@@ -49,10 +37,10 @@ pub refusal-spec : {M : Type 1} → statement M
 refusal-spec =
     tie.close
     (tie.spec
-    rate-ok-requires
-    phase-ok-requires
-    phase-ok-requires-2
-    both-requires
+    (λ c κs. search needs)
+    (λ c κs. search needs)
+    (λ c κs. search needs)
+    (λ c κs. search needs)
     returns
     returns-2
     returns-3)

@@ -4,9 +4,6 @@ use Rattle.formant_osc.specs.FormantOsc.{madeUnless, restarted, formantO
 use Rattle.formant_osc.proofs.FormantOsc.reset.Statement.{statement}
 use Rattle.formant_osc.proofs.FormantOsc.reset.Tie as tie
 
-refusal-requires : tie.Need-refusal-requires
-refusal-requires c κs = search needs
-
 returns : tie.Need-returns
 unfolding formantOscResetOf madeUnless restarted
 returns c = simp (eq-eqb _ _ (c .if1 .taken), ← c .before .refusal .ensures)
@@ -16,4 +13,4 @@ unfolding formantOscResetOf madeUnless
 returns-2 c = simp (ne-eqb _ _ (c .if1 .left), ← c .before .refusal .ensures)
 
 pub reset-spec : {M : Type 1} → statement M
-reset-spec = tie.close (tie.spec refusal-requires returns returns-2)
+reset-spec = tie.close (tie.spec (λ c κs. search needs) returns returns-2)

@@ -4,12 +4,6 @@ use borrow.Author.Needs.{needs}
 use Rattle.formant_osc.proofs.FormantOsc.tick.Statement.{statement}
 use Rattle.formant_osc.proofs.FormantOsc.tick.Tie as tie
 
-refusal-requires : tie.Need-refusal-requires
-refusal-requires c κs = search needs
-
-sound-requires : tie.Need-sound-requires
-sound-requires c κs = search needs
-
 returns : tie.Need-returns
 unfolding formantOscTickOf
 returns c = simp (c .sound .ensures, eq-eqb _ _ (c .before .if1 .taken), ← c .before .before .refusal .ensures)
@@ -19,4 +13,4 @@ unfolding formantOscTickOf
 returns-2 c = simp (ne-eqb _ _ (c .if1 .left), ← c .before .refusal .ensures)
 
 pub tick-spec : {M : Type 1} → statement M
-tick-spec = tie.close (tie.spec refusal-requires sound-requires returns returns-2)
+tick-spec = tie.close (tie.spec (λ c κs. search needs) (λ c κs. search needs) returns returns-2)

@@ -9,12 +9,6 @@ use borrow.Author.Needs.{needs}
 use Rattle.karplus_strong.proofs.KarplusStrong.block.Statement.{statement}
 use Rattle.karplus_strong.proofs.KarplusStrong.block.Tie as tie
 
-first-refusal-requires : tie.Need-first-refusal-requires
-first-refusal-requires c κs = search needs
-
-block-refusal-requires : tie.Need-block-refusal-requires
-block-refusal-requires c κs = search needs
-
 run-requires : tie.Need-run-requires
 run-requires c κs =
     let passed-2 = c .before .before .before in
@@ -26,12 +20,6 @@ run-requires c κs =
     let z = passed-2 .if2 .left in
     (k .0, k .1, omega arith, f .0)
 
-take-marks-requires : tie.Need-take-marks-requires
-take-marks-requires c κs = search needs
-
-or-requires : tie.Need-or-requires
-or-requires c κs = search needs
-
 returns : tie.Need-returns
 unfolding karplusStrongBlockOf
 returns c =
@@ -39,15 +27,6 @@ returns c =
     let a = judged-first .before .before .before .before .before .args in
     let judged = rw (judged-first .first-refusal .ensures) at (c .before .before .block-refusal .ensures) in
     block-empty nPorts _ _ _ (strung (a .self) (a .line .now)) (a .tally) (a .samples .now) (a .marks .now) _ judged (c .before .if1 .taken) (c .if2 .taken)
-
-same-length : tie.Need-same-length
-same-length c = search needs
-
-same-length-2 : tie.Need-same-length-2
-same-length-2 c = search needs
-
-same-length-3 : tie.Need-same-length-3
-same-length-3 c = search needs
 
 returns-2 : tie.Need-returns-2
 unfolding karplusStrongBlockOf
@@ -72,5 +51,5 @@ returns-3 c =
 pub block-spec : {M : Type 1} → statement M
 block-spec =
     tie.close
-    (tie.spec first-refusal-requires block-refusal-requires run-requires take-marks-requires or-requires returns same-length same-length-2 same-length-3
+    (tie.spec (λ c κs. search needs) (λ c κs. search needs) run-requires (λ c κs. search needs) (λ c κs. search needs) returns (λ c. search needs) (λ c. search needs) (λ c. search needs)
     returns-2 returns-3)

@@ -6,9 +6,6 @@ use borrow.Author.Needs.{needs}
 use Rattle.karplus_strong.proofs.KarplusStrong.cells.Statement.{statement}
 use Rattle.karplus_strong.proofs.KarplusStrong.cells.Tie as tie
 
-rate-ok-requires : tie.Need-rate-ok-requires
-rate-ok-requires c κs = search needs
-
 max-len-for-requires : tie.Need-max-len-for-requires
 max-len-for-requires c κs = sym (c .before .rate-ok .ensures) ∙ c .if1 .taken
 
@@ -24,4 +21,4 @@ unfolding karplusStrongCellsOf
 returns-2 c = simp (← c .before .rate-ok .ensures, c .if1 .left)
 
 pub cells-spec : {M : Type 1} → statement M
-cells-spec = tie.close (tie.spec rate-ok-requires max-len-for-requires add-result returns returns-2)
+cells-spec = tie.close (tie.spec (λ c κs. search needs) max-len-for-requires add-result returns returns-2)

@@ -6,18 +6,6 @@ use borrow.Author.Needs.{needs}
 use Rattle.karplus_strong.proofs.KarplusStrong.first_refusal.Statement.{statement}
 use Rattle.karplus_strong.proofs.KarplusStrong.first_refusal.Tie as tie
 
-refusal-requires : tie.Need-refusal-requires
-refusal-requires c κs = search needs
-
-finite-or-requires : tie.Need-finite-or-requires
-finite-or-requires c κs = search needs
-
-voct-to-hz-requires : tie.Need-voct-to-hz-requires
-voct-to-hz-requires c κs = search needs
-
-rising-requires : tie.Need-rising-requires
-rising-requires c κs = search needs
-
 period-of-requires : tie.Need-period-of-requires
 period-of-requires c κs =
     let tested = c .before .before .before .before .before in
@@ -59,4 +47,4 @@ returns-3 c = simp (← c .before .refusal .ensures, ne-eqb _ _ (c .if1 .left))
 pub first-refusal-spec : {M : Type 1} → statement M
 first-refusal-spec =
     tie.close
-    (tie.spec refusal-requires finite-or-requires voct-to-hz-requires rising-requires period-of-requires draws-refusal-requires returns returns-2 returns-3)
+    (tie.spec (λ c κs. search needs) (λ c κs. search needs) (λ c κs. search needs) (λ c κs. search needs) period-of-requires draws-refusal-requires returns returns-2 returns-3)

@@ -5,9 +5,6 @@ use borrow.Author.Needs.{needs}
 use Rattle.karplus_strong.proofs.KarplusStrong.line_ok.Statement.{statement}
 use Rattle.karplus_strong.proofs.KarplusStrong.line_ok.Tie as tie
 
-add-if2 : tie.Need-add-if2
-add-if2 c = search needs
-
 returns : tie.Need-returns
 unfolding lineOk
 returns c = simp (lt-leb _ _ (c .if1 .taken))
@@ -27,4 +24,4 @@ returns-4 c =
     simp (le-leb _ _ (passed-2 .before .before .if1 .left), le-leb _ _ (passed-2 .if2 .left), lt-ltb _ _ (c .before .if3 .left), number-test)
 
 pub line-ok-spec : {M : Type 1} → statement M
-line-ok-spec = tie.close (tie.spec add-if2 returns returns-2 returns-3 returns-4)
+line-ok-spec = tie.close (tie.spec (λ c. search needs) returns returns-2 returns-3 returns-4)

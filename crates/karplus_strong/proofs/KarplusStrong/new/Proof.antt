@@ -5,9 +5,6 @@ use borrow.Author.Needs.{needs}
 use Rattle.karplus_strong.proofs.KarplusStrong.new.Statement.{statement}
 use Rattle.karplus_strong.proofs.KarplusStrong.new.Tie as tie
 
-rate-ok-requires : tie.Need-rate-ok-requires
-rate-ok-requires c κs = search needs
-
 room-requires : tie.Need-room-requires
 room-requires c κs = sym (c .before .rate-ok .ensures) ∙ c .if1 .taken
 
@@ -19,18 +16,6 @@ blank-requires c κs =
     let m = room-of _ _ (sym (c .before .before .before .room .ensures) ∙ c .before .before .if2 .taken) in
     let w = c .before .max-len-for .ensures in
     (omega arith, omega arith)
-
-string-of-requires : tie.Need-string-of-requires
-string-of-requires c κs = search needs
-
-string-of-requires-2 : tie.Need-string-of-requires-2
-string-of-requires-2 c κs = search needs
-
-string-of-requires-3 : tie.Need-string-of-requires-3
-string-of-requires-3 c κs = search needs
-
-same-length : tie.Need-same-length
-same-length c = search needs
 
 returns : tie.Need-returns
 returns c =
@@ -51,5 +36,5 @@ returns-3 c = made-parts (new-rate _ _ _ _ (c .string-of3 .ensures) (sym (c .bef
 pub new-spec : {M : Type 1} → statement M
 new-spec =
     tie.close
-    (tie.spec rate-ok-requires room-requires max-len-for-requires blank-requires string-of-requires string-of-requires-2 string-of-requires-3 same-length
+    (tie.spec (λ c κs. search needs) room-requires max-len-for-requires blank-requires (λ c κs. search needs) (λ c κs. search needs) (λ c κs. search needs) (λ c. search needs)
     returns returns-2 returns-3)

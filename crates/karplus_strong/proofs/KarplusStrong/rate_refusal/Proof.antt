@@ -4,12 +4,6 @@ use borrow.Author.Needs.{needs}
 use Rattle.karplus_strong.proofs.KarplusStrong.rate_refusal.Statement.{statement}
 use Rattle.karplus_strong.proofs.KarplusStrong.rate_refusal.Tie as tie
 
-rate-ok-requires : tie.Need-rate-ok-requires
-rate-ok-requires c κs = search needs
-
-rate-ok-requires-2 : tie.Need-rate-ok-requires-2
-rate-ok-requires-2 c κs = search needs
-
 max-len-for-requires : tie.Need-max-len-for-requires
 max-len-for-requires c κs = sym (c .before .before .before .rate-ok .ensures) ∙ c .before .before .if1 .taken
 
@@ -44,4 +38,4 @@ returns-4 c = rate-old _ _ _ (sym (c .before .rate-ok .ensures) ∙ c .if1 .left
 pub rate-refusal-spec : {M : Type 1} → statement M
 rate-refusal-spec =
     tie.close
-    (tie.spec rate-ok-requires rate-ok-requires-2 max-len-for-requires line-ok-requires room-requires returns returns-2 returns-3 returns-4)
+    (tie.spec (λ c κs. search needs) (λ c κs. search needs) max-len-for-requires line-ok-requires room-requires returns returns-2 returns-3 returns-4)

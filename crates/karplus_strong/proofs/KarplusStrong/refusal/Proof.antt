@@ -4,9 +4,6 @@ use borrow.Author.Needs.{needs}
 use Rattle.karplus_strong.proofs.KarplusStrong.refusal.Statement.{statement}
 use Rattle.karplus_strong.proofs.KarplusStrong.refusal.Tie as tie
 
-rate-ok-requires : tie.Need-rate-ok-requires
-rate-ok-requires c κs = search needs
-
 max-len-for-requires : tie.Need-max-len-for-requires
 max-len-for-requires c κs = sym (c .before .rate-ok .ensures) ∙ c .if1 .taken
 
@@ -30,4 +27,4 @@ returns-3 : tie.Need-returns-3
 returns-3 c = refusal-rate _ _ (sym (c .before .rate-ok .ensures) ∙ c .if1 .left)
 
 pub refusal-spec : {M : Type 1} → statement M
-refusal-spec = tie.close (tie.spec rate-ok-requires max-len-for-requires line-ok-requires room-requires returns returns-2 returns-3)
+refusal-spec = tie.close (tie.spec (λ c κs. search needs) max-len-for-requires line-ok-requires room-requires returns returns-2 returns-3)

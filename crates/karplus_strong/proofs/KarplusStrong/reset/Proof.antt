@@ -5,9 +5,6 @@ use borrow.Author.Needs.{needs}
 use Rattle.karplus_strong.proofs.KarplusStrong.reset.Statement.{statement}
 use Rattle.karplus_strong.proofs.KarplusStrong.reset.Tie as tie
 
-refusal-requires : tie.Need-refusal-requires
-refusal-requires c κs = search needs
-
 blank-requires : tie.Need-blank-requires
 blank-requires c κs =
     let tested = c .before .before .before .before in
@@ -15,12 +12,6 @@ blank-requires c κs =
     let m = a .0 .most in
     let q = a .1 in
     (omega arith, omega arith)
-
-reset-requires : tie.Need-reset-requires
-reset-requires c κs = search needs
-
-same-length : tie.Need-same-length
-same-length c = search needs
 
 returns : tie.Need-returns
 returns c =
@@ -32,4 +23,4 @@ returns-2 : tie.Need-returns-2
 returns-2 c = made-parts (reset-no _ _ _ (c .before .refusal .ensures) (c .if1 .left))
 
 pub reset-spec : {M : Type 1} → statement M
-reset-spec = tie.close (tie.spec refusal-requires blank-requires reset-requires same-length returns returns-2)
+reset-spec = tie.close (tie.spec (λ c κs. search needs) blank-requires (λ c κs. search needs) (λ c. search needs) returns returns-2)

@@ -36,15 +36,6 @@ turn-requires c κs =
     let began = looped .before .before .before .before in
     (looped .loop .inv .7, (let s = looped .loop .inv in omega arith), began .pre .2)
 
-put-requires : tie.Need-put-requires Inv-loop μ-loop
-put-requires c κs = search needs
-
-add-i : tie.Need-add-i Inv-loop μ-loop
-add-i c = omega arith
-
-loop-less : tie.Need-loop-less Inv-loop μ-loop
-loop-less c = omega arith
-
 loop-again : tie.Need-loop-again Inv-loop μ-loop
 loop-again c =
     let put = c .before .before .before .before in
@@ -89,4 +80,4 @@ returns c =
 pub ring-spec : {M : Type 1} → statement M
 ring-spec =
     tie.close
-    (tie.spec Inv-loop μ-loop loop-holds turn-requires put-requires add-i loop-less loop-again same-length same-length-2 same-length-3 returns)
+    (tie.spec Inv-loop μ-loop loop-holds turn-requires (λ c κs. search needs) (λ c. omega arith) (λ c. omega arith) loop-again same-length same-length-2 same-length-3 returns)

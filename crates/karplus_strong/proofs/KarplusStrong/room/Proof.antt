@@ -6,9 +6,6 @@ use borrow.Author.Needs.{needs}
 use Rattle.karplus_strong.proofs.KarplusStrong.room.Statement.{statement}
 use Rattle.karplus_strong.proofs.KarplusStrong.room.Tie as tie
 
-max-len-for-requires : tie.Need-max-len-for-requires
-max-len-for-requires c κs = search needs
-
 add-if1 : tie.Need-add-if1
 add-if1 c = let m = max-len-range _ (c .before .pre) in let w = c .max-len-for .ensures in omega arith
 
@@ -21,4 +18,4 @@ unfolding roomOf
 returns-2 c = simp (← c .before .max-len-for .ensures, le-leb _ _ (c .if1 .left))
 
 pub room-spec : {M : Type 1} → statement M
-room-spec = tie.close (tie.spec max-len-for-requires add-if1 returns returns-2)
+room-spec = tie.close (tie.spec (λ c κs. search needs) add-if1 returns returns-2)

@@ -15,21 +15,12 @@ within-requires c κs = (zer-fin, one-fin)
 within-requires-2 : tie.Need-within-requires-2
 within-requires-2 c κs = (minus-one-fin, one-fin)
 
-finite-or-requires : tie.Need-finite-or-requires
-finite-or-requires c κs = search needs
-
-voct-to-hz-requires : tie.Need-voct-to-hz-requires
-voct-to-hz-requires c κs = search needs
-
 period-of-requires : tie.Need-period-of-requires
 period-of-requires c κs =
     let bounded = c .before .before .before .before in let known-3 = bounded .before .before .before .before .before in
     let began = known-3 .before .before .before .before in
     let good = accepted _ _ (began .pre .0) .0 in
     (good .rate, memo-number _ _ _ _ (good .value) (c .before .before .finite-or .ensures) (c .before .voct-to-hz .ensures))
-
-rising-requires : tie.Need-rising-requires
-rising-requires c κs = search needs
 
 tuned-requires : tie.Need-tuned-requires
 tuned-requires c κs =
@@ -93,15 +84,6 @@ ring-requires-2 c κs =
       began .pre .3,
     )
 
-same-length : tie.Need-same-length
-same-length c = search needs
-
-same-length-2 : tie.Need-same-length-2
-same-length-2 c = search needs
-
-same-length-3 : tie.Need-same-length-3
-same-length-3 c = search needs
-
 returns : tie.Need-returns
 returns c =
     let ready-2 = c .before .before .before .before .before in let known-4 = ready-2 .before .before .before .before .before in
@@ -115,15 +97,6 @@ returns c =
     (began .pre .0) (began .pre .1) _ _ _ _ _ _
     (bounded .within .ensures) (tuned .before .before .within2 .ensures) refl hit (bounded-3 .before .before .tuned .ensures) _ (began .pre .2) _ _ _
     (ready-2 .before .ring .ensures)
-
-same-length-4 : tie.Need-same-length-4
-same-length-4 c = search needs
-
-same-length-5 : tie.Need-same-length-5
-same-length-5 c = search needs
-
-same-length-6 : tie.Need-same-length-6
-same-length-6 c = search needs
 
 returns-2 : tie.Need-returns-2
 returns-2 c =
@@ -140,5 +113,5 @@ returns-2 c =
 pub run-spec : {M : Type 1} → statement M
 run-spec =
     tie.close
-    (tie.spec within-requires within-requires-2 finite-or-requires voct-to-hz-requires period-of-requires rising-requires tuned-requires within-requires-3
-    strike-requires ring-requires ring-requires-2 same-length same-length-2 same-length-3 returns same-length-4 same-length-5 same-length-6 returns-2)
+    (tie.spec within-requires within-requires-2 (λ c κs. search needs) (λ c κs. search needs) period-of-requires (λ c κs. search needs) tuned-requires within-requires-3
+    strike-requires ring-requires ring-requires-2 (λ c. search needs) (λ c. search needs) (λ c. search needs) returns (λ c. search needs) (λ c. search needs) (λ c. search needs) returns-2)

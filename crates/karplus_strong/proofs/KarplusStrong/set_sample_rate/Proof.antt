@@ -5,14 +5,8 @@ use borrow.Author.Needs.{needs}
 use Rattle.karplus_strong.proofs.KarplusStrong.set_sample_rate.Statement.{statement}
 use Rattle.karplus_strong.proofs.KarplusStrong.set_sample_rate.Tie as tie
 
-rate-refusal-requires : tie.Need-rate-refusal-requires
-rate-refusal-requires c κs = search needs
-
 max-len-for-requires : tie.Need-max-len-for-requires
 max-len-for-requires c κs = rate-accepted _ _ _ (sym (c .before .before .before .rate-refusal .ensures) ∙ c .before .before .if1 .taken) .1
-
-least-requires : tie.Need-least-requires
-least-requires c κs = search needs
 
 blank-requires : tie.Need-blank-requires
 blank-requires c κs =
@@ -21,12 +15,6 @@ blank-requires c κs =
     let w = c .before .before .max-len-for .ensures in
     let m = c .least .ensures in
     (omega arith, omega arith)
-
-placed-requires : tie.Need-placed-requires
-placed-requires c κs = search needs
-
-same-length : tie.Need-same-length
-same-length c = search needs
 
 returns : tie.Need-returns
 returns c =
@@ -42,4 +30,4 @@ returns-2 c = made-parts (rate-no _ _ _ _ (c .before .rate-refusal .ensures) (c 
 pub set-sample-rate-spec : {M : Type 1} → statement M
 set-sample-rate-spec =
     tie.close
-    (tie.spec rate-refusal-requires max-len-for-requires least-requires blank-requires placed-requires same-length returns returns-2)
+    (tie.spec (λ c κs. search needs) max-len-for-requires (λ c κs. search needs) blank-requires (λ c κs. search needs) (λ c. search needs) returns returns-2)

@@ -11,20 +11,11 @@ within-requires c κs = (zer-fin, one-fin)
 within-requires-2 : tie.Need-within-requires-2
 within-requires-2 c κs = (minus-one-fin, one-fin)
 
-finite-or-requires : tie.Need-finite-or-requires
-finite-or-requires c κs = search needs
-
-voct-to-hz-requires : tie.Need-voct-to-hz-requires
-voct-to-hz-requires c κs = search needs
-
 period-of-requires : tie.Need-period-of-requires
 period-of-requires c κs =
     let bounded = c .before .before .before .before in let known = bounded .before .before .before .before .before in
     let good = accepted _ _ (known .before .before .pre) .0 in
     (good .rate, memo-number _ _ _ _ (good .value) (c .before .before .finite-or .ensures) (c .before .voct-to-hz .ensures))
-
-rising-requires : tie.Need-rising-requires
-rising-requires c κs = search needs
 
 draws-refusal-requires : tie.Need-draws-refusal-requires
 draws-refusal-requires c κs =
@@ -58,9 +49,6 @@ step-requires c κs =
     sound-ready _ _ _ _ _ _ _ _ _ _ _ _ _ _ _ (good .0) (good .1) number (edged .before .period-of .ensures) (struck-if .strike-if .ensures .0)
     (struck-if .strike-if .kept .1 .1 .1 .1 .1 .0) (bounded .within .ensures) (tuned .before .before .within2 .ensures)
 
-same-length : tie.Need-same-length
-same-length c = search needs
-
 returns : tie.Need-returns
 returns c =
     let stepped = c .before .before in
@@ -83,5 +71,5 @@ returns-2 c =
 pub sound-spec : {M : Type 1} → statement M
 sound-spec =
     tie.close
-    (tie.spec within-requires within-requires-2 finite-or-requires voct-to-hz-requires period-of-requires rising-requires draws-refusal-requires
-    strike-if-requires step-requires same-length returns returns-2)
+    (tie.spec within-requires within-requires-2 (λ c κs. search needs) (λ c κs. search needs) period-of-requires (λ c κs. search needs) draws-refusal-requires
+    strike-if-requires step-requires (λ c. search needs) returns returns-2)

@@ -7,9 +7,6 @@ use borrow.Author.Needs.{needs}
 use Rattle.karplus_strong.proofs.KarplusStrong.strike.Statement.{statement}
 use Rattle.karplus_strong.proofs.KarplusStrong.strike.Tie as tie
 
-whole-requires : tie.Need-whole-requires
-whole-requires c κs = search needs
-
 add-n : tie.Need-add-n
 add-n c =
     let known = c .before .before .before .before .before in
@@ -22,11 +19,8 @@ excite-requires c κs =
     let known = c .before .before .before .before .before in
     (cut-room _ _ _ (c .before .whole .ensures) (known .before .before .pre .2), cut-room _ _ _ (c .before .whole .ensures) (known .before .before .pre .1))
 
-same-length : tie.Need-same-length
-same-length c = search needs
-
 returns : tie.Need-returns
 returns c = strike-by _ _ _ _ _ _ _ (c .before .before .before .before .whole .ensures) (c .before .before .excite .ensures)
 
 pub strike-spec : {M : Type 1} → statement M
-strike-spec = tie.close (tie.spec whole-requires add-n excite-requires same-length returns)
+strike-spec = tie.close (tie.spec (λ c κs. search needs) add-n excite-requires (λ c. search needs) returns)

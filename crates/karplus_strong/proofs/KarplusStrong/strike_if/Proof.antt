@@ -12,9 +12,6 @@ strike-requires c κs =
     let began = c .before .before .before .before .before in
     (began .pre .0, draws-enough _ _ (rw (c .before .before .if1 .taken) at (began .pre .1)), began .pre .2)
 
-same-length : tie.Need-same-length
-same-length c = search needs
-
 returns : tie.Need-returns
 returns c =
     let bounded = c .before .before .before .before in
@@ -24,4 +21,4 @@ returns-2 : tie.Need-returns-2
 returns-2 c = strike-none _ _ _ _ _ _ (c .if1 .left)
 
 pub strike-if-spec : {M : Type 1} → statement M
-strike-if-spec = tie.close (tie.spec within-requires strike-requires same-length returns returns-2)
+strike-if-spec = tie.close (tie.spec within-requires strike-requires (λ c. search needs) returns returns-2)

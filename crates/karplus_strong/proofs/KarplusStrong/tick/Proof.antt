@@ -4,14 +4,8 @@ use borrow.Author.Needs.{needs}
 use Rattle.karplus_strong.proofs.KarplusStrong.tick.Statement.{statement}
 use Rattle.karplus_strong.proofs.KarplusStrong.tick.Tie as tie
 
-refusal-requires : tie.Need-refusal-requires
-refusal-requires c κs = search needs
-
 sound-requires : tie.Need-sound-requires
 sound-requires c κs = sym (c .before .before .refusal .ensures) ∙ c .before .if1 .taken
-
-same-length : tie.Need-same-length
-same-length c = search needs
 
 returns : tie.Need-returns
 returns c =
@@ -22,4 +16,4 @@ returns-2 : tie.Need-returns-2
 returns-2 c = ticked-parts (tick-refused _ _ _ _ _ (c .before .refusal .ensures) (c .if1 .left))
 
 pub tick-spec : {M : Type 1} → statement M
-tick-spec = tie.close (tie.spec refusal-requires sound-requires same-length returns returns-2)
+tick-spec = tie.close (tie.spec (λ c κs. search needs) sound-requires (λ c. search needs) returns returns-2)

@@ -5,39 +5,6 @@ use borrow.Author.Needs.{needs}
 use Rattle.karplus_strong.proofs.KarplusStrong.turn.Statement.{statement}
 use Rattle.karplus_strong.proofs.KarplusStrong.turn.Tie as tie
 
-tap-requires : tie.Need-tap-requires
-tap-requires c κs = search needs
-
-is-settled-requires : tie.Need-is-settled-requires
-is-settled-requires c κs = search needs
-
-mul-line : tie.Need-mul-line
-mul-line c = search needs
-
-slice-write-line : tie.Need-slice-write-line
-slice-write-line c = search needs
-
-after-requires : tie.Need-after-requires
-after-requires c κs = search needs
-
-volts1-requires : tie.Need-volts1-requires
-volts1-requires c κs = search needs
-
-marked-requires : tie.Need-marked-requires
-marked-requires c κs = search needs
-
-blank-requires : tie.Need-blank-requires
-blank-requires c κs = search needs
-
-volts1-requires-2 : tie.Need-volts1-requires-2
-volts1-requires-2 c κs = search needs
-
-marked-requires-2 : tie.Need-marked-requires-2
-marked-requires-2 c κs = search needs
-
-same-length : tie.Need-same-length
-same-length c = search needs
-
 returns : tie.Need-returns
 unfolding filteredOf stretchedOf
 returns c =
@@ -46,9 +13,6 @@ returns c =
     ticked-parts
     (turn-clean _ _ _ _ (tapped .tap .ensures) (sym (tested .before .is-settled .ensures) ∙ tested .if1 .taken) _ _ _ (c .before .before .after .ensures)
     (c .before .volts1 .ensures) (c .marked .ensures))
-
-same-length-2 : tie.Need-same-length-2
-same-length-2 c = search needs
 
 returns-2 : tie.Need-returns-2
 unfolding filteredOf stretchedOf
@@ -63,5 +27,5 @@ returns-2 c =
 pub turn-spec : {M : Type 1} → statement M
 turn-spec =
     tie.close
-    (tie.spec tap-requires is-settled-requires mul-line slice-write-line after-requires volts1-requires marked-requires blank-requires volts1-requires-2
-    marked-requires-2 same-length returns same-length-2 returns-2)
+    (tie.spec (λ c κs. search needs) (λ c κs. search needs) (λ c. search needs) (λ c. search needs) (λ c κs. search needs) (λ c κs. search needs) (λ c κs. search needs) (λ c κs. search needs) (λ c κs. search needs)
+    (λ c κs. search needs) (λ c. search needs) returns (λ c. search needs) returns-2)

@@ -34,33 +34,18 @@ Inv-loop step depth wanted samples₀ marks₀ small phase₀ i₀ samples marks
 abbrev μ-loop : tie.MeasureT-loop
 μ-loop step depth wanted samples₀ marks₀ small phase₀ i₀ samples marks phase i = length marks₀ - i
 
-is-small-requires : tie.Need-is-small-requires Inv-loop μ-loop
-is-small-requires c κs = tt
-
 loop-holds : tie.Need-loop-holds Inv-loop μ-loop
 unfolding afterTicks
 loop-holds c = (omega arith, refl, refl, joined-none _ _, over-none _ _, refl, c .before .before .before .pre .0, omega arith)
 
-shared-sine-requires : tie.Need-shared-sine-requires Inv-loop μ-loop
-shared-sine-requires c κs = tt
-
 outputs-requires : tie.Need-outputs-requires Inv-loop μ-loop
 outputs-requires c κs = c .shared-sine .ensures
-
-is-finite-requires : tie.Need-is-finite-requires Inv-loop μ-loop
-is-finite-requires c κs = tt
 
 mark-requires : tie.Need-mark-requires Inv-loop μ-loop
 mark-requires c κs =
     let turned = c .before .before .before .before .before in
     let looped = turned .before in
     λ t. rw (c .before .outputs .ensures) (outputs-finite _ _ _ (looped .loop .inv .6) (sym (looped .before .is-small .ensures) ∙ t))
-
-put-requires : tie.Need-put-requires Inv-loop μ-loop
-put-requires c κs = tt
-
-wrap-phase-requires : tie.Need-wrap-phase-requires Inv-loop μ-loop
-wrap-phase-requires c κs = tt
 
 add-i : tie.Need-add-i Inv-loop μ-loop
 add-i c =
@@ -123,14 +108,14 @@ glide-spec =
     (tie.spec
     Inv-loop
     μ-loop
-    is-small-requires
+    (λ c κs. tt)
     loop-holds
-    shared-sine-requires
+    (λ c κs. tt)
     outputs-requires
-    is-finite-requires
+    (λ c κs. tt)
     mark-requires
-    put-requires
-    wrap-phase-requires
+    (λ c κs. tt)
+    (λ c κs. tt)
     add-i
     loop-less
     loop-again

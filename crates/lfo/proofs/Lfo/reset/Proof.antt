@@ -4,12 +4,6 @@ use Rattle.lfo.specs.Lfo.{madeUnless, restarted, lfoResetOf}
 use Rattle.lfo.proofs.Lfo.reset.Statement.{statement}
 use Rattle.lfo.proofs.Lfo.reset.Tie as tie
 
-refusal-requires : tie.Need-refusal-requires
-refusal-requires c κs = search needs
-
-reset-requires : tie.Need-reset-requires
-reset-requires c κs = search needs
-
 returns : tie.Need-returns
 unfolding lfoResetOf madeUnless restarted
 returns c =
@@ -21,4 +15,4 @@ unfolding lfoResetOf madeUnless
 returns-2 c = simp (ne-eqb _ _ (c .if1 .left), ← c .before .refusal .ensures)
 
 pub reset-spec : {M : Type 1} → statement M
-reset-spec = tie.close (tie.spec refusal-requires reset-requires returns returns-2)
+reset-spec = tie.close (tie.spec (λ c κs. search needs) (λ c κs. search needs) returns returns-2)

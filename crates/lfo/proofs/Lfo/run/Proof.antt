@@ -9,18 +9,6 @@ use Rattle.lfo.specs.Consts.{nPorts}
 use Rattle.lfo.proofs.Lfo.run.Statement.{statement}
 use Rattle.lfo.proofs.Lfo.run.Tie as tie
 
-recall-requires : tie.Need-recall-requires
-recall-requires c κs = search needs
-
-rising-requires : tie.Need-rising-requires
-rising-requires c κs = search needs
-
-restart-requires : tie.Need-restart-requires
-restart-requires c κs = search needs
-
-increment-requires : tie.Need-increment-requires
-increment-requires c κs = search needs
-
 glide-requires : tie.Need-glide-requires
 glide-requires c κs =
     let restarted = c .before .before .before .before in
@@ -28,12 +16,6 @@ glide-requires c κs =
     let known-2 = recalled .before .before .before .before .before in
     let p = known-2 .before .before .pre in
     (rw (restarted .restart .ensures) (restart-in _ _ (accepts _ (p .0) .1)), p .2)
-
-same-length : tie.Need-same-length
-same-length c = search needs
-
-same-length-2 : tie.Need-same-length-2
-same-length-2 c = search needs
 
 returns : tie.Need-returns
 returns c =
@@ -61,11 +43,11 @@ pub run-spec : {M : Type 1} → statement M
 run-spec =
     tie.close
     (tie.spec
-    recall-requires
-    rising-requires
-    restart-requires
-    increment-requires
+    (λ c κs. search needs)
+    (λ c κs. search needs)
+    (λ c κs. search needs)
+    (λ c κs. search needs)
     glide-requires
-    same-length
-    same-length-2
+    (λ c. search needs)
+    (λ c. search needs)
     returns)

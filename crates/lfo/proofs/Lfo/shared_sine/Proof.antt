@@ -3,12 +3,6 @@ use borrow.Author.Needs.{needs}
 use Rattle.lfo.proofs.Lfo.shared_sine.Statement.{statement}
 use Rattle.lfo.proofs.Lfo.shared_sine.Tie as tie
 
-either-requires : tie.Need-either-requires
-either-requires c κs = search needs
-
-sin-requires : tie.Need-sin-requires
-sin-requires c κs = search needs
-
 returns : tie.Need-returns
 unfolding sharedSine sineOf
 returns c = simp (c .sin .ensures, c .before .before .if1 .taken, ← c .before .before .before .either .ensures)
@@ -18,4 +12,4 @@ unfolding sharedSine
 returns-2 c = simp (c .if1 .left, ← c .before .either .ensures)
 
 pub shared-sine-spec : {M : Type 1} → statement M
-shared-sine-spec = tie.close (tie.spec either-requires sin-requires returns returns-2)
+shared-sine-spec = tie.close (tie.spec (λ c κs. search needs) (λ c κs. search needs) returns returns-2)

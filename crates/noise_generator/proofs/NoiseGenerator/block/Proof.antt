@@ -8,12 +8,6 @@ use borrow.Author.Needs.{needs}
 use Rattle.noise_generator.proofs.NoiseGenerator.block.Statement.{statement}
 use Rattle.noise_generator.proofs.NoiseGenerator.block.Tie as tie
 
-draws-refusal-requires : tie.Need-draws-refusal-requires
-draws-refusal-requires c κs = search needs
-
-block-refusal-requires : tie.Need-block-refusal-requires
-block-refusal-requires c κs = search needs
-
 run-requires : tie.Need-run-requires
 run-requires c κs =
     let asked = c .before .before .before in
@@ -21,18 +15,6 @@ run-requires c κs =
     let e = rw (asked .before .draws-refusal .ensures) at (asked .block-refusal .ensures) in
     let f = block-fits nPorts _ (a .tally) (a .samples .now) (a .marks .now) _ e (c .before .before .if1 .taken) in
     (f .1, f .0)
-
-take-marks-requires : tie.Need-take-marks-requires
-take-marks-requires c κs = search needs
-
-or-requires : tie.Need-or-requires
-or-requires c κs = search needs
-
-same-length : tie.Need-same-length
-same-length c = search needs
-
-same-length-2 : tie.Need-same-length-2
-same-length-2 c = search needs
 
 returns : tie.Need-returns
 unfolding noiseGeneratorBlockOf
@@ -64,12 +46,12 @@ pub block-spec : {M : Type 1} → statement M
 block-spec =
     tie.close
     (tie.spec
-    draws-refusal-requires
-    block-refusal-requires
+    (λ c κs. search needs)
+    (λ c κs. search needs)
     run-requires
-    take-marks-requires
-    or-requires
-    same-length
-    same-length-2
+    (λ c κs. search needs)
+    (λ c κs. search needs)
+    (λ c. search needs)
+    (λ c. search needs)
     returns
     returns-2)

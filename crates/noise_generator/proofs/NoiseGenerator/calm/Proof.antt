@@ -5,18 +5,6 @@ use Rattle.laws.specs.Float.{InUnit}
 use Rattle.noise_generator.proofs.NoiseGenerator.calm.Statement.{statement}
 use Rattle.noise_generator.proofs.NoiseGenerator.calm.Tie as tie
 
-clamped-requires : tie.Need-clamped-requires
-clamped-requires c κs = search needs
-
-in-unit-requires : tie.Need-in-unit-requires
-in-unit-requires c κs = search needs
-
-bounded-requires : tie.Need-bounded-requires
-bounded-requires c κs = search needs
-
-bounded-requires-2 : tie.Need-bounded-requires-2
-bounded-requires-2 c κs = search needs
-
 returns : tie.Need-returns
 returns c e =
     let asked = c .before .before .before .before in
@@ -35,4 +23,4 @@ returns-3 c e = absurd (false≢true e)
 pub calm-spec : {M : Type 1} → statement M
 calm-spec =
     tie.close
-    (tie.spec clamped-requires in-unit-requires bounded-requires bounded-requires-2 returns returns-2 returns-3)
+    (tie.spec (λ c κs. search needs) (λ c κs. search needs) (λ c κs. search needs) (λ c κs. search needs) returns returns-2 returns-3)

@@ -4,18 +4,6 @@ use borrow.Author.Needs.{needs}
 use Rattle.noise_generator.proofs.NoiseGenerator.clamped.Statement.{statement}
 use Rattle.noise_generator.proofs.NoiseGenerator.clamped.Tie as tie
 
-enum-known-input : tie.Need-enum-known-input
-enum-known-input c = search needs
-
-clamp-requires : tie.Need-clamp-requires
-clamp-requires c κs = search needs
-
-enum-told : tie.Need-enum-told
-enum-told c = search needs
-
-clamp-requires-2 : tie.Need-clamp-requires-2
-clamp-requires-2 c κs = search needs
-
 returns : tie.Need-returns
 unfolding correlationOf givenOr ofBits
 returns c = simp (c .clamp .ensures, c .before .before .input .given .1)
@@ -27,4 +15,4 @@ returns-2 c = simp (c .clamp2 .ensures, c .before .enum-told .given .1)
 pub clamped-spec : {M : Type 1} → statement M
 clamped-spec =
     tie.close
-    (tie.spec enum-known-input clamp-requires enum-told clamp-requires-2 returns returns-2)
+    (tie.spec (λ c. search needs) (λ c κs. search needs) (λ c. search needs) (λ c κs. search needs) returns returns-2)

@@ -5,12 +5,6 @@ use borrow.Author.Needs.{needs}
 use Rattle.noise_generator.proofs.NoiseGenerator.draws_refusal.Statement.{statement}
 use Rattle.noise_generator.proofs.NoiseGenerator.draws_refusal.Tie as tie
 
-needed-in-requires : tie.Need-needed-in-requires
-needed-in-requires c κs = search needs
-
-draws-refusal-requires : tie.Need-draws-refusal-requires
-draws-refusal-requires c κs = search needs
-
 returns : tie.Need-returns
 returns c = let k = needed-least (c .before .before .args .self) (c .before .before .args .n) in draws-few _ _ (omega arith)
 
@@ -19,4 +13,4 @@ returns-2 c = simp (c .before .needed-in .ensures) at (c .draws-refusal .ensures
 
 pub draws-refusal-spec : {M : Type 1} → statement M
 draws-refusal-spec =
-    tie.close (tie.spec needed-in-requires draws-refusal-requires returns returns-2)
+    tie.close (tie.spec (λ c κs. search needs) (λ c κs. search needs) returns returns-2)

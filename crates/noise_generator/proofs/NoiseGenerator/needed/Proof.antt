@@ -6,20 +6,8 @@ use borrow.Author.Needs.{needs}
 use Rattle.noise_generator.proofs.NoiseGenerator.needed.Statement.{statement}
 use Rattle.noise_generator.proofs.NoiseGenerator.needed.Tie as tie
 
-next-index-requires : tie.Need-next-index-requires
-next-index-requires c κs = search needs
-
-changed-requires : tie.Need-changed-requires
-changed-requires c κs = search needs
-
 add-result : tie.Need-add-result
 add-result c = let e = c .changed .ensures in let m = changed-most (c .before .next-index .result) in omega arith
-
-next-index-requires-2 : tie.Need-next-index-requires-2
-next-index-requires-2 c κs = search needs
-
-changed-requires-2 : tie.Need-changed-requires-2
-changed-requires-2 c κs = search needs
 
 add-result-2 : tie.Need-add-result-2
 add-result-2 c =
@@ -39,10 +27,10 @@ pub needed-spec : {M : Type 1} → statement M
 needed-spec =
     tie.close
     (tie.spec
-    next-index-requires
-    changed-requires
+    (λ c κs. search needs)
+    (λ c κs. search needs)
     add-result
-    next-index-requires-2
-    changed-requires-2
+    (λ c κs. search needs)
+    (λ c κs. search needs)
     add-result-2
     returns)

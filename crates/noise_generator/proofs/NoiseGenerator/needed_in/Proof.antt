@@ -6,21 +6,12 @@ use borrow.Author.Needs.{needs}
 use Rattle.noise_generator.proofs.NoiseGenerator.needed_in.Statement.{statement}
 use Rattle.noise_generator.proofs.NoiseGenerator.needed_in.Tie as tie
 
-mul-result : tie.Need-mul-result
-mul-result c = search needs
-
-changed-by-requires : tie.Need-changed-by-requires
-changed-by-requires c κs = search needs
-
 add-result : tie.Need-add-result
 add-result c =
     let a = c .before .before .before .args in
     let e = c .changed-by .ensures in
     let k = changed-by-most (a .self .pink .index) (a .n) in
     omega arith
-
-changed-by-requires-2 : tie.Need-changed-by-requires-2
-changed-by-requires-2 c κs = search needs
 
 add-result-2 : tie.Need-add-result-2
 add-result-2 c =
@@ -38,4 +29,4 @@ returns c = simp (c .changed-by2 .ensures, c .before .changed-by .ensures) (add-
 pub needed-in-spec : {M : Type 1} → statement M
 needed-in-spec =
     tie.close
-    (tie.spec mul-result changed-by-requires add-result changed-by-requires-2 add-result-2 returns)
+    (tie.spec (λ c. search needs) (λ c κs. search needs) add-result (λ c κs. search needs) add-result-2 returns)

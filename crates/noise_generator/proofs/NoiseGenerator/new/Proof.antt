@@ -4,15 +4,9 @@ use Rattle.noise_generator.specs.NoiseGenerator.{newNoiseGenerator}
 use Rattle.noise_generator.proofs.NoiseGenerator.new.Statement.{statement}
 use Rattle.noise_generator.proofs.NoiseGenerator.new.Tie as tie
 
-new-requires : tie.Need-new-requires
-new-requires c κs = search needs
-
-new-requires-2 : tie.Need-new-requires-2
-new-requires-2 c κs = search needs
-
 returns : tie.Need-returns
 unfolding newNoiseGenerator ofBits
 returns c = simp (c .new2 .ensures, c .before .new .ensures)
 
 pub new-spec : {M : Type 1} → statement M
-new-spec = tie.close (tie.spec new-requires new-requires-2 returns)
+new-spec = tie.close (tie.spec (λ c κs. search needs) (λ c κs. search needs) returns)

@@ -33,29 +33,11 @@ Inv-loop self c wanted draws samples₀ marks₀ rows₀ rows2₀ rest₀ last-w
 abbrev μ-loop : tie.MeasureT-loop
 μ-loop self c wanted draws samples₀ marks₀ rows₀ rows2₀ rest₀ last-white₀ calm at₀ i₀ samples marks rows rows2 rest last-white at i = length marks₀ - i
 
-calm-requires : tie.Need-calm-requires Inv-loop μ-loop
-calm-requires c κs = search needs
-
 loop-holds : tie.Need-loop-holds Inv-loop μ-loop
 unfolding afterTicks neededBy changedBy
 loop-holds c =
     let apart = c .before .before .before .before .before in
     (omega arith, apart .before .before .before .pre .1, refl, joined-none _ _, over-none _ _, refl, refl, omega arith)
-
-clamped-requires : tie.Need-clamped-requires Inv-loop μ-loop
-clamped-requires c κs = search needs
-
-mul-turn : tie.Need-mul-turn Inv-loop μ-loop
-mul-turn c = omega arith
-
-sub-turn : tie.Need-sub-turn Inv-loop μ-loop
-sub-turn c = omega arith
-
-part-turn-start : tie.Need-part-turn-start Inv-loop μ-loop
-part-turn-start c = omega arith
-
-part-turn-end : tie.Need-part-turn-end Inv-loop μ-loop
-part-turn-end c = omega arith
 
 turn-requires : tie.Need-turn-requires Inv-loop μ-loop
 unfolding neededAt neededOf
@@ -72,9 +54,6 @@ turn-requires c κs =
           ahead-finite (a .self) (a .c) (a .wanted) (a .draws .now) _ (begun .pre .0) (search (needs, good .0)) (search (needs, good .1 .0))
           (calmed .calm .ensures e) (l .i) (omega arith) _ x (l .at) (clamped .clamped .ensures) (l .inv .5) (l .inv .6),
     )
-
-put-requires : tie.Need-put-requires Inv-loop μ-loop
-put-requires c κs = search needs
 
 add-at : tie.Need-add-at Inv-loop μ-loop
 unfolding neededAt neededOf
@@ -100,9 +79,6 @@ add-i c =
     let s = tested .before .loop .inv in
     let g = apart .before .before .before .before .before .good in
     omega (arith, t, s, g)
-
-loop-less : tie.Need-loop-less Inv-loop μ-loop
-loop-less c = omega arith
 
 loop-again : tie.Need-loop-again Inv-loop μ-loop
 unfolding neededAt neededOf
@@ -159,18 +135,18 @@ run-spec =
     (tie.spec
     Inv-loop
     μ-loop
-    calm-requires
+    (λ c κs. search needs)
     loop-holds
-    clamped-requires
-    mul-turn
-    sub-turn
-    part-turn-start
-    part-turn-end
+    (λ c κs. search needs)
+    (λ c. omega arith)
+    (λ c. omega arith)
+    (λ c. omega arith)
+    (λ c. omega arith)
     turn-requires
-    put-requires
+    (λ c κs. search needs)
     add-at
     add-i
-    loop-less
+    (λ c. omega arith)
     loop-again
     same-length
     same-length-2

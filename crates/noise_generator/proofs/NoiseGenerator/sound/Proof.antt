@@ -6,9 +6,6 @@ use borrow.Author.Needs.{needs}
 use Rattle.noise_generator.proofs.NoiseGenerator.sound.Statement.{statement}
 use Rattle.noise_generator.proofs.NoiseGenerator.sound.Tie as tie
 
-clamped-requires : tie.Need-clamped-requires
-clamped-requires c κs = search needs
-
 turn-requires : tie.Need-turn-requires
 unfolding neededAt neededOf
 turn-requires c κs =
@@ -24,4 +21,4 @@ returns c =
     ∙ ap (λ k. turnOf k (a .self) (a .wanted) (a .draws .now)) (clamped .clamped .ensures)
 
 pub sound-spec : {M : Type 1} → statement M
-sound-spec = tie.close (tie.spec clamped-requires turn-requires returns)
+sound-spec = tie.close (tie.spec (λ c κs. search needs) turn-requires returns)

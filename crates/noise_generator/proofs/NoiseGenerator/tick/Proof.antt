@@ -9,12 +9,6 @@ use borrow.Author.Needs.{needs}
 use Rattle.noise_generator.proofs.NoiseGenerator.tick.Statement.{statement}
 use Rattle.noise_generator.proofs.NoiseGenerator.tick.Tie as tie
 
-needed-requires : tie.Need-needed-requires
-needed-requires c κs = search needs
-
-draws-refusal-requires : tie.Need-draws-refusal-requires
-draws-refusal-requires c κs = search needs
-
 not-refused : (d : List ℕ) (n m k : ℕ) → n ≡ m → k ≡ drawsRefusalOf n d → k ≡ 0 → drawsRefusalOf m d ≡ 0
 not-refused d n m k e h z = ap (λ (n : ℕ). drawsRefusalOf n d) (sym e) ∙ sym h ∙ z
 
@@ -32,4 +26,4 @@ returns-2 c = simp (← c .before .before .needed .ensures, ← c .before .draws
 
 pub tick-spec : {M : Type 1} → statement M
 tick-spec =
-    tie.close (tie.spec needed-requires draws-refusal-requires sound-requires returns returns-2)
+    tie.close (tie.spec (λ c κs. search needs) (λ c κs. search needs) sound-requires returns returns-2)

@@ -9,18 +9,6 @@ use borrow.Author.Needs.{needs}
 use Rattle.noise_generator.proofs.NoiseGenerator.turn.Statement.{statement}
 use Rattle.noise_generator.proofs.NoiseGenerator.turn.Tie as tie
 
-next-index-requires : tie.Need-next-index-requires
-next-index-requires c κs = search needs
-
-next-index-requires-2 : tie.Need-next-index-requires-2
-next-index-requires-2 c κs = search needs
-
-changed-requires : tie.Need-changed-requires
-changed-requires c κs = search needs
-
-changed-requires-2 : tie.Need-changed-requires-2
-changed-requires-2 c κs = search needs
-
 shared-slice-read-bipolar : tie.Need-shared-slice-read-bipolar
 shared-slice-read-bipolar c =
     let counted = c .before .before .before .before in
@@ -126,10 +114,10 @@ pub turn-spec : {M : Type 1} → statement M
 turn-spec =
     tie.close
     (tie.spec
-    next-index-requires
-    next-index-requires-2
-    changed-requires
-    changed-requires-2
+    (λ c κs. search needs)
+    (λ c κs. search needs)
+    (λ c κs. search needs)
+    (λ c κs. search needs)
     shared-slice-read-bipolar
     bipolar-requires
     shared-slice-read-bipolar-2

@@ -4,18 +4,9 @@ use borrow.Author.Needs.{needs}
 use Rattle.noise_generator.proofs.NoiseGenerator.with_correlation.Statement.{statement}
 use Rattle.noise_generator.proofs.NoiseGenerator.with_correlation.Tie as tie
 
-new-requires : tie.Need-new-requires
-new-requires c κs = search needs
-
-new-requires-2 : tie.Need-new-requires-2
-new-requires-2 c κs = search needs
-
-clamp-requires : tie.Need-clamp-requires
-clamp-requires c κs = search needs
-
 returns : tie.Need-returns
 unfolding withCorrelation ofBits
 returns c = simp (c .clamp .ensures, c .before .new2 .ensures, c .before .before .new .ensures)
 
 pub with-correlation-spec : {M : Type 1} → statement M
-with-correlation-spec = tie.close (tie.spec new-requires new-requires-2 clamp-requires returns)
+with-correlation-spec = tie.close (tie.spec (λ c κs. search needs) (λ c κs. search needs) (λ c κs. search needs) returns)

@@ -6,9 +6,6 @@ use Rattle.noise_generator.specs.Promises.{top}
 use Rattle.noise_generator.proofs.PinkNoiseState.bounded.Statement.{statement}
 use Rattle.noise_generator.proofs.PinkNoiseState.bounded.Tie as tie
 
-rows-in-unit-requires : tie.Need-rows-in-unit-requires
-rows-in-unit-requires c κs = search needs
-
 returns : tie.Need-returns
 unfolding neg ofBits
 returns c e =
@@ -27,4 +24,4 @@ returns-3 : tie.Need-returns-3
 returns-3 c e = absurd (false≢true e)
 
 pub bounded-spec : {M : Type 1} → statement M
-bounded-spec = tie.close (tie.spec rows-in-unit-requires returns returns-2 returns-3)
+bounded-spec = tie.close (tie.spec (λ c κs. search needs) returns returns-2 returns-3)

@@ -17,35 +17,8 @@ loop-holds : tie.Need-loop-holds Inv-loop μ-loop
 unfolding rowsOf
 loop-holds c = (omega arith, refl)
 
-add-bipolar : tie.Need-add-bipolar Inv-loop μ-loop
-add-bipolar c = omega arith
-
-mul-bipolar : tie.Need-mul-bipolar Inv-loop μ-loop
-mul-bipolar c = omega arith
-
-shared-slice-read-bipolar : tie.Need-shared-slice-read-bipolar Inv-loop μ-loop
-shared-slice-read-bipolar c = omega arith
-
 bipolar-requires : tie.Need-bipolar-requires Inv-loop μ-loop
 bipolar-requires c κs = c .before .before .before .before .pre .2 (c .before .before .loop .i) (c .before .loop-test .taken)
-
-mul-running-sum : tie.Need-mul-running-sum Inv-loop μ-loop
-mul-running-sum c = omega arith
-
-element-copy-out-running-sum : tie.Need-element-copy-out-running-sum Inv-loop μ-loop
-element-copy-out-running-sum c = omega arith
-
-mul-rows : tie.Need-mul-rows Inv-loop μ-loop
-mul-rows c = omega arith
-
-element-write-rows : tie.Need-element-write-rows Inv-loop μ-loop
-element-write-rows c = omega arith
-
-add-i : tie.Need-add-i Inv-loop μ-loop
-add-i c = omega arith
-
-loop-less : tie.Need-loop-less Inv-loop μ-loop
-loop-less c = omega arith
 
 loop-again : tie.Need-loop-again Inv-loop μ-loop
 loop-again c =
@@ -66,15 +39,15 @@ sample-spec =
     Inv-loop
     μ-loop
     loop-holds
-    add-bipolar
-    mul-bipolar
-    shared-slice-read-bipolar
+    (λ c. omega arith)
+    (λ c. omega arith)
+    (λ c. omega arith)
     bipolar-requires
-    mul-running-sum
-    element-copy-out-running-sum
-    mul-rows
-    element-write-rows
-    add-i
-    loop-less
+    (λ c. omega arith)
+    (λ c. omega arith)
+    (λ c. omega arith)
+    (λ c. omega arith)
+    (λ c. omega arith)
+    (λ c. omega arith)
     loop-again
     returns)

@@ -18,29 +18,8 @@ Inv-loop detune base-freq sample-rate dt₀ i₀ dt i =
 abbrev μ-loop : tie.MeasureT-loop
 μ-loop detune base-freq sample-rate dt₀ i₀ dt i = 7 - i
 
-sub-increment-requires : tie.Need-sub-increment-requires Inv-loop μ-loop
-sub-increment-requires c κs = search needs
-
 loop-holds : tie.Need-loop-holds Inv-loop μ-loop
 loop-holds c = (omega arith, rw (c .sub-increment .ensures) (over-none _ _))
-
-detuned-requires : tie.Need-detuned-requires Inv-loop μ-loop
-detuned-requires c κs = omega arith
-
-increment-requires : tie.Need-increment-requires Inv-loop μ-loop
-increment-requires c κs = search needs
-
-mul-dt : tie.Need-mul-dt Inv-loop μ-loop
-mul-dt c = omega arith
-
-array-write-dt : tie.Need-array-write-dt Inv-loop μ-loop
-array-write-dt c = omega arith
-
-add-i : tie.Need-add-i Inv-loop μ-loop
-add-i c = omega arith
-
-loop-less : tie.Need-loop-less Inv-loop μ-loop
-loop-less c = omega arith
 
 loop-again : tie.Need-loop-again Inv-loop μ-loop
 unfolding dtOf
@@ -60,13 +39,13 @@ increments-spec =
     (tie.spec
     Inv-loop
     μ-loop
-    sub-increment-requires
+    (λ c κs. search needs)
     loop-holds
-    detuned-requires
-    increment-requires
-    mul-dt
-    array-write-dt
-    add-i
-    loop-less
+    (λ c κs. omega arith)
+    (λ c κs. search needs)
+    (λ c. omega arith)
+    (λ c. omega arith)
+    (λ c. omega arith)
+    (λ c. omega arith)
     loop-again
     returns)

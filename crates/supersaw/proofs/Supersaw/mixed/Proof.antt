@@ -17,24 +17,6 @@ loop-holds : tie.Need-loop-holds Inv-loop μ-loop
 unfolding mixTo
 loop-holds c = (omega arith, refl)
 
-mul-sum : tie.Need-mul-sum Inv-loop μ-loop
-mul-sum c = omega arith
-
-array-read-sum : tie.Need-array-read-sum Inv-loop μ-loop
-array-read-sum c = omega arith
-
-mul-sum-2 : tie.Need-mul-sum-2 Inv-loop μ-loop
-mul-sum-2 c = omega arith
-
-array-read-sum-2 : tie.Need-array-read-sum-2 Inv-loop μ-loop
-array-read-sum-2 c = omega arith
-
-add-i : tie.Need-add-i Inv-loop μ-loop
-add-i c = omega arith
-
-loop-less : tie.Need-loop-less Inv-loop μ-loop
-loop-less c = omega arith
-
 loop-again : tie.Need-loop-again Inv-loop μ-loop
 unfolding mixTo
 loop-again c = (omega arith, rw (add-one, ← c .before .loop .inv .1))
@@ -49,11 +31,11 @@ mixed-spec =
     Inv-loop
     μ-loop
     loop-holds
-    mul-sum
-    array-read-sum
-    mul-sum-2
-    array-read-sum-2
-    add-i
-    loop-less
+    (λ c. omega arith)
+    (λ c. omega arith)
+    (λ c. omega arith)
+    (λ c. omega arith)
+    (λ c. omega arith)
+    (λ c. omega arith)
     loop-again
     returns)

@@ -3,15 +3,6 @@ use borrow.Author.Needs.{needs}
 use Rattle.supersaw.proofs.Supersaw.new.Statement.{statement}
 use Rattle.supersaw.proofs.Supersaw.new.Tie as tie
 
-start-requires : tie.Need-start-requires
-start-requires c κs = search needs
-
-new-requires : tie.Need-new-requires
-new-requires c κs = search needs
-
-rate-ok-requires : tie.Need-rate-ok-requires
-rate-ok-requires c κs = search needs
-
 returns : tie.Need-returns
 unfolding supersawNewOf madeUnless newSupersaw
 returns c = simp (c .before .before .new .ensures, c .before .before .before .start .ensures, c .if1 .taken, ← c .before .rate-ok .ensures)
@@ -21,4 +12,4 @@ unfolding supersawNewOf madeUnless newSupersaw
 returns-2 c = simp (c .before .before .new .ensures, c .before .before .before .start .ensures, c .if1 .left, ← c .before .rate-ok .ensures)
 
 pub new-spec : {M : Type 1} → statement M
-new-spec = tie.close (tie.spec start-requires new-requires rate-ok-requires returns returns-2)
+new-spec = tie.close (tie.spec (λ c κs. search needs) (λ c κs. search needs) (λ c κs. search needs) returns returns-2)

@@ -3,9 +3,6 @@ use borrow.Author.Needs.{needs}
 use Rattle.supersaw.proofs.Supersaw.quiet.Statement.{statement}
 use Rattle.supersaw.proofs.Supersaw.quiet.Tie as tie
 
-all-steady-requires : tie.Need-all-steady-requires
-all-steady-requires c κs = search needs
-
 returns : tie.Need-returns
 unfolding quietOf
 returns c = simp (c .all-steady .ensures, c .before .if1 .taken)
@@ -15,4 +12,4 @@ unfolding quietOf
 returns-2 c = simp (c .if1 .left)
 
 pub quiet-spec : {M : Type 1} → statement M
-quiet-spec = tie.close (tie.spec all-steady-requires returns returns-2)
+quiet-spec = tie.close (tie.spec (λ c κs. search needs) returns returns-2)

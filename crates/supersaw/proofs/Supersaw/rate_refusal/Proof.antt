@@ -3,12 +3,6 @@ use borrow.Author.Needs.{needs}
 use Rattle.supersaw.proofs.Supersaw.rate_refusal.Statement.{statement}
 use Rattle.supersaw.proofs.Supersaw.rate_refusal.Tie as tie
 
-rate-ok-requires : tie.Need-rate-ok-requires
-rate-ok-requires c κs = search needs
-
-refusal-requires : tie.Need-refusal-requires
-refusal-requires c κs = search needs
-
 returns : tie.Need-returns
 unfolding supersawRateRefusalOf
 returns c = simp (c .refusal .ensures, c .before .if1 .taken, ← c .before .before .rate-ok .ensures)
@@ -18,4 +12,4 @@ unfolding supersawRateRefusalOf
 returns-2 c = simp (c .if1 .left, ← c .before .rate-ok .ensures)
 
 pub rate-refusal-spec : {M : Type 1} → statement M
-rate-refusal-spec = tie.close (tie.spec rate-ok-requires refusal-requires returns returns-2)
+rate-refusal-spec = tie.close (tie.spec (λ c κs. search needs) (λ c κs. search needs) returns returns-2)

@@ -3,15 +3,6 @@ use borrow.Author.Needs.{needs}
 use Rattle.supersaw.proofs.Supersaw.refusal.Statement.{statement}
 use Rattle.supersaw.proofs.Supersaw.refusal.Tie as tie
 
-rate-ok-requires : tie.Need-rate-ok-requires
-rate-ok-requires c κs = search needs
-
-phases-ok-requires : tie.Need-phases-ok-requires
-phases-ok-requires c κs = search needs
-
-phase-ok-requires : tie.Need-phase-ok-requires
-phase-ok-requires c κs = search needs
-
 returns : tie.Need-returns
 unfolding supersawRefusalOf
 returns c =
@@ -51,4 +42,4 @@ returns-4 c = simp (c .if1 .left, ← c .before .rate-ok .ensures)
 pub refusal-spec : {M : Type 1} → statement M
 refusal-spec =
     tie.close
-    (tie.spec rate-ok-requires phases-ok-requires phase-ok-requires returns returns-2 returns-3 returns-4)
+    (tie.spec (λ c κs. search needs) (λ c κs. search needs) (λ c κs. search needs) returns returns-2 returns-3 returns-4)

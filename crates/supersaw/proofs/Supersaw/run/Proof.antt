@@ -7,39 +7,12 @@ use Rattle.supersaw.proofs.Held.{holds, quiet-held}
 use Rattle.supersaw.proofs.Supersaw.run.Statement.{statement}
 use Rattle.supersaw.proofs.Supersaw.run.Tie as tie
 
-clamp-requires : tie.Need-clamp-requires
-clamp-requires c κs = search needs
-
-clamp-requires-2 : tie.Need-clamp-requires-2
-clamp-requires-2 c κs = search needs
-
-voct-to-hz-requires : tie.Need-voct-to-hz-requires
-voct-to-hz-requires c κs = search needs
-
-lanes-requires : tie.Need-lanes-requires
-lanes-requires c κs = search needs
-
-increments-requires : tie.Need-increments-requires
-increments-requires c κs = search needs
-
 glide-requires : tie.Need-glide-requires
 glide-requires c κs =
     let ready = c .before .before in
     let clamped = ready .before .before .before .before .before in
     let apart = clamped .before .before .before .before .before in let begun = apart .before .before in
     (quiet-held (begun .args .self) (begun .args .c) _ _ _ _ (begun .pre .0) (clamped .clamp .ensures) (ready .increments .ensures), begun .pre .2)
-
-voices-requires : tie.Need-voices-requires
-voices-requires c κs = search needs
-
-array-read-t24 : tie.Need-array-read-t24
-array-read-t24 c = search needs
-
-same-length : tie.Need-same-length
-same-length c = search needs
-
-same-length-2 : tie.Need-same-length-2
-same-length-2 c = search needs
 
 returns : tie.Need-returns
 returns c =
@@ -68,14 +41,14 @@ pub run-spec : {M : Type 1} → statement M
 run-spec =
     tie.close
     (tie.spec
-    clamp-requires
-    clamp-requires-2
-    voct-to-hz-requires
-    lanes-requires
-    increments-requires
+    (λ c κs. search needs)
+    (λ c κs. search needs)
+    (λ c κs. search needs)
+    (λ c κs. search needs)
+    (λ c κs. search needs)
     glide-requires
-    voices-requires
-    array-read-t24
-    same-length
-    same-length-2
+    (λ c κs. search needs)
+    (λ c. search needs)
+    (λ c. search needs)
+    (λ c. search needs)
     returns)

@@ -3,15 +3,6 @@ use borrow.Author.Needs.{needs}
 use Rattle.supersaw.proofs.Supersaw.turn.Statement.{statement}
 use Rattle.supersaw.proofs.Supersaw.turn.Tie as tie
 
-quiet-requires : tie.Need-quiet-requires
-quiet-requires c κs = search needs
-
-ramped-requires : tie.Need-ramped-requires
-ramped-requires c κs = search needs
-
-stepped-requires : tie.Need-stepped-requires
-stepped-requires c κs = search needs
-
 returns : tie.Need-returns
 returns c = c .ramped .ensures ∙ c .before .before .before .pre (sym (c .before .before .quiet .ensures) ∙ c .before .if1 .taken)
 
@@ -19,4 +10,4 @@ returns-2 : tie.Need-returns-2
 returns-2 c = c .stepped .ensures
 
 pub turn-spec : {M : Type 1} → statement M
-turn-spec = tie.close (tie.spec quiet-requires ramped-requires stepped-requires returns returns-2)
+turn-spec = tie.close (tie.spec (λ c κs. search needs) (λ c κs. search needs) (λ c κs. search needs) returns returns-2)

@@ -37,25 +37,10 @@ loop-holds : tie.Need-loop-holds Inv-loop μ-loop
 unfolding afterTicks
 loop-holds c = (omega arith, refl, refl, joined-none _ _, over-none _ _, refl, c .before .before .pre .0)
 
-crosses-requires : tie.Need-crosses-requires Inv-loop μ-loop
-crosses-requires c κs = tt
-
-restart-requires : tie.Need-restart-requires Inv-loop μ-loop
-restart-requires c κs = tt
-
 put-heard-requires : tie.Need-put-heard-requires Inv-loop μ-loop
 put-heard-requires c κs =
     let l = c .before .before .before .before .before in
     (rw (c .before .before .restart .ensures) (restart-in _ _ (l .loop .inv .6)), l .before .before .before .pre .1)
-
-wrap-phase-requires : tie.Need-wrap-phase-requires Inv-loop μ-loop
-wrap-phase-requires c κs = tt
-
-add-i : tie.Need-add-i Inv-loop μ-loop
-add-i c = omega arith
-
-loop-less : tie.Need-loop-less Inv-loop μ-loop
-loop-less c = omega arith
 
 loop-again : tie.Need-loop-again Inv-loop μ-loop
 loop-again c =
@@ -102,12 +87,12 @@ glide-spec =
     Inv-loop
     μ-loop
     loop-holds
-    crosses-requires
-    restart-requires
+    (λ c κs. tt)
+    (λ c κs. tt)
     put-heard-requires
-    wrap-phase-requires
-    add-i
-    loop-less
+    (λ c κs. tt)
+    (λ c. omega arith)
+    (λ c. omega arith)
     loop-again
     same-length
     same-length-2

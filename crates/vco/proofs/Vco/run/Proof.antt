@@ -9,29 +9,11 @@ use Rattle.vco.specs.Consts.{nPorts}
 use Rattle.vco.proofs.Vco.run.Statement.{statement}
 use Rattle.vco.proofs.Vco.run.Tie as tie
 
-tuned-requires : tie.Need-tuned-requires
-tuned-requires c κs = search needs
-
-increment-requires : tie.Need-increment-requires
-increment-requires c κs = search needs
-
-rising-frac-requires : tie.Need-rising-frac-requires
-rising-frac-requires c κs = search needs
-
-width-requires : tie.Need-width-requires
-width-requires c κs = search needs
-
 glide-requires : tie.Need-glide-requires
 glide-requires c κs =
     let widened = c .before .before in
     let s = widened .before .before .before .before .before .before .before .before .before .before .before .before .before .before in
     (unrefused (s .args .self) (s .pre .0) .1, simp (widened .width .ensures) (clamp-width _), s .pre .2)
-
-same-length : tie.Need-same-length
-same-length c = search needs
-
-same-length-2 : tie.Need-same-length-2
-same-length-2 c = search needs
 
 returns : tie.Need-returns
 returns c =
@@ -59,11 +41,11 @@ pub run-spec : {M : Type 1} → statement M
 run-spec =
     tie.close
     (tie.spec
-    tuned-requires
-    increment-requires
-    rising-frac-requires
-    width-requires
+    (λ c κs. search needs)
+    (λ c κs. search needs)
+    (λ c κs. search needs)
+    (λ c κs. search needs)
     glide-requires
-    same-length
-    same-length-2
+    (λ c. search needs)
+    (λ c. search needs)
     returns)

@@ -2,11 +2,8 @@ use borrow.Author.Needs.{needs}
 use Rattle.vco.proofs.Vco.sin.Statement.{statement}
 use Rattle.vco.proofs.Vco.sin.Tie as tie
 
-sine-requires : tie.Need-sine-requires
-sine-requires c κs = search needs
-
 returns : tie.Need-returns
 returns c = c .sine .ensures
 
 pub sin-spec : {M : Type 1} → statement M
-sin-spec = tie.close (tie.spec sine-requires returns)
+sin-spec = tie.close (tie.spec (λ c κs. search needs) returns)

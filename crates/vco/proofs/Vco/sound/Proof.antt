@@ -5,31 +5,10 @@ use borrow.Author.Needs.{needs}
 use Rattle.vco.proofs.Vco.sound.Statement.{statement}
 use Rattle.vco.proofs.Vco.sound.Tie as tie
 
-tuned-requires : tie.Need-tuned-requires
-tuned-requires c κs = search needs
-
-increment-requires : tie.Need-increment-requires
-increment-requires c κs = search needs
-
-rising-frac-requires : tie.Need-rising-frac-requires
-rising-frac-requires c κs = search needs
-
-crosses-requires : tie.Need-crosses-requires
-crosses-requires c κs = search needs
-
-restart-requires : tie.Need-restart-requires
-restart-requires c κs = search needs
-
-width-requires : tie.Need-width-requires
-width-requires c κs = search needs
-
 heard-requires : tie.Need-heard-requires
 heard-requires c κs =
     let s = c .before .before .before .before .before .before .before .before .before .before .before .before .before .before in
     (simp (c .before .restart .ensures) (restart-in (s .args .self .phase) _ (s .pre)), simp (c .width .ensures) (clamp-width _))
-
-wrap-phase-requires : tie.Need-wrap-phase-requires
-wrap-phase-requires c κs = search needs
 
 returns : tie.Need-returns
 unfolding vcoSoundOf
@@ -53,12 +32,12 @@ pub sound-spec : {M : Type 1} → statement M
 sound-spec =
     tie.close
     (tie.spec
-    tuned-requires
-    increment-requires
-    rising-frac-requires
-    crosses-requires
-    restart-requires
-    width-requires
+    (λ c κs. search needs)
+    (λ c κs. search needs)
+    (λ c κs. search needs)
+    (λ c κs. search needs)
+    (λ c κs. search needs)
+    (λ c κs. search needs)
     heard-requires
-    wrap-phase-requires
+    (λ c κs. search needs)
     returns)

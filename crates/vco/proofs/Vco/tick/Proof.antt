@@ -6,9 +6,6 @@ use borrow.Author.Needs.{needs}
 use Rattle.vco.proofs.Vco.tick.Statement.{statement}
 use Rattle.vco.proofs.Vco.tick.Tie as tie
 
-refusal-requires : tie.Need-refusal-requires
-refusal-requires c κs = search needs
-
 sound-requires : tie.Need-sound-requires
 sound-requires c κs = unrefused (c .before .before .args .self) (sym (c .before .refusal .ensures) ∙ c .if1 .taken) .1
 
@@ -21,4 +18,4 @@ unfolding vcoTickOf
 returns-2 c = simp (ne-eqb _ _ (c .if1 .left), ← c .before .refusal .ensures)
 
 pub tick-spec : {M : Type 1} → statement M
-tick-spec = tie.close (tie.spec refusal-requires sound-requires returns returns-2)
+tick-spec = tie.close (tie.spec (λ c κs. search needs) sound-requires returns returns-2)

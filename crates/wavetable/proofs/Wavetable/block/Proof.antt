@@ -7,12 +7,6 @@ use Rattle.wavetable.specs.Wavetable.{nPorts, wavetableBlockOf}
 use Rattle.wavetable.proofs.Wavetable.block.Statement.{statement}
 use Rattle.wavetable.proofs.Wavetable.block.Tie as tie
 
-tick-refusal-requires : tie.Need-tick-refusal-requires
-tick-refusal-requires c κs = search needs
-
-block-refusal-requires : tie.Need-block-refusal-requires
-block-refusal-requires c κs = search needs
-
 run-requires : tie.Need-run-requires
 run-requires c κs =
     let judged = c .before .before .before .before in
@@ -22,12 +16,6 @@ run-requires c κs =
     let z = c .before .before .if2 .left in
     (f .1, omega arith, f .0)
 
-take-marks-requires : tie.Need-take-marks-requires
-take-marks-requires c κs = search needs
-
-or-requires : tie.Need-or-requires
-or-requires c κs = search needs
-
 returns : tie.Need-returns
 unfolding wavetableBlockOf
 returns c =
@@ -35,12 +23,6 @@ returns c =
     let a = judged .before .before .before .before .before .args in
     block-empty nPorts _ _ _ (a .self) (a .tally) (a .samples .now) (a .marks .now) _
     (rw (judged .before .tick-refusal .ensures) at (judged .block-refusal .ensures)) (c .before .if1 .taken) (c .if2 .taken)
-
-same-length : tie.Need-same-length
-same-length c = search needs
-
-same-length-2 : tie.Need-same-length-2
-same-length-2 c = search needs
 
 returns-2 : tie.Need-returns-2
 unfolding wavetableBlockOf
@@ -65,13 +47,13 @@ pub block-spec : {M : Type 1} → statement M
 block-spec =
     tie.close
     (tie.spec
-    tick-refusal-requires
-    block-refusal-requires
+    (λ c κs. search needs)
+    (λ c κs. search needs)
     run-requires
-    take-marks-requires
-    or-requires
+    (λ c κs. search needs)
+    (λ c κs. search needs)
     returns
-    same-length
-    same-length-2
+    (λ c. search needs)
+    (λ c. search needs)
     returns-2
     returns-3)

@@ -36,21 +36,6 @@ mix-requires c κs =
     let began = looped .before .before .before .before in
     (began .pre .0, began .pre .1)
 
-volts1-requires : tie.Need-volts1-requires Inv-loop μ-loop
-volts1-requires c κs = tt
-
-is-finite-requires : tie.Need-is-finite-requires Inv-loop μ-loop
-is-finite-requires c κs = tt
-
-mark-requires : tie.Need-mark-requires Inv-loop μ-loop
-mark-requires c κs = tt
-
-put-requires : tie.Need-put-requires Inv-loop μ-loop
-put-requires c κs = tt
-
-wrap-phase-requires : tie.Need-wrap-phase-requires Inv-loop μ-loop
-wrap-phase-requires c κs = tt
-
 add-i : tie.Need-add-i Inv-loop μ-loop
 add-i c =
     let put = c .before .before .before .before .before in
@@ -113,11 +98,11 @@ glide-spec =
     μ-loop
     loop-holds
     mix-requires
-    volts1-requires
-    is-finite-requires
-    mark-requires
-    put-requires
-    wrap-phase-requires
+    (λ c κs. tt)
+    (λ c κs. tt)
+    (λ c κs. tt)
+    (λ c κs. tt)
+    (λ c κs. tt)
     add-i
     loop-less
     loop-again

@@ -3,12 +3,6 @@ use Rattle.wavetable.specs.Wavetable.{newWavetable, madeUnless, wavetabl
 use Rattle.wavetable.proofs.Wavetable.new.Statement.{statement}
 use Rattle.wavetable.proofs.Wavetable.new.Tie as tie
 
-new-requires : tie.Need-new-requires
-new-requires c κs = search needs
-
-rate-ok-requires : tie.Need-rate-ok-requires
-rate-ok-requires c κs = search needs
-
 returns : tie.Need-returns
 unfolding wavetableNewOf newWavetable madeUnless
 returns c = simp (c .if1 .taken, ← c .before .rate-ok .ensures, c .before .before .new .ensures)
@@ -18,4 +12,4 @@ unfolding wavetableNewOf newWavetable madeUnless
 returns-2 c = simp (c .if1 .left, ← c .before .rate-ok .ensures, c .before .before .new .ensures)
 
 pub new-spec : {M : Type 1} → statement M
-new-spec = tie.close (tie.spec new-requires rate-ok-requires returns returns-2)
+new-spec = tie.close (tie.spec (λ c κs. search needs) (λ c κs. search needs) returns returns-2)

@@ -4,9 +4,6 @@ use Rattle.wavetable.specs.Wavetable.{madeUnless, restarted, wavetableRe
 use Rattle.wavetable.proofs.Wavetable.reset.Statement.{statement}
 use Rattle.wavetable.proofs.Wavetable.reset.Tie as tie
 
-refusal-requires : tie.Need-refusal-requires
-refusal-requires c κs = search needs
-
 returns : tie.Need-returns
 unfolding wavetableResetOf madeUnless restarted
 returns c = simp (eq-eqb _ _ (c .if1 .taken), ← c .before .refusal .ensures)
@@ -16,4 +13,4 @@ unfolding wavetableResetOf madeUnless
 returns-2 c = simp (ne-eqb _ _ (c .if1 .left), ← c .before .refusal .ensures)
 
 pub reset-spec : {M : Type 1} → statement M
-reset-spec = tie.close (tie.spec refusal-requires returns returns-2)
+reset-spec = tie.close (tie.spec (λ c κs. search needs) returns returns-2)

@@ -8,21 +8,6 @@ use Rattle.wavetable.specs.Wavetable.{nPorts}
 use Rattle.wavetable.proofs.Wavetable.run.Statement.{statement}
 use Rattle.wavetable.proofs.Wavetable.run.Tie as tie
 
-synced-requires : tie.Need-synced-requires
-synced-requires c κs = search needs
-
-restart-requires : tie.Need-restart-requires
-restart-requires c κs = search needs
-
-voct-to-hz-requires : tie.Need-voct-to-hz-requires
-voct-to-hz-requires c κs = search needs
-
-increment-requires : tie.Need-increment-requires
-increment-requires c κs = search needs
-
-choose-requires : tie.Need-choose-requires
-choose-requires c κs = search needs
-
 glide-requires : tie.Need-glide-requires
 glide-requires c κs =
     let chosen = c .before .before in
@@ -30,12 +15,6 @@ glide-requires c κs =
     let lent = synced .before .before .before .before .before in
     let began = lent .before .before .before in
     (bank-sized _ _ (began .pre .0), pair-fits _ _ _ _ (chosen .choose .ensures), began .pre .2)
-
-same-length : tie.Need-same-length
-same-length c = search needs
-
-same-length-2 : tie.Need-same-length-2
-same-length-2 c = search needs
 
 returns : tie.Need-returns
 returns c =
@@ -75,12 +54,12 @@ pub run-spec : {M : Type 1} → statement M
 run-spec =
     tie.close
     (tie.spec
-    synced-requires
-    restart-requires
-    voct-to-hz-requires
-    increment-requires
-    choose-requires
+    (λ c κs. search needs)
+    (λ c κs. search needs)
+    (λ c κs. search needs)
+    (λ c κs. search needs)
+    (λ c κs. search needs)
     glide-requires
-    same-length
-    same-length-2
+    (λ c. search needs)
+    (λ c. search needs)
     returns)

@@ -6,9 +6,6 @@ use Rattle.wavetable.specs.Wavetable.{wavetableTickOf}
 use Rattle.wavetable.proofs.Wavetable.tick.Statement.{statement}
 use Rattle.wavetable.proofs.Wavetable.tick.Tie as tie
 
-tick-refusal-requires : tie.Need-tick-refusal-requires
-tick-refusal-requires c κs = search needs
-
 sound-requires : tie.Need-sound-requires
 sound-requires c κs = bank-sized _ _ (sym (c .before .tick-refusal .ensures) ∙ c .if1 .taken)
 
@@ -21,4 +18,4 @@ unfolding wavetableTickOf
 returns-2 c = simp (ne-eqb _ _ (c .if1 .left), ← c .before .tick-refusal .ensures)
 
 pub tick-spec : {M : Type 1} → statement M
-tick-spec = tie.close (tie.spec tick-refusal-requires sound-requires returns returns-2)
+tick-spec = tie.close (tie.spec (λ c κs. search needs) sound-requires returns returns-2)

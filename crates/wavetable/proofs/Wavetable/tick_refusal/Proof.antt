@@ -4,9 +4,6 @@ use Rattle.wavetable.specs.Wavetable.{wavetableTickRefusalOf}
 use Rattle.wavetable.proofs.Wavetable.tick_refusal.Statement.{statement}
 use Rattle.wavetable.proofs.Wavetable.tick_refusal.Tie as tie
 
-refusal-requires : tie.Need-refusal-requires
-refusal-requires c κs = search needs
-
 returns : tie.Need-returns
 unfolding wavetableTickRefusalOf
 returns c = simp (eq-eqb _ _ (c .if2 .taken), eq-eqb _ _ (c .before .if1 .taken), ← c .before .before .refusal .ensures)
@@ -20,4 +17,4 @@ unfolding wavetableTickRefusalOf
 returns-3 c = simp (ne-eqb _ _ (c .if1 .left), ← c .before .refusal .ensures)
 
 pub tick-refusal-spec : {M : Type 1} → statement M
-tick-refusal-spec = tie.close (tie.spec refusal-requires returns returns-2 returns-3)
+tick-refusal-spec = tie.close (tie.spec (λ c κs. search needs) returns returns-2 returns-3)

@@ -18,15 +18,9 @@ Inv-loop part₀ table i factors by level₀ k₀ sum₀ part level k sum =
 abbrev μ-loop : tie.MeasureT-loop
 μ-loop part₀ table i factors by level₀ k₀ sum₀ part level k sum = level
 
-scale-requires : tie.Need-scale-requires Inv-loop μ-loop
-scale-requires c κs = search needs
-
 loop-holds : tie.Need-loop-holds Inv-loop μ-loop
 unfolding sumOf
 loop-holds c = (omega arith, c .before .before .pre .0, λ l h. omega arith, refl, c .before .before .pre .4)
-
-sub-next : tie.Need-sub-next Inv-loop μ-loop
-sub-next c = omega arith
 
 terms-requires : tie.Need-terms-requires Inv-loop μ-loop
 terms-requires c κs = (let a = c .before .before .before .before in let z = series-within (a .args .table) (a .pre .2) in omega arith, omega arith)
@@ -44,21 +38,6 @@ extend-requires c κs =
       w .0,
       w .1,
     )
-
-mul-part : tie.Need-mul-part Inv-loop μ-loop
-mul-part c = omega arith
-
-add-part : tie.Need-add-part Inv-loop μ-loop
-add-part c = omega arith
-
-mul-part-2 : tie.Need-mul-part-2 Inv-loop μ-loop
-mul-part-2 c = omega arith
-
-slice-write-part : tie.Need-slice-write-part Inv-loop μ-loop
-slice-write-part c = omega arith
-
-loop-less : tie.Need-loop-less Inv-loop μ-loop
-loop-less c = omega arith
 
 loop-again : tie.Need-loop-again Inv-loop μ-loop
 loop-again c =
@@ -91,16 +70,16 @@ column-spec =
     (tie.spec
     Inv-loop
     μ-loop
-    scale-requires
+    (λ c κs. search needs)
     loop-holds
-    sub-next
+    (λ c. omega arith)
     terms-requires
     extend-requires
-    mul-part
-    add-part
-    mul-part-2
-    slice-write-part
-    loop-less
+    (λ c. omega arith)
+    (λ c. omega arith)
+    (λ c. omega arith)
+    (λ c. omega arith)
+    (λ c. omega arith)
     loop-again
     same-length
     returns)

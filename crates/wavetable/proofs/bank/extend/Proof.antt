@@ -19,22 +19,10 @@ abbrev μ-loop : tie.MeasureT-loop
 loop-holds : tie.Need-loop-holds Inv-loop μ-loop
 loop-holds c = (omega arith, omega arith, c .pre .2)
 
-mul-term : tie.Need-mul-term Inv-loop μ-loop
-mul-term c = omega arith
-
-element-copy-out-term : tie.Need-element-copy-out-term Inv-loop μ-loop
-element-copy-out-term c = omega arith
-
 term-requires : tie.Need-term-requires Inv-loop μ-loop
 term-requires c κs =
     let began = c .before .before .before in
     (omega arith, began .pre .4, began .pre .5, ap (λ l. getD l (c .before .before .loop .j) nan) (began .pre .3) ∙ getD-tab nan _ 64 _ (omega arith))
-
-add-j : tie.Need-add-j Inv-loop μ-loop
-add-j c = omega arith
-
-loop-less : tie.Need-loop-less Inv-loop μ-loop
-loop-less c = omega arith
 
 loop-again : tie.Need-loop-again Inv-loop μ-loop
 unfolding sumOf
@@ -52,10 +40,10 @@ extend-spec =
     Inv-loop
     μ-loop
     loop-holds
-    mul-term
-    element-copy-out-term
+    (λ c. omega arith)
+    (λ c. omega arith)
     term-requires
-    add-j
-    loop-less
+    (λ c. omega arith)
+    (λ c. omega arith)
     loop-again
     returns)

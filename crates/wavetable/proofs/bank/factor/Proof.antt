@@ -5,24 +5,6 @@ use Rattle.wavetable.specs.Shortcuts.{factorOf}
 use Rattle.wavetable.proofs.bank.factor.Statement.{statement}
 use Rattle.wavetable.proofs.bank.factor.Tie as tie
 
-harmonic-requires : tie.Need-harmonic-requires
-harmonic-requires c κs = search needs
-
-real-requires : tie.Need-real-requires
-real-requires c κs = search needs
-
-sin-requires : tie.Need-sin-requires
-sin-requires c κs = search needs
-
-harmonic-requires-2 : tie.Need-harmonic-requires-2
-harmonic-requires-2 c κs = search needs
-
-real-requires-2 : tie.Need-real-requires-2
-real-requires-2 c κs = search needs
-
-sin-requires-2 : tie.Need-sin-requires-2
-sin-requires-2 c κs = search needs
-
 returns : tie.Need-returns
 unfolding factorOf coefOf
 returns c = simp (eq-eqb _ _ (c .before .before .before .if1 .taken), c .sin .ensures, c .before .real .ensures, c .before .before .harmonic .ensures)
@@ -45,12 +27,12 @@ pub factor-spec : {M : Type 1} → statement M
 factor-spec =
     tie.close
     (tie.spec
-    harmonic-requires
-    real-requires
-    sin-requires
-    harmonic-requires-2
-    real-requires-2
-    sin-requires-2
+    (λ c κs. search needs)
+    (λ c κs. search needs)
+    (λ c κs. search needs)
+    (λ c κs. search needs)
+    (λ c κs. search needs)
+    (λ c κs. search needs)
     returns
     returns-2
     returns-3)

@@ -18,27 +18,12 @@ Inv-loop table f₀ sign₀ k₀ f sign k = (k ≤ 64) × (length f ≡ 64) × (
 abbrev μ-loop : tie.MeasureT-loop
 μ-loop table f₀ sign₀ k₀ f sign k = 64 - k
 
-first-sign-requires : tie.Need-first-sign-requires Inv-loop μ-loop
-first-sign-requires c κs = search needs
-
 loop-holds : tie.Need-loop-holds Inv-loop μ-loop
 unfolding turned
 loop-holds c = (omega arith, refl, λ j h. absurd (not-suc-le-zero h), c .first-sign .ensures)
 
 factor-requires : tie.Need-factor-requires Inv-loop μ-loop
 factor-requires c κs = (c .loop-test .taken, c .before .loop .inv .3)
-
-mul-f : tie.Need-mul-f Inv-loop μ-loop
-mul-f c = omega arith
-
-array-write-f : tie.Need-array-write-f Inv-loop μ-loop
-array-write-f c = omega arith
-
-add-k : tie.Need-add-k Inv-loop μ-loop
-add-k c = omega arith
-
-loop-less : tie.Need-loop-less Inv-loop μ-loop
-loop-less c = omega arith
 
 loop-again : tie.Need-loop-again Inv-loop μ-loop
 unfolding turned
@@ -59,12 +44,12 @@ factors-spec =
     (tie.spec
     Inv-loop
     μ-loop
-    first-sign-requires
+    (λ c κs. search needs)
     loop-holds
     factor-requires
-    mul-f
-    array-write-f
-    add-k
-    loop-less
+    (λ c. omega arith)
+    (λ c. omega arith)
+    (λ c. omega arith)
+    (λ c. omega arith)
     loop-again
     returns)

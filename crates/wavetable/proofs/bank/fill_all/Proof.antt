@@ -18,33 +18,6 @@ loop-holds : tie.Need-loop-holds Inv-loop μ-loop
 unfolding tab
 loop-holds c = (omega arith, c .before .pre, refl)
 
-mul-a : tie.Need-mul-a Inv-loop μ-loop
-mul-a c = omega arith
-
-add-e : tie.Need-add-e Inv-loop μ-loop
-add-e c = omega arith
-
-mul-fill-part : tie.Need-mul-fill-part Inv-loop μ-loop
-mul-fill-part c = omega arith
-
-sub-fill-part : tie.Need-sub-fill-part Inv-loop μ-loop
-sub-fill-part c = omega arith
-
-part-fill-part-start : tie.Need-part-fill-part-start Inv-loop μ-loop
-part-fill-part-start c = omega arith
-
-part-fill-part-end : tie.Need-part-fill-part-end Inv-loop μ-loop
-part-fill-part-end c = omega arith
-
-fill-part-requires : tie.Need-fill-part-requires Inv-loop μ-loop
-fill-part-requires c κs = omega arith
-
-add-table : tie.Need-add-table Inv-loop μ-loop
-add-table c = omega arith
-
-loop-less : tie.Need-loop-less Inv-loop μ-loop
-loop-less c = omega arith
-
 loop-again : tie.Need-loop-again Inv-loop μ-loop
 loop-again c =
     let going = c .before .before .before .before in
@@ -71,15 +44,15 @@ fill-all-spec =
     Inv-loop
     μ-loop
     loop-holds
-    mul-a
-    add-e
-    mul-fill-part
-    sub-fill-part
-    part-fill-part-start
-    part-fill-part-end
-    fill-part-requires
-    add-table
-    loop-less
+    (λ c. omega arith)
+    (λ c. omega arith)
+    (λ c. omega arith)
+    (λ c. omega arith)
+    (λ c. omega arith)
+    (λ c. omega arith)
+    (λ c κs. omega arith)
+    (λ c. omega arith)
+    (λ c. omega arith)
     loop-again
     same-length
     returns)

@@ -4,12 +4,6 @@ use Rattle.wavetable.specs.Bank.{fillBankOf}
 use Rattle.wavetable.proofs.bank.fill_bank.Statement.{statement}
 use Rattle.wavetable.proofs.bank.fill_bank.Tie as tie
 
-fill-all-requires : tie.Need-fill-all-requires
-fill-all-requires c κs = search needs
-
-same-length : tie.Need-same-length
-same-length c = search needs
-
 returns : tie.Need-returns
 unfolding fillBankOf
 returns c = let e = eq-eqb _ _ (c .before .before .before .before .if1 .taken) in simp (e, c .before .before .fill-all .ensures)
@@ -19,4 +13,4 @@ unfolding fillBankOf
 returns-2 c = let e = ne-eqb _ _ (c .if1 .left) in simp e
 
 pub fill-bank-spec : {M : Type 1} → statement M
-fill-bank-spec = tie.close (tie.spec fill-all-requires same-length returns returns-2)
+fill-bank-spec = tie.close (tie.spec (λ c κs. search needs) (λ c. search needs) returns returns-2)

@@ -22,18 +22,6 @@ loop-holds c = (omega arith, refl, over-none _ _)
 plain-requires : tie.Need-plain-requires Inv-loop μ-loop
 plain-requires c κs = (c .before .before .before .pre .1, omega arith)
 
-mul-part : tie.Need-mul-part Inv-loop μ-loop
-mul-part c = omega arith
-
-slice-write-part : tie.Need-slice-write-part Inv-loop μ-loop
-slice-write-part c = omega arith
-
-add-j : tie.Need-add-j Inv-loop μ-loop
-add-j c = omega arith
-
-loop-less : tie.Need-loop-less Inv-loop μ-loop
-loop-less c = omega arith
-
 loop-again : tie.Need-loop-again Inv-loop μ-loop
 loop-again c =
     let s = c .before .before .loop .inv in
@@ -58,10 +46,10 @@ fill-plain-spec =
     μ-loop
     loop-holds
     plain-requires
-    mul-part
-    slice-write-part
-    add-j
-    loop-less
+    (λ c. omega arith)
+    (λ c. omega arith)
+    (λ c. omega arith)
+    (λ c. omega arith)
     loop-again
     same-length
     returns)

@@ -14,9 +14,6 @@ Inv-loop part₀ table f i₀ part i = (i ≤ 256) × (length part ≡ 2048) × 
 abbrev μ-loop : tie.MeasureT-loop
 μ-loop part₀ table f i₀ part i = 256 - i
 
-factors-requires : tie.Need-factors-requires Inv-loop μ-loop
-factors-requires c κs = search needs
-
 loop-holds : tie.Need-loop-holds Inv-loop μ-loop
 loop-holds c = (omega arith, c .before .before .pre .0, right-none (c .before .before .args .table) (c .before .before .args .part .now))
 
@@ -25,12 +22,6 @@ column-requires c κs =
     let at-factors = c .before .before .before .before in
     let s = c .before .before .before .loop .inv in
     (s .1, c .before .before .loop-test .taken, at-factors .before .before .pre .1, at-factors .factors .ensures, s .2)
-
-add-i : tie.Need-add-i Inv-loop μ-loop
-add-i c = omega arith
-
-loop-less : tie.Need-loop-less Inv-loop μ-loop
-loop-less c = omega arith
 
 loop-again : tie.Need-loop-again Inv-loop μ-loop
 loop-again c =
@@ -54,11 +45,11 @@ fill-series-spec =
     (tie.spec
     Inv-loop
     μ-loop
-    factors-requires
+    (λ c κs. search needs)
     loop-holds
     column-requires
-    add-i
-    loop-less
+    (λ c. omega arith)
+    (λ c. omega arith)
     loop-again
     same-length
     returns)

@@ -4,12 +4,6 @@ use Rattle.wavetable.specs.Bank.{fillTableOf}
 use Rattle.wavetable.proofs.bank.fill_table.Statement.{statement}
 use Rattle.wavetable.proofs.bank.fill_table.Tie as tie
 
-fill-part-requires : tie.Need-fill-part-requires
-fill-part-requires c κs = search needs
-
-same-length : tie.Need-same-length
-same-length c = search needs
-
 returns : tie.Need-returns
 unfolding fillTableOf
 returns c =
@@ -25,4 +19,4 @@ unfolding fillTableOf
 returns-3 c = let e = ne-eqb _ _ (c .if1 .left) in simp e
 
 pub fill-table-spec : {M : Type 1} → statement M
-fill-table-spec = tie.close (tie.spec fill-part-requires same-length returns returns-2 returns-3)
+fill-table-spec = tie.close (tie.spec (λ c κs. search needs) (λ c. search needs) returns returns-2 returns-3)

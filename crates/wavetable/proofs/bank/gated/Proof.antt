@@ -3,9 +3,6 @@ use Rattle.wavetable.specs.Bank.{gatedOf}
 use Rattle.wavetable.proofs.bank.gated.Statement.{statement}
 use Rattle.wavetable.proofs.bank.gated.Tie as tie
 
-partial-requires : tie.Need-partial-requires
-partial-requires c κs = search needs
-
 returns : tie.Need-returns
 unfolding gatedOf
 returns c = simp (c .partial .ensures, c .before .if1 .taken)
@@ -15,4 +12,4 @@ unfolding gatedOf
 returns-2 c = simp (c .if1 .left)
 
 pub gated-spec : {M : Type 1} → statement M
-gated-spec = tie.close (tie.spec partial-requires returns returns-2)
+gated-spec = tie.close (tie.spec (λ c κs. search needs) returns returns-2)

@@ -4,21 +4,6 @@ use Rattle.wavetable.specs.Bank.{harmonicOf}
 use Rattle.wavetable.proofs.bank.harmonic.Statement.{statement}
 use Rattle.wavetable.proofs.bank.harmonic.Tie as tie
 
-mul-result : tie.Need-mul-result
-mul-result c = search needs
-
-add-result : tie.Need-add-result
-add-result c = search needs
-
-mul-result-2 : tie.Need-mul-result-2
-mul-result-2 c = search needs
-
-add-result-2 : tie.Need-add-result-2
-add-result-2 c = search needs
-
-add-result-3 : tie.Need-add-result-3
-add-result-3 c = search needs
-
 returns : tie.Need-returns
 unfolding harmonicOf
 returns c = simp (eq-eqb _ _ (c .if1 .taken))
@@ -35,11 +20,11 @@ pub harmonic-spec : {M : Type 1} → statement M
 harmonic-spec =
     tie.close
     (tie.spec
-    mul-result
-    add-result
-    mul-result-2
-    add-result-2
-    add-result-3
+    (λ c. search needs)
+    (λ c. search needs)
+    (λ c. search needs)
+    (λ c. search needs)
+    (λ c. search needs)
     returns
     returns-2
     returns-3)

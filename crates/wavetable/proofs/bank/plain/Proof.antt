@@ -4,18 +4,6 @@ use Rattle.wavetable.specs.Bank.{plainOf}
 use Rattle.wavetable.proofs.bank.plain.Statement.{statement}
 use Rattle.wavetable.proofs.bank.plain.Tie as tie
 
-partial-requires : tie.Need-partial-requires
-partial-requires c κs = search needs
-
-max-harmonic-requires : tie.Need-max-harmonic-requires
-max-harmonic-requires c κs = search needs
-
-real-requires : tie.Need-real-requires
-real-requires c κs = search needs
-
-vowel-requires : tie.Need-vowel-requires
-vowel-requires c κs = search needs
-
 returns : tie.Need-returns
 unfolding plainOf
 returns c = simp (c .partial .ensures, eq-eqb _ _ (c .before .if1 .taken))
@@ -28,9 +16,9 @@ pub plain-spec : {M : Type 1} → statement M
 plain-spec =
     tie.close
     (tie.spec
-    partial-requires
-    max-harmonic-requires
-    real-requires
-    vowel-requires
+    (λ c κs. search needs)
+    (λ c κs. search needs)
+    (λ c κs. search needs)
+    (λ c κs. search needs)
     returns
     returns-2)

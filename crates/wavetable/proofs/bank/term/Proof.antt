@@ -3,15 +3,6 @@ use Rattle.wavetable.proofs.Terms.{tri-term, saw-term, sqr-term, pulse-
 use Rattle.wavetable.proofs.bank.term.Statement.{statement}
 use Rattle.wavetable.proofs.bank.term.Tie as tie
 
-harmonic-requires : tie.Need-harmonic-requires
-harmonic-requires c κs = search needs
-
-real-requires : tie.Need-real-requires
-real-requires c κs = search needs
-
-partial-requires : tie.Need-partial-requires
-partial-requires c κs = search needs
-
 returns : tie.Need-returns
 returns c = tri-term _ _ _ _ _ _ _ (c .if1 .taken) (c .before .before .before .harmonic .ensures) (c .before .before .real .ensures)
     (c .before .partial .ensures) (c .before .before .before .before .pre .3)
@@ -35,4 +26,4 @@ returns-4 c =
     (parted .before .before .harmonic .ensures) (parted .before .real .ensures) (parted .partial .ensures) (began .pre .3)
 
 pub term-spec : {M : Type 1} → statement M
-term-spec = tie.close (tie.spec harmonic-requires real-requires partial-requires returns returns-2 returns-3 returns-4)
+term-spec = tie.close (tie.spec (λ c κs. search needs) (λ c κs. search needs) (λ c κs. search needs) returns returns-2 returns-3 returns-4)

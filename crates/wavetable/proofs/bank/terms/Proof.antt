@@ -6,9 +6,6 @@ use Rattle.wavetable.specs.Bank.{termsOf}
 use Rattle.wavetable.proofs.bank.terms.Statement.{statement}
 use Rattle.wavetable.proofs.bank.terms.Tie as tie
 
-max-harmonic-requires : tie.Need-max-harmonic-requires
-max-harmonic-requires c κs = search needs
-
 add-result : tie.Need-add-result
 add-result c = let a = c .before .before .args in omega (arith, c .before .max-harmonic .ensures, harmonics-most (a .table) (a .level))
 
@@ -29,4 +26,4 @@ returns-3 c = simp (ne-eqb _ _ (c .if2 .left), ne-eqb _ _ (c .before .if1 .left)
 
 pub terms-spec : {M : Type 1} → statement M
 terms-spec =
-    tie.close (tie.spec max-harmonic-requires add-result add-result-2 returns returns-2 returns-3)
+    tie.close (tie.spec (λ c κs. search needs) add-result add-result-2 returns returns-2 returns-3)

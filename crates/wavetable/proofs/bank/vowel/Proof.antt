@@ -4,30 +4,6 @@ use Rattle.wavetable.specs.Bank.{vowelOf}
 use Rattle.wavetable.proofs.bank.vowel.Statement.{statement}
 use Rattle.wavetable.proofs.bank.vowel.Tie as tie
 
-gated-requires : tie.Need-gated-requires
-gated-requires c κs = search needs
-
-gated-requires-2 : tie.Need-gated-requires-2
-gated-requires-2 c κs = search needs
-
-gated-requires-3 : tie.Need-gated-requires-3
-gated-requires-3 c κs = search needs
-
-gated-requires-4 : tie.Need-gated-requires-4
-gated-requires-4 c κs = search needs
-
-gated-requires-5 : tie.Need-gated-requires-5
-gated-requires-5 c κs = search needs
-
-gated-requires-6 : tie.Need-gated-requires-6
-gated-requires-6 c κs = search needs
-
-gated-requires-7 : tie.Need-gated-requires-7
-gated-requires-7 c κs = search needs
-
-gated-requires-8 : tie.Need-gated-requires-8
-gated-requires-8 c κs = search needs
-
 returns : tie.Need-returns
 unfolding vowelOf
 returns c = simp (
@@ -52,13 +28,13 @@ pub vowel-spec : {M : Type 1} → statement M
 vowel-spec =
     tie.close
     (tie.spec
-    gated-requires
-    gated-requires-2
-    gated-requires-3
-    gated-requires-4
-    gated-requires-5
-    gated-requires-6
-    gated-requires-7
-    gated-requires-8
+    (λ c κs. search needs)
+    (λ c κs. search needs)
+    (λ c κs. search needs)
+    (λ c κs. search needs)
+    (λ c κs. search needs)
+    (λ c κs. search needs)
+    (λ c κs. search needs)
+    (λ c κs. search needs)
     returns
     returns-2)
