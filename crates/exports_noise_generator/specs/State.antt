@@ -1,4 +1,4 @@
--- A NoiseGenerator as floats and whole numbers, and its samples.
+-- A NoiseGenerator as floats and whole numbers, and its samples as floats.
 use mathlib.Core.List.{List, [], _∷_, _++_}
 use Prim.Native.Nat.{ℕ, _+_, _%_}
 use lib.Ieee.{Float, nan}
@@ -7,7 +7,7 @@ use Rattle.laws.specs.Lists.{tab}
 use Rattle.answer.specs.declared.Volts.{Volts}
 use Rattle.noise_generator.specs.declared.NoiseGenerator.{NoiseGenerator}
 
--- how many
+-- how many there are
 abbrev pub nFloats : ℕ
 nFloats = 36
 

@@ -1,10 +1,10 @@
 // The NoiseGenerator for hosts, over lent slices. A state is floats [pink.rows 0 to 15, pink.running_sum, pink2.rows 0 to 15,
 // pink2.running_sum, correlation, last_white] and wholes [pink.index, pink2.index], of each the low 32 bits; samples are
 // [white, pink, white2, pink2]. A `given` of 0 leaves a tick's correlation to the stored one.
-// Each call but `needed` and `needed_by` answers a number: 0 done; of an accepted tick 12 notfinite, 14 clean (11 and 13 are
-// other oscillators'); of a refused call 5 to 7 as the scope has them, or 50, 51, 52, 53 where floats, wholes, samples or
-// counts have another length. A refused call writes nothing. A block answers 0, with the ticks' samples one after another,
-// their marks by the same numbers, and the tally's five counts: begun, finished, cleared, notfinite, lost.
+// Each call but `needed` and `needed_by` answers a number: 0 done; of an accepted tick what its mark, notfinite or clean, is told
+// by; of a refused call 5 to 7 as the scope has them, or 50, 51, 52, 53 where floats, wholes, samples or counts have another
+// length. A refused call writes nothing. A block answers 0, with the ticks' samples one after another, their marks by the same
+// numbers, and the tally's counts.
 use answer::Tallied;
 use common::Hertz;
 use noise_generator::Correlation;
@@ -27,7 +27,7 @@ ghost use Rattle.exports_noise_generator.specs.Calls.{noiseGeneratorNeed
 ghost use Rattle.exports_noise_generator.specs.Calls.{controlsOf, noiseGeneratorTickAt, noiseGeneratorBlockAt};
 ghost use Rattle.exports_noise_generator.specs.Calls.{noiseGeneratorResetAt, noiseGeneratorSetSampleRateAt};
 
-// The lengths of a state's floats and whole numbers, and of a tick's samples.
+// How many floats, wholes and samples there are.
 const FLOATS: usize = 36;
 
 const WHOLES: usize = 2;

@@ -9,6 +9,7 @@ use Rattle.exports_supersaw.specs.State.{nFloats, nWholes, nSamples, sta
 use Rattle.supersaw.specs.declared.SupersawControls.{SupersawControls}
 use Rattle.supersaw.specs.declared.SupersawMade.{SupersawMade}
 
+-- 0 and the new state, or what refused it
 abbrev pub keptOf : SupersawMade → List Float → List ℕ → Kept
 keptOf m f w = keptBy floatsOf wholesOf (m .outcome) (m .supersaw) f w
 
@@ -21,13 +22,15 @@ supersawResetAt f w = keptSized nFloats nWholes (keptOf (supersawResetOf (stateO
 unfoldable pub supersawSetSampleRateAt : Float → List Float → List ℕ → Kept
 supersawSetSampleRateAt rate f w = keptSized nFloats nWholes (keptOf (supersawSetSampleRateOf (stateOf f w) (record { 0 = rate })) f w) f w
 
+abbrev pub controls : Float → Float → Float → SupersawControls
+controls voct detune mix = record { voct = record { 0 = voct }; detune = detune; mix = mix }
+
 unfoldable pub supersawTickAt : Float → Float → Float → List Float → List ℕ → List Float → Heard
 supersawTickAt voct detune mix f w o =
-    let t = supersawTickOf (stateOf f w) (record { voct = record { 0 = voct }; detune = detune; mix = mix }) in
+    let t = supersawTickOf (stateOf f w) (controls voct detune mix) in
     heardSized nFloats nWholes nSamples (heardOf floatsOf wholesOf samplesOf (t .answer) (t .supersaw) f w o) f w o
 
 -- a block: 0, the state, the counts, the samples and the marks after it, or what refused it
 unfoldable pub supersawBlockAt : Float → Float → Float → List Float → List ℕ → List ℕ → List Float → List ℕ → Played
 supersawBlockAt voct detune mix f w k o m =
-    let c : SupersawControls = record { voct = record { 0 = voct }; detune = detune; mix = mix } in
-    playedSized nFloats nWholes (λ t. playedOf floatsOf wholesOf (supersawBlockOf (stateOf f w) c t o m) f w k) f w k o m
+    playedSized nFloats nWholes (λ t. playedOf floatsOf wholesOf (supersawBlockOf (stateOf f w) (controls voct detune mix) t o m) f w k) f w k o m

@@ -1,4 +1,4 @@
--- A Supersaw as floats and whole numbers, and its samples.
+-- A Supersaw as floats and whole numbers, and its samples as floats.
 use mathlib.Core.Bool.{cond, not}
 use mathlib.Core.List.{List, [], _∷_, _++_}
 use Prim.Native.Nat.{ℕ}
@@ -10,7 +10,7 @@ use Rattle.supersaw.specs.Voices.{at}
 use Rattle.answer.specs.declared.Volts.{Volts}
 use Rattle.supersaw.specs.declared.Supersaw.{Supersaw}
 
--- how many
+-- how many there are
 abbrev pub nFloats : ℕ
 nFloats = 10
 

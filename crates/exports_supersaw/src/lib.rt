@@ -1,9 +1,8 @@
 // The Supersaw for hosts, over lent slices. A state is floats [phases 0 to 6, sub_phase, sample_rate, freq_memo.val] and
 // wholes [freq_memo.key, freq_memo.valid], the last 0 or not; samples are [out, sub].
-// Each call answers a number: 0 done; of an accepted tick 11 cleared, 12 notfinite, 13 lost, 14 clean; of a refused call
-// 1 to 7 as the scope has them, or 50, 51, 52, 53 where floats, wholes, samples or counts have another length. A refused
-// call writes nothing. A block answers 0, with the ticks' samples one after another, their marks by the same numbers, and
-// the tally's five counts: begun, finished, cleared, notfinite, lost.
+// Each call answers a number: 0 done; of an accepted tick what its mark is told by; of a refused call 1 to 7 as the scope has
+// them, or 50, 51, 52, 53 where floats, wholes, samples or counts have another length. A refused call writes nothing. A block
+// answers 0, with the ticks' samples one after another, their marks by the same numbers, and the tally's counts.
 use answer::Outcome;
 use answer::Tallied;
 use common::Hertz;
@@ -25,7 +24,7 @@ ghost use Rattle.boundary.specs.Flat.{nCounts, kept, heard, heardOf, played, pl
 ghost use Rattle.exports_supersaw.specs.State.{nFloats, nWholes, nSamples, stateOf, floatsOf, wholesOf, samplesOf};
 ghost use Rattle.exports_supersaw.specs.Calls.{keptOf, supersawNewAt, supersawTickAt, supersawBlockAt, supersawResetAt, supersawSetSampleRateAt};
 
-// The lengths of a state's floats and whole numbers, and of a tick's samples.
+// How many floats, wholes and samples there are.
 const FLOATS: usize = 10;
 
 const WHOLES: usize = 2;

@@ -26,8 +26,9 @@ use Rattle.common.proofs.DrawLaws.{draw-below, draws-fine}
 use Rattle.common.specs.Tests.{drawsOk}
 use Rattle.answer.proofs.Blocks.{block-keeps, ticks-keep}
 use Rattle.noise_generator.proofs.TickLaws.{drawingAt, tick-by}
+use Rattle.noise_generator.specs.Consts.{nPorts}
 use Rattle.noise_generator.specs.Calls.{Call, Tick, Play, Reset, SetSampleRate, after, First, ReachedNoiseGenerator}
-use Rattle.noise_generator.specs.NoiseGenerator.{nPorts, newNoiseGenerator, withCorrelation, neededOf, turnOf, correlationOf, noiseGeneratorTickOf}
+use Rattle.noise_generator.specs.NoiseGenerator.{newNoiseGenerator, withCorrelation, neededOf, turnOf, correlationOf, noiseGeneratorTickOf}
 use Rattle.noise_generator.specs.NoiseGenerator.{Drawing, drawing, noiseGeneratorNextOf, noiseGeneratorBlockOf}
 use Rattle.noise_generator.specs.NoiseGenerator.{restarted, rated}
 use Rattle.noise_generator.specs.Pink.{newPink, nextIndex, changedOf, Rows, rowed, rowOf, rowsOf, sampledOf}

@@ -19,7 +19,8 @@ use Rattle.answer.specs.declared.Answer.{Answer}
 use Rattle.answer.specs.declared.Tally.{Tally}
 use Rattle.laws.proofs.Over.{tab-ext}
 use Rattle.noise_generator.proofs.TickLaws.{needed-less, drawingAt, ticks-at}
-use Rattle.noise_generator.specs.NoiseGenerator.{nPorts, neededOf, neededBy, correlationOf, turnOf, noiseGeneratorTickOf}
+use Rattle.noise_generator.specs.Consts.{nPorts}
+use Rattle.noise_generator.specs.NoiseGenerator.{neededOf, neededBy, correlationOf, turnOf, noiseGeneratorTickOf}
 use Rattle.noise_generator.specs.NoiseGenerator.{Drawing, drawing, noiseGeneratorToldOf, noiseGeneratorNextOf, undrawn, noiseGeneratorBlockOf}
 use Rattle.noise_generator.specs.Pink.{nextIndex, changedOf, Rows, rowOf, rowsOf, rowed, sampledOf}
 use Rattle.noise_generator.specs.Promises.{SameTo, Only-its-draws}

@@ -15,7 +15,8 @@ use Rattle.answer.specs.Block.{answerAt}
 use Rattle.answer.specs.Mark.{allFinite, ruleOf}
 use Rattle.answer.specs.declared.Volts.{Volts}
 use Rattle.noise_generator.proofs.TickLaws.{tick-taken, tick-by, drawingAt, ticks-at}
-use Rattle.noise_generator.specs.NoiseGenerator.{nPorts, neededOf, neededBy, correlationOf, turnOf, noiseGeneratorTickOf}
+use Rattle.noise_generator.specs.Consts.{nPorts}
+use Rattle.noise_generator.specs.NoiseGenerator.{neededOf, neededBy, correlationOf, turnOf, noiseGeneratorTickOf}
 use Rattle.noise_generator.specs.NoiseGenerator.{drawing, noiseGeneratorBlockOf}
 use Rattle.noise_generator.specs.Promises.{Never-refused, Refused-leaves, Block-accepts, Block-tallies, Clean-or-notfinite}
 use Rattle.noise_generator.specs.declared.NoiseGenerator.{NoiseGenerator}

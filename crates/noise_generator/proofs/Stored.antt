@@ -8,8 +8,9 @@ use Rattle.laws.proofs.Always.{always}
 use Rattle.laws.specs.Float.{zer}
 use Rattle.answer.proofs.Blocks.{block-keeps, ticks-keep}
 use Rattle.noise_generator.proofs.TickLaws.{drawingAt, tick-by}
+use Rattle.noise_generator.specs.Consts.{nPorts}
 use Rattle.noise_generator.specs.Calls.{Call, Tick, Play, Reset, SetSampleRate, after, First}
-use Rattle.noise_generator.specs.NoiseGenerator.{nPorts, generator, newNoiseGenerator, withCorrelation, turnOf, noiseGeneratorTickOf}
+use Rattle.noise_generator.specs.NoiseGenerator.{generator, newNoiseGenerator, withCorrelation, turnOf, noiseGeneratorTickOf}
 use Rattle.noise_generator.specs.NoiseGenerator.{Drawing, drawing, noiseGeneratorNextOf, noiseGeneratorBlockOf}
 use Rattle.noise_generator.specs.NoiseGenerator.{restarted, rated}
 use Rattle.noise_generator.specs.Pink.{newPink}

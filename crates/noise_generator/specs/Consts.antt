@@ -1,5 +1,10 @@
 -- The Rust's constants of the NoiseGenerator, by their bits.
+use Prim.Native.Nat.{ℕ}
 use lib.Ieee.{Float, binary64, ofBits}
+
+-- how many outputs there are
+abbrev pub nPorts : ℕ
+nPorts = 4
 
 -- 16, the number of rows
 abbrev pub sixteen : Float

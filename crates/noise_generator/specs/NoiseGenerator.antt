@@ -18,7 +18,7 @@ use Rattle.answer.specs.declared.Answer.{Answer}
 use Rattle.answer.specs.declared.Answer.the-variants as answer
 use Rattle.answer.specs.declared.Tally.{Tally}
 use Rattle.answer.specs.declared.Volts.{Volts}
-use Rattle.noise_generator.specs.Consts.{newCorrelation}
+use Rattle.noise_generator.specs.Consts.{nPorts, newCorrelation}
 use Rattle.noise_generator.specs.Pink.{newPink, nextIndex, changedOf, sampledOf, pinkOf}
 use Rattle.noise_generator.specs.declared.Correlation.{Correlation}
 use Rattle.noise_generator.specs.declared.Correlation.the-variants as correlation
@@ -26,10 +26,6 @@ use Rattle.noise_generator.specs.declared.PinkNoiseState.{PinkNoiseState
 use Rattle.noise_generator.specs.declared.NoiseGenerator.{NoiseGenerator}
 use Rattle.noise_generator.specs.declared.NoiseGeneratorControls.{NoiseGeneratorControls}
 use Rattle.noise_generator.specs.declared.NoiseGeneratorTicked.{NoiseGeneratorTicked}
-
--- how many outputs it has
-abbrev pub nPorts : ℕ
-nPorts = 4
 
 abbrev pub generator : PinkNoiseState → PinkNoiseState → Float → Float → NoiseGenerator
 generator pink pink2 correlation white = record { pink = pink; pink2 = pink2; correlation = correlation; «last_white» = white }

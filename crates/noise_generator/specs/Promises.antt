@@ -20,8 +20,9 @@ use Rattle.answer.specs.Promises.{AcceptedTo, TakenTo}
 use Rattle.answer.specs.declared.Answer.{Answer}
 use Rattle.answer.specs.declared.Answer.the-variants as answer
 use Rattle.answer.specs.declared.Tally.{Tally}
+use Rattle.noise_generator.specs.Consts.{nPorts}
 use Rattle.noise_generator.specs.Pink.{nextIndex, changedOf}
-use Rattle.noise_generator.specs.NoiseGenerator.{nPorts, newNoiseGenerator, withCorrelation, neededOf, neededBy, givenOr}
+use Rattle.noise_generator.specs.NoiseGenerator.{newNoiseGenerator, withCorrelation, neededOf, neededBy, givenOr}
 use Rattle.noise_generator.specs.NoiseGenerator.{noiseGeneratorTickOf, drawing, noiseGeneratorToldOf, noiseGeneratorNextOf, noiseGeneratorBlockOf}
 use Rattle.noise_generator.specs.NoiseGenerator.{restarted, rated}
 use Rattle.noise_generator.specs.Calls.{First, ReachedNoiseGenerator}

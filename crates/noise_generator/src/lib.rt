@@ -15,16 +15,14 @@ ghost use Rattle.numeric.specs.Draw.{bipolarOf};
 ghost use Rattle.common.specs.Tests.{drawsRefusalOf};
 ghost use Rattle.answer.specs.Block.{afterTicks, joined, block, markAt, frameAt};
 ghost use Rattle.answer.specs.Mark.{allFinite, markOf};
+ghost use Rattle.noise_generator.specs.Consts.{nPorts};
 ghost use Rattle.noise_generator.specs.Pink.{newPink, nextIndex, trailingOnes, changedOf, rowed, rowsOf};
-ghost use Rattle.noise_generator.specs.NoiseGenerator.{nPorts, newNoiseGenerator, withCorrelation, neededOf, changedBy, neededBy};
+ghost use Rattle.noise_generator.specs.NoiseGenerator.{newNoiseGenerator, withCorrelation, neededOf, changedBy, neededBy};
 ghost use Rattle.noise_generator.specs.NoiseGenerator.{mixOf, noiseGeneratorVoltsOf, turnOf, correlationOf, noiseGeneratorSoundOf, noiseGeneratorTickOf};
 ghost use Rattle.noise_generator.specs.NoiseGenerator.{noiseGeneratorToldOf, noiseGeneratorNextOf, noiseGeneratorBlockOf};
 ghost use Rattle.noise_generator.specs.NoiseGenerator.{drawing, restarted, rated};
 ghost use Rattle.noise_generator.specs.Shortcuts.{pinkAt, whole, ticked, neededAt, turnVolts, Calm, climbedOf};
 ghost use Rattle.noise_generator.specs.Promises.{Bounded};
-
-// How many outputs it has.
-const PORTS: usize = 4;
 
 // Pink noise: rows of which the counter changes row k at every 2^k-th sample, and their sum as it was rounded on the way.
 pub struct PinkNoiseState {
@@ -62,6 +60,9 @@ pub struct NoiseGeneratorBlock {
     pub noise_generator: NoiseGenerator,
     pub tally: Tally,
 }
+
+// How many outputs there are.
+const PORTS: usize = 4;
 
 // The sums and counters of both pinks, which a turn changes beside the lent rows.
 struct Rowless {

@@ -27,7 +27,7 @@ use Rattle.numeric.specs.Basic.{clampOf}
 use Rattle.supersaw.proofs.LaneLaws.{advancedOf, tickedOf, sound-is, accepts, quiet-ramped}
 use Rattle.laws.proofs.All.{all-of}
 use Rattle.supersaw.proofs.Sign.{small, clamp-small}
-use Rattle.supersaw.specs.Shortcuts.{lanesOf, incsOf, wrapsOf, sumsOf, movedOf, steppedOf, quietOf, rampedOf, heldToldOf, heldNextOf}
+use Rattle.supersaw.specs.Shortcuts.{lanesOf, incsOf, wrapsOf, sumsOf, movedOf, steppedOf, quietOf, rampedOf, heldTold, heldNext}
 use Rattle.supersaw.specs.Supersaw.{phasesOk, supersawRefusalOf, supersawSoundOf, supersawTickOf, supersawToldOf, supersawNextOf}
 use Rattle.supersaw.specs.Voices.{at}
 use Rattle.supersaw.specs.Promises.{Block-accepts, Block-tallies}
@@ -38,12 +38,12 @@ use Rattle.supersaw.specs.declared.SupersawTicked.{SupersawTicked}
 
 -- ---- a turn of the loop
 module _ (dt : List Float) (mix : Float) (first : List Float) (i : ℕ) (t : List Float) (u : Moved) (e : u ≡ steppedOf t dt mix)
-    (z : t ≡ afterTicks (heldNextOf dt mix) i first) where
-  pub heard : u .answer ≡ answerAt (heldToldOf dt mix) (heldNextOf dt mix) first i
+    (z : t ≡ afterTicks (heldNext dt mix) i first) where
+  pub heard : u .answer ≡ answerAt (heldTold dt mix) (heldNext dt mix) first i
   unfolding answerAt
   heard = simp (e, z)
 
-  pub moved : u .phases ≡ afterTicks (heldNextOf dt mix) (i + 1) first
+  pub moved : u .phases ≡ afterTicks (heldNext dt mix) (i + 1) first
   unfolding afterTicks
   moved = rw add-one (simp (e, z))
 
@@ -84,7 +84,7 @@ wraps-good t dt = record { whole = unfold wrapsOf tab in refl; phases = seven; l
     seven : phasesOk (wrapsOf (sumsOf t dt)) ≡ true
     seven = unfold phasesOk in all-of (λ (i : ℕ). phaseOk (turns (at (wrapsOf (sumsOf t dt)) i))) 7 (λ i l. ok i (omega arith))
 
-held-good : (dt : List Float) (mix : Float) (t : List Float) → Good (heldNextOf dt mix t)
+held-good : (dt : List Float) (mix : Float) (t : List Float) → Good (heldNext dt mix t)
 unfolding steppedOf movedOf
 held-good dt mix t = wraps-good t dt
 
@@ -121,7 +121,7 @@ quiet-held s c detune base dt mix h d i t q =
     quiet-ramped detune base (s .«sample_rate») t dt D (accepts s h .0) i q mix
 
 pub holds : (s : Supersaw) (c : SupersawControls) → supersawRefusalOf s ≡ 0 → length (s .phases) ≡ 7
-    → Holds (supersawToldOf c) (supersawNextOf c) (heldToldOf (heldIncs s c) (heldMix c)) (heldNextOf (heldIncs s c) (heldMix c)) (stateOf s c) Good s
+    → Holds (supersawToldOf c) (supersawNextOf c) (heldTold (heldIncs s c) (heldMix c)) (heldNext (heldIncs s c) (heldMix c)) (stateOf s c) Good s
     (lanesOf (s .phases) (s .«sub_phase»))
 holds s c h k =
     record {

@@ -22,9 +22,10 @@ use Rattle.answer.proofs.Laws.{mark-says}
 use Rattle.answer.specs.Answer.{accepted, outcomeNumber}
 use Rattle.answer.specs.Block.{blockRefusalOf}
 use Rattle.laws.proofs.All.{all-at, all-of}
-use Rattle.supersaw.specs.Calls.{Call, Tick, Play, Reset, SetSampleRate, Reply, Told, after, reply, First, ReachedSupersaw}
+use Rattle.supersaw.specs.Consts.{nPorts}
+use Rattle.supersaw.specs.Calls.{Call, Tick, Play, Reset, SetSampleRate, Told, after, reply, First, ReachedSupersaw}
 use Rattle.supersaw.specs.Promises.{New-accepts, Never-refused}
-use Rattle.supersaw.specs.Supersaw.{startPhases, nPorts, phasesOk, newSupersaw, supersawRefusalOf, supersawRateRefusalOf, madeUnless, supersawNewOf}
+use Rattle.supersaw.specs.Supersaw.{startPhases, phasesOk, newSupersaw, supersawRefusalOf, supersawRateRefusalOf, madeUnless, supersawNewOf}
 use Rattle.supersaw.specs.Supersaw.{supersawSoundOf, supersawTickOf, supersawBlockOf, restarted, supersawResetOf, rated, supersawSetSampleRateOf}
 use Rattle.supersaw.specs.Voices.{at, voiceOf, voicesOf}
 use Rattle.supersaw.specs.declared.Supersaw.{Supersaw}
@@ -80,53 +81,51 @@ good-sound : (s : Supersaw) → Good s → (c : SupersawControls) → Good (supe
 unfolding supersawSoundOf
 good-sound s h c = record { rate = h .rate; phases = voices-ok _ _ _ _ (h .phases) 7 (le-refl 7); low = wrap-in _ (add-fits binary64 _ _) }
 
--- ---- what each call does on such a state
 tick-is : (s : Supersaw) → Good s → (c : SupersawControls) → supersawTickOf s c ≡ supersawSoundOf s c
 unfolding supersawTickOf
 tick-is s h c = simp (not-refused s h)
 
-abbrev done : Supersaw → SupersawMade
-done s = record { outcome = outcome.Done; supersaw = s }
-
-abbrev refused : ℕ → Supersaw → SupersawMade
-refused n s = record { outcome = outcome.Refused n; supersaw = s }
-
-reset-is : (s : Supersaw) → Good s → supersawResetOf s ≡ done (restarted s)
-unfolding supersawResetOf madeUnless
-reset-is s h = simp (not-refused s h)
-
-rate-is : (s : Supersaw) → Good s → (r : Hertz) → supersawSetSampleRateOf s r ≡ cond (rateOk r) (done (rated s r)) (refused 1 s)
-unfolding supersawSetSampleRateOf supersawRateRefusalOf madeUnless
-rate-is s h r = simp (not-refused s h) (go (rateOk r))
+-- ---- a call without samples
+made-cases : (P : SupersawMade → Type 0) (n : ℕ) (old new : Supersaw) → (n ≡ 0 → P (record { outcome = outcome.Done; supersaw = new }))
+    → P (record { outcome = outcome.Refused n; supersaw = old }) → P (madeUnless n old new)
+unfolding madeUnless
+made-cases P n old new d r = go (eqb n 0) (eqb-true n 0)
   where
-    go : (b : Bool) → _≡_ {A = SupersawMade} (cond (eqb (cond b 0 1) 0) (done (rated s r)) (refused (cond b 0 1) s)) (cond b (done (rated s r)) (refused 1 s))
-    go true = refl
-    go false = refl
+    go : (b : Bool) → (b ≡ true → n ≡ 0)
+        → P (cond b (record { outcome = outcome.Done; supersaw = new }) (record { outcome = outcome.Refused n; supersaw = old }))
+    go true z = d (z refl)
+    go false z = r
 
-first-good : (s : Supersaw) → First s → Good s
-unfolding supersawNewOf madeUnless
-first-good s f = go (rateOk (f .0)) refl (f .1)
-  where
-    go : (b : Bool) → rateOk (f .0) ≡ b
-        → _≡_ {A = SupersawMade} (cond (eqb (cond b 0 1) 0) (done (newSupersaw (f .0))) (refused (cond b 0 1) (newSupersaw (f .0)))) (done s) → Good s
-    go true e h = subst Good (ap (λ (m : SupersawMade). m .supersaw) h) (good-new (f .0) e)
-    go false e h = absurd (let k : outcome.Refused 1 ≡ outcome.Done = ap (λ (m : SupersawMade). m .outcome) h in let z : _≡_ {A = ℕ} 0 1 = cc in omega arith)
+made-number : (n : ℕ) (old new : Supersaw) → outcomeNumber (madeUnless n old new .outcome) ≡ n
+unfolding outcomeNumber
+made-number n old new = made-cases (λ m. outcomeNumber (m .outcome) ≡ n) n old new sym refl
+
+rate-good : (b : Bool) (n : ℕ) → cond b n 1 ≡ 0 → b ≡ true
+rate-good true n h = refl
+rate-good false n h = absurd (omega arith)
 
 -- ---- so it stays one
+first-good : (s : Supersaw) → First s → Good s
+unfolding supersawNewOf outcomeNumber
+first-good s f =
+    let new = newSupersaw (f .0) in
+    let number = ap (λ (m : SupersawMade). outcomeNumber (m .outcome)) (f .1) in
+    let g = good-new (f .0) (rate-good (rateOk (f .0)) 0 (sym (made-number _ new new) ∙ number)) in
+    subst Good (ap (λ (m : SupersawMade). m .supersaw) (f .1)) (made-cases (λ m. Good (m .supersaw)) _ new new (λ e. g) g)
+
 good-tick : (s : Supersaw) → Good s → (c : SupersawControls) → Good (supersawTickOf s c .supersaw)
 good-tick s h c = subst (λ (t : SupersawTicked). Good (t .supersaw)) (sym (tick-is s h c)) (good-sound s h c)
 
+rated-good : (s : Supersaw) (r : Hertz) → Good s → supersawRateRefusalOf s r ≡ 0 → Good (rated s r)
+unfolding supersawRateRefusalOf
+rated-good s r h e = record { rate = rate-good (rateOk r) (supersawRefusalOf s) e; phases = h .phases; low = h .low }
+
 good-after : (s : Supersaw) (c : Call) → Good s → Good (after s c)
-unfolding after
+unfolding after supersawBlockOf supersawResetOf supersawSetSampleRateOf
 good-after s (Tick c) h = good-tick s h c
-good-after s (Play c t o m) h = unfold supersawBlockOf in block-keeps nPorts _ _ _ Good (λ r g. good-tick r g c) s h t o m
-good-after s Reset h =
-    subst (λ (m : SupersawMade). Good (m .supersaw)) (sym (reset-is s h)) (record { rate = h .rate; phases = start; low = zero-in })
-good-after s (SetSampleRate r) h = subst (λ (m : SupersawMade). Good (m .supersaw)) (sym (rate-is s h r)) (go (rateOk r) refl)
-  where
-    go : (b : Bool) → rateOk r ≡ b → Good (cond b (done (rated s r)) (refused 1 s) .supersaw)
-    go true e = record { rate = e; phases = h .phases; low = h .low }
-    go false e = h
+good-after s (Play c t o m) h = block-keeps nPorts _ _ _ Good (λ r g. good-tick r g c) s h t o m
+good-after s Reset h = made-cases (λ m. Good (m .supersaw)) _ s (restarted s) (λ e. record { rate = h .rate; phases = start; low = zero-in }) h
+good-after s (SetSampleRate r) h = made-cases (λ m. Good (m .supersaw)) (supersawRateRefusalOf s r) s (rated s r) (rated-good s r h) h
 
 good : {s : Supersaw} → ReachedSupersaw s → Good s
 good = always Good first-good (λ s c h f. good-after s c h)
@@ -135,31 +134,22 @@ sound-accepted : (s : Supersaw) (c : SupersawControls) → accepted (supersawSou
 unfolding supersawSoundOf
 sound-accepted s c = mark-says _ _ _ _ .is-accepted
 
+-- ---- the promises
 pub new-accepts : New-accepts
-unfolding supersawNewOf madeUnless
-new-accepts r = (number (rateOk r), λ ok. (r, rw ok refl))
-  where
-    number : (b : Bool) → outcomeNumber (madeUnless (cond b 0 1) (newSupersaw r) (newSupersaw r) .outcome) ≡ cond b 0 1
-    number true = unfold outcomeNumber in refl
-    number false = unfold outcomeNumber in refl
+unfolding supersawNewOf
+new-accepts r = (made-number _ _ _, λ ok. (r, unfold madeUnless in simp ok))
 
 pub never-refused : Never-refused
-unfolding reply
+unfolding reply supersawBlockOf supersawResetOf supersawSetSampleRateOf
 never-refused s h =
     let g = good h in
+    let n = not-refused s g in
     record {
       phases = g .phases .ok;
       «sub_phase» = g .low;
-      tick = λ c. ap (λ (t : SupersawTicked). accepted (t .answer)) (tick-is s g c) ∙ sound-accepted s c;
-      play = λ c t o m. unfold supersawBlockOf in
-          block-refusal nPorts _ _ _ s t o m ∙ ap (λ (n : ℕ). blockRefusalOf (eqb (length o) (nPorts * length m)) n t (length m)) (not-refused s g);
-      reset = ap told (reset-is s g) ∙ (unfold outcomeNumber in refl);
-      rate = λ r. ap told (rate-is s g r) ∙ by-rate r (rateOk r);
+      tick = λ c. rw (tick-is s g c) (sound-accepted s c);
+      play = λ c t o m. block-refusal nPorts _ _ _ s t o m
+          ∙ ap (λ (k : ℕ). blockRefusalOf (eqb (length o) (nPorts * length m)) k t (length m)) n;
+      reset = ap Told (made-number _ _ _ ∙ n);
+      rate = λ r. ap Told (made-number _ _ _ ∙ (unfold supersawRateRefusalOf in simp n));
     }
-  where
-    told : SupersawMade → Reply
-    told m = Told (outcomeNumber (m .outcome))
-
-    by-rate : (r : Hertz) (b : Bool) → told (cond b (done (rated s r)) (refused 1 s)) ≡ Told (cond b 0 1)
-    by-rate r true = unfold outcomeNumber in refl
-    by-rate r false = unfold outcomeNumber in refl

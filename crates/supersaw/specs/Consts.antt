@@ -1,6 +1,11 @@
 -- The Rust's constants of the Supersaw, by their bits.
 use mathlib.Core.List.{List, [], _∷_}
+use Prim.Native.Nat.{ℕ}
 use lib.Ieee.{Float, binary64, ofBits}
+
+-- how many outputs there are
+abbrev pub nPorts : ℕ
+nPorts = 2
 
 -- DETUNE_RATIOS: -0.11002313, -0.06288439, -0.01952356, 0.0, 0.01991221, 0.06216538, 0.10745242
 abbrev pub detuneRatios : List Float

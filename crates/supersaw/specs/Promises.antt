@@ -14,8 +14,9 @@ use Rattle.answer.specs.Answer.{accepted, outcomeNumber}
 use Rattle.answer.specs.Block.{Block, blockRefusalOf}
 use Rattle.answer.specs.Promises.{AllAccepted, AllTaken}
 use Rattle.answer.specs.declared.Tally.{Tally}
+use Rattle.supersaw.specs.Consts.{nPorts}
 use Rattle.supersaw.specs.Voices.{at}
-use Rattle.supersaw.specs.Supersaw.{newSupersaw, nPorts, supersawRefusalOf, supersawNewOf, supersawTickOf, supersawToldOf, supersawNextOf}
+use Rattle.supersaw.specs.Supersaw.{newSupersaw, supersawRefusalOf, supersawNewOf, supersawTickOf, supersawToldOf, supersawNextOf}
 use Rattle.supersaw.specs.Supersaw.{supersawBlockOf, supersawResetOf, supersawSetSampleRateOf}
 use Rattle.supersaw.specs.Calls.{Told, Reset, SetSampleRate, reply, First, ReachedSupersaw}
 use Rattle.supersaw.specs.declared.Supersaw.{Supersaw}
@@ -49,7 +50,7 @@ Block-accepts = (s : Supersaw) (c : SupersawControls) → length (s .phases) ≡
 abbrev pub Block-tallies : Type 0
 Block-tallies = (s : Supersaw) (c : SupersawControls) → length (s .phases) ≡ 7 → supersawRefusalOf s ≡ 0 → AllTaken (supersawToldOf c) (supersawNextOf c) s
 
--- ---- each contract settles its answer, and what a block leaves in the lent slices
+-- ---- each contract settles its answer
 pub record Settled : Type 0 where
   pub new : (r : Hertz) → Settles (λ (m : SupersawMade). m ≡ supersawNewOf r)
   pub tick : (s : Supersaw) (c : SupersawControls) → Settles (λ (t : SupersawTicked). t ≡ supersawTickOf s c)

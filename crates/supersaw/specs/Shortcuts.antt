@@ -61,11 +61,11 @@ steppedOf t dt mix =
     movedOf (blendOf saws mix) (at saws 7) (lanesFinite next) (wrapsOf next)
 
 -- a tick whose controls stand still: the memo holds, so only the phases move
-abbrev pub heldToldOf : List Float → Float → List Float → Answer
-heldToldOf dt mix t = steppedOf t dt mix .answer
+abbrev pub heldTold : List Float → Float → List Float → Answer
+heldTold dt mix t = steppedOf t dt mix .answer
 
-abbrev pub heldNextOf : List Float → Float → List Float → List Float
-heldNextOf dt mix t = steppedOf t dt mix .phases
+abbrev pub heldNext : List Float → Float → List Float → List Float
+heldNext dt mix t = steppedOf t dt mix .phases
 
 -- ---- the tick in which no oscillator comes near its step
 -- more than an increment above its step, and more than one below the next; every f64 fits

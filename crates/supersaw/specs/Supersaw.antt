@@ -18,16 +18,12 @@ use Rattle.answer.specs.declared.Answer.{Answer}
 use Rattle.answer.specs.declared.Answer.the-variants as answer
 use Rattle.answer.specs.declared.Outcome.the-variants as outcome
 use Rattle.answer.specs.declared.Tally.{Tally}
-use Rattle.supersaw.specs.Consts.{seven}
+use Rattle.supersaw.specs.Consts.{nPorts, seven}
 use Rattle.supersaw.specs.Voices.{at, sawOf, subDtOf, voicesOf}
 use Rattle.supersaw.specs.declared.Supersaw.{Supersaw}
 use Rattle.supersaw.specs.declared.SupersawControls.{SupersawControls}
 use Rattle.supersaw.specs.declared.SupersawTicked.{SupersawTicked}
 use Rattle.supersaw.specs.declared.SupersawMade.{SupersawMade}
-
--- how many outputs it has
-abbrev pub nPorts : ℕ
-nPorts = 2
 
 -- phase i starts at (i as f64) / 7.0
 unfoldable pub startPhases : List Float
@@ -48,11 +44,11 @@ supersawRefusalOf s =
     (cond (phasesOk (s .phases) && phaseOk (s .«sub_phase»)) 0 2)
     1
 
--- a rate change tests 1 on the new rate and the old
+-- and a rate change: 1 on the new rate and on the old, then 2
 unfoldable pub supersawRateRefusalOf : Supersaw → Hertz → ℕ
 supersawRateRefusalOf s r = cond (rateOk r) (supersawRefusalOf s) 1
 
--- new, unless n refuses, which leaves old
+-- `new`, unless n refuses, which leaves `old`
 unfoldable pub madeUnless : ℕ → Supersaw → Supersaw → SupersawMade
 madeUnless n old new = cond (eqb n 0) (record { outcome = outcome.Done; supersaw = new }) (record { outcome = outcome.Refused n; supersaw = old })
 
@@ -82,14 +78,14 @@ supersawTickOf s c =
     let n = supersawRefusalOf s in
     cond (eqb n 0) (supersawSoundOf s c) (record { answer = answer.Refused n; supersaw = s })
 
--- what a tick with these controls answers, and the state after it
+-- what a tick with these controls answers, and what it leaves
 abbrev pub supersawToldOf : SupersawControls → Supersaw → Answer
 supersawToldOf c s = supersawTickOf s c .answer
 
 abbrev pub supersawNextOf : SupersawControls → Supersaw → Supersaw
 supersawNextOf c s = supersawTickOf s c .supersaw
 
--- a block of as many ticks with these controls as there are marks: two samples a tick
+-- a block of as many such ticks as there are marks
 unfoldable pub supersawBlockOf : Supersaw → SupersawControls → Tally → List Float → List ℕ → Block Supersaw
 supersawBlockOf s c t o m = blockOf nPorts (supersawRefusalOf s) (supersawToldOf c) (supersawNextOf c) s t o m
 

@@ -19,14 +19,12 @@ ghost use lib.ListN.{length};
 ghost use Rattle.laws.specs.Float.{isFin};
 ghost use Rattle.laws.specs.Lists.{tab};
 ghost use Rattle.answer.specs.Block.{afterTicks, joined, block, markAt, frameAt};
+ghost use Rattle.supersaw.specs.Consts.{nPorts};
 ghost use Rattle.supersaw.specs.Voices.{at, freqOf, sawOf, subDtOf};
-ghost use Rattle.supersaw.specs.Supersaw.{startPhases, nPorts, phasesOk, supersawRefusalOf, supersawRateRefusalOf, supersawNewOf, supersawSoundOf};
+ghost use Rattle.supersaw.specs.Supersaw.{startPhases, phasesOk, supersawRefusalOf, supersawRateRefusalOf, supersawNewOf, supersawSoundOf};
 ghost use Rattle.supersaw.specs.Supersaw.{supersawTickOf, supersawToldOf, supersawNextOf, supersawBlockOf, supersawResetOf, supersawSetSampleRateOf};
 ghost use Rattle.supersaw.specs.Shortcuts.{lanesOf, incsOf, sawsOf, rampsOf, sumsOf, wrapsOf, lanesFinite, steadyOf};
-ghost use Rattle.supersaw.specs.Shortcuts.{lanesSteady, mixTo, blendOf, movedOf, steppedOf, rampedOf, quietOf, heldToldOf, heldNextOf};
-
-// How many outputs it has.
-const PORTS: usize = 2;
+ghost use Rattle.supersaw.specs.Shortcuts.{lanesSteady, mixTo, blendOf, movedOf, steppedOf, rampedOf, quietOf, heldTold, heldNext};
 
 pub struct Supersaw {
     pub phases: [f64; 7],
@@ -54,11 +52,14 @@ pub struct SupersawBlock {
     pub tally: Tally,
 }
 
-// A refused new hands out the state with its bad rate, which refuses every call; any other refused call the state as it stood.
+// What a call without samples leaves: a refused one the old state, and a refused `new` a state that refuses every call.
 pub struct SupersawMade {
     pub outcome: Outcome,
     pub supersaw: Supersaw,
 }
+
+// How many outputs there are.
+const PORTS: usize = 2;
 
 // A tick of the eight oscillators: what it answers, and the phases after it.
 struct Moved {
@@ -455,10 +456,10 @@ impl Supersaw {
     ) -> [f64; 8]
         requires { ⌜ ((t : List Float) → quietOf «base_freq» t dt ≡ true → rampedOf t dt mix ≡ steppedOf t dt mix) ⌝ }
         requires { ⌜ length (now samples) ≡ nPorts * length (now marks) ⌝ }
-        ensures { λ r. ⌜ r ≡ afterTicks (heldNextOf dt mix) (length (now (marks .entry))) first ⌝ }
+        ensures { λ r. ⌜ r ≡ afterTicks (heldNext dt mix) (length (now (marks .entry))) first ⌝ }
         ensures { λ r. ⌜ now (samples .exit)
-            ≡ joined (frameAt nPorts (heldToldOf dt mix) (heldNextOf dt mix) first) (length (now (marks .entry))) ⌝ }
-        ensures { λ r. ⌜ now (marks .exit) ≡ tab (markAt (heldToldOf dt mix) (heldNextOf dt mix) first) (length (now (marks .entry))) ⌝ }
+            ≡ joined (frameAt nPorts (heldTold dt mix) (heldNext dt mix) first) (length (now (marks .entry))) ⌝ }
+        ensures { λ r. ⌜ now (marks .exit) ≡ tab (markAt (heldTold dt mix) (heldNext dt mix) first) (length (now (marks .entry))) ⌝ }
     {
         let mut t = first;
         let mut i = 0;
@@ -562,7 +563,7 @@ impl Supersaw {
         }
     }
 
-    // A rate change tests 1 on the new rate and the old.
+    // What refuses a rate change: 1 the new rate or the old, then 2.
     fn rate_refusal(self, sample_rate: Hertz) -> u32
         ensures { λ r. ⌜ r ≡ supersawRateRefusalOf self «sample_rate» ⌝ }
     {

@@ -1,7 +1,8 @@
 use mathlib.Core.Path.{refl, ap, _∙_}
 use Rattle.answer.specs.Tally.{tallyOr}
 use Rattle.answer.proofs.Blocks.{block-refused, block-fits, block-done}
-use Rattle.noise_generator.specs.NoiseGenerator.{nPorts, drawing, undrawn, noiseGeneratorToldOf, noiseGeneratorNextOf, noiseGeneratorBlockOf}
+use Rattle.noise_generator.specs.Consts.{nPorts}
+use Rattle.noise_generator.specs.NoiseGenerator.{drawing, undrawn, noiseGeneratorToldOf, noiseGeneratorNextOf, noiseGeneratorBlockOf}
 use Rattle.noise_generator.proofs.TurnLaws.{undrawn-done}
 use borrow.Author.Needs.{needs}
 use Rattle.noise_generator.proofs.NoiseGenerator.block.Statement.{statement}

@@ -9,8 +9,9 @@ use Rattle.laws.proofs.Over.{over-none}
 use Rattle.laws.specs.Lists.{over}
 use Rattle.answer.proofs.Blocks.{four-ports, joined-none, frames-more, frames-done, marks-more, marks-done}
 use Rattle.answer.specs.Block.{afterTicks, markAt, frameAt, joined}
+use Rattle.noise_generator.specs.Consts.{nPorts}
 use Rattle.noise_generator.specs.Shortcuts.{whole, neededAt}
-use Rattle.noise_generator.specs.NoiseGenerator.{nPorts, neededOf, changedBy, neededBy, correlationOf}
+use Rattle.noise_generator.specs.NoiseGenerator.{neededOf, changedBy, neededBy, correlationOf}
 use Rattle.noise_generator.specs.NoiseGenerator.{drawing, noiseGeneratorToldOf, noiseGeneratorNextOf}
 use Rattle.noise_generator.proofs.CalmLaws.{ahead-taken, ahead-finite}
 use Rattle.noise_generator.proofs.TickLaws.{drawingAt, heard, moved, advanced, reaches}

@@ -3,7 +3,8 @@ use native.Mathlib.Omega.{arith}
 use borrow.Author.Needs.{needs}
 use Rattle.answer.specs.Tally.{tallyOr}
 use Rattle.answer.proofs.Blocks.{block-refused, block-fits, block-empty, block-done}
-use Rattle.supersaw.specs.Supersaw.{nPorts, supersawBlockOf}
+use Rattle.supersaw.specs.Consts.{nPorts}
+use Rattle.supersaw.specs.Supersaw.{supersawBlockOf}
 use Rattle.supersaw.proofs.Supersaw.block.Statement.{statement}
 use Rattle.supersaw.proofs.Supersaw.block.Tie as tie
 

@@ -10,16 +10,16 @@ use Rattle.laws.specs.Lists.{over}
 use Rattle.answer.proofs.Blocks.{two-ports, joined-none, frames-more, frames-done, marks-more, marks-done}
 use Rattle.answer.specs.Block.{afterTicks, markAt, frameAt, joined}
 use Rattle.supersaw.proofs.Held.{heard, moved}
-use Rattle.supersaw.specs.Shortcuts.{heldToldOf, heldNextOf}
-use Rattle.supersaw.specs.Supersaw.{nPorts}
+use Rattle.supersaw.specs.Consts.{nPorts}
+use Rattle.supersaw.specs.Shortcuts.{heldTold, heldNext}
 use Rattle.supersaw.proofs.Supersaw.glide.Statement.{statement}
 use Rattle.supersaw.proofs.Supersaw.glide.Tie as tie
 
 abbrev Inv-loop : tie.InvT-loop
 Inv-loop base-freq dt mix samples₀ marks₀ t₀ i₀ samples marks t i =
     (i ≤ length marks₀) × (length samples ≡ nPorts * length marks₀) × (length marks ≡ length marks₀)
-    × (samples ≡ sets samples₀ 0 (joined (frameAt nPorts (heldToldOf dt mix) (heldNextOf dt mix) t₀) i))
-    × (marks ≡ over (markAt (heldToldOf dt mix) (heldNextOf dt mix) t₀) i marks₀) × (t ≡ afterTicks (heldNextOf dt mix) i t₀)
+    × (samples ≡ sets samples₀ 0 (joined (frameAt nPorts (heldTold dt mix) (heldNext dt mix) t₀) i))
+    × (marks ≡ over (markAt (heldTold dt mix) (heldNext dt mix) t₀) i marks₀) × (t ≡ afterTicks (heldNext dt mix) i t₀)
 
 abbrev μ-loop : tie.MeasureT-loop
 μ-loop base-freq dt mix samples₀ marks₀ t₀ i₀ samples marks t i = length marks₀ - i
@@ -70,7 +70,7 @@ returns c =
     let a = begun .args in
     let s = c .before .loop .inv in
     let n : c .before .loop .i ≡ length (a .marks .now) = le-antisymm (s .0) (omega arith) in (
-      s .5 ∙ ap (λ k. afterTicks (heldNextOf (a .dt) (a .mix)) k (a .first)) n,
+      s .5 ∙ ap (λ k. afterTicks (heldNext (a .dt) (a .mix)) k (a .first)) n,
       (frames-done nPorts two-ports _ _ _ _ _ _ _ n (begun .pre .1) (s .3), marks-done nPorts two-ports _ _ _ _ _ _ _ n refl (s .4)),
     )
 

@@ -2,8 +2,8 @@ use mathlib.Core.Path.{sym, _∙_}
 use lib.ListN.{length}
 use borrow.Author.Needs.{needs}
 use Rattle.answer.proofs.Blocks.{held-after, held-marks, held-frames}
+use Rattle.supersaw.specs.Consts.{nPorts}
 use Rattle.supersaw.proofs.Held.{holds, quiet-held}
-use Rattle.supersaw.specs.Supersaw.{nPorts}
 use Rattle.supersaw.proofs.Supersaw.run.Statement.{statement}
 use Rattle.supersaw.proofs.Supersaw.run.Tie as tie
 
@@ -51,31 +51,16 @@ returns c =
     let a = begun .args in
     let g = glided .glide .ensures in
     let n = length (a .marks .now) in
-    let w = holds (a .self) (a .c) (begun .pre .0) (ready .before .lanes .ensures .1) in (
-      simp (
-        c .voices .ensures,
-        g .0,
-        ready .increments .ensures,
-        ready .before .lanes .ensures .0,
-        pitch .voct-to-hz .ensures,
-        pitch .before .clamp2 .ensures,
-        clamped .clamp .ensures,
-      ) (sym (held-after _ _ _ _ _ _ _ _ w n (begun .pre .1))),
+    let w = holds (a .self) (a .c) (begun .pre .0) (ready .before .lanes .ensures .1) in
+    let step = ready .increments .ensures in
+    let at = ready .before .lanes .ensures .0 in
+    let memo = pitch .voct-to-hz .ensures in
+    let mix = pitch .before .clamp2 .ensures in
+    let detune = clamped .clamp .ensures in (
+      simp (c .voices .ensures, g .0, step, at, memo, mix, detune) (sym (held-after _ _ _ _ _ _ _ _ w n (begun .pre .1))),
       (
-        g .1 .0 ∙ simp (
-          ready .increments .ensures,
-          ready .before .lanes .ensures .0,
-          pitch .voct-to-hz .ensures,
-          pitch .before .clamp2 .ensures,
-          clamped .clamp .ensures,
-        ) (sym (held-frames _ _ _ _ _ _ _ _ w nPorts n)),
-        g .1 .1 ∙ simp (
-          ready .increments .ensures,
-          ready .before .lanes .ensures .0,
-          pitch .voct-to-hz .ensures,
-          pitch .before .clamp2 .ensures,
-          clamped .clamp .ensures,
-        ) (sym (held-marks _ _ _ _ _ _ _ _ w n)),
+        g .1 .0 ∙ simp (step, at, memo, mix, detune) (sym (held-frames _ _ _ _ _ _ _ _ w nPorts n)),
+        g .1 .1 ∙ simp (step, at, memo, mix, detune) (sym (held-marks _ _ _ _ _ _ _ _ w n)),
       ),
     )
 
