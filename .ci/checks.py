@@ -236,12 +236,12 @@ def short_lines(files):
 
 
 def stages_named(files):
-    """No path of a proof goes six or more `.before` back in a row: its stages have names."""
+    """No path of a proof goes six or more `.before` back in a row, but where that place is given its name (`let tuned = c .before .. in`)."""
     for path, _, text in of_crates(files, ["proofs"], ".antt"):
         text = blanked(path, text)
-        for m in re.finditer(r"\.before\b(?:\s*\.before\b)+", text):
-            if m[0].count(".before") > BEFORES:
-                yield f"{path}:{line(text, m.start())}: {m[0].count('.before')} times .before"
+        for m in re.finditer(rf"((?<!{APART})let\s+\S+\s+=\s+\S+)?((?:\s+\.before)+)(?!{APART})(\s+in(?!{APART}))?", text):
+            if m[2].count(".before") > BEFORES and not (m[1] and m[3]):
+                yield f"{path}:{line(text, m.end(2))}: {m[2].count('.before')} times .before"
 
 
 def own_words(files):
@@ -533,7 +533,8 @@ CHECKS = {
     ],
     stages_named: [
         {"crates/x/proofs/f/Proof.antt": f"returns c = simp (c{6 * ' .before'} .hits)\n"},
-        {"crates/x/proofs/f/Proof.antt": f"returns c = let a = c{3 * ' .before'}\n   {3 * ' .before'} in a\n"},
+        {"crates/x/proofs/f/Proof.antt": f"returns c = let a = c{3 * ' .before'}\n   {3 * ' .before'} .hits in a\n"},
+        {"crates/x/proofs/f/Proof.antt": f"returns c = let a = f c{6 * ' .before'} in a\n"},
     ],
     own_words: [{"docs/x.md": "built in /" + "work/ here\n"}],
     no_copy: [{"x.rs": COPY}],
