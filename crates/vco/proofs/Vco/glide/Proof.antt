@@ -59,7 +59,7 @@ loop-less c = omega arith
 
 loop-again : tie.Need-loop-again Inv-loop μ-loop
 loop-again c =
-    let put = c .before .before .before .before .before .before .before in
+    let known = c .before .before in let put = known .before .before .before .before .before in
     let restarted = put .before .before .before in
     let turned = restarted .before .before in
     let looped = turned .before in

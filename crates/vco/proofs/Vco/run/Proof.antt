@@ -24,7 +24,8 @@ width-requires c κs = search needs
 glide-requires : tie.Need-glide-requires
 glide-requires c κs =
     let widened = c .before .before in
-    let s = widened .before .before .before .before .before .before .before .before .before .before .before .before .before .before in
+    let tuned = widened .before .before .before .before .before in let ready = tuned .before .before .before .before in
+    let s = ready .before .before .before .before .before in
     (unrefused (s .args .self) (s .pre .0) .1, simp (widened .width .ensures) (clamp-width _), s .pre .2)
 
 same-length : tie.Need-same-length
@@ -39,7 +40,7 @@ returns c =
     let widened = glided .before .before .before in
     let crossed = widened .before .before in
     let tuned = crossed .before .before .before in
-    let start = tuned .before .before .before .before .before .before .before .before .before in
+    let ready = tuned .before .before .before .before in let start = ready .before .before .before .before .before in
     let a = start .args in
     let g = glided .glide .ensures in
     let w = holds (a .self) (a .c) (a .wanted) (start .pre .0) in

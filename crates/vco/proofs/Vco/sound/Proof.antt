@@ -25,7 +25,8 @@ width-requires c κs = search needs
 
 heard-requires : tie.Need-heard-requires
 heard-requires c κs =
-    let s = c .before .before .before .before .before .before .before .before .before .before .before .before .before .before in
+    let edged = c .before .before .before .before in let ready = edged .before .before .before .before .before in
+    let s = ready .before .before .before .before .before in
     (simp (c .before .restart .ensures) (restart-in (s .args .self .phase) _ (s .pre)), simp (c .width .ensures) (clamp-width _))
 
 wrap-phase-requires : tie.Need-wrap-phase-requires
