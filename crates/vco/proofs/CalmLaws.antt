@@ -1,7 +1,7 @@
 -- A quiet tick: what its test says, and that its samples are plain and finite.
 use mathlib.Core.Bool.{Bool, true, false, cond, _&&_}
 use mathlib.Core.Path.{_≡_, refl, sym, ap, _∙_, subst}
-use Prim.Native.Nat.{ℕ, _+_, _*_, _≤_, _<_}
+use Prim.Native.Nat.{ℕ, _*_, _≤_, _<_}
 use native.Mathlib.Nat.{mul-zero, mul-pos}
 use native.Mathlib.Omega.{arith}
 use lib.Dec.{T, lit<, lit≤}
