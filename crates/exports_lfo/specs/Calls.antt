@@ -22,17 +22,17 @@ lfoResetAt f w = keptSized nFloats nWholes (keptOf (lfoResetOf (stateOf f w)) f 
 unfoldable pub lfoSetSampleRateAt : Float → List Float → List ℕ → Kept
 lfoSetSampleRateAt rate f w = keptSized nFloats nWholes (keptOf (lfoSetSampleRateOf (stateOf f w) (record { 0 = rate })) f w) f w
 
-abbrev pub controls : Float → Float → Float → LfoControls
-controls rate depth reset = record { rate = rate; depth = depth; reset = reset }
+abbrev pub controlsOf : Float → Float → Float → LfoControls
+controlsOf rate depth reset = record { rate = rate; depth = depth; reset = reset }
 
 unfoldable pub lfoTickAt : Float → Float → Float → ℕ → List Float → List ℕ → List Float → Heard
 lfoTickAt rate depth reset wanted f w o =
-    let t = lfoTickOf (stateOf f w) (controls rate depth reset) wanted in
+    let t = lfoTickOf (stateOf f w) (controlsOf rate depth reset) wanted in
     heardSized nFloats nWholes nSamples (heardOf floatsOf wholesOf samplesOf (t .answer) (t .lfo) f w o) f w o
 
 -- a block: 0, the state, the counts, the samples and the marks after it, or what refused it
 unfoldable pub lfoBlockAt : Float → Float → Float → ℕ → List Float → List ℕ → List ℕ → List Float → List ℕ → Played
 lfoBlockAt rate depth reset wanted f w k o m =
     playedSized nFloats nWholes
-    (λ t. playedOf floatsOf wholesOf (lfoBlockOf (stateOf f w) (controls rate depth reset) wanted t o m) f w k)
+    (λ t. playedOf floatsOf wholesOf (lfoBlockOf (stateOf f w) (controlsOf rate depth reset) wanted t o m) f w k)
     f w k o m

@@ -1,12 +1,10 @@
-// The Vco for hosts. A state is two lent slices: floats [phase, sample_rate, sync_edge.prev, freq_memo.val] and
-// wholes [key0, key1, key2, valid]; samples are [sin, tri, saw, sqr]. A call answers 0 (done), 10 and the number of the
-// mark of an accepted tick (11 cleared, 12 notfinite, 13 lost, 14 clean), or what refused it: the scope's number, or
-// 50, 51, 52, 53 for floats, wholes, samples, counts of another length. A refused call leaves every slice as it stood.
-// A block answers 0; its samples come tick by tick, its marks by the same numbers, and counts are
-// the tally's [begun, finished, cleared, notfinite, lost].
+// The Vco for hosts, over lent slices. A state is floats [phase, sample_rate, sync_edge.prev, freq_memo.val] and
+// wholes [freq_memo.key0, key1, key2, valid], the last 0 or not; samples are [sin, tri, saw, sqr].
+// Each call answers a number: 0 done; of an accepted tick what its mark is told by; of a refused call 1 to 7 as the scope has
+// them, or 50, 51, 52, 53 where floats, wholes, samples or counts have another length. A refused call writes nothing. A block
+// answers 0, with the ticks' samples one after another, their marks by the same numbers, and the tally's counts.
+use answer::Outcome;
 use answer::Tallied;
-use answer::Tally;
-use common::EdgeDetector;
 use common::Hertz;
 use common::Memo3;
 use common::Turns;
@@ -22,22 +20,34 @@ ghost use Prim.Native.Nat.{ℕ};
 ghost use lib.Ieee.{Float};
 ghost use lib.ListN.{length};
 ghost use Rattle.answer.specs.Block.{block};
-ghost use Rattle.answer.specs.Flat.{kept, heard, heardOf, played, playedOf};
-ghost use Rattle.exports_vco.specs.State.{stateOf, floatsOf, wholesOf, samplesOf};
+ghost use Rattle.boundary.specs.Flat.{nCounts, kept, heard, heardOf, played, playedOf};
+ghost use Rattle.exports_vco.specs.State.{nFloats, nWholes, nSamples, stateOf, floatsOf, wholesOf, samplesOf};
 ghost use Rattle.exports_vco.specs.Calls.{keptOf, vcoNewAt, vcoResetAt, vcoSetSampleRateAt, controlsOf, vcoTickAt, vcoBlockAt};
 
+// Where the edge record's floats begin, and what stands after them.
+const EDGE: usize = 2;
+
+const VAL: usize = EDGE + boundary::EDGE_FLOATS;
+
+// How many floats, wholes and samples there are.
+const FLOATS: usize = VAL + 1;
+
+const WHOLES: usize = 4;
+
+const SAMPLES: usize = 4;
+
 fn state(floats: &[f64], wholes: &[u64]) -> Vco
-    requires { ⌜ (length (now floats) ≡ 4) × (length (now wholes) ≡ 4) ⌝ }
+    requires { ⌜ (length (now floats) ≡ nFloats) × (length (now wholes) ≡ nWholes) ⌝ }
     ensures { λ r. ⌜ r ≡ stateOf (now (floats .entry)) (now (wholes .entry)) ⌝ }
 {
     let phase = Turns(floats[0]);
     let sample_rate = Hertz(floats[1]);
-    let sync_edge = EdgeDetector { prev: floats[2] };
+    let sync_edge = boundary::edge_at(floats, EDGE);
     let freq_memo = Memo3 {
         key0: wholes[0],
         key1: wholes[1],
         key2: wholes[2],
-        val: Hertz(floats[3]),
+        val: Hertz(floats[VAL]),
         valid: wholes[3] != 0,
     };
     Vco {
@@ -49,7 +59,7 @@ fn state(floats: &[f64], wholes: &[u64]) -> Vco
 }
 
 fn store(s: Vco, floats: &mut [f64], wholes: &mut [u64])
-    requires { ⌜ (length (now floats) ≡ 4) × (length (now wholes) ≡ 4) ⌝ }
+    requires { ⌜ (length (now floats) ≡ nFloats) × (length (now wholes) ≡ nWholes) ⌝ }
     ensures { λ _. ⌜ (now (floats .exit) ≡ floatsOf s) × (now (wholes .exit) ≡ wholesOf s) ⌝ }
 {
     let phase = s.phase;
@@ -59,8 +69,8 @@ fn store(s: Vco, floats: &mut [f64], wholes: &mut [u64])
     let val = memo.val;
     floats[0] = phase.0;
     floats[1] = sample_rate.0;
-    floats[2] = sync_edge.prev;
-    floats[3] = val.0;
+    boundary::put_edge(sync_edge, &mut *floats, EDGE);
+    floats[VAL] = val.0;
     wholes[0] = memo.key0;
     wholes[1] = memo.key1;
     wholes[2] = memo.key2;
@@ -69,22 +79,25 @@ fn store(s: Vco, floats: &mut [f64], wholes: &mut [u64])
 
 // What a call without samples made.
 fn put_made(m: VcoMade, floats: &mut [f64], wholes: &mut [u64]) -> u32
-    requires { ⌜ (length (now floats) ≡ 4) × (length (now wholes) ≡ 4) ⌝ }
+    requires { ⌜ (length (now floats) ≡ nFloats) × (length (now wholes) ≡ nWholes) ⌝ }
     ensures { λ r. ⌜ kept r (now (floats .exit)) (now (wholes .exit)) ≡ keptOf m (now (floats .entry)) (now (wholes .entry)) ⌝ }
 {
-    match m {
-        VcoMade::Made(s) => {
+    let outcome = m.outcome;
+    let s = m.vco;
+    match outcome {
+        Outcome::Done => {
             store(s, floats, wholes);
             0
         }
-        VcoMade::Refused(n) => n,
+        Outcome::Refused(n) => n,
     }
 }
 
 // The samples and the state after an accepted tick; a refused one leaves them.
 fn put_ticked(t: VcoTicked, floats: &mut [f64], wholes: &mut [u64], samples: &mut [f64]) -> u32
-    requires { ⌜ (length (now floats) ≡ 4) × (length (now wholes) ≡ 4) × (length (now samples) ≡ 4) ⌝ }
-    ensures { λ r. ⌜ heard r (now (floats .exit)) (now (wholes .exit)) (now (samples .exit)) ≡ heardOf floatsOf wholesOf samplesOf (t .answer) (t .vco) (now (floats .entry)) (now (wholes .entry)) (now (samples .entry)) ⌝ }
+    requires { ⌜ (length (now floats) ≡ nFloats) × (length (now wholes) ≡ nWholes) × (length (now samples) ≡ nSamples) ⌝ }
+    ensures { λ r. ⌜ heard r (now (floats .exit)) (now (wholes .exit)) (now (samples .exit))
+        ≡ heardOf floatsOf wholesOf samplesOf (t .answer) (t .vco) (now (floats .entry)) (now (wholes .entry)) (now (samples .entry)) ⌝ }
 {
     let answer = t.answer;
     let code = answer::host_number(answer);
@@ -102,15 +115,18 @@ fn put_ticked(t: VcoTicked, floats: &mut [f64], wholes: &mut [u64], samples: &mu
 
 // The state and the counts after a block; a refused one leaves them.
 fn put_block(b: VcoBlock, floats: &mut [f64], wholes: &mut [u64], counts: &mut [u32]) -> u32
-    requires { ⌜ (length (now floats) ≡ 4) × (length (now wholes) ≡ 4) × (length (now counts) ≡ 5) ⌝ }
-    ensures { λ r. ⌜ ((o : List Float) → (m : List ℕ) → played r (now (floats .exit)) (now (wholes .exit)) (now (counts .exit)) o m ≡ playedOf floatsOf wholesOf (block (b .refused) (b .vco) (b .tally) o m) (now (floats .entry)) (now (wholes .entry)) (now (counts .entry))) ⌝ }
+    requires { ⌜ (length (now floats) ≡ nFloats) × (length (now wholes) ≡ nWholes) × (length (now counts) ≡ nCounts) ⌝ }
+    ensures { λ r. ⌜ ((o : List Float) → (m : List ℕ)
+        → played r (now (floats .exit)) (now (wholes .exit)) (now (counts .exit)) o m
+        ≡ playedOf floatsOf wholesOf (block (b .refused) (b .vco) (b .tally) o m)
+        (now (floats .entry)) (now (wholes .entry)) (now (counts .entry))) ⌝ }
 {
     let refused = b.refused;
     if refused == 0 {
         let s = b.vco;
         let tally = b.tally;
         store(s, &mut *floats, &mut *wholes);
-        tally.put_counts(counts);
+        boundary::put_counts(tally, counts);
         0
     } else {
         refused
@@ -121,7 +137,7 @@ fn put_block(b: VcoBlock, floats: &mut [f64], wholes: &mut [u64], counts: &mut [
 pub extern "C" fn gruttisol_vco_new(sample_rate: f64, floats: &mut [f64], wholes: &mut [u64]) -> u32
     ensures { λ r. ⌜ kept r (now (floats .exit)) (now (wholes .exit)) ≡ vcoNewAt «sample_rate» (now (floats .entry)) (now (wholes .entry)) ⌝ }
 {
-    let n = answer::sizes(4, 4, floats, wholes);
+    let n = boundary::sizes(FLOATS, WHOLES, floats, wholes);
     if n == 0 {
         put_made(Vco::new(Hertz(sample_rate)), floats, wholes)
     } else {
@@ -141,9 +157,10 @@ pub extern "C" fn gruttisol_vco_tick(
     wholes: &mut [u64],
     samples: &mut [f64],
 ) -> u32
-    ensures { λ r. ⌜ heard r (now (floats .exit)) (now (wholes .exit)) (now (samples .exit)) ≡ vcoTickAt (controlsOf voct fm pw sync «fm_lin») wanted (now (floats .entry)) (now (wholes .entry)) (now (samples .entry)) ⌝ }
+    ensures { λ r. ⌜ heard r (now (floats .exit)) (now (wholes .exit)) (now (samples .exit))
+        ≡ vcoTickAt (controlsOf voct fm pw sync «fm_lin») wanted (now (floats .entry)) (now (wholes .entry)) (now (samples .entry)) ⌝ }
 {
-    let n = answer::tick_sizes(4, 4, 4, floats, wholes, samples);
+    let n = boundary::tick_sizes(FLOATS, WHOLES, SAMPLES, floats, wholes, samples);
     if n == 0 {
         let c = VcoControls {
             voct: VoltsPerOctave(voct),
@@ -177,11 +194,13 @@ pub extern "C" fn gruttisol_vco_block(
     samples: &mut [f64],
     marks: &mut [u32],
 ) -> u32
-    ensures { λ r. ⌜ played r (now (floats .exit)) (now (wholes .exit)) (now (counts .exit)) (now (samples .exit)) (now (marks .exit)) ≡ vcoBlockAt (controlsOf voct fm pw sync «fm_lin») wanted (now (floats .entry)) (now (wholes .entry)) (now (counts .entry)) (now (samples .entry)) (now (marks .entry)) ⌝ }
+    ensures { λ r. ⌜ played r (now (floats .exit)) (now (wholes .exit)) (now (counts .exit)) (now (samples .exit)) (now (marks .exit))
+        ≡ vcoBlockAt (controlsOf voct fm pw sync «fm_lin») wanted (now (floats .entry)) (now (wholes .entry)) (now (counts .entry))
+        (now (samples .entry)) (now (marks .entry)) ⌝ }
 {
-    let n = answer::sizes(4, 4, floats, wholes);
+    let n = boundary::sizes(FLOATS, WHOLES, floats, wholes);
     if n == 0 {
-        let given = Tally::from_counts(counts);
+        let given = boundary::tally_of(counts);
         match given {
             Tallied::Taken(tally) => {
                 let c = VcoControls {
@@ -205,7 +224,7 @@ pub extern "C" fn gruttisol_vco_block(
 pub extern "C" fn gruttisol_vco_reset(floats: &mut [f64], wholes: &mut [u64]) -> u32
     ensures { λ r. ⌜ kept r (now (floats .exit)) (now (wholes .exit)) ≡ vcoResetAt (now (floats .entry)) (now (wholes .entry)) ⌝ }
 {
-    let n = answer::sizes(4, 4, floats, wholes);
+    let n = boundary::sizes(FLOATS, WHOLES, floats, wholes);
     if n == 0 {
         put_made(state(floats, wholes).reset(), floats, wholes)
     } else {
@@ -221,7 +240,7 @@ pub extern "C" fn gruttisol_vco_set_sample_rate(
 ) -> u32
     ensures { λ r. ⌜ kept r (now (floats .exit)) (now (wholes .exit)) ≡ vcoSetSampleRateAt «sample_rate» (now (floats .entry)) (now (wholes .entry)) ⌝ }
 {
-    let n = answer::sizes(4, 4, floats, wholes);
+    let n = boundary::sizes(FLOATS, WHOLES, floats, wholes);
     if n == 0 {
         put_made(
             state(floats, wholes).set_sample_rate(Hertz(sample_rate)),

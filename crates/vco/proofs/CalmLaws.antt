@@ -1,7 +1,7 @@
 -- A quiet tick: what its test says, and that its samples are plain and finite.
 use mathlib.Core.Bool.{Bool, true, false, cond, _&&_}
 use mathlib.Core.Path.{_≡_, refl, sym, ap, _∙_, subst}
-use Prim.Native.Nat.{ℕ, _+_, _*_, _≤_, _<_}
+use Prim.Native.Nat.{ℕ, _*_, _≤_, _<_}
 use native.Mathlib.Nat.{mul-zero, mul-pos}
 use native.Mathlib.Omega.{arith}
 use lib.Dec.{T, lit<, lit≤}
@@ -43,7 +43,8 @@ unfolding phaseOk
 below-one p h = le-of-lt-true p one (and-r (le zer p) (lt p one) (of-true (le zer p && lt p one) h))
 
 pub quiet-of : (at : Crossing) (p edge w : Float) → F64 p → F64 w → phaseOk (turns p) ≡ true → fabsOf w ≡ w → at ≡ Nowhere
-    → le w (fabsOf (sub binary64 p half)) ≡ true → lt (fabsOf (sub binary64 p half)) (sub binary64 half w) ≡ true → le w edge ≡ true → le edge (sub binary64 one w) ≡ true → Quiet at p edge w
+    → le w (fabsOf (sub binary64 p half)) ≡ true → lt (fabsOf (sub binary64 p half)) (sub binary64 half w) ≡ true → le w edge ≡ true
+    → le edge (sub binary64 one w) ≡ true → Quiet at p edge w
 quiet-of at p edge w t u h m n l k i j =
     let a = away p w t u h m (of-true (le w (fabsOf (sub binary64 p half))) l) (of-true (lt (fabsOf (sub binary64 p half)) (sub binary64 half w)) k) in
     let c = calm p w (a .above) (a .below) in
@@ -68,7 +69,8 @@ tick-value (fin s m e) h =
     let k : m * up e * 1 ≤ 1 * down e = values-le (fin false m e) one (m * up e) (down e) 1 1 (down-pos e) (lit< tt) (refl, refl) o h in
     let f = fit (m * up e) (down e) (down-pos e) k in (
       (s, (m * up e, down e, down-pos e, f .0, (refl, refl))),
-      subst (λ (z : Float). Rounded z 0 4 0) (sym (mul-round four (fin false m e) false false 4 1 (m * up e) (down e) (lit< tt) (down-pos e) v (refl, refl))) (rounded (4 * (m * up e)) (1 * down e) 0 4 0 (f .1) (lit< tt) (lit< tt) (lit≤ tt) (f .2) (f .3)),
+      subst (λ (z : Float). Rounded z 0 4 0) (sym (mul-round four (fin false m e) false false 4 1 (m * up e) (down e) (lit< tt) (down-pos e) v (refl, refl)))
+          (rounded (4 * (m * up e)) (1 * down e) 0 4 0 (f .1) (lit< tt) (lit< tt) (lit≤ tt) (f .2) (f .3)),
     )
   where
     fit : (n d : ℕ) → 0 < d → n * 1 ≤ 1 * d → (n ≤ 1 * d) × (0 < 1 * d) × (0 * (1 * d) ≤ 4 * n * 1) × (4 * n * 1 ≤ 4 * (1 * d))
@@ -83,7 +85,8 @@ still w r =
     ∙ round-zero false (r .bottom * 1) (mul-pos (r .bottom-pos) (lit< tt))
     ∙ z
 
-quiet-volts : (at : Crossing) (p old pw w : Float) (wanted : ℕ) → Quiet at p (pwEdgeOf p pw) w → mul binary64 (mul binary64 four w) zer ≡ zer → vcoVoltsOf at p old pw w wanted ≡ plainVolts p pw wanted
+quiet-volts : (at : Crossing) (p old pw w : Float) (wanted : ℕ) → Quiet at p (pwEdgeOf p pw) w → mul binary64 (mul binary64 four w) zer ≡ zer
+    → vcoVoltsOf at p old pw w wanted ≡ plainVolts p pw wanted
 unfolding vcoVoltsOf steppedOf
 quiet-volts at p old pw w wanted q z = simp (q .nowhere, q .wrap, q .fall, q .lower, q .upper, z)
 
@@ -91,7 +94,9 @@ quiet-volts at p old pw w wanted q z = simp (q .nowhere, q .wrap, q .fall, q .lo
 sine-finite : (want : Bool) (p : Float) → Within 0 p → isFin (sineOf want p) ≡ true
 unfolding sineOf
 sine-finite true p h =
-    is-true _ (within-finite 3 (mul binary64 (sinOf (mul binary64 p tau)) five) (within-mul 0 3 (sinOf (mul binary64 p tau)) five (lit≤ tt) (sin-within 3 (mul binary64 p tau) (lit≤ tt) (within-mul 0 3 p tau (lit≤ tt) h tau-within)) five-within))
+    is-true _ (within-finite 3 (mul binary64 (sinOf (mul binary64 p tau)) five)
+    (within-mul 0 3 (sinOf (mul binary64 p tau)) five (lit≤ tt)
+    (sin-within 3 (mul binary64 p tau) (lit≤ tt) (within-mul 0 3 p tau (lit≤ tt) h tau-within)) five-within))
 sine-finite false p h = unfold ofBits in refl
 
 saw-within : (p : Float) → Within 0 p → Within 3 (sawOf p zer)
@@ -103,7 +108,9 @@ saw-within p h =
 
 sqr-within : (p pw : Float) → Within 2 (sqrOf p pw zer zer)
 unfolding sqrOf levelOf
-sqr-within p pw = let b = within-add 0 (levelOf p pw) zer (lit≤ tt) (level (lt p pw)) zer-within in within-minus 1 (add binary64 (levelOf p pw) zer) zer (lit≤ tt) b (within-to 0 1 zer (lit≤ tt) zer-within)
+sqr-within p pw =
+    let b = within-add 0 (levelOf p pw) zer (lit≤ tt) (level (lt p pw)) zer-within in
+    within-minus 1 (add binary64 (levelOf p pw) zer) zer (lit≤ tt) b (within-to 0 1 zer (lit≤ tt) zer-within)
   where
     level : (b : Bool) → Within 0 (cond b one (neg one))
     level true = one-within
@@ -122,7 +129,12 @@ tri-within p h =
 plain-finite : (p pw : Float) (wanted : ℕ) → Within 0 p → allFinite (plainVolts p pw wanted) ≡ true
 unfolding allFinite
 plain-finite p pw wanted h =
-    simp (sine-finite (wants wanted 1) p h, out-finite (wants wanted 2) 6 (triOf p zer zer) (lit≤ tt) (tri-within p h), out-finite (wants wanted 4) 3 (sawOf p zer) (lit≤ tt) (saw-within p h), out-finite (wants wanted 8) 2 (sqrOf p pw zer zer) (lit≤ tt) (sqr-within p pw)) (unfold ofBits in refl)
+    simp (
+      sine-finite (wants wanted 1) p h,
+      out-finite (wants wanted 2) 6 (triOf p zer zer) (lit≤ tt) (tri-within p h),
+      out-finite (wants wanted 4) 3 (sawOf p zer) (lit≤ tt) (saw-within p h),
+      out-finite (wants wanted 8) 2 (sqrOf p pw zer zer) (lit≤ tt) (sqr-within p pw),
+    ) (unfold ofBits in refl)
 
 -- so a quiet tick is clean, with plain samples
 pub quiet-answer : (at : Crossing) (p old pw dt : Float) (wanted : ℕ) → phaseOk (turns p) ≡ true → Quiet at p (pwEdgeOf p pw) (fabsOf dt)

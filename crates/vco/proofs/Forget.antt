@@ -39,7 +39,8 @@ good-like s g = good-new (s .«sample_rate») (g .rate)
 
 -- what a coherent memo recalls
 memo : (m : Memo3) → Coherent3 frequencyOf m → (c : VcoControls) → Fit c
-    → recall3 frequencyOf m (c .voct .0) (c .fm .0) (c .«fm_lin») ≡ filled3 (c .voct .0) (c .fm .0) (c .«fm_lin») (frequencyOf (c .voct .0) (c .fm .0) (c .«fm_lin»))
+    → recall3 frequencyOf m (c .voct .0) (c .fm .0) (c .«fm_lin»)
+    ≡ filled3 (c .voct .0) (c .fm .0) (c .«fm_lin») (frequencyOf (c .voct .0) (c .fm .0) (c .«fm_lin»))
 memo m h c f = recall3-is frequencyOf m h (c .voct .0) (c .fm .0) (c .«fm_lin») (f .0) (f .1) (f .2)
 
 -- the tick from the edge's parts: a coherent memo and an edge leave no trace of the state

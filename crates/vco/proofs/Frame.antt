@@ -32,7 +32,10 @@ use Rattle.vco.proofs.Reached.{good-new, tick-sound}
 use Rattle.vco.specs.declared.VcoTicked.{VcoTicked}
 
 exp2-zero : exp2Of zer ≡ one
-exp2-zero = let z : zer ≡ ofInt binary64 (pos 0) = unfold ofInt ofBits in refl in let o : fin false 1 (pos 0) ≡ one = unfold ofBits in refl in ap exp2Of z ∙ exp2-whole (pos 0) (lit≤ tt) ∙ o
+exp2-zero =
+    let z : zer ≡ ofInt binary64 (pos 0) = unfold ofInt ofBits in refl in
+    let o : fin false 1 (pos 0) ≡ one = unfold ofBits in refl in
+    ap exp2Of z ∙ exp2-whole (pos 0) (lit≤ tt) ∙ o
 
 -- the two FMs cancel: nothing moves
 base : voctToHz (record { 0 = zer }) ≡ record { 0 = c4 }

@@ -35,7 +35,8 @@ use Rattle.vco.specs.declared.VcoControls.{VcoControls}
 use Rattle.vco.specs.declared.VcoTicked.{VcoTicked}
 
 -- ---- a turn of the loop
-pub heard-now : (wanted : ℕ) (pw : Float) (dt : Turns) (start : Held) (i : ℕ) (p q : Turns) (at : Crossing) (a : Answer) → a ≡ vcoAnswerOf at (q .0) (p .0) pw (dt .0) wanted
+pub heard-now : (wanted : ℕ) (pw : Float) (dt : Turns) (start : Held) (i : ℕ) (p q : Turns) (at : Crossing) (a : Answer)
+    → a ≡ vcoAnswerOf at (q .0) (p .0) pw (dt .0) wanted
     → q ≡ syncedOf p at → held p at ≡ afterTicks (heldNext dt) i start → a ≡ answerAt (heldTold wanted pw dt) (heldNext dt) start i
 unfolding answerAt heldTold
 heard-now wanted pw dt start i p q at a e r z = simp (e, r, ← z)
@@ -120,7 +121,12 @@ module _ (s : Vco) (c : VcoControls) where
   left-at (suc n) z = refl
 
   pub left : (wanted n : ℕ) → vcoRefusalOf s ≡ 0 → 0 < n
-      → record { phase = afterTicks (heldNext stepOf) n startOf .phase; «sample_rate» = s .«sample_rate»; «sync_edge» = crossedOf (s .«sync_edge») (c .sync) .edge; «freq_memo» = heldMemo } ≡ afterTicks (vcoNextOf c wanted) n s
+      → record {
+        phase = afterTicks (heldNext stepOf) n startOf .phase;
+        «sample_rate» = s .«sample_rate»;
+        «sync_edge» = crossedOf (s .«sync_edge») (c .sync) .edge;
+        «freq_memo» = heldMemo;
+      } ≡ afterTicks (vcoNextOf c wanted) n s
   left wanted n h z = simp (edge-first, ← left-at n z) (sym (held-after _ _ _ _ _ _ _ _ (holds wanted h) n z))
 
 -- ---- so none of them is refused

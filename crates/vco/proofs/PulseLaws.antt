@@ -53,8 +53,21 @@ phase-value nan h = absurd (false≢true h)
 phase-value (inf true) h = absurd (false≢true h)
 phase-value (inf false) h = absurd (false≢true h)
 phase-value (fin true m e) h =
-    let z : m * up e ≡ 0 = nil (m * up e) (down e) (eqb→eq (0 * down e) (m * up e * 1) (and-l (eqb (0 * down e) (m * up e * 1)) (eqb (0 * down e) 0) (and-l (le zer (fin true m e)) (lt (fin true m e) one) (of-true (phaseOk (turns (fin true m e))) h)))) in
-    record { sign = true; top = m * up e; bottom = down e; bottom-pos = down-pos e; below = subst (λ (n : ℕ). n < down e) (sym z) (down-pos e); value = (refl, refl); zero-if = λ t. z; fine = λ t k. absurd (low (m * up e) (down e) z (down-pos e) k) }
+    let z : m * up e ≡ 0 =
+    nil (m * up e)
+    (down e) (eqb→eq (0 * down e) (m * up e * 1)
+    (and-l (eqb (0 * down e) (m * up e * 1)) (eqb (0 * down e) 0)
+    (and-l (le zer (fin true m e)) (lt (fin true m e) one) (of-true (phaseOk (turns (fin true m e))) h)))) in
+    record {
+      sign = true;
+      top = m * up e;
+      bottom = down e;
+      bottom-pos = down-pos e;
+      below = subst (λ (n : ℕ). n < down e) (sym z) (down-pos e);
+      value = (refl, refl);
+      zero-if = λ t. z;
+      fine = λ t k. absurd (low (m * up e) (down e) z (down-pos e) k);
+    }
   where
     nil : (n d : ℕ) → 0 * d ≡ n * 1 → n ≡ 0
     nil n d h = omega arith
@@ -67,7 +80,8 @@ phase-value (fin false m e) h =
       top = m * up e;
       bottom = down e;
       bottom-pos = down-pos e;
-      below = less (m * up e) (down e) (ltb→lt (m * up e * 1) (1 * down e) (and-r (le zer (fin false m e)) (ltb (m * up e * 1) (1 * down e)) (of-true (phaseOk (turns (fin false m e))) h)));
+      below = less (m * up e) (down e)
+          (ltb→lt (m * up e * 1) (1 * down e) (and-r (le zer (fin false m e)) (ltb (m * up e * 1) (1 * down e)) (of-true (phaseOk (turns (fin false m e))) h)));
       value = (refl, refl);
       zero-if = λ t. absurd (false≢true t);
       fine = fine-of m e;
@@ -89,17 +103,25 @@ room nan w n = absurd (true≢false (unfold isNan in n))
 room (inf true) w n = absurd (unfold lt ofBits in true≢false (w .0))
 room (inf false) w n = absurd (unfold lt ofBits in true≢false (w .1))
 room (fin true m e) w n =
-    let q : lt (fin true m e) pwLow ≡ true = unfold ofBits in neg-lt-pos (fin true m e) (m * up e) (down e) 3602879701896397 (negsuc 55) (lit< tt) (refl, refl) in
+    let q : lt (fin true m e) pwLow ≡ true =
+    unfold ofBits in neg-lt-pos (fin true m e) (m * up e) (down e) 3602879701896397 (negsuc 55) (lit< tt) (refl, refl) in
     absurd (true≢false (sym q ∙ w .0))
 room (fin false m e) w n =
     let a = m * up e in
     let c = down e in
     let C : 0 < c = down-pos e in
-    let low : 3602879701896397 * c ≤ a * 72057594037927936 = nltb→le (a * 72057594037927936) (3602879701896397 * c) (of-false (ltb (a * 72057594037927936) (3602879701896397 * c)) (sym (lt-by-values (fin false m e) pwLow a c 3602879701896397 72057594037927936 C (lit< tt) (refl, refl) (unfold ofBits in (refl, refl))) ∙ w .0)) in
-    let high : a * 4503599627370496 ≤ 4278419646001971 * c = nltb→le (4278419646001971 * c) (a * 4503599627370496) (of-false (ltb (4278419646001971 * c) (a * 4503599627370496)) (sym (lt-by-values pwHigh (fin false m e) 4278419646001971 4503599627370496 a c (lit< tt) C (unfold ofBits in (refl, refl)) (refl, refl)) ∙ w .1)) in
+    let low : 3602879701896397 * c ≤ a * 72057594037927936 =
+    nltb→le (a * 72057594037927936) (3602879701896397 * c)
+    (of-false (ltb (a * 72057594037927936) (3602879701896397 * c))
+    (sym (lt-by-values (fin false m e) pwLow a c 3602879701896397 72057594037927936 C (lit< tt) (refl, refl) (unfold ofBits in (refl, refl))) ∙ w .0)) in
+    let high : a * 4503599627370496 ≤ 4278419646001971 * c =
+    nltb→le (4278419646001971 * c) (a * 4503599627370496)
+    (of-false (ltb (4278419646001971 * c) (a * 4503599627370496))
+    (sym (lt-by-values pwHigh (fin false m e) 4278419646001971 4503599627370496 a c (lit< tt) C (unfold ofBits in (refl, refl)) (refl, refl)) ∙ w .1)) in
     let f = fit a c (lower a c low) (upper a c high) in
     subst (λ (z : Float). Rounded z 1 31 5)
-    (sym (sub-round one (fin false m e) false false 1 1 a c (lit< tt) C (unfold ofBits in (refl, refl)) (refl, refl) ∙ sum-pos-neg (1 * c) (a * 1) (1 * c) (f .0)))
+    (sym (sub-round one (fin false m e) false false 1 1 a c (lit< tt) C (unfold ofBits in (refl, refl)) (refl, refl)
+    ∙ sum-pos-neg (1 * c) (a * 1) (1 * c) (f .0)))
     (rounded (1 * c - a * 1) (1 * c) 1 31 5 (subst (λ (z : ℕ). 0 < z) (sym (one-mul c)) C) (lit< tt) (lit< tt) (lit≤ tt) (f .1) (f .2))
   where
     lower : (a c : ℕ) → 3602879701896397 * c ≤ a * 72057594037927936 → c ≤ a * 32
@@ -113,7 +135,9 @@ room (fin false m e) w n =
 
 -- so x is from 1/32 to 63/32
 across : (p y : Float) → Phase p → Rounded y 1 31 5 → Rounded (add binary64 p y) 1 63 5
-across p y f r = subst (λ (z : Float). Rounded z 1 63 5) (sym (add-round p y (f .sign) false (f .top) (f .bottom) (r .top) (r .bottom) (f .bottom-pos) (r .bottom-pos) (f .value) (r .value))) (go (f .sign) (f .zero-if))
+across p y f r = subst (λ (z : Float). Rounded z 1 63 5)
+    (sym (add-round p y (f .sign) false (f .top) (f .bottom) (r .top) (r .bottom) (f .bottom-pos) (r .bottom-pos) (f .value) (r .value)))
+    (go (f .sign) (f .zero-if))
   where
     a : ℕ
     a = f .top
@@ -134,7 +158,8 @@ across p y f r = subst (λ (z : Float). Rounded z 1 63 5) (sym (add-round p y (f
     most a c u v h k = omega arith
 
     all : Rounded (round binary64 false (a * v + u * c) (c * v)) 1 63 5
-    all = rounded (a * v + u * c) (c * v) 1 63 5 (mul-pos (f .bottom-pos) (r .bottom-pos)) (lit< tt) (lit< tt) (lit≤ tt) (least a c u v (mul-le-mul-right c (r .least))) (most a c u v (mul-le-mul-right v (le-of-lt (f .below))) (mul-le-mul-right c (r .most)))
+    all = rounded (a * v + u * c) (c * v) 1 63 5 (mul-pos (f .bottom-pos) (r .bottom-pos)) (lit< tt) (lit< tt) (lit≤ tt)
+        (least a c u v (mul-le-mul-right c (r .least))) (most a c u v (mul-le-mul-right v (le-of-lt (f .below))) (mul-le-mul-right c (r .most)))
 
     -- -0.0 adds nothing
     none : (a c u v : ℕ) → a ≡ 0 → (a * v ≤ u * c) × (u * c - a * v ≡ a * v + u * c)
@@ -142,20 +167,24 @@ across p y f r = subst (λ (z : Float). Rounded z 1 63 5) (sym (add-round p y (f
 
     go : (s : Bool) → (s ≡ true → a ≡ 0) → Rounded (sum binary64 s (a * v) false (u * c) (c * v)) 1 63 5
     go false z = unfold sum in all
-    go true z = let n = none a c u v (z refl) in subst (λ (q : Float). Rounded q 1 63 5) (sym (sum-neg-pos (a * v) (u * c) (c * v) (n .0) ∙ ap (λ (k : ℕ). round binary64 false k (c * v)) (n .1))) all
+    go true z =
+        let n = none a c u v (z refl) in
+        subst (λ (q : Float). Rounded q 1 63 5) (sym (sum-neg-pos (a * v) (u * c) (c * v) (n .0) ∙ ap (λ (k : ℕ). round binary64 false k (c * v)) (n .1))) all
 
 -- the test in place of the floor
 fold : (x : Float) → F64 x → Rounded x 1 63 5 → cond (lt x one) x (sub binary64 x one) ≡ sub binary64 x (floorOf x)
 fold x t r = go (lt x one) refl
   where
     above : lt zer x ≡ true
-    above = lt-by-values zer x 0 1 (r .top) (r .bottom) (lit< tt) (r .bottom-pos) (unfold ofBits in (refl, refl)) (r .value) ∙ is-true (ltb (0 * r .bottom) (r .top * 1)) (lt→ltb (0 * r .bottom) (r .top * 1) (some (r .top) (r .bottom) (r .bottom-pos) (r .least)))
+    above = lt-by-values zer x 0 1 (r .top) (r .bottom) (lit< tt) (r .bottom-pos) (unfold ofBits in (refl, refl)) (r .value)
+        ∙ is-true (ltb (0 * r .bottom) (r .top * 1)) (lt→ltb (0 * r .bottom) (r .top * 1) (some (r .top) (r .bottom) (r .bottom-pos) (r .least)))
       where
         some : (n d : ℕ) → 0 < d → 1 * d ≤ n * 32 → 0 * d < n * 1
         some n d p h = omega arith
 
     below : lt x two ≡ true
-    below = lt-by-values x two (r .top) (r .bottom) 2 1 (r .bottom-pos) (lit< tt) (r .value) (unfold ofBits in (refl, refl)) ∙ is-true (ltb (r .top * 1) (2 * r .bottom)) (lt→ltb (r .top * 1) (2 * r .bottom) (less (r .top) (r .bottom) (r .bottom-pos) (r .most)))
+    below = lt-by-values x two (r .top) (r .bottom) 2 1 (r .bottom-pos) (lit< tt) (r .value) (unfold ofBits in (refl, refl))
+        ∙ is-true (ltb (r .top * 1) (2 * r .bottom)) (lt→ltb (r .top * 1) (2 * r .bottom) (less (r .top) (r .bottom) (r .bottom-pos) (r .most)))
       where
         less : (n d : ℕ) → 0 < d → n * 32 ≤ 63 * d → n * 1 < 2 * d
         less n d p h = omega arith
@@ -164,7 +193,9 @@ fold x t r = go (lt x one) refl
     go true e = sym (ap (λ (z : Float). sub binary64 x z) (floor-zero x above e) ∙ pos-sub-zer x t above e)
     go false e = sym (ap (λ (z : Float). sub binary64 x z) (floor-one x t e below above))
 
-pub pulse-edge : (p pw : Float) → phaseOk (turns p) ≡ true → Width pw → cond (lt (add binary64 p (sub binary64 one pw)) one) (add binary64 p (sub binary64 one pw)) (sub binary64 (add binary64 p (sub binary64 one pw)) one) ≡ pwEdgeOf p pw
+pub pulse-edge : (p pw : Float) → phaseOk (turns p) ≡ true → Width pw
+    → cond (lt (add binary64 p (sub binary64 one pw)) one) (add binary64 p (sub binary64 one pw)) (sub binary64 (add binary64 p (sub binary64 one pw)) one)
+    ≡ pwEdgeOf p pw
 pulse-edge p nan h w = unfold pwEdgeOf in rw (none, add-nan-r p) (unfold lt sub add floorOf in refl)
   where
     none : sub binary64 one nan ≡ nan

@@ -34,7 +34,9 @@ abbrev Side : Float → ℕ → ℕ → Type 0
 Side x a c = ((c ≤ a * 2) × (x ≡ round binary64 false (a * 2 - 1 * c) (c * 2))) ⊎ ((a * 2 < c) × (x ≡ neg (round binary64 false (1 * c - a * 2) (c * 2))))
 
 side : (p : Float) (f : Phase p) → Side (sub binary64 p half) (f .top) (f .bottom)
-side p f = subst (λ (z : Float). Side z (f .top) (f .bottom)) (sym (sub-round p half (f .sign) false (f .top) (f .bottom) 1 2 (f .bottom-pos) (lit< tt) (f .value) (unfold ofBits in (refl, refl)))) (go (f .sign) (f .zero-if) (ltb (f .top * 2) (f .bottom)) refl)
+side p f = subst (λ (z : Float). Side z (f .top) (f .bottom))
+    (sym (sub-round p half (f .sign) false (f .top) (f .bottom) 1 2 (f .bottom-pos) (lit< tt) (f .value) (unfold ofBits in (refl, refl))))
+    (go (f .sign) (f .zero-if) (ltb (f .top * 2) (f .bottom)) refl)
   where
     a : ℕ
     a = f .top
@@ -43,12 +45,18 @@ side p f = subst (λ (z : Float). Side z (f .top) (f .bottom)) (sym (sub-round p
     c = f .bottom
 
     go : (s : Bool) → (s ≡ true → a ≡ 0) → (b : Bool) → ltb (a * 2) c ≡ b → Side (sum binary64 s (a * 2) true (1 * c) (c * 2)) a c
-    go false z true e = let h : a * 2 < c = ltb→lt (a * 2) c (of-true (ltb (a * 2) c) e) in inr (h, sum-neg (a * 2) (1 * c) (c * 2) (less a c h) ∙ round-neg (1 * c - a * 2) (c * 2))
+    go false z true e =
+        let h : a * 2 < c = ltb→lt (a * 2) c (of-true (ltb (a * 2) c) e) in
+        inr (h, sum-neg (a * 2) (1 * c) (c * 2) (less a c h) ∙ round-neg (1 * c - a * 2) (c * 2))
       where
         less : (a c : ℕ) → a * 2 < c → a * 2 < 1 * c
         less a c h = omega arith
-    go false z false e = let h : c ≤ a * 2 = nltb→le (a * 2) c (of-false (ltb (a * 2) c) e) in inl (h, sum-pos-neg (a * 2) (1 * c) (c * 2) (le-trans (le-of-eq (one-mul c)) h))
-    go true z b e = let n = none a c (z refl) (f .bottom-pos) in inr (n .0, both (a * 2) (1 * c) (c * 2) ∙ ap (λ (k : ℕ). round binary64 true k (c * 2)) (n .1) ∙ round-neg (1 * c - a * 2) (c * 2))
+    go false z false e =
+        let h : c ≤ a * 2 = nltb→le (a * 2) c (of-false (ltb (a * 2) c) e) in
+        inl (h, sum-pos-neg (a * 2) (1 * c) (c * 2) (le-trans (le-of-eq (one-mul c)) h))
+    go true z b e =
+        let n = none a c (z refl) (f .bottom-pos) in
+        inr (n .0, both (a * 2) (1 * c) (c * 2) ∙ ap (λ (k : ℕ). round binary64 true k (c * 2)) (n .1) ∙ round-neg (1 * c - a * 2) (c * 2))
       where
         none : (a c : ℕ) → a ≡ 0 → 0 < c → (a * 2 < c) × (a * 2 + 1 * c ≡ 1 * c - a * 2)
         none a c z p = (omega arith, omega arith)
@@ -66,7 +74,9 @@ magnitude : (w h : Float) → fabsOf w ≡ w → T (le w h) → T (lt h (sub bin
 unfolding fabsOf minus-sign
 magnitude nan h m l k = absurd (unfold le lt eq in l)
 magnitude (inf true) h m l k = absurd (false≢true (ap minus-sign m))
-magnitude (inf false) h m l k = let e : sub binary64 half (inf false) ≡ inf true = unfold sub add neg ofBits in refl in absurd (far h (subst (λ (z : Float). T (lt h z)) e k))
+magnitude (inf false) h m l k =
+    let e : sub binary64 half (inf false) ≡ inf true = unfold sub add neg ofBits in refl in
+    absurd (far h (subst (λ (z : Float). T (lt h z)) e k))
   where
     far : (h : Float) → T (lt h (inf true)) → ⊥
     far nan t = unfold lt in t
@@ -85,7 +95,8 @@ pub record Away (p w : Float) : Type 0 where
 
 -- of two rounded fractions the smaller has the smaller fraction
 strict : (a c b d : ℕ) → 0 < c → 0 < d → T (lt (round binary64 false a c) (round binary64 false b d)) → a * d < b * c
-strict a c b d C D h = lt-of-not-le (λ (k : b * c ≤ a * d). lt-not-ge (round binary64 false a c) (round binary64 false b d) h (round-mono binary64 b d a c D C k))
+strict a c b d C D h =
+    lt-of-not-le (λ (k : b * c ≤ a * d). lt-not-ge (round binary64 false a c) (round binary64 false b d) h (round-mono binary64 b d a c D C k))
 
 -- a fraction of at most 1/2, rounded
 halved : (n c : ℕ) → 0 < c → n * 2 ≤ 1 * c → Rounded (round binary64 false n c) 0 1 1
@@ -96,17 +107,21 @@ halved n c C h = rounded n c 0 1 1 C (lit< tt) (lit< tt) (lit≤ tt) (none c (n 
 
 -- dt is at most 1/2
 least-half : (w h : Float) (r : Fraction w) → Rounded h 0 1 1 → T (le w h) → r .0 * 2 ≤ r .1
-least-half w h r q l = le-of-mul-le-mul-right (fit (r .0) (r .1) (q .top) (q .bottom) (values-le w h (r .0) (r .1) (q .top) (q .bottom) (r .2) (q .bottom-pos) (r .3) (q .value) l) (mul-le-mul-right (r .1) (q .most))) (q .bottom-pos)
+least-half w h r q l = le-of-mul-le-mul-right
+    (fit (r .0) (r .1) (q .top) (q .bottom) (values-le w h (r .0) (r .1) (q .top) (q .bottom) (r .2) (q .bottom-pos) (r .3) (q .value) l)
+    (mul-le-mul-right (r .1) (q .most))) (q .bottom-pos)
   where
     fit : (b d u v : ℕ) → b * v ≤ u * d → u * 2 * d ≤ 1 * v * d → b * 2 * v ≤ d * v
     fit b d u v h k = omega arith
 
 -- 1/2 - dt and 1 - dt
 half-less : (w : Float) (r : Fraction w) → r .0 * 2 ≤ r .1 → sub binary64 half w ≡ round binary64 false (1 * r .1 - r .0 * 2) (2 * r .1)
-half-less w r h = sub-round half w false false 1 2 (r .0) (r .1) (lit< tt) (r .2) (unfold ofBits in (refl, refl)) (r .3) ∙ sum-pos-neg (1 * r .1) (r .0 * 2) (2 * r .1) (le-trans h (le-of-eq (sym (one-mul (r .1)))))
+half-less w r h = sub-round half w false false 1 2 (r .0) (r .1) (lit< tt) (r .2) (unfold ofBits in (refl, refl)) (r .3)
+    ∙ sum-pos-neg (1 * r .1) (r .0 * 2) (2 * r .1) (le-trans h (le-of-eq (sym (one-mul (r .1)))))
 
 one-less : (w : Float) (r : Fraction w) → r .0 * 2 ≤ r .1 → sub binary64 one w ≡ round binary64 false (1 * r .1 - r .0 * 1) (1 * r .1)
-one-less w r h = sub-round one w false false 1 1 (r .0) (r .1) (lit< tt) (r .2) (unfold ofBits in (refl, refl)) (r .3) ∙ sum-pos-neg (1 * r .1) (r .0 * 1) (1 * r .1) (fit (r .0) (r .1) h)
+one-less w r h = sub-round one w false false 1 1 (r .0) (r .1) (lit< tt) (r .2) (unfold ofBits in (refl, refl)) (r .3)
+    ∙ sum-pos-neg (1 * r .1) (r .0 * 1) (1 * r .1) (fit (r .0) (r .1) h)
   where
     fit : (b d : ℕ) → b * 2 ≤ d → b * 1 ≤ 1 * d
     fit b d h = omega arith
@@ -128,7 +143,8 @@ one-side a c b d h k = omega (arith, mul-le-mul-right c h, mul-le-mul-right d k)
 less : (a c b d : ℕ) → b * 2 ≤ d → c ≤ a * 2 → (a * 2 - 1 * c) * (2 * d) < (1 * d - b * 2) * (c * 2) → a * (1 * d) ≤ (1 * d - b * 1) * c
 less a c b d h k l =
     let s = split b d h in
-    subst (λ (z : ℕ). a * z ≤ (1 * d - b * 1) * c) (sym (one-mul d)) (subst (λ (z : ℕ). a * d ≤ z * c) (s .1) (under-one a c b d (a * 2 - 1 * c) (1 * d - b * 2) (left a c k) (s .0) l))
+    subst (λ (z : ℕ). a * z ≤ (1 * d - b * 1) * c) (sym (one-mul d))
+    (subst (λ (z : ℕ). a * d ≤ z * c) (s .1) (under-one a c b d (a * 2 - 1 * c) (1 * d - b * 2) (left a c k) (s .0) l))
 
 far : (a c b d : ℕ) → b * 2 ≤ d → (a * 2 - 1 * c) * (2 * d) < (1 * d - b * 2) * (c * 2) → (a * 2 - 1 * c) * (1 * d) ≤ (1 * d - b * 1) * (c * 2)
 far a c b d h l = let s = split b d h in subst (λ (z : ℕ). (a * 2 - 1 * c) * (1 * d) ≤ z * (c * 2)) (s .1) (fit (a * 2 - 1 * c) (1 * d - b * 2) b c d l)
@@ -137,12 +153,14 @@ far a c b d h l = let s = split b d h in subst (λ (z : ℕ). (a * 2 - 1 * c) * 
     fit n m b c d h = omega arith
 
 -- from 1/2 on: p - 1/2 is not below 0, and is itself the phase seen from the corner
-upper : (p w : Float) → F64 p → (f : Phase p) (r : Fraction w) → f .bottom ≤ f .top * 2 → sub binary64 p half ≡ round binary64 false (f .top * 2 - 1 * f .bottom) (f .bottom * 2)
+upper : (p w : Float) → F64 p → (f : Phase p) (r : Fraction w) → f .bottom ≤ f .top * 2
+    → sub binary64 p half ≡ round binary64 false (f .top * 2 - 1 * f .bottom) (f .bottom * 2)
     → T (le w (fabsOf (sub binary64 p half))) → T (lt (fabsOf (sub binary64 p half)) (sub binary64 half w)) → Away p w
 upper p w t f r h e l k =
     record {
       above = le-of-values w p b d a c D C (r .3) v (one-side a c b d small h);
-      below = subst (λ (z : Float). T (le z (sub binary64 one w))) (round-own false p a c C t v) (rw (one-less w r small) (round-mono binary64 a c (1 * d - b * 1) (1 * d) C D1 (less a c b d small h apart)));
+      below = subst (λ (z : Float). T (le z (sub binary64 one w))) (round-own false p a c C t v)
+          (rw (one-less w r small) (round-mono binary64 a c (1 * d - b * 1) (1 * d) C D1 (less a c b d small h apart)));
       half-above = rw corner l1;
       half-below = rw (corner, one-less w r small) (round-mono binary64 (a * 2 - 1 * c) (c * 2) (1 * d - b * 1) (1 * d) C2 D1 (far a c b d small apart));
     }
@@ -190,7 +208,8 @@ upper p w t f r h e l k =
     small = least-half w x r q l1
 
     apart : (a * 2 - 1 * c) * (2 * d) < (1 * d - b * 2) * (c * 2)
-    apart = strict (a * 2 - 1 * c) (c * 2) (1 * d - b * 2) (2 * d) C2 (mul-pos (lit< tt) D) (subst (λ (z : Float). T (lt x z)) (half-less w r small) (subst (λ (z : Float). T (lt z (sub binary64 half w))) same k))
+    apart = strict (a * 2 - 1 * c) (c * 2) (1 * d - b * 2) (2 * d) C2 (mul-pos (lit< tt) D)
+        (subst (λ (z : Float). T (lt x z)) (half-less w r small) (subst (λ (z : Float). T (lt z (sub binary64 half w))) same k))
 
     v : HasValue p false a c
     v = go (f .sign) (f .zero-if) (f .value)
@@ -203,7 +222,12 @@ upper p w t f r h e l k =
             no a c z p h = omega arith
 
     corner : cornerHalfOf p ≡ x
-    corner = unfold cornerHalfOf in rw (e, lt-false x zer (le-of-values zer x 0 1 (q .top) (q .bottom) (lit< tt) (q .bottom-pos) (unfold ofBits in (refl, refl)) (q .value) (none (q .top) (q .bottom)))) refl
+    corner = unfold cornerHalfOf in
+        rw (
+          e,
+          lt-false x zer
+              (le-of-values zer x 0 1 (q .top) (q .bottom) (lit< tt) (q .bottom-pos) (unfold ofBits in (refl, refl)) (q .value) (none (q .top) (q .bottom))),
+        ) refl
       where
         none : (n d : ℕ) → 0 * d ≤ n * 1
         none n d = omega arith
@@ -238,7 +262,8 @@ halves a c b d m q h = omega (arith, ap (λ (z : ℕ). z * c) q, mul-le-mul-righ
 low : (a c b d : ℕ) → b * 2 ≤ d → a * 2 < c → a * (1 * d) ≤ (1 * d - b * 1) * c
 low a c b d h k =
     let s = split b d h in
-    subst (λ (z : ℕ). a * z ≤ (1 * d - b * 1) * c) (sym (one-mul d)) (subst (λ (z : ℕ). a * d ≤ z * c) (s .1) (halves a c b d (1 * d - b * 2) (s .0) (le-of-lt k)))
+    subst (λ (z : ℕ). a * z ≤ (1 * d - b * 1) * c) (sym (one-mul d))
+    (subst (λ (z : ℕ). a * d ≤ z * c) (s .1) (halves a c b d (1 * d - b * 2) (s .0) (le-of-lt k)))
 
 wide : (b d m n : ℕ) → b * 2 ≤ d → m * 2 ≤ 1 * n → b * (n * 1) ≤ (1 * n - m * 1) * d
 wide b d m n h k =
@@ -259,14 +284,19 @@ unfolding cornerHalfOf
 corner-below p x y e z s = rw (e, z) s
 
 -- p - 1/2 is below 0 by H, and the phase seen from the corner is 1 - H
-lower : (p w : Float) → F64 p → F64 w → (f : Phase p) (r : Fraction w) → f .top * 2 < f .bottom → sub binary64 p half ≡ neg (round binary64 false (1 * f .bottom - f .top * 2) (f .bottom * 2))
+lower : (p w : Float) → F64 p → F64 w → (f : Phase p) (r : Fraction w) → f .top * 2 < f .bottom
+    → sub binary64 p half ≡ neg (round binary64 false (1 * f .bottom - f .top * 2) (f .bottom * 2))
     → T (le w (fabsOf (sub binary64 p half))) → T (lt (fabsOf (sub binary64 p half)) (sub binary64 half w)) → Away p w
 lower p w t u f r h e l k =
     record {
       above = le-of-values w p b d a c D C (r .3) v (over-tick a c b d (1 * c - a * 2) (1 * d - b * 2) (rest a c h) (split b d small .0) apart);
-      below = subst (λ (z : Float). T (le z (sub binary64 one w))) (round-own false p a c C t v) (rw (one-less w r small) (round-mono binary64 a c (1 * d - b * 1) (1 * d) C D1 (low a c b d small h)));
-      half-above = subst (λ (z : Float). T (le z (cornerHalfOf p))) (round-own false w b d D u (r .3)) (rw corner (round-mono binary64 b d (1 * n - m * 1) (n * 1) D N1 (wide b d m n small (q .most))));
-      half-below = rw (corner, one-less w r small) (round-mono binary64 (1 * n - m * 1) (n * 1) (1 * d - b * 1) (1 * d) N1 D1 (less-still b d m n small (q .most) (values-le w x b d m n D (q .bottom-pos) (r .3) (q .value) l1)));
+      below = subst (λ (z : Float). T (le z (sub binary64 one w))) (round-own false p a c C t v)
+          (rw (one-less w r small) (round-mono binary64 a c (1 * d - b * 1) (1 * d) C D1 (low a c b d small h)));
+      half-above = subst (λ (z : Float). T (le z (cornerHalfOf p))) (round-own false w b d D u (r .3))
+          (rw corner (round-mono binary64 b d (1 * n - m * 1) (n * 1) D N1 (wide b d m n small (q .most))));
+      half-below = rw (corner, one-less w r small)
+          (round-mono binary64 (1 * n - m * 1) (n * 1) (1 * d - b * 1) (1 * d) N1 D1
+          (less-still b d m n small (q .most) (values-le w x b d m n D (q .bottom-pos) (r .3) (q .value) l1)));
     }
   where
     a : ℕ
@@ -321,7 +351,8 @@ lower p w t u f r h e l k =
     small = least-half w x r q l1
 
     apart : (1 * c - a * 2) * (2 * d) < (1 * d - b * 2) * (c * 2)
-    apart = strict (1 * c - a * 2) (c * 2) (1 * d - b * 2) (2 * d) C2 (mul-pos (lit< tt) D) (subst (λ (z : Float). T (lt x z)) (half-less w r small) (subst (λ (z : Float). T (lt z (sub binary64 half w))) same k))
+    apart = strict (1 * c - a * 2) (c * 2) (1 * d - b * 2) (2 * d) C2 (mul-pos (lit< tt) D)
+        (subst (λ (z : Float). T (lt x z)) (half-less w r small) (subst (λ (z : Float). T (lt z (sub binary64 half w))) same k))
 
     v : HasValue p false a c
     v = go (f .sign) (f .zero-if) (f .value)
@@ -335,7 +366,9 @@ lower p w t u f r h e l k =
 
     -- the difference is no 0
     some : 0 < m
-    some = above-zero m n (q .bottom-pos) (values-le (round binary64 false 1 72057594037927936) x 1 72057594037927936 m n (lit< tt) (q .bottom-pos) (exact-at false 1 56 (lit< tt) (lit≤ tt)) (q .value) (round-mono binary64 1 72057594037927936 (1 * c - a * 2) (c * 2) (lit< tt) C2 (gap a c h (f .fine t))))
+    some = above-zero m n (q .bottom-pos)
+        (values-le (round binary64 false 1 72057594037927936) x 1 72057594037927936 m n (lit< tt) (q .bottom-pos) (exact-at false 1 56 (lit< tt) (lit≤ tt))
+        (q .value) (round-mono binary64 1 72057594037927936 (1 * c - a * 2) (c * 2) (lit< tt) C2 (gap a c h (f .fine t))))
       where
         above-zero : (m n : ℕ) → 0 < n → 1 * n ≤ m * 72057594037927936 → 0 < m
         above-zero m n p h = omega arith
@@ -345,16 +378,20 @@ lower p w t u f r h e l k =
         let y : HasValue (neg x) true m n = neg-value x false m n (q .value) in
         let z : lt (neg x) zer ≡ true = unfold ofBits in neg-lt-zero (neg x) m n some (q .bottom-pos) y in
         let o : HasValue one false 1 1 = unfold ofBits in (refl, refl) in
-        let s : add binary64 (neg x) one ≡ round binary64 false (1 * n - m * 1) (n * 1) = add-round (neg x) one true false m n 1 1 (q .bottom-pos) (lit< tt) y o ∙ sum-neg-pos (m * 1) (1 * n) (n * 1) (fit m n (q .most)) in
+        let s : add binary64 (neg x) one ≡ round binary64 false (1 * n - m * 1) (n * 1) =
+        add-round (neg x) one true false m n 1 1 (q .bottom-pos) (lit< tt) y o ∙ sum-neg-pos (m * 1) (1 * n) (n * 1) (fit m n (q .most)) in
         corner-below p (neg x) (round binary64 false (1 * n - m * 1) (n * 1)) e z s
       where
         fit : (m n : ℕ) → m * 2 ≤ 1 * n → m * 1 ≤ 1 * n
         fit m n h = omega arith
 
-pub away : (p w : Float) → F64 p → F64 w → phaseOk (turns p) ≡ true → fabsOf w ≡ w → T (le w (fabsOf (sub binary64 p half))) → T (lt (fabsOf (sub binary64 p half)) (sub binary64 half w)) → Away p w
+pub away : (p w : Float) → F64 p → F64 w → phaseOk (turns p) ≡ true → fabsOf w ≡ w → T (le w (fabsOf (sub binary64 p half)))
+    → T (lt (fabsOf (sub binary64 p half)) (sub binary64 half w)) → Away p w
 away p w t u h m l k =
     let f = phase-value p h in
     let r = magnitude w (fabsOf (sub binary64 p half)) m l k in
-    ⊎-elim (λ (s : (f .bottom ≤ f .top * 2) × (sub binary64 p half ≡ round binary64 false (f .top * 2 - 1 * f .bottom) (f .bottom * 2))). upper p w t f r (s .0) (s .1) l k)
-    (λ (s : (f .top * 2 < f .bottom) × (sub binary64 p half ≡ neg (round binary64 false (1 * f .bottom - f .top * 2) (f .bottom * 2)))). lower p w t u f r (s .0) (s .1) l k)
+    ⊎-elim (λ (s : (f .bottom ≤ f .top * 2) × (sub binary64 p half ≡ round binary64 false (f .top * 2 - 1 * f .bottom) (f .bottom * 2))). upper p w t f r
+    (s .0) (s .1) l k)
+    (λ (s : (f .top * 2 < f .bottom) × (sub binary64 p half ≡ neg (round binary64 false (1 * f .bottom - f .top * 2) (f .bottom * 2)))). lower p w t u f r
+    (s .0) (s .1) l k)
     (side p f)

@@ -1,8 +1,6 @@
 use mathlib.Core.Path.{_∙_}
 use borrow.Author.Needs.{needs}
-use borrow.Author.Tests.{eq-eqb, ne-eqb}
-use Rattle.answer.proofs.Flat.{sized, five-counts}
-use Rattle.answer.specs.Flat.{playedFrom, playedSized}
+use Rattle.boundary.proofs.Flat.{sized, all-counts, played-done, played-uncounted, played-refused}
 use Rattle.exports_vco.specs.Calls.{vcoBlockAt}
 use Rattle.exports_vco.proofs.gruttisol_vco_block.Statement.{statement}
 use Rattle.exports_vco.proofs.gruttisol_vco_block.Tie as tie
@@ -10,15 +8,16 @@ use Rattle.exports_vco.proofs.gruttisol_vco_block.Tie as tie
 sizes-requires : tie.Need-sizes-requires
 sizes-requires c κs = search needs
 
-from-counts-requires : tie.Need-from-counts-requires
-from-counts-requires c κs = search needs
+tally-of-requires : tie.Need-tally-of-requires
+tally-of-requires c κs = search needs
 
 enum-known-given : tie.Need-enum-known-given
 enum-known-given c = search needs
 
 state-requires : tie.Need-state-requires
 state-requires c κs =
-    let tested = c .before .before .before .before .before .before .before in
+    let found-tally = c .before .before .before .before .before in
+    let tested = found-tally .before .before in
     let measured = tested .before in
     sized _ _ _ _ _ (measured .sizes .ensures) (tested .if1 .taken)
 
@@ -27,12 +26,14 @@ block-requires c κs = search needs
 
 put-block-requires : tie.Need-put-block-requires
 put-block-requires c κs =
-    let taken = c .before .before .before .before .before .before .before .before .before .before .before .before .before .before in
+    let known-6 = c .before .before .before .before .before in
+    let loaded = known-6 .before .before .before .before .before in
+    let taken = loaded .before .before .before .before in
     let read = taken .before .before in
     let tested = read .before .before in
     let measured = tested .before in
     let z = sized _ _ _ _ _ (measured .sizes .ensures) (tested .if1 .taken) in
-    (z .0, z .1, five-counts _ _ _ (read .from-counts .ensures) (taken .given .given .1))
+    (z .0, z .1, all-counts _ _ _ (read .tally-of .ensures) (taken .given .given .1))
 
 enum-known-given-2 : tie.Need-enum-known-given-2
 enum-known-given-2 c = search needs
@@ -53,24 +54,16 @@ same-length-5 : tie.Need-same-length-5
 same-length-5 c = search needs
 
 returns : tie.Need-returns
-unfolding vcoBlockAt playedSized playedFrom
+unfolding vcoBlockAt
 returns c =
-    let stored = c .before .before .before .before .before .before in
-    let played = stored .before .before .before .before .before .before .before .before in
+    let known-9 = c .before .before in let stored = known-9 .before .before .before .before in
+    let known-7 = stored .before .before .before .before in let played = known-7 .before .before .before .before in
     let loaded = played .before .before .before in
     let taken = loaded .before .before .before .before in
     let read = taken .before .before in
     let tested = read .before .before in
-    let measured = tested .before in
-    stored .put-block .ensures _ _
-    ∙ simp (
-      ← measured .sizes .ensures,
-      eq-eqb _ _ (tested .if1 .taken),
-      ← read .from-counts .ensures,
-      taken .given .given .1,
-      played .block .ensures,
-      loaded .state .ensures,
-    )
+    played-done _ _ _ _ _ (tested .before .sizes .ensures) _ _ _ _ (tested .if1 .taken) _ _ _ (read .tally-of .ensures) (taken .given .given .1)
+    (stored .put-block .ensures _ _ ∙ simp (played .block .ensures, loaded .state .ensures))
 
 same-length-6 : tie.Need-same-length-6
 same-length-6 c = search needs
@@ -82,13 +75,12 @@ same-length-8 : tie.Need-same-length-8
 same-length-8 c = search needs
 
 returns-2 : tie.Need-returns-2
-unfolding vcoBlockAt playedSized playedFrom
+unfolding vcoBlockAt
 returns-2 c =
     let refused = c .before in
     let read = refused .before .before in
     let tested = read .before .before in
-    let measured = tested .before in
-    simp (← measured .sizes .ensures, eq-eqb _ _ (tested .if1 .taken), ← read .from-counts .ensures, refused .given2 .given .1)
+    played-uncounted _ _ _ _ _ (tested .before .sizes .ensures) _ _ _ _ (tested .if1 .taken) _ _ (read .tally-of .ensures) (refused .given2 .given .1)
 
 same-length-9 : tie.Need-same-length-9
 same-length-9 c = search needs
@@ -97,15 +89,15 @@ same-length-10 : tie.Need-same-length-10
 same-length-10 c = search needs
 
 returns-3 : tie.Need-returns-3
-unfolding vcoBlockAt playedSized playedFrom
-returns-3 c = simp (← c .before .sizes .ensures, ne-eqb _ _ (c .if1 .left))
+unfolding vcoBlockAt
+returns-3 c = played-refused _ _ _ _ _ (c .before .sizes .ensures) _ _ _ _ (c .if1 .left)
 
 pub gruttisol-vco-block-spec : {M : Type 1} → statement M
 gruttisol-vco-block-spec =
     tie.close
     (tie.spec
     sizes-requires
-    from-counts-requires
+    tally-of-requires
     enum-known-given
     state-requires
     block-requires

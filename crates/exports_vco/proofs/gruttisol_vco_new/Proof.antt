@@ -1,8 +1,6 @@
 use mathlib.Core.Path.{_∙_}
 use borrow.Author.Needs.{needs}
-use borrow.Author.Tests.{ne-eqb, eq-eqb}
-use Rattle.answer.proofs.Flat.{sized}
-use Rattle.answer.specs.Flat.{keptSized}
+use Rattle.boundary.proofs.Flat.{sized, kept-done, kept-refused}
 use Rattle.exports_vco.specs.Calls.{vcoNewAt}
 use Rattle.exports_vco.proofs.gruttisol_vco_new.Statement.{statement}
 use Rattle.exports_vco.proofs.gruttisol_vco_new.Tie as tie
@@ -23,8 +21,13 @@ same-length-2 : tie.Need-same-length-2
 same-length-2 c = search needs
 
 returns : tie.Need-returns
-unfolding vcoNewAt keptSized
-returns c = c .before .before .before .before .put-made .ensures ∙ simp (← c .before .before .before .before .before .before .before .before .before .sizes .ensures, eq-eqb _ _ (c .before .before .before .before .before .before .before .before .if1 .taken), c .before .before .before .before .before .before .before .new .ensures)
+unfolding vcoNewAt
+returns c =
+    let stored = c .before .before .before .before in
+    let made = stored .before .before .before in
+    let tested = made .before in
+    kept-done _ _ _ _ _ (tested .before .sizes .ensures) (tested .if1 .taken) _ _
+    (stored .put-made .ensures ∙ simp (made .new .ensures))
 
 same-length-3 : tie.Need-same-length-3
 same-length-3 c = search needs
@@ -33,8 +36,8 @@ same-length-4 : tie.Need-same-length-4
 same-length-4 c = search needs
 
 returns-2 : tie.Need-returns-2
-unfolding vcoNewAt keptSized
-returns-2 c = simp (← c .before .sizes .ensures, ne-eqb _ _ (c .if1 .left))
+unfolding vcoNewAt
+returns-2 c = kept-refused _ _ _ _ _ (c .before .sizes .ensures) (c .if1 .left) _
 
 pub gruttisol-vco-new-spec : {M : Type 1} → statement M
 gruttisol-vco-new-spec =

@@ -1,8 +1,6 @@
 use mathlib.Core.Path.{_∙_}
 use borrow.Author.Needs.{needs}
-use borrow.Author.Tests.{ne-eqb, eq-eqb}
-use Rattle.answer.proofs.Flat.{sized}
-use Rattle.answer.specs.Flat.{keptSized}
+use Rattle.boundary.proofs.Flat.{sized, kept-done, kept-refused}
 use Rattle.exports_vco.specs.Calls.{vcoSetSampleRateAt}
 use Rattle.exports_vco.proofs.gruttisol_vco_set_sample_rate.Statement.{statement}
 use Rattle.exports_vco.proofs.gruttisol_vco_set_sample_rate.Tie as tie
@@ -17,7 +15,10 @@ set-sample-rate-requires : tie.Need-set-sample-rate-requires
 set-sample-rate-requires c κs = search needs
 
 put-made-requires : tie.Need-put-made-requires
-put-made-requires c κs = sized _ _ _ _ _ (c .before .before .before .before .before .before .before .sizes .ensures) (c .before .before .before .before .before .before .if1 .taken)
+put-made-requires c κs =
+    let loaded = c .before .before .before in
+    let tested = loaded .before .before .before in
+    sized _ _ _ _ _ (tested .before .sizes .ensures) (tested .if1 .taken)
 
 same-length : tie.Need-same-length
 same-length c = search needs
@@ -26,8 +27,14 @@ same-length-2 : tie.Need-same-length-2
 same-length-2 c = search needs
 
 returns : tie.Need-returns
-unfolding vcoSetSampleRateAt keptSized
-returns c = c .before .before .before .before .put-made .ensures ∙ simp (← c .before .before .before .before .before .before .before .before .before .before .before .before .sizes .ensures, eq-eqb _ _ (c .before .before .before .before .before .before .before .before .before .before .before .if1 .taken), c .before .before .before .before .before .before .before .set-sample-rate .ensures, c .before .before .before .before .before .before .before .before .state .ensures)
+unfolding vcoSetSampleRateAt
+returns c =
+    let stored = c .before .before .before .before in
+    let made = stored .before .before .before in
+    let loaded = made .before in
+    let tested = loaded .before .before .before in
+    kept-done _ _ _ _ _ (tested .before .sizes .ensures) (tested .if1 .taken) _ _
+    (stored .put-made .ensures ∙ simp (made .set-sample-rate .ensures, loaded .state .ensures))
 
 same-length-3 : tie.Need-same-length-3
 same-length-3 c = search needs
@@ -36,8 +43,8 @@ same-length-4 : tie.Need-same-length-4
 same-length-4 c = search needs
 
 returns-2 : tie.Need-returns-2
-unfolding vcoSetSampleRateAt keptSized
-returns-2 c = simp (← c .before .sizes .ensures, ne-eqb _ _ (c .if1 .left))
+unfolding vcoSetSampleRateAt
+returns-2 c = kept-refused _ _ _ _ _ (c .before .sizes .ensures) (c .if1 .left) _
 
 pub gruttisol-vco-set-sample-rate-spec : {M : Type 1} → statement M
 gruttisol-vco-set-sample-rate-spec =

@@ -1,5 +1,5 @@
 use borrow.Author.Tests.{eq-eqb, ne-eqb}
-use Rattle.answer.specs.Flat.{countsPut, playedOf}
+use Rattle.boundary.specs.Flat.{countsPut, playedOf}
 use borrow.Author.Needs.{needs}
 use Rattle.exports_vco.proofs.put_block.Statement.{statement}
 use Rattle.exports_vco.proofs.put_block.Tie as tie
@@ -21,7 +21,19 @@ same-length-3 c = search needs
 
 returns : tie.Need-returns
 unfolding playedOf countsPut
-returns c = λ o m. simp (c .before .before .put-counts .ensures .1, c .before .before .before .before .before .before .before .before .store .ensures .0, c .before .before .before .before .before .before .before .before .store .ensures .1, eq-eqb _ _ (c .before .before .before .before .before .before .before .before .before .before .before .before .before .if1 .taken), eq-eqb _ _ (c .before .before .before .before .before .before .before .before .before .before .before .before .before .before .before .before .before .pre .2))
+returns c =
+    let counted = c .before .before in
+    let known-5 = counted .before .before in
+    let stored = known-5 .before .before .before .before in
+    let tested = stored .before .before .before .before .before in
+    let began = tested .before .before .before .before in
+    λ o m. simp (
+      counted .put-counts .ensures .1,
+      stored .store .ensures .0,
+      stored .store .ensures .1,
+      eq-eqb _ _ (tested .if1 .taken),
+      eq-eqb _ _ (began .pre .2),
+    )
 
 returns-2 : tie.Need-returns-2
 unfolding playedOf

@@ -1,16 +1,16 @@
+use Rattle.boundary.specs.Flat.{keptBy}
 use borrow.Author.Needs.{needs}
-use Rattle.exports_vco.specs.Calls.{keptOf}
 use Rattle.exports_vco.proofs.put_made.Statement.{statement}
 use Rattle.exports_vco.proofs.put_made.Tie as tie
 
-enum-known-m : tie.Need-enum-known-m
-enum-known-m c = search needs
+enum-told : tie.Need-enum-told
+enum-told c = search needs
 
 store-requires : tie.Need-store-requires
 store-requires c κs = search needs
 
-enum-known-m-2 : tie.Need-enum-known-m-2
-enum-known-m-2 c = search needs
+enum-known-outcome : tie.Need-enum-known-outcome
+enum-known-outcome c = search needs
 
 same-length : tie.Need-same-length
 same-length c = search needs
@@ -19,20 +19,23 @@ same-length-2 : tie.Need-same-length-2
 same-length-2 c = search needs
 
 returns : tie.Need-returns
-unfolding keptOf
-returns c = simp (c .before .before .before .before .before .before .before .before .m .given .1, c .before .before .before .before .store .ensures .0, c .before .before .before .before .store .ensures .1)
+unfolding keptBy
+returns c =
+    let stored = c .before .before .before .before in
+    let done = stored .before .before .before in
+    simp (done .enum-told .given .1, stored .store .ensures .0, stored .store .ensures .1)
 
 returns-2 : tie.Need-returns-2
-unfolding keptOf
-returns-2 c = simp (c .before .m2 .given .1)
+unfolding keptBy
+returns-2 c = simp (c .before .outcome .given .1)
 
 pub put-made-spec : {M : Type 1} → statement M
 put-made-spec =
     tie.close
     (tie.spec
-    enum-known-m
+    enum-told
     store-requires
-    enum-known-m-2
+    enum-known-outcome
     same-length
     same-length-2
     returns

@@ -2,7 +2,7 @@ use native.Mathlib.Omega.{arith}
 use lib.ListN.{length-set}
 use borrow.Author.Needs.{needs}
 use Rattle.answer.specs.Answer.{voltsOf}
-use Rattle.answer.specs.Flat.{heardOf}
+use Rattle.boundary.specs.Flat.{heardOf}
 use Rattle.exports_vco.specs.State.{samplesOf}
 use Rattle.laws.proofs.Slices.{stored}
 use Rattle.exports_vco.proofs.put_ticked.Statement.{statement}
@@ -43,11 +43,27 @@ same-length-3 c = search needs
 
 returns : tie.Need-returns
 unfolding heardOf samplesOf
-returns c = simp (c .before .before .before .before .before .before .before .before .before .before .before .host-number .ensures, ← c .before .before .before .before .before .before .before .before .before .before .is-accepted .ensures, c .before .before .before .before .before .before .before .before .before .if1 .taken, c .before .before .before .before .before .before .before .samples .ensures, c .before .before .before .before .store .ensures .0, c .before .before .before .before .store .ensures .1, stored (c .before .before .before .before .before .before .before .before .before .before .before .before .before .before .before .args .samples .now) (samplesOf (voltsOf (c .before .before .before .before .before .before .before .before .before .before .before .before .before .before .before .args .t .answer))) (c .before .before .before .before .before .before .before .before .before .before .before .before .before .before .before .pre .2))
+returns c =
+    let kept = c .before .before .before .before in
+    let read = kept .before .before .before in
+    let tested = read .before .before in
+    let told = tested .before .before in
+    let start = told .before .before .before .before in
+    simp (
+      told .host-number .ensures,
+      ← tested .before .is-accepted .ensures,
+      tested .if1 .taken,
+      read .samples .ensures,
+      kept .store .ensures .0,
+      kept .store .ensures .1,
+      stored (start .args .samples .now) (samplesOf (voltsOf (start .args .t .answer))) (start .pre .2),
+    )
 
 returns-2 : tie.Need-returns-2
 unfolding heardOf
 returns-2 c = simp (c .before .before .host-number .ensures, ← c .before .is-accepted .ensures, c .if1 .left)
 
 pub put-ticked-spec : {M : Type 1} → statement M
-put-ticked-spec = tie.close (tie.spec host-number-requires is-accepted-requires samples-requires store-requires slice-write-samples slice-write-samples-2 slice-write-samples-3 slice-write-samples-4 same-length same-length-2 same-length-3 returns returns-2)
+put-ticked-spec = tie.close
+    (tie.spec host-number-requires is-accepted-requires samples-requires store-requires slice-write-samples slice-write-samples-2 slice-write-samples-3
+    slice-write-samples-4 same-length same-length-2 same-length-3 returns returns-2)

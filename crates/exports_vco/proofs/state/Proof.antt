@@ -1,6 +1,5 @@
-use mathlib.Core.Path.{refl}
-use Rattle.exports_vco.specs.State.{stateOf}
 use borrow.Author.Needs.{needs}
+use Rattle.exports_vco.specs.State.{stateOf}
 use Rattle.exports_vco.proofs.state.Statement.{statement}
 use Rattle.exports_vco.proofs.state.Tie as tie
 
@@ -10,27 +9,29 @@ shared-slice-read-t8 c = search needs
 shared-slice-read-t8-2 : tie.Need-shared-slice-read-t8-2
 shared-slice-read-t8-2 c = search needs
 
+edge-at-requires : tie.Need-edge-at-requires
+edge-at-requires c κs = search needs
+
+shared-slice-read-t11 : tie.Need-shared-slice-read-t11
+shared-slice-read-t11 c = search needs
+
+shared-slice-read-t13 : tie.Need-shared-slice-read-t13
+shared-slice-read-t13 c = search needs
+
+shared-slice-read-t15 : tie.Need-shared-slice-read-t15
+shared-slice-read-t15 c = search needs
+
 shared-slice-read-t8-3 : tie.Need-shared-slice-read-t8-3
 shared-slice-read-t8-3 c = search needs
 
-shared-slice-read-t12 : tie.Need-shared-slice-read-t12
-shared-slice-read-t12 c = search needs
-
-shared-slice-read-t14 : tie.Need-shared-slice-read-t14
-shared-slice-read-t14 c = search needs
-
-shared-slice-read-t16 : tie.Need-shared-slice-read-t16
-shared-slice-read-t16 c = search needs
-
-shared-slice-read-t8-4 : tie.Need-shared-slice-read-t8-4
-shared-slice-read-t8-4 c = search needs
-
-shared-slice-read-t20 : tie.Need-shared-slice-read-t20
-shared-slice-read-t20 c = search needs
+shared-slice-read-t19 : tie.Need-shared-slice-read-t19
+shared-slice-read-t19 c = search needs
 
 returns : tie.Need-returns
 unfolding stateOf
-returns c = refl
+returns c =
+    let edged = c .before .before .before .before .before in
+    simp (edged .edge-at .ensures)
 
 pub state-spec : {M : Type 1} → statement M
 state-spec =
@@ -38,10 +39,10 @@ state-spec =
     (tie.spec
     shared-slice-read-t8
     shared-slice-read-t8-2
+    edge-at-requires
+    shared-slice-read-t11
+    shared-slice-read-t13
+    shared-slice-read-t15
     shared-slice-read-t8-3
-    shared-slice-read-t12
-    shared-slice-read-t14
-    shared-slice-read-t16
-    shared-slice-read-t8-4
-    shared-slice-read-t20
+    shared-slice-read-t19
     returns)

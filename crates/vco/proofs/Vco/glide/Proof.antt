@@ -44,7 +44,7 @@ put-heard-requires c κs =
 
 loop-again : tie.Need-loop-again Inv-loop μ-loop
 loop-again c =
-    let put = c .before .before .before .before .before .before .before in
+    let known = c .before .before in let put = known .before .before .before .before .before in
     let restarted = put .before .before .before in
     let turned = restarted .before .before in
     let looped = turned .before in

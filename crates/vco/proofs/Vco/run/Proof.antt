@@ -12,7 +12,8 @@ use Rattle.vco.proofs.Vco.run.Tie as tie
 glide-requires : tie.Need-glide-requires
 glide-requires c κs =
     let widened = c .before .before in
-    let s = widened .before .before .before .before .before .before .before .before .before .before .before .before .before .before in
+    let tuned = widened .before .before .before .before .before in let ready = tuned .before .before .before .before in
+    let s = ready .before .before .before .before .before in
     (unrefused (s .args .self) (s .pre .0) .1, simp (widened .width .ensures) (clamp-width _), s .pre .2)
 
 returns : tie.Need-returns
@@ -21,7 +22,7 @@ returns c =
     let widened = glided .before .before .before in
     let crossed = widened .before .before in
     let tuned = crossed .before .before .before in
-    let start = tuned .before .before .before .before .before .before .before .before .before in
+    let ready = tuned .before .before .before .before in let start = ready .before .before .before .before .before in
     let a = start .args in
     let g = glided .glide .ensures in
     let w = holds (a .self) (a .c) (a .wanted) (start .pre .0) in

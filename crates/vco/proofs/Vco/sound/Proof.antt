@@ -7,7 +7,8 @@ use Rattle.vco.proofs.Vco.sound.Tie as tie
 
 heard-requires : tie.Need-heard-requires
 heard-requires c κs =
-    let s = c .before .before .before .before .before .before .before .before .before .before .before .before .before .before in
+    let edged = c .before .before .before .before in let ready = edged .before .before .before .before .before in
+    let s = ready .before .before .before .before .before in
     (simp (c .before .restart .ensures) (restart-in (s .args .self .phase) _ (s .pre)), simp (c .width .ensures) (clamp-width _))
 
 returns : tie.Need-returns
