@@ -23,7 +23,10 @@ same-length-2 c = search needs
 
 returns : tie.Need-returns
 unfolding keptBy
-returns c = simp (c .before .before .before .before .before .before .before .before .before .enum-told .given .1, c .before .before .before .before .before .before .store-floats .ensures, c .before .before .store-wholes .ensures)
+returns c =
+    let stored-wholes = c .before .before in
+    let stored-floats = stored-wholes .before .before .before .before in
+    simp (stored-floats .before .before .before .enum-told .given .1, stored-floats .store-floats .ensures, stored-wholes .store-wholes .ensures)
 
 returns-2 : tie.Need-returns-2
 unfolding keptBy
