@@ -26,14 +26,14 @@ returns : tie.Need-returns
 unfolding playedOf countsPut
 returns c =
     let put = c .before .before in
-    let stored-wholes = put .before .before .before .before in
-    let stored-floats = stored-wholes .before .before .before .before in
-    let tested = stored-floats .before .before .before .before in
+    let stored = put .before .before .before .before in
+    let floated = stored .before .before .before .before in
+    let tested = floated .before .before .before .before in
     let began = tested .before .before .before .before in
     λ o m. simp (
       put .put-counts .ensures .1,
-      stored-wholes .store-wholes .ensures,
-      stored-floats .store-floats .ensures,
+      stored .store-wholes .ensures,
+      floated .store-floats .ensures,
       eq-eqb _ _ (tested .if1 .taken),
       eq-eqb _ _ (began .pre .2),
     )

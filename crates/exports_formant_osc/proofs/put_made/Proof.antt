@@ -24,9 +24,9 @@ same-length-2 c = search needs
 returns : tie.Need-returns
 unfolding keptBy
 returns c =
-    let stored-wholes = c .before .before in
-    let stored-floats = stored-wholes .before .before .before .before in
-    simp (stored-floats .before .before .before .enum-told .given .1, stored-floats .store-floats .ensures, stored-wholes .store-wholes .ensures)
+    let stored = c .before .before in
+    let floated = stored .before .before .before .before in
+    simp (floated .before .before .before .enum-told .given .1, floated .store-floats .ensures, stored .store-wholes .ensures)
 
 returns-2 : tie.Need-returns-2
 unfolding keptBy

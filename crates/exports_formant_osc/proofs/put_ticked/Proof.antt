@@ -36,18 +36,18 @@ same-length-3 c = search needs
 returns : tie.Need-returns
 unfolding heardOf samplesOf
 returns c =
-    let stored-wholes = c .before .before in
-    let stored-floats = stored-wholes .before .before .before .before in
-    let sampled = stored-floats .before .before in
-    let checked-accepted = sampled .before .before .before in
-    let entered = checked-accepted .before .before .before .before .before in
+    let kept = c .before .before in
+    let floated = kept .before .before .before .before in
+    let sampled = floated .before .before in
+    let checked = sampled .before .before .before in
+    let entered = checked .before .before .before .before .before in
     simp (
-      checked-accepted .before .host-number .ensures,
-      ← checked-accepted .is-accepted .ensures,
+      checked .before .host-number .ensures,
+      ← checked .is-accepted .ensures,
       sampled .before .before .if1 .taken,
       sampled .samples .ensures,
-      stored-floats .store-floats .ensures,
-      stored-wholes .store-wholes .ensures,
+      floated .store-floats .ensures,
+      kept .store-wholes .ensures,
       stored (entered .args .samples .now) (samplesOf (voltsOf (entered .args .t .answer))) (entered .pre .2),
     )
 

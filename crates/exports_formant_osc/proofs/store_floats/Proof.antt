@@ -21,49 +21,49 @@ slice-aggregate-store-cells-2 c = search needs
 
 store-cells-requires-2 : tie.Need-store-cells-requires-2
 store-cells-requires-2 c κs =
-    let stored-cells = c .before .before .before .before in
-    let at-freq = stored-cells .before .before .before .before .before in let ready = at-freq .before .before .before .before .before in
+    let stored = c .before .before .before .before in
+    let lent = stored .before .before .before .before .before in let ready = lent .before .before .before .before .before in
     let a : length (ready .before .before .args .s .«coef_memo» .val) ≡ 15 = search needs in
-    room _ _ _ _ (stored-cells .store-cells .kept .1 .1 .0 ∙ ready .before .before .pre) a (lit≤ tt)
+    room _ _ _ _ (stored .store-cells .kept .1 .1 .0 ∙ ready .before .before .pre) a (lit≤ tt)
 
 slice-write-floats : tie.Need-slice-write-floats
 slice-write-floats c = search needs
 
 slice-write-floats-2 : tie.Need-slice-write-floats-2
 slice-write-floats-2 c =
-    let stored-cells-2 = c .before .before in
-    let stored-cells = stored-cells-2 .before .before .before .before .before in
-    simp length-set (omega (arith, stored-cells-2 .store-cells2 .kept .1 .1 .0, stored-cells .store-cells .kept .1 .1 .0))
+    let filled = c .before .before in
+    let stored = filled .before .before .before .before .before in
+    simp length-set (omega (arith, filled .store-cells2 .kept .1 .1 .0, stored .store-cells .kept .1 .1 .0))
 
 slice-write-floats-3 : tie.Need-slice-write-floats-3
 slice-write-floats-3 c =
-    let stored-cells-2 = c .before .before in
-    let stored-cells = stored-cells-2 .before .before .before .before .before in
-    simp length-set (omega (arith, stored-cells-2 .store-cells2 .kept .1 .1 .0, stored-cells .store-cells .kept .1 .1 .0))
+    let filled = c .before .before in
+    let stored = filled .before .before .before .before .before in
+    simp length-set (omega (arith, filled .store-cells2 .kept .1 .1 .0, stored .store-cells .kept .1 .1 .0))
 
 slice-write-floats-4 : tie.Need-slice-write-floats-4
 slice-write-floats-4 c =
-    let stored-cells-2 = c .before .before in
-    let stored-cells = stored-cells-2 .before .before .before .before .before in
-    simp length-set (omega (arith, stored-cells-2 .store-cells2 .kept .1 .1 .0, stored-cells .store-cells .kept .1 .1 .0))
+    let filled = c .before .before in
+    let stored = filled .before .before .before .before .before in
+    simp length-set (omega (arith, filled .store-cells2 .kept .1 .1 .0, stored .store-cells .kept .1 .1 .0))
 
 same-length : tie.Need-same-length
 same-length c =
-    let stored-cells-2 = c .before .before in
-    let stored-cells = stored-cells-2 .before .before .before .before .before in
-    simp length-set (stored-cells-2 .store-cells2 .kept .1 .1 .0 ∙ stored-cells .store-cells .kept .1 .1 .0)
+    let filled = c .before .before in
+    let stored = filled .before .before .before .before .before in
+    simp length-set (filled .store-cells2 .kept .1 .1 .0 ∙ stored .store-cells .kept .1 .1 .0)
 
 returns : tie.Need-returns
 returns c =
-    let stored-cells-2 = c .before .before in
-    let stored-cells = stored-cells-2 .before .before .before .before .before in
-    let ready-2 = stored-cells .before .before in let ready = ready-2 .before .before .before .before .before in
+    let filled = c .before .before in
+    let stored = filled .before .before .before .before .before in
+    let lent = stored .before .before in let ready = lent .before .before .before .before .before in
     let entered = ready .before .before .before .before .before in
     let a : length (entered .args .s .«resonator_state») ≡ 10 = search needs in
     let g = entered .good .0 .1 .1 .1 .1 .1 .1 .1 .0 in
     let b : length (entered .args .s .«coef_memo» .val) ≡ 15 = search (needs, g) in
-    all-stored (entered .args .s) (entered .args .floats .now) _ _ (entered .pre) a b (stored-cells .store-cells .ensures)
-    (stored-cells-2 .store-cells2 .ensures)
+    all-stored (entered .args .s) (entered .args .floats .now) _ _ (entered .pre) a b (stored .store-cells .ensures)
+    (filled .store-cells2 .ensures)
 
 pub store-floats-spec : {M : Type 1} → statement M
 store-floats-spec = tie.close
