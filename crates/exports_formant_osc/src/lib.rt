@@ -25,7 +25,8 @@ ghost use lib.Seq.{sets};
 ghost use Rattle.answer.specs.Block.{block};
 ghost use Rattle.boundary.specs.Flat.{nCounts, kept, heard, heardOf, played, playedOf};
 ghost use Rattle.exports_formant_osc.specs.State.{nFloats, nWholes, nSamples, part, stateOf, floatsOf, wholesOf, samplesOf};
-ghost use Rattle.exports_formant_osc.specs.Calls.{keptOf, formantOscNewAt, formantOscTickAt, formantOscBlockAt, formantOscResetAt, formantOscSetSampleRateAt};
+ghost use Rattle.exports_formant_osc.specs.Calls.{keptOf, formantOscNewAt, formantOscTickAt, formantOscBlockAt};
+ghost use Rattle.exports_formant_osc.specs.Calls.{formantOscResetAt, formantOscSetSampleRateAt};
 
 // How many floats, wholes and samples there are.
 const FLOATS: usize = 29;
@@ -166,7 +167,8 @@ fn put_ticked(
     samples: &mut [f64],
 ) -> u32
     requires { ⌜ (length (now floats) ≡ nFloats) × (length (now wholes) ≡ nWholes) × (length (now samples) ≡ nSamples) ⌝ }
-    ensures { λ r. ⌜ heard r (now (floats .exit)) (now (wholes .exit)) (now (samples .exit)) ≡ heardOf floatsOf wholesOf samplesOf (t .answer) (t .«formant_osc») (now (floats .entry)) (now (wholes .entry)) (now (samples .entry)) ⌝ }
+    ensures { λ r. ⌜ heard r (now (floats .exit)) (now (wholes .exit)) (now (samples .exit))
+        ≡ heardOf floatsOf wholesOf samplesOf (t .answer) (t .«formant_osc») (now (floats .entry)) (now (wholes .entry)) (now (samples .entry)) ⌝ }
 {
     let answer = t.answer;
     let code = answer::host_number(answer);
@@ -190,7 +192,8 @@ pub extern "C" fn gruttisol_formant_osc_tick(
     wholes: &mut [u64],
     samples: &mut [f64],
 ) -> u32
-    ensures { λ r. ⌜ heard r (now (floats .exit)) (now (wholes .exit)) (now (samples .exit)) ≡ formantOscTickAt «v_oct» vowel «formant_shift» vibrato (now (floats .entry)) (now (wholes .entry)) (now (samples .entry)) ⌝ }
+    ensures { λ r. ⌜ heard r (now (floats .exit)) (now (wholes .exit)) (now (samples .exit))
+        ≡ formantOscTickAt «v_oct» vowel «formant_shift» vibrato (now (floats .entry)) (now (wholes .entry)) (now (samples .entry)) ⌝ }
 {
     let n = boundary::tick_sizes(FLOATS, WHOLES, SAMPLES, floats, wholes, samples);
     if n == 0 {
@@ -209,7 +212,10 @@ pub extern "C" fn gruttisol_formant_osc_tick(
 // The state and the counts after a block; a refused one leaves them.
 fn put_block(b: FormantOscBlock, floats: &mut [f64], wholes: &mut [u64], counts: &mut [u32]) -> u32
     requires { ⌜ (length (now floats) ≡ nFloats) × (length (now wholes) ≡ nWholes) × (length (now counts) ≡ nCounts) ⌝ }
-    ensures { λ r. ⌜ ((o : List Float) → (m : List ℕ) → played r (now (floats .exit)) (now (wholes .exit)) (now (counts .exit)) o m ≡ playedOf floatsOf wholesOf (block (b .refused) (b .«formant_osc») (b .tally) o m) (now (floats .entry)) (now (wholes .entry)) (now (counts .entry))) ⌝ }
+    ensures { λ r. ⌜ ((o : List Float) → (m : List ℕ)
+        → played r (now (floats .exit)) (now (wholes .exit)) (now (counts .exit)) o m
+        ≡ playedOf floatsOf wholesOf (block (b .refused) (b .«formant_osc») (b .tally) o m) (now (floats .entry)) (now (wholes .entry))
+        (now (counts .entry))) ⌝ }
 {
     let refused = b.refused;
     if refused == 0 {
@@ -236,7 +242,9 @@ pub extern "C" fn gruttisol_formant_osc_block(
     samples: &mut [f64],
     marks: &mut [u32],
 ) -> u32
-    ensures { λ r. ⌜ played r (now (floats .exit)) (now (wholes .exit)) (now (counts .exit)) (now (samples .exit)) (now (marks .exit)) ≡ formantOscBlockAt «v_oct» vowel «formant_shift» vibrato (now (floats .entry)) (now (wholes .entry)) (now (counts .entry)) (now (samples .entry)) (now (marks .entry)) ⌝ }
+    ensures { λ r. ⌜ played r (now (floats .exit)) (now (wholes .exit)) (now (counts .exit)) (now (samples .exit)) (now (marks .exit))
+        ≡ formantOscBlockAt «v_oct» vowel «formant_shift» vibrato (now (floats .entry)) (now (wholes .entry)) (now (counts .entry)) (now (samples .entry))
+        (now (marks .entry)) ⌝ }
 {
     let n = boundary::sizes(FLOATS, WHOLES, floats, wholes);
     if n == 0 {

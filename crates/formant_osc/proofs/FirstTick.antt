@@ -1,6 +1,6 @@
 -- The first tick of a new one with every control 0: its pulse is 0, its resonators are silent, and all that it works out is finite.
 use mathlib.Core.Bool.{Bool, true, false}
-use mathlib.Core.List.{List, [], _∷_}
+use mathlib.Core.List.{List}
 use mathlib.Core.Path.{_≡_, refl, sym, ap, _∙_, subst}
 use Prim.Native.Nat.{ℕ, _-_, _*_, _≤_, _<_}
 use native.Mathlib.Nat.{le-trans, le-of-eq, mul-assoc, mul-le-mul, mul-pos, one-mul}

@@ -20,8 +20,8 @@ use Rattle.wavetable.proofs.Accepted.{bank-sized}
 use Rattle.wavetable.proofs.Reached.{Good, refused-sized, tick-sounds, tick-accepted, new-good, good, never-refused}
 use Rattle.wavetable.specs.Calls.{Fit, after, reply, Tick, Ticked}
 use Rattle.wavetable.specs.Promises.{taken, Forgets, Block-forgets, Edge-comes}
-use Rattle.wavetable.specs.Consts.{bankSize}
-use Rattle.wavetable.specs.Wavetable.{nPorts, newWavetable, newLike, edgeOf, madeUnless, wavetableTickRefusalOf, wavetableNewOf, wavetableSoundOf}
+use Rattle.wavetable.specs.Consts.{nPorts, bankSize}
+use Rattle.wavetable.specs.Wavetable.{newWavetable, newLike, edgeOf, madeUnless, wavetableTickRefusalOf, wavetableNewOf, wavetableSoundOf}
 use Rattle.wavetable.specs.Wavetable.{wavetableTickOf, wavetableToldOf, wavetableNextOf, wavetableBlockOf}
 use Rattle.common.specs.declared.EdgeDetector.{EdgeDetector}
 use Rattle.common.specs.declared.Risen.{Risen}

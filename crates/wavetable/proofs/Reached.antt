@@ -22,8 +22,8 @@ use Rattle.common.specs.Tests.{rateOk, phaseOk}
 use Rattle.laws.proofs.Always.{always}
 use Rattle.wavetable.specs.Calls.{Call, Fit, after, reply, FitCall, First, ReachedWavetable, Tick, Play, Reset, SetSampleRate, Told}
 use Rattle.wavetable.specs.Promises.{New-accepts, Never-refused}
-use Rattle.wavetable.specs.Consts.{bankSize}
-use Rattle.wavetable.specs.Wavetable.{nPorts, newWavetable, newLike, wavetableRefusalOf, wavetableTickRefusalOf, wavetableRateRefusalOf}
+use Rattle.wavetable.specs.Consts.{nPorts, bankSize}
+use Rattle.wavetable.specs.Wavetable.{newWavetable, newLike, wavetableRefusalOf, wavetableTickRefusalOf, wavetableRateRefusalOf}
 use Rattle.wavetable.specs.Wavetable.{madeUnless, wavetableNewOf, wavetableSoundOf, wavetableTickOf, wavetableBlockOf}
 use Rattle.wavetable.specs.Wavetable.{restarted, wavetableResetOf, rated, wavetableSetSampleRateOf}
 use Rattle.answer.specs.declared.Answer.the-variants as answer

@@ -2,6 +2,10 @@
 use Prim.Native.Nat.{ℕ, _*_}
 use lib.Ieee.{Float, binary64, ofBits}
 
+-- one output
+abbrev pub nPorts : ℕ
+nPorts = 1
+
 -- TABLE_SIZE, NUM_TABLES and NUM_MIPS
 abbrev pub tableSize : ℕ
 tableSize = 256

@@ -17,8 +17,8 @@ use Rattle.common.specs.Tests.{rateOk, phaseOk}
 use Rattle.laws.specs.Machine.{replies, Settles}
 use Rattle.wavetable.specs.Bank.{Filled, fillTableOf, fillBankOf}
 use Rattle.wavetable.specs.Calls.{Call, Fit, after, reply, First, ReachedWavetable, Tick, Reset, SetSampleRate, Told}
-use Rattle.wavetable.specs.Consts.{bankSize}
-use Rattle.wavetable.specs.Wavetable.{nPorts, newWavetable, newLike, edgeOf, wavetableTickRefusalOf, wavetableToldOf, wavetableNextOf}
+use Rattle.wavetable.specs.Consts.{nPorts, bankSize}
+use Rattle.wavetable.specs.Wavetable.{newWavetable, newLike, edgeOf, wavetableTickRefusalOf, wavetableToldOf, wavetableNextOf}
 use Rattle.wavetable.specs.Wavetable.{wavetableNewOf, wavetableTickOf, wavetableBlockOf, wavetableResetOf, wavetableSetSampleRateOf}
 use Rattle.common.specs.declared.Hertz.{Hertz}
 use Rattle.wavetable.specs.declared.Wavetable.{Wavetable}

@@ -13,7 +13,7 @@ use Rattle.common.specs.Memo.{newMemo1, recall1, voctToHzAt}
 use Rattle.common.specs.Phase.{turns, wrapOf, incrementOf, restartOf}
 use Rattle.common.specs.Tests.{rateOk, phaseOk}
 use Rattle.laws.specs.Float.{zer, isFin}
-use Rattle.wavetable.specs.Consts.{bankSize}
+use Rattle.wavetable.specs.Consts.{nPorts, bankSize}
 use Rattle.wavetable.specs.Reads.{tablePosOf, tableIndexOf, blendOf, mixOf}
 use Rattle.common.specs.declared.EdgeDetector.{EdgeDetector}
 use Rattle.common.specs.declared.Hertz.{Hertz}
@@ -25,10 +25,6 @@ use Rattle.wavetable.specs.declared.Wavetable.{Wavetable}
 use Rattle.wavetable.specs.declared.WavetableControls.{WavetableControls}
 use Rattle.wavetable.specs.declared.WavetableTicked.{WavetableTicked}
 use Rattle.wavetable.specs.declared.WavetableMade.{WavetableMade}
-
--- one output
-abbrev pub nPorts : ℕ
-nPorts = 1
 
 -- Wavetable::new; the bank isn't the state's
 unfoldable pub newWavetable : Hertz → Wavetable

@@ -19,11 +19,11 @@ ghost use Rattle.answer.specs.Block.{afterTicks, joined, block, markAt, frameAt
 ghost use Rattle.common.specs.Edge.{risingOf};
 ghost use Rattle.numeric.specs.Basic.{wholeOf, realOf};
 ghost use Rattle.numeric.specs.Floor.{floorOf};
-ghost use Rattle.wavetable.specs.Consts.{tableSize, numTables, numMips, bankSize};
+ghost use Rattle.wavetable.specs.Consts.{nPorts, tableSize, numTables, numMips, bankSize};
 ghost use Rattle.wavetable.specs.Harmonics.{maxHarmonic};
 ghost use Rattle.wavetable.specs.Reads.{allowedOf, startOf, between, tablePosOf, tableIndexOf, blendOf};
 ghost use Rattle.wavetable.specs.Shortcuts.{levelWithin, PairFits, pairOf, mixAt, heldAnswer, heldNext};
-ghost use Rattle.wavetable.specs.Wavetable.{nPorts, wavetableRefusalOf, wavetableTickRefusalOf, wavetableRateRefusalOf, wavetableSoundOf};
+ghost use Rattle.wavetable.specs.Wavetable.{wavetableRefusalOf, wavetableTickRefusalOf, wavetableRateRefusalOf, wavetableSoundOf};
 ghost use Rattle.wavetable.specs.Wavetable.{wavetableNewOf, wavetableTickOf, wavetableToldOf, wavetableNextOf, wavetableBlockOf};
 ghost use Rattle.wavetable.specs.Wavetable.{wavetableResetOf, wavetableSetSampleRateOf};
 

@@ -24,7 +24,19 @@ same-length-3 c = search needs
 
 returns : tie.Need-returns
 unfolding playedOf countsPut
-returns c = λ o m. simp (c .before .before .put-counts .ensures .1, c .before .before .before .before .before .before .store-wholes .ensures, c .before .before .before .before .before .before .before .before .before .before .store-floats .ensures, eq-eqb _ _ (c .before .before .before .before .before .before .before .before .before .before .before .before .before .before .if1 .taken), eq-eqb _ _ (c .before .before .before .before .before .before .before .before .before .before .before .before .before .before .before .before .before .before .pre .2))
+returns c =
+    let put = c .before .before in
+    let stored = put .before .before .before .before in
+    let floated = stored .before .before .before .before in
+    let tested = floated .before .before .before .before in
+    let began = tested .before .before .before .before in
+    λ o m. simp (
+      put .put-counts .ensures .1,
+      stored .store-wholes .ensures,
+      floated .store-floats .ensures,
+      eq-eqb _ _ (tested .if1 .taken),
+      eq-eqb _ _ (began .pre .2),
+    )
 
 returns-2 : tie.Need-returns-2
 unfolding playedOf

@@ -23,7 +23,10 @@ same-length-2 c = search needs
 
 returns : tie.Need-returns
 unfolding keptBy
-returns c = simp (c .before .before .before .before .before .before .before .before .before .enum-told .given .1, c .before .before .before .before .before .before .store-floats .ensures, c .before .before .store-wholes .ensures)
+returns c =
+    let stored = c .before .before in
+    let floated = stored .before .before .before .before in
+    simp (floated .before .before .before .enum-told .given .1, floated .store-floats .ensures, stored .store-wholes .ensures)
 
 returns-2 : tie.Need-returns-2
 unfolding keptBy

@@ -35,11 +35,27 @@ same-length-3 c = search needs
 
 returns : tie.Need-returns
 unfolding heardOf samplesOf
-returns c = simp (c .before .before .before .before .before .before .before .before .before .before .before .before .host-number .ensures, ← c .before .before .before .before .before .before .before .before .before .before .before .is-accepted .ensures, c .before .before .before .before .before .before .before .before .before .before .if1 .taken, c .before .before .before .before .before .before .before .before .samples .ensures, c .before .before .before .before .before .before .store-floats .ensures, c .before .before .store-wholes .ensures, stored (c .before .before .before .before .before .before .before .before .before .before .before .before .before .before .before .before .args .samples .now) (samplesOf (voltsOf (c .before .before .before .before .before .before .before .before .before .before .before .before .before .before .before .before .args .t .answer))) (c .before .before .before .before .before .before .before .before .before .before .before .before .before .before .before .before .pre .2))
+returns c =
+    let kept = c .before .before in
+    let floated = kept .before .before .before .before in
+    let sampled = floated .before .before in
+    let checked = sampled .before .before .before in
+    let entered = checked .before .before .before .before .before in
+    simp (
+      checked .before .host-number .ensures,
+      ← checked .is-accepted .ensures,
+      sampled .before .before .if1 .taken,
+      sampled .samples .ensures,
+      floated .store-floats .ensures,
+      kept .store-wholes .ensures,
+      stored (entered .args .samples .now) (samplesOf (voltsOf (entered .args .t .answer))) (entered .pre .2),
+    )
 
 returns-2 : tie.Need-returns-2
 unfolding heardOf
 returns-2 c = simp (c .before .before .host-number .ensures, ← c .before .is-accepted .ensures, c .if1 .left)
 
 pub put-ticked-spec : {M : Type 1} → statement M
-put-ticked-spec = tie.close (tie.spec host-number-requires is-accepted-requires samples-requires store-floats-requires store-wholes-requires slice-write-samples same-length same-length-2 same-length-3 returns returns-2)
+put-ticked-spec = tie.close
+    (tie.spec host-number-requires is-accepted-requires samples-requires store-floats-requires store-wholes-requires slice-write-samples same-length
+    same-length-2 same-length-3 returns returns-2)

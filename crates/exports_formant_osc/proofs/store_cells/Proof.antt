@@ -11,7 +11,8 @@ use Rattle.exports_formant_osc.proofs.store_cells.Statement.{statement}
 use Rattle.exports_formant_osc.proofs.store_cells.Tie as tie
 
 abbrev Inv-loop : tie.InvT-loop
-Inv-loop cells at floats₀ i₀ floats i = (i ≤ length cells) × (at + length cells ≤ length floats₀) × (length floats ≡ length floats₀) × (floats ≡ paste floats₀ at cells i)
+Inv-loop cells at floats₀ i₀ floats i =
+    (i ≤ length cells) × (at + length cells ≤ length floats₀) × (length floats ≡ length floats₀) × (floats ≡ paste floats₀ at cells i)
 
 abbrev μ-loop : tie.MeasureT-loop
 μ-loop cells at floats₀ i₀ floats i = length cells - i
@@ -43,8 +44,12 @@ loop-less c = omega arith
 loop-again : tie.Need-loop-again Inv-loop μ-loop
 loop-again c =
     let s = c .before .before .loop .inv in
-    let a = c .before .before .before .args in
-    (omega arith, s .1, simp length-set (s .2), rw (add-one, s .3) (paste-suc (a .floats .now) (a .at) (a .cells .now) (c .before .before .loop .i) nan (omega arith) (omega arith)))
+    let a = c .before .before .before .args in (
+      omega arith,
+      s .1,
+      simp length-set (s .2),
+      rw (add-one, s .3) (paste-suc (a .floats .now) (a .at) (a .cells .now) (c .before .before .loop .i) nan (omega arith) (omega arith)),
+    )
 
 same-length : tie.Need-same-length Inv-loop μ-loop
 same-length c = c .before .loop .inv .2
@@ -53,7 +58,8 @@ returns : tie.Need-returns Inv-loop μ-loop
 returns c =
     let s = c .before .loop .inv in
     let a = c .before .before .args in
-    s .3 ∙ ap (λ (k : ℕ). paste (a .floats .now) (a .at) (a .cells .now) k) (le-antisymm (s .0) (c .loop-test .left)) ∙ all-pasted (a .floats .now) (a .cells .now) (a .at) (s .1)
+    s .3 ∙ ap (λ (k : ℕ). paste (a .floats .now) (a .at) (a .cells .now) k) (le-antisymm (s .0) (c .loop-test .left))
+    ∙ all-pasted (a .floats .now) (a .cells .now) (a .at) (s .1)
 
 pub store-cells-spec : {M : Type 1} → statement M
 store-cells-spec =

@@ -35,7 +35,8 @@ same-length c = search needs
 
 returns : tie.Need-returns
 unfolding wholesOf
-returns c = simp byte (stored (c .before .before .before .before .args .wholes .now) (wholesOf (c .before .before .before .before .args .s)) (c .before .before .before .before .pre))
+returns c = simp byte (stored (c .before .before .before .before .args .wholes .now) (wholesOf (c .before .before .before .before .args .s))
+    (c .before .before .before .before .pre))
 
 pub store-wholes-spec : {M : Type 1} → statement M
 store-wholes-spec =

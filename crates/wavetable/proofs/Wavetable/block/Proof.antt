@@ -3,7 +3,8 @@ use native.Mathlib.Omega.{arith}
 use borrow.Author.Needs.{needs}
 use Rattle.answer.proofs.Blocks.{block-refused, block-fits, block-empty, block-done}
 use Rattle.answer.specs.Tally.{tallyOr}
-use Rattle.wavetable.specs.Wavetable.{nPorts, wavetableBlockOf}
+use Rattle.wavetable.specs.Consts.{nPorts}
+use Rattle.wavetable.specs.Wavetable.{wavetableBlockOf}
 use Rattle.wavetable.proofs.Wavetable.block.Statement.{statement}
 use Rattle.wavetable.proofs.Wavetable.block.Tie as tie
 

@@ -8,9 +8,9 @@ use Rattle.laws.proofs.Over.{over-none}
 use Rattle.laws.specs.Lists.{over}
 use Rattle.answer.proofs.Blocks.{one-port, joined-none, frames-more, frames-done, marks-more, marks-done}
 use Rattle.answer.specs.Block.{afterTicks, markAt, frameAt, joined}
+use Rattle.wavetable.specs.Consts.{nPorts}
 use Rattle.wavetable.proofs.Held.{heard, moved}
 use Rattle.wavetable.specs.Shortcuts.{heldAnswer, heldNext}
-use Rattle.wavetable.specs.Wavetable.{nPorts}
 use Rattle.wavetable.proofs.Wavetable.glide.Statement.{statement}
 use Rattle.wavetable.proofs.Wavetable.glide.Tie as tie
 

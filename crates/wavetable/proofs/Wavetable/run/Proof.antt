@@ -2,9 +2,9 @@ use mathlib.Core.Path.{sym, _∙_}
 use lib.ListN.{length}
 use borrow.Author.Needs.{needs}
 use Rattle.answer.proofs.Blocks.{held-after, held-marks, held-frames}
+use Rattle.wavetable.specs.Consts.{nPorts}
 use Rattle.wavetable.proofs.Accepted.{bank-sized, pair-fits}
 use Rattle.wavetable.proofs.Held.{holds}
-use Rattle.wavetable.specs.Wavetable.{nPorts}
 use Rattle.wavetable.proofs.Wavetable.run.Statement.{statement}
 use Rattle.wavetable.proofs.Wavetable.run.Tie as tie
 
