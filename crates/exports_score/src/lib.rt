@@ -13,19 +13,13 @@ ghost use mathlib.Core.Path.{_≡_};
 ghost use lib.ListN.{length};
 ghost use Rattle.answer.specs.Flat.{kept};
 ghost use Rattle.score.specs.declared.Inputs.the-variants as I;
-ghost use Rattle.exports_score.specs.Cells.{sizesOf, portsOf, floatsOf, wholesOf};
+ghost use Rattle.exports_score.specs.Cells.{portsOf, floatsOf, wholesOf};
 ghost use Rattle.exports_score.specs.Calls.{keptOf, scoreReadAt};
 
-// 0, or the number that refuses these lengths.
-fn sizes(floats: &[f64], wholes: &[u64]) -> u32
-    ensures { λ r. ⌜ r ≡ sizesOf (length (now (floats .entry))) (length (now (wholes .entry))) ⌝ }
-{
-    if floats.len() == 5 {
-        if wholes.len() == 3 { 0 } else { 51 }
-    } else {
-        50
-    }
-}
+// How many floats and wholes a host lends.
+const FLOATS: usize = 5;
+
+const WHOLES: usize = 3;
 
 // The number of the oscillator, and the volts of its inputs in port order, 0.0 past the last one.
 struct Ports {
@@ -119,6 +113,7 @@ fn store(s: Score, floats: &mut [f64], wholes: &mut [u64])
     requires { ⌜ (length (now floats) ≡ 5) × (length (now wholes) ≡ 3) ⌝ }
     ensures { λ _. ⌜ (now (floats .exit) ≡ floatsOf s) × (now (wholes .exit) ≡ wholesOf s) ⌝ }
 {
+    let head = s.head;
     let inputs = s.inputs;
     let p = ports_of(inputs);
     floats[0] = p.p0;
@@ -127,8 +122,8 @@ fn store(s: Score, floats: &mut [f64], wholes: &mut [u64])
     floats[3] = p.p3;
     floats[4] = p.p4;
     wholes[0] = p.osc;
-    wholes[1] = s.hz as u64;
-    wholes[2] = s.frames as u64;
+    wholes[1] = head.hz as u64;
+    wholes[2] = head.frames as u64;
 }
 
 fn put_reading(r: Reading, floats: &mut [f64], wholes: &mut [u64]) -> u32
@@ -148,7 +143,7 @@ fn put_reading(r: Reading, floats: &mut [f64], wholes: &mut [u64]) -> u32
 pub extern "C" fn gruttisol_score_read(text: &[u8], floats: &mut [f64], wholes: &mut [u64]) -> u32
     ensures { λ r. ⌜ kept r (now (floats .exit)) (now (wholes .exit)) ≡ scoreReadAt (now (text .entry)) (now (floats .entry)) (now (wholes .entry)) ⌝ }
 {
-    let n = sizes(floats, wholes);
+    let n = answer::sizes(FLOATS, WHOLES, floats, wholes);
     if n == 0 {
         put_reading(score::read(text), floats, wholes)
     } else {

@@ -88,4 +88,4 @@ heard-accepted (inputs.Formant i) hz n ok =
 
 pub frames-accepted : Frames-accepted
 unfolding heardOf
-frames-accepted s ok = heard-accepted (s .inputs) (s .hz) (s .frames) ok
+frames-accepted s ok = heard-accepted (s .inputs) (s .head .hz) (s .head .frames) ok

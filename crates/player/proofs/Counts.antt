@@ -94,11 +94,11 @@ heard-length (inputs.Lfo i) hz n = answers-length _ _ n _
 heard-length (inputs.Supersaw i) hz n = answers-length _ _ n _
 heard-length (inputs.Formant i) hz n = answers-length _ _ n _
 
-pub frames-heard : (s : Score) → length (heardOf s) ≡ s .frames
+pub frames-heard : (s : Score) → length (heardOf s) ≡ s .head .frames
 unfolding heardOf
-frames-heard s = heard-length (s .inputs) (s .hz) (s .frames)
+frames-heard s = heard-length (s .inputs) (s .head .hz) (s .head .frames)
 
-pub heard-counts : (s : Score) → s .frames ≤ 4294967295 → CountsAll (heardOf s)
+pub heard-counts : (s : Score) → s .head .frames ≤ 4294967295 → CountsAll (heardOf s)
 heard-counts s h = tally-takes-all (heardOf s) (omega (arith, accepted-most (heardOf s), frames-heard s))
 
 pub claimed-clean : Claimed-clean
@@ -107,7 +107,7 @@ claimed-clean s h =
     let l = frames-heard s in
     let c = heard-counts s h in
     let m = marks-most xs in
-    let w = claimed-says (s .frames) (tallyAfter xs) in
+    let w = claimed-says (s .head .frames) (tallyAfter xs) in
     record {
       only = λ e. all-clean xs (let (a, b) = w .only e in omega (arith, c .finished));
       always =

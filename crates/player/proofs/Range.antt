@@ -1,4 +1,4 @@
--- A score that is read has a rate from 1000 to 192000 and from 1 to 480000 frames, by what score promises; and such a rate is a good one.
+-- A rate from 1000 to 192000, as a valid score has, is a good one.
 use Prim.Native.Nat.{ℕ, _≤_}
 use mathlib.Core.Bool.{true}
 use mathlib.Core.Path.{_≡_, refl}
@@ -9,9 +9,8 @@ use lib.Ieee.Order.{round-mono}
 use lib.Ieee.Bits.{is-true}
 use Rattle.common.specs.Consts.{rateLow, rateHigh}
 use Rattle.common.specs.Tests.{rateOk}
-use Rattle.score.proofs.Text.{read-valid}
 use Rattle.player.specs.Begin.{rateOf}
-use Rattle.player.specs.Promises.{Read-in-range}
+use Rattle.player.specs.Promises.{Valid-rate}
 
 low : rateLow ≡ ofInt binary64 (pos 1000)
 unfolding ofInt ofBits
@@ -29,7 +28,5 @@ good-rate : (hz : ℕ) → 1000 ≤ hz → hz ≤ 192000 → rateOk (rateOf hz) 
 unfolding rateOk rateOf
 good-rate hz a b = rw (low, high, in-order 1000 hz a, in-order hz 192000 b) refl
 
-pub read-in-range : Read-in-range
-read-in-range text s e =
-    let v = read-valid text s e in
-    record { rate = good-rate (s .hz) (v .hz-least) (v .hz-most); some = v .frames-least; most = v .frames-most }
+pub valid-rate : Valid-rate
+valid-rate s v = good-rate (s .head .hz) (v .head .hz-least) (v .head .hz-most)

@@ -2,25 +2,27 @@
 use mathlib.Core.Path.{_∙_}
 use native.Mathlib.Omega.{arith}
 use Rattle.laws.proofs.Settled as laws
+use Rattle.score.proofs.Text.{read-valid}
 use Rattle.player.specs.Play.{heardOf}
 use Rattle.player.specs.Player.{beginOf}
 use Rattle.player.specs.Promises.{Read-renders, Settled}
 use Rattle.player.proofs.Accepted.{frames-accepted}
 use Rattle.player.proofs.Counts.{all-begin, heard-counts, frames-heard, claimed-clean}
-use Rattle.player.proofs.Range.{read-in-range}
+use Rattle.player.proofs.Range.{valid-rate}
 
 pub read-renders : Read-renders
 read-renders text s e =
-    let r = read-in-range text s e in
+    let v = read-valid text s e in
+    let few = v .head .frames-most in
     let n = frames-heard s in
-    let counts = heard-counts s (omega (arith, r .most)) in
-    let accepts = frames-accepted s (r .rate) in
+    let counts = heard-counts s (omega arith) in
+    let accepts = frames-accepted s (valid-rate s v) in
     record {
       frames = n;
       accepts = accepts;
       counts = counts;
       begun = counts .begun ∙ all-begin (heardOf s) accepts ∙ n;
-      claimed = claimed-clean s (omega (arith, r .most));
+      claimed = claimed-clean s (omega arith);
     }
 
 pub settled : Settled

@@ -14,11 +14,12 @@ use Rattle.answer.specs.declared.Tallied.{Tallied}
 use Rattle.answer.specs.declared.Tallied.the-variants as tallied
 use Rattle.score.specs.declared.Inputs.{Inputs}
 use Rattle.score.specs.declared.Inputs.the-variants as inputs
+use Rattle.score.specs.Text.{ownerOf}
 use Rattle.score.specs.declared.Score.{Score}
 use Rattle.frame.specs.Frame.{frameText}
 use Rattle.frame.proofs.Lengths.{frame-length}
 use Rattle.player.specs.Begin.{rateOf}
-use Rattle.player.specs.Play.{answers, heardFrom, heardOf, oscOf, framesText, playOf}
+use Rattle.player.specs.Play.{answers, heardFrom, heardOf, framesText, playOf}
 use Rattle.player.specs.Player.{controlsOf, voicesAt, beginOf, kindOf, soundOf, answerOf, frameOf, nextOf, textOf, afterOf, finishOf}
 use Rattle.player.specs.Promises.{Plays, Piece-length}
 use Rattle.player.specs.declared.Controls.{Controls}
@@ -78,7 +79,7 @@ heard-voices (inputs.Lfo i) hz n = simulated _ _ _ _ (λ (v : Voices). v .lfo) (
 heard-voices (inputs.Supersaw i) hz n = simulated _ _ _ _ (λ (v : Voices). v .supersaw) (λ v. refl) (λ v. refl) n _
 heard-voices (inputs.Formant i) hz n = simulated _ _ _ _ (λ (v : Voices). v .formant) (λ v. refl) (λ v. refl) n _
 
-same-kind : (i : Inputs) → kindOf (controlsOf i) ≡ oscOf i
+same-kind : (i : Inputs) → kindOf (controlsOf i) ≡ ownerOf i
 unfolding kindOf controlsOf
 same-kind (inputs.Vco i) = refl
 same-kind (inputs.Lfo i) = refl
@@ -86,17 +87,17 @@ same-kind (inputs.Supersaw i) = refl
 same-kind (inputs.Formant i) = refl
 
 module _ (s : Score) where
-  whole-text : textOf (s .frames) (beginOf s) ≡ framesText (oscOf (s .inputs)) 0 (heardOf s)
+  whole-text : textOf (s .head .frames) (beginOf s) ≡ framesText (ownerOf (s .inputs)) 0 (heardOf s)
   unfolding beginOf heardOf
-  whole-text = text-frames (s .frames) (beginOf s) ∙ rw (heard-voices (s .inputs) (s .hz) (s .frames), same-kind (s .inputs))
+  whole-text = text-frames (s .head .frames) (beginOf s) ∙ rw (heard-voices (s .inputs) (s .head .hz) (s .head .frames), same-kind (s .inputs))
 
-  whole-tally : afterOf (s .frames) (beginOf s) .tally ≡ tallyAfter (heardOf s)
+  whole-tally : afterOf (s .head .frames) (beginOf s) .tally ≡ tallyAfter (heardOf s)
   unfolding beginOf heardOf tallyAfter
-  whole-tally = tally-after (s .frames) (beginOf s) [] ∙ rw (heard-voices (s .inputs) (s .hz) (s .frames))
+  whole-tally = tally-after (s .head .frames) (beginOf s) [] ∙ rw (heard-voices (s .inputs) (s .head .hz) (s .head .frames))
 
-  whole-frames : afterOf (s .frames) (beginOf s) .frames ≡ s .frames
+  whole-frames : afterOf (s .head .frames) (beginOf s) .frames ≡ s .head .frames
   unfolding beginOf
-  whole-frames = frames-after (beginOf s) (s .frames)
+  whole-frames = frames-after (beginOf s) (s .head .frames)
 
 pub plays : Plays
 unfolding playOf finishOf

@@ -18,7 +18,7 @@ use Rattle.answer.specs.declared.Volts.{Volts}
 use Rattle.common.specs.declared.Hertz.{Hertz}
 use Rattle.score.specs.Control.{voltsOf}
 use Rattle.score.specs.Lines.{oscOf, withinOf, controlOf, oscLine, wholeLine, controlLine}
-use Rattle.score.specs.Score.{osc, whole, control, endOf, vcoOf, framesOf, hzOf, linesOf, scoreOf}
+use Rattle.score.specs.Score.{osc, whole, control, endOf, vcoOf, headOf, linesOf, scoreOf}
 use Rattle.score.specs.declared.Control.the-variants.{Microvolts}
 use Rattle.score.specs.declared.Inputs.the-variants.{Vco}
 use Rattle.score.specs.declared.Osc.the-variants as kind
@@ -42,13 +42,13 @@ inputs : VcoInputs
 inputs = record { voct = Microvolts (pos 0); fm = Microvolts (pos 0); pw = Microvolts (pos 500000); sync = Microvolts (pos 0); «fm_lin» = Microvolts (negsuc 4999999) }
 
 score : Score
-score = record { hz = 48000; frames = 1; inputs = Vco inputs }
+score = record { head = record { hz = 48000; frames = 1 }; inputs = Vco inputs }
 
 volts : Volts
 volts = record { p10 = ofBits binary64 0; p11 = ofBits binary64 0xc014000000000000; p12 = ofBits binary64 0xc014000000000000; p13 = ofBits binary64 0x4014000000000000; p14 = zer }
 
 is-read : scoreOf given ≡ Values score
-unfolding given score inputs sameOf hasOf untilOf pastOf lineOf afterLine keyOf valueOf isLine digitsFrom digitsOf negativeOf signedOf numberOf oscOf withinOf controlOf oscLine wholeLine controlLine osc whole control endOf vcoOf framesOf hzOf linesOf scoreOf
+unfolding given score inputs sameOf hasOf untilOf pastOf lineOf afterLine keyOf valueOf isLine digitsFrom digitsOf negativeOf signedOf numberOf oscOf withinOf controlOf oscLine wholeLine controlLine osc whole control endOf vcoOf headOf linesOf scoreOf
 is-read = refl
 
 rate : rateOf 48000 ≡ frameRate

@@ -5,10 +5,10 @@ use mathlib.Core.List.{List, [], _∷_, _++_}
 use Rattle.answer.specs.Tally.{tallyAfter}
 use Rattle.answer.specs.declared.Answer.{Answer}
 use Rattle.score.specs.declared.Osc.{Osc}
-use Rattle.score.specs.declared.Osc.the-variants as osc
 use Rattle.score.specs.declared.Inputs.{Inputs}
 use Rattle.score.specs.declared.Inputs.the-variants.{Vco, Lfo, Supersaw, Formant}
 use Rattle.score.specs.Score.{scoreOf}
+use Rattle.score.specs.Text.{ownerOf}
 use Rattle.score.specs.declared.Score.{Score}
 use Rattle.score.specs.declared.Reading.{Reading}
 use Rattle.score.specs.declared.Reading.the-variants.{Values, Refused}
@@ -32,13 +32,7 @@ heardFrom (Supersaw i) hz n = answers (λ s. supersawTickOf s (supersawControls 
 heardFrom (Formant i) hz n = answers (λ s. formantTickOf s (formantControls i) .answer) (λ s. formantTickOf s (formantControls i) .formant) n (newFormantOsc (rateOf hz))
 
 unfoldable pub heardOf : Score → List Answer
-heardOf s = heardFrom (s .inputs) (s .hz) (s .frames)
-
-abbrev pub oscOf : Inputs → Osc
-oscOf (Vco i) = osc.Vco
-oscOf (Lfo i) = osc.Lfo
-oscOf (Supersaw i) = osc.Supersaw
-oscOf (Formant i) = osc.Formant
+heardOf s = heardFrom (s .inputs) (s .head .hz) (s .head .frames)
 
 -- the texts of the frames from n on
 unfoldable pub framesText : Osc → ℕ → List Answer → List ℕ
@@ -47,7 +41,7 @@ framesText o n (a ∷ xs) = frameText o n a ++ framesText o (suc n) xs
 
 -- the frames, and what comes once at the end, by the counts of a new tally that is given each answer
 unfoldable pub playOf : Score → List ℕ
-playOf s = framesText (oscOf (s .inputs)) 0 (heardOf s) ++ endText (s .frames) (tallyAfter (heardOf s))
+playOf s = framesText (ownerOf (s .inputs)) 0 (heardOf s) ++ endText (s .head .frames) (tallyAfter (heardOf s))
 
 -- what it prints of a text: the score that it reads as, or the refusal
 abbrev pub printedOf : Reading → List ℕ

@@ -37,7 +37,7 @@ unfoldable pub voicesAt : Hertz → Voices
 voicesAt r = record { vco = newVco r; lfo = newLfo r; supersaw = newSupersaw r; formant = newFormantOsc r }
 
 unfoldable pub beginOf : Score → Player
-beginOf s = record { controls = controlsOf (s .inputs); voices = voicesAt (rateOf (s .hz)); tally = newTally; frame = 0; frames = s .frames }
+beginOf s = record { controls = controlsOf (s .inputs); voices = voicesAt (rateOf (s .head .hz)); tally = newTally; frame = 0; frames = s .head .frames }
 
 unfoldable pub kindOf : Controls → Osc
 kindOf (Vco c) = osc.Vco

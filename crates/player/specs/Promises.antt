@@ -13,6 +13,7 @@ use Rattle.answer.specs.declared.Answer.{Answer}
 use Rattle.common.specs.Tests.{rateOk}
 use Rattle.line.specs.Bytes.{ascii}
 use Rattle.score.specs.Score.{scoreOf}
+use Rattle.score.specs.Promises.{Valid}
 use Rattle.score.specs.declared.Score.{Score}
 use Rattle.score.specs.declared.Reading.the-variants.{Values}
 use Rattle.text.specs.Promises.{Put}
@@ -29,20 +30,15 @@ Pieces = (p : Player) (j k : ℕ) → (textOf (j + k) p ≡ textOf j p ++ textOf
 
 -- and a run of all frames, with the end, is what is printed of the score
 abbrev pub Plays : Type 0
-Plays = (s : Score) → textOf (s .frames) (beginOf s) ++ finishOf (afterOf (s .frames) (beginOf s)) ≡ playOf s
+Plays = (s : Score) → textOf (s .head .frames) (beginOf s) ++ finishOf (afterOf (s .head .frames) (beginOf s)) ≡ playOf s
 
 -- ---- how long a piece can be; a frame's number has at most 10 digits
 abbrev pub Piece-length : Type 0
 Piece-length = (p : Player) (k : ℕ) → p .frame + k ≤ 10000000000 → length (textOf k p) ≤ 137 * k
 
--- ---- a score that is read is in range
-pub record InRange (s : Score) : Type 0 where
-  pub rate : rateOk (rateOf (s .hz)) ≡ true
-  pub some : 1 ≤ s .frames
-  pub most : s .frames ≤ 480000
-
-abbrev pub Read-in-range : Type 0
-Read-in-range = (text : List ℕ) (s : Score) → scoreOf text ≡ Values s → InRange s
+-- ---- the rate of a valid score, as each one that is read is, is a good one
+abbrev pub Valid-rate : Type 0
+Valid-rate = (s : Score) → Valid s → rateOk (rateOf (s .head .hz)) ≡ true
 
 -- ---- no frame at a good rate is refused
 unfoldable pub Every : (Answer → Type 0) → List Answer → Type 0
@@ -53,28 +49,28 @@ abbrev pub Accepted : Answer → Type 0
 Accepted a = accepted a ≡ true
 
 abbrev pub Frames-accepted : Type 0
-Frames-accepted = (s : Score) → rateOk (rateOf (s .hz)) ≡ true → Every Accepted (heardOf s)
+Frames-accepted = (s : Score) → rateOk (rateOf (s .head .hz)) ≡ true → Every Accepted (heardOf s)
 
 -- ---- a render is claimed exactly when every frame is clean
 abbrev pub Clean : Answer → Type 0
 Clean a = markNumber a ≡ 4
 
 abbrev pub claims : Score → Bool
-claims s = claimedOf (s .frames) (tallyAfter (heardOf s))
+claims s = claimedOf (s .head .frames) (tallyAfter (heardOf s))
 
 pub record ClaimedWhenClean (s : Score) : Type 0 where
   pub only : claims s ≡ true → Every Clean (heardOf s)
   pub always : Every Clean (heardOf s) → claims s ≡ true
 
 abbrev pub Claimed-clean : Type 0
-Claimed-clean = (s : Score) → s .frames ≤ 4294967295 → ClaimedWhenClean s
+Claimed-clean = (s : Score) → s .head .frames ≤ 4294967295 → ClaimedWhenClean s
 
 -- ---- so of a score that is read: a tick for each frame, all of them accepted and all begun, each counted by its mark
 pub record Rendered (s : Score) : Type 0 where
-  pub frames : length (heardOf s) ≡ s .frames
+  pub frames : length (heardOf s) ≡ s .head .frames
   pub accepts : Every Accepted (heardOf s)
   pub counts : CountsAll (heardOf s)
-  pub begun : tallyAfter (heardOf s) .begun ≡ s .frames
+  pub begun : tallyAfter (heardOf s) .begun ≡ s .head .frames
   pub claimed : ClaimedWhenClean s
 
 abbrev pub Read-renders : Type 0
@@ -82,7 +78,7 @@ Read-renders = (text : List ℕ) (s : Score) → scoreOf text ≡ Values s → R
 
 -- ---- and none of its runs is refused, from any frame on
 abbrev pub Never-refused : Type 0
-Never-refused = (text : List ℕ) (s : Score) → scoreOf text ≡ Values s → (k budget : ℕ) → k ≤ s .frames
+Never-refused = (text : List ℕ) (s : Score) → scoreOf text ≡ Values s → (k budget : ℕ) → k ≤ s .head .frames
     → refusalOf (afterOf k (beginOf s)) (turnsOf (afterOf k (beginOf s)) budget) ≡ 0
 
 -- ---- each contract settles its answer and the lent buffer

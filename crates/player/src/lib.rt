@@ -430,13 +430,14 @@ impl Player {
     pub fn new(score: Score) -> Self
         ensures { λ r. ⌜ r ≡ beginOf score ⌝ }
     {
+        let head = score.head;
         let inputs = score.inputs;
         Player {
             controls: controls_of(inputs),
-            voices: voices_at(rate_of(score.hz)),
+            voices: voices_at(rate_of(head.hz)),
             tally: Tally::new(),
             frame: 0,
-            frames: score.frames,
+            frames: head.frames,
         }
     }
 

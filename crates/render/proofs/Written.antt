@@ -11,6 +11,7 @@ use lib.ListN.{length, take}
 use borrow.Author.Tests.{leb-true, leb-false}
 use Rattle.text.specs.Promises.{Put}
 use Rattle.score.proofs.Lines.{not-refused}
+use Rattle.score.proofs.Text.{read-valid}
 use Rattle.score.specs.Score.{scoreOf}
 use Rattle.score.specs.declared.Reading.the-variants.{Values}
 use Rattle.score.specs.declared.Score.{Score}
@@ -34,14 +35,14 @@ use Rattle.render.specs.declared.Taken.the-variants.{Text, Failed}
 -- ---- where the playing stands between two pieces: after so many frames of the score, which are so many whole pieces, or all of it
 pub record Stands (s : Score) (p : Player) : Type 0 where
   pub after : p ≡ afterOf (p .frame) (beginOf s)
-  pub within : p .frame ≤ s .frames
-  pub whole : ((m : ℕ) × (p .frame ≡ m * 400)) ⊎ (p .frame ≡ s .frames)
+  pub within : p .frame ≤ s .head .frames
+  pub whole : ((m : ℕ) × (p .frame ≡ m * 400)) ⊎ (p .frame ≡ s .head .frames)
 
 pub stands-first : (s : Score) (p : Player) → p ≡ beginOf s → Stands s p
 unfolding beginOf afterOf
 stands-first s p e = rw e (record { after = refl; within = omega arith; whole = inl (0, refl) })
 
-same-frames : (s : Score) (n : ℕ) → afterOf n (beginOf s) .frames ≡ s .frames
+same-frames : (s : Score) (n : ℕ) → afterOf n (beginOf s) .frames ≡ s .head .frames
 unfolding beginOf
 same-frames s n = frames-after (beginOf s) n
 
@@ -55,17 +56,17 @@ was-read (Text n) input s e = (take n input, e)
 was-read Failed input s e = absurd (not-refused e)
 
 module _ (s : Score) (p : Player) (at : Stands s p) where
-  frames-left : p .frames ≡ s .frames
+  frames-left : p .frames ≡ s .head .frames
   frames-left = ap (λ (p : Player). p .frames) (at .after) ∙ same-frames s (p .frame)
 
   -- before the last frame a piece begins
   pub piece-begins : p .frame < p .frames → Begins s (p .frame)
   piece-begins h = go (at .whole)
     where
-      some : p .frame < s .frames
+      some : p .frame < s .head .frames
       some = omega (arith, frames-left)
 
-      go : ((m : ℕ) × (p .frame ≡ m * 400)) ⊎ (p .frame ≡ s .frames) → Begins s (p .frame)
+      go : ((m : ℕ) × (p .frame ≡ m * 400)) ⊎ (p .frame ≡ s .head .frames) → Begins s (p .frame)
       go (inl w) = (some, w)
       go (inr e) = absurd (omega (arith, some))
 
@@ -73,7 +74,7 @@ module _ (s : Score) (p : Player) (at : Stands s p) where
   unfolding turnsOf
   turns-most k = omega arith
 
-  turns-fit : (k : ℕ) → p .frame + turnsOf p k ≤ s .frames
+  turns-fit : (k : ℕ) → p .frame + turnsOf p k ≤ s .head .frames
   unfolding turnsOf
   turns-fit k = let f = frames-left in let h = at .within in omega arith
 
@@ -100,17 +101,17 @@ module _ (s : Score) (p : Player) (at : Stands s p) where
         ran .0 ∙ ap (afterOf (turnsOf p k)) (at .after) ∙ sym (pieces (beginOf s) (p .frame) (turnsOf p k) .1)
         ∙ ap (λ (m : ℕ). afterOf m (beginOf s)) (sym next-frame)
 
-    turns-are : turnsOf p k ≡ min k (s .frames - p .frame)
+    turns-are : turnsOf p k ≡ min k (s .head .frames - p .frame)
     unfolding turnsOf
     turns-are = omega (arith, frames-left)
 
     -- a whole piece more, or all that is left
-    next-whole : k ≡ 400 → (m : ℕ) → p .frame ≡ m * 400 → ((m : ℕ) × (r .player .frame ≡ m * 400)) ⊎ (r .player .frame ≡ s .frames)
-    next-whole e m h = go (leb 400 (s .frames - p .frame)) refl
+    next-whole : k ≡ 400 → (m : ℕ) → p .frame ≡ m * 400 → ((m : ℕ) × (r .player .frame ≡ m * 400)) ⊎ (r .player .frame ≡ s .head .frames)
+    next-whole e m h = go (leb 400 (s .head .frames - p .frame)) refl
       where
-        go : (b : Bool) → leb 400 (s .frames - p .frame) ≡ b → ((m : ℕ) × (r .player .frame ≡ m * 400)) ⊎ (r .player .frame ≡ s .frames)
-        go true z = inl (suc m, omega (arith, leb-true 400 (s .frames - p .frame) z, next-frame, turns-are))
-        go false z = inr (omega (arith, leb-false 400 (s .frames - p .frame) z, next-frame, turns-are, at .within))
+        go : (b : Bool) → leb 400 (s .head .frames - p .frame) ≡ b → ((m : ℕ) × (r .player .frame ≡ m * 400)) ⊎ (r .player .frame ≡ s .head .frames)
+        go true z = inl (suc m, omega (arith, leb-true 400 (s .head .frames - p .frame) z, next-frame, turns-are))
+        go false z = inr (omega (arith, leb-false 400 (s .head .frames - p .frame) z, next-frame, turns-are, at .within))
 
     pub stands-next : k ≡ 400 → p .frame < p .frames → Stands s (r .player)
     stands-next e h =
@@ -118,8 +119,9 @@ module _ (s : Score) (p : Player) (at : Stands s p) where
         record { after = next-after; within = omega (arith, turns-fit k, next-frame); whole = next-whole e (w .0) (w .1) }
 
     -- the buffer holds the whole piece
-    pub piece-written : k ≤ 400 → s .frames ≤ 4294967295 → length out ≡ 65536 → take (r .to) q ≡ pieceOf s (p .frame) k
-    piece-written few top n =
+    pub piece-written : k ≤ 400 → length out ≡ 65536 → take (r .to) q ≡ pieceOf s (p .frame) k
+    piece-written few n =
+        let top = read-valid (read .0) s (read .1) .head .frames-most in
         let a = turns-most k in
         let b = turns-fit k in
         let l = piece-length p (turnsOf p k) (omega arith) in
@@ -130,7 +132,7 @@ module _ (s : Score) (p : Player) (at : Stands s p) where
     turns-some z h = omega arith
 
     -- fewer frames are left
-    pub less-left : 0 < k → p .frame < p .frames → s .frames - r .player .frame < s .frames - p .frame
+    pub less-left : 0 < k → p .frame < p .frames → s .head .frames - r .player .frame < s .head .frames - p .frame
     less-left z h = omega (arith, turns-fit k, turns-some z h, next-frame)
 
   -- after the last frame
@@ -140,13 +142,13 @@ module _ (s : Score) (p : Player) (at : Stands s p) where
       let l = end-length (p .frames) (p .tally) short in
       let f = frames-left in
       let m = at .within in
-      let last : p .frame ≡ s .frames = omega arith in
+      let last : p .frame ≡ s .head .frames = omega arith in
       put-whole out (finishOf p) r q put (omega arith) ∙ ap finishOf (at .after ∙ ap (λ (m : ℕ). afterOf m (beginOf s)) last)
 
 -- ---- the pieces join
 module _ (s : Score) (k : ℕ) where
   -- how many frames a piece has
-  turns-from : (n : ℕ) → turnsOf (afterOf n (beginOf s)) k ≡ min k (s .frames - n)
+  turns-from : (n : ℕ) → turnsOf (afterOf n (beginOf s)) k ≡ min k (s .head .frames - n)
   unfolding turnsOf
   turns-from n = omega (arith, same-frames s n, frame-after (beginOf s) n, first)
     where
@@ -155,34 +157,34 @@ module _ (s : Score) (k : ℕ) where
 
   -- the text of the first n frames, or of all
   abbrev upTo : ℕ → List ℕ
-  upTo n = textOf (min n (s .frames)) (beginOf s)
+  upTo n = textOf (min n (s .head .frames)) (beginOf s)
 
-  within-frames : (n : ℕ) → n ≤ s .frames → upTo n ++ pieceOf s n k ≡ upTo (n + k)
+  within-frames : (n : ℕ) → n ≤ s .head .frames → upTo n ++ pieceOf s n k ≡ upTo (n + k)
   unfolding pieceOf
   within-frames n h =
       let turns = turnsOf (afterOf n (beginOf s)) k in
-      let to : n + turns ≡ min (n + k) (s .frames) = omega (arith, turns-from n) in
+      let to : n + turns ≡ min (n + k) (s .head .frames) = omega (arith, turns-from n) in
       ap (λ (m : ℕ). textOf m (beginOf s) ++ textOf turns (afterOf n (beginOf s))) (min-eq-left h)
       ∙ sym (pieces (beginOf s) n turns .0) ∙ ap (λ (m : ℕ). textOf m (beginOf s)) to
 
-  past-frames : (n : ℕ) → s .frames < n → upTo n ++ pieceOf s n k ≡ upTo (n + k)
+  past-frames : (n : ℕ) → s .head .frames < n → upTo n ++ pieceOf s n k ≡ upTo (n + k)
   unfolding pieceOf textOf
   past-frames n h =
       let none : turnsOf (afterOf n (beginOf s)) k ≡ 0 = omega (arith, turns-from n) in
-      let all : min n (s .frames) ≡ min (n + k) (s .frames) = omega arith in
+      let all : min n (s .head .frames) ≡ min (n + k) (s .head .frames) = omega arith in
       ap (λ (m : ℕ). upTo n ++ textOf m (afterOf n (beginOf s))) none ∙ append-nil (upTo n) ∙ ap (λ (m : ℕ). textOf m (beginOf s)) all
 
   -- what is written up to the frame n, and the piece from there, is what is written up to the next piece
   next-piece : (n : ℕ) → upTo n ++ pieceOf s n k ≡ upTo (n + k)
-  next-piece n = go (leb n (s .frames)) refl
+  next-piece n = go (leb n (s .head .frames)) refl
     where
-      go : (b : Bool) → leb n (s .frames) ≡ b → upTo n ++ pieceOf s n k ≡ upTo (n + k)
-      go true e = within-frames n (leb-true n (s .frames) e)
-      go false e = past-frames n (leb-false n (s .frames) e)
+      go : (b : Bool) → leb n (s .head .frames) ≡ b → upTo n ++ pieceOf s n k ≡ upTo (n + k)
+      go true e = within-frames n (leb-true n (s .head .frames) e)
+      go false e = past-frames n (leb-false n (s .head .frames) e)
 
   pieces-to : (m : ℕ) → piecesOf s k m ≡ upTo (m * k)
   unfolding piecesOf textOf
-  pieces-to zero = let none : 0 ≡ min (0 * k) (s .frames) = omega arith in ap (λ (m : ℕ). textOf m (beginOf s)) none
+  pieces-to zero = let none : 0 ≡ min (0 * k) (s .head .frames) = omega arith in ap (λ (m : ℕ). textOf m (beginOf s)) none
   pieces-to (suc m) = ap (λ (t : List ℕ). t ++ pieceOf s (m * k) k) (pieces-to m) ∙ next-piece (m * k) ∙ ap upTo (sym (suc-mul m k))
 
 pub pieces-join : Pieces-join

@@ -18,4 +18,4 @@ Failed-read = (n k room : ℕ) (input : List ℕ) → (stepOf n (negsuc k) room 
 
 -- the pieces of k frames each, as many as the frames need, and the end join to what the scope prints of the text
 abbrev pub Pieces-join : Type 0
-Pieces-join = (text : List ℕ) (s : Score) (k m : ℕ) → scoreOf text ≡ Values s → s .frames ≤ m * k → piecesOf s k m ++ endOf s ≡ renderOf text
+Pieces-join = (text : List ℕ) (s : Score) (k m : ℕ) → scoreOf text ≡ Values s → s .head .frames ≤ m * k → piecesOf s k m ++ endOf s ≡ renderOf text

@@ -11,7 +11,7 @@ pieceOf s n k = let p = afterOf n (beginOf s) in textOf (turnsOf p k) p
 
 -- a piece of 400 frames begins there: the frame is one of the score's, and a multiple of 400
 abbrev pub Begins : Score → ℕ → Type 0
-Begins s n = (n < s .frames) × ((m : ℕ) × (n ≡ m * 400))
+Begins s n = (n < s .head .frames) × ((m : ℕ) × (n ≡ m * 400))
 
 -- the first m pieces of k frames each, one after another
 unfoldable pub piecesOf : Score → ℕ → ℕ → List ℕ
@@ -20,4 +20,4 @@ piecesOf s k (suc m) = piecesOf s k m ++ pieceOf s (m * k) k
 
 -- the last one, after all frames
 unfoldable pub endOf : Score → List ℕ
-endOf s = finishOf (afterOf (s .frames) (beginOf s))
+endOf s = finishOf (afterOf (s .head .frames) (beginOf s))

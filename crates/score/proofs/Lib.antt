@@ -1,6 +1,7 @@
 pub mod Signed
 pub mod Steps
 pub mod Examples
+pub mod LineKinds
 pub mod Lines
 pub mod Text
 pub mod Refusals

@@ -22,8 +22,7 @@ worked = "osc=vco\nhz=48000\nframes=1\nvoct=0\nfm=0\npw=500000\nsync=0\nfm_lin=-
 abbrev workedValues : Reading
 workedValues =
     Values (record {
-      hz = 48000;
-      frames = 1;
+      head = record { hz = 48000; frames = 1 };
       inputs = Vco (record {
         voct = Microvolts (pos 0);
         fm = Microvolts (pos 0);
@@ -38,7 +37,11 @@ abbrev lfo : String → String → String → String
 lfo hz frames rate = "osc=lfo\nhz=" ++ hz ++ "\nframes=" ++ frames ++ "\nrate=" ++ rate ++ "\ndepth=0\nreset=nan\n"
 
 abbrev lfoValues : ℕ → ℕ → Control → Reading
-lfoValues hz frames rate = Values (record { hz = hz; frames = frames; inputs = Lfo (record { rate = rate; depth = Microvolts (pos 0); reset = Nan }) })
+lfoValues hz frames rate =
+    Values (record {
+      head = record { hz = hz; frames = frames };
+      inputs = Lfo (record { rate = rate; depth = Microvolts (pos 0); reset = Nan });
+    })
 
 -- the other oscillators: ends of the ranges, nan, and numbers less than 0
 abbrev vco : String
@@ -47,8 +50,7 @@ vco = "osc=vco\nhz=1000\nframes=480000\nvoct=-10000000\nfm=10000000\npw=nan\nsyn
 abbrev vcoValues : Reading
 vcoValues =
     Values (record {
-      hz = 1000;
-      frames = 480000;
+      head = record { hz = 1000; frames = 480000 };
       inputs = Vco (record {
         voct = Microvolts (negsuc 9999999);
         fm = Microvolts (pos 10000000);
@@ -64,8 +66,7 @@ supersaw = "osc=supersaw\nhz=192000\nframes=1\nvoct=10000000\ndetune=-10000000\n
 abbrev supersawValues : Reading
 supersawValues =
     Values (record {
-      hz = 192000;
-      frames = 1;
+      head = record { hz = 192000; frames = 1 };
       inputs = Supersaw (record { voct = Microvolts (pos 10000000); detune = Microvolts (negsuc 9999999); mix = Nan });
     })
 
@@ -75,8 +76,7 @@ formant = "osc=formant\nhz=44100\nframes=480000\nv_oct=-1\nvowel=nan\nformant_sh
 abbrev formantValues : Reading
 formantValues =
     Values (record {
-      hz = 44100;
-      frames = 480000;
+      head = record { hz = 44100; frames = 480000 };
       inputs = Formant (record {
         «v_oct» = Microvolts (negsuc 0);
         vowel = Nan;

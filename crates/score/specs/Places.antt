@@ -1,13 +1,13 @@
--- Lines with their places: what stands at a place, where the next line is, and input lines taken one after the other; after a refusal nothing more is read.
--- Assumes nothing.
+-- Lines with their places: what stands at a place, where the next line is, and lines taken one after the other; after a refusal
+-- nothing more is read. Assumes nothing.
 use Prim.Native.Nat.{ℕ}
 use mathlib.Core.List.{List}
 use mathlib.Core.Bool.{Bool, cond}
+use mathlib.Core.Path.{_≡_}
 use lib.ListN.{drop}
 use Rattle.line.specs.Line.{valueOf, isLine, nextOf}
 use Rattle.line.specs.Number.{numberOf}
-use Rattle.score.specs.Lines.{oscOf, withinOf, controlOf, controlLine}
-use Rattle.score.specs.declared.Control.the-variants.{Nan}
+use Rattle.score.specs.Lines.{oscOf, withinOf, controlOf}
 use Rattle.score.specs.declared.Line.{Line}
 use Rattle.score.specs.declared.OscLine.{OscLine}
 use Rattle.score.specs.declared.OscLine.the-variants as OL
@@ -17,7 +17,6 @@ use Rattle.score.specs.declared.ControlLine.{ControlLine}
 use Rattle.score.specs.declared.ControlLine.the-variants as CL
 use Rattle.score.specs.declared.Place.{Place}
 use Rattle.score.specs.declared.Place.the-variants as P
-use Rattle.score.specs.declared.Taken.{Taken}
 use Rattle.score.specs.declared.Reading.{Reading}
 use Rattle.score.specs.declared.Reading.the-variants.{Refused}
 
@@ -44,16 +43,6 @@ unfoldable pub from : List ℕ → Place → (List ℕ → Reading) → Reading
 from text (P.At at) read = read (drop at text)
 from text (P.Refused n) read = Refused n
 
--- before the first input line
-unfoldable pub beginOf : ℕ → Taken
-beginOf at = record { control = Nan; place = P.At at }
-
--- what a line gives, with the place of the next one
-abbrev pub takenOf : ControlLine → ℕ → Taken
-takenOf (CL.Read c) next = record { control = c; place = P.At next }
-takenOf (CL.Refused n) next = record { control = Nan; place = P.Refused n }
-
--- the line at the place
-unfoldable pub takeOf : List ℕ → List ℕ → Place → Taken
-takeOf text key (P.At at) = takenOf (controlLine key (drop at text)) (nextOf text at)
-takeOf text key (P.Refused n) = record { control = Nan; place = P.Refused n }
+-- what `reads` takes at the place is v, and what follows is read from the next place on
+abbrev pub Takes : {A : Type 0} → List ℕ → Place → (List ℕ → (A → List ℕ → Reading) → Reading) → A → Place → Type 0
+Takes {A} text place reads v next = (k : A → List ℕ → Reading) → from text place (λ (t : List ℕ). reads t k) ≡ from text next (k v)

@@ -10,6 +10,7 @@ use Rattle.score.specs.declared.Control.{Control}
 use Rattle.score.specs.declared.Control.the-variants.{Microvolts, Nan}
 use Rattle.score.specs.declared.Inputs.{Inputs}
 use Rattle.score.specs.declared.Inputs.the-variants.{Vco, Lfo, Supersaw, Formant}
+use Rattle.score.specs.declared.Head.{Head}
 use Rattle.score.specs.declared.Score.{Score}
 use Rattle.score.specs.declared.Reading.the-variants.{Values, Refused}
 
@@ -24,11 +25,14 @@ ValidInputs (Lfo i) = ValidInput (i .rate) × ValidInput (i .depth) × ValidInpu
 ValidInputs (Supersaw i) = ValidInput (i .voct) × ValidInput (i .detune) × ValidInput (i .mix)
 ValidInputs (Formant i) = ValidInput (i .«v_oct») × ValidInput (i .vowel) × ValidInput (i .«formant_shift») × ValidInput (i .vibrato)
 
+pub record ValidHead (h : Head) : Type 0 where
+  pub hz-least : 1000 ≤ h .hz
+  pub hz-most : h .hz ≤ 192000
+  pub frames-least : 1 ≤ h .frames
+  pub frames-most : h .frames ≤ 480000
+
 pub record Valid (s : Score) : Type 0 where
-  pub hz-least : 1000 ≤ s .hz
-  pub hz-most : s .hz ≤ 192000
-  pub frames-least : 1 ≤ s .frames
-  pub frames-most : s .frames ≤ 480000
+  pub head : ValidHead (s .head)
   pub inputs : ValidInputs (s .inputs)
 
 -- ---- the texts that are accepted are those of the valid scores, one text each

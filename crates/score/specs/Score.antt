@@ -1,7 +1,6 @@
 -- What a score reads as: its values, or the number of its refusal. Line by line, so the first line that is refused decides.
 -- Assumes nothing.
 use Prim.Native.Nat.{ℕ}
-use Prim.Native.String.{String}
 use mathlib.Core.List.{List}
 use mathlib.Core.Bool.{cond}
 use lib.ListN.{length}
@@ -20,6 +19,7 @@ use Rattle.score.specs.declared.ControlLine.{ControlLine}
 use Rattle.score.specs.declared.ControlLine.the-variants as CL
 use Rattle.score.specs.declared.Inputs.{Inputs}
 use Rattle.score.specs.declared.Inputs.the-variants as I
+use Rattle.score.specs.declared.Head.{Head}
 use Rattle.score.specs.declared.Score.{Score}
 use Rattle.score.specs.declared.Reading.{Reading}
 use Rattle.score.specs.declared.Reading.the-variants.{Values, Refused}
@@ -41,52 +41,54 @@ onControl (CL.Refused n) k = Refused n
 unfoldable pub osc : List ℕ → (Osc → List ℕ → Reading) → Reading
 osc text k = onOsc (oscLine text) (λ (o : Osc). k o (afterLine text))
 
-unfoldable pub whole : String → ℕ → ℕ → List ℕ → (ℕ → List ℕ → Reading) → Reading
-whole key least most text k = onWhole (wholeLine (ascii key) least most text) (λ (n : ℕ). k n (afterLine text))
+unfoldable pub whole : List ℕ → ℕ → ℕ → List ℕ → (ℕ → List ℕ → Reading) → Reading
+whole key least most text k = onWhole (wholeLine key least most text) (λ (n : ℕ). k n (afterLine text))
 
-unfoldable pub control : String → List ℕ → (Control → List ℕ → Reading) → Reading
-control key text k = onControl (controlLine (ascii key) text) (λ (c : Control). k c (afterLine text))
+unfoldable pub control : List ℕ → List ℕ → (Control → List ℕ → Reading) → Reading
+control key text k = onControl (controlLine key text) (λ (c : Control). k c (afterLine text))
 
 -- nothing stands after the last line
 unfoldable pub endOf : Score → List ℕ → Reading
 endOf score text = cond (eqb (length text) 0) (Values score) (Refused 21)
 
+-- hz and frames
+unfoldable pub headOf : List ℕ → (Head → List ℕ → Reading) → Reading
+headOf t k =
+    whole (ascii "hz") 1000 192000 t λ hz t₁. whole (ascii "frames") 1 480000 t₁ λ frames t₂.
+    k (record { hz = hz; frames = frames }) t₂
+
 -- the inputs, in the Rust's port order and names
-unfoldable pub vcoOf : ℕ → ℕ → List ℕ → Reading
-vcoOf hz frames t =
-    control "voct" t λ voct t₁. control "fm" t₁ λ fm t₂. control "pw" t₂ λ pw t₃. control "sync" t₃ λ sync t₄. control "fm_lin" t₄ λ lin t₅.
-    endOf (record { hz = hz; frames = frames; inputs = I.Vco (record { voct = voct; fm = fm; pw = pw; sync = sync; «fm_lin» = lin }) }) t₅
+unfoldable pub vcoOf : Head → List ℕ → Reading
+vcoOf head t =
+    control (ascii "voct") t λ voct t₁. control (ascii "fm") t₁ λ fm t₂. control (ascii "pw") t₂ λ pw t₃.
+    control (ascii "sync") t₃ λ sync t₄. control (ascii "fm_lin") t₄ λ lin t₅.
+    endOf (record { head = head; inputs = I.Vco (record { voct = voct; fm = fm; pw = pw; sync = sync; «fm_lin» = lin }) }) t₅
 
-unfoldable pub lfoOf : ℕ → ℕ → List ℕ → Reading
-lfoOf hz frames t =
-    control "rate" t λ rate t₁. control "depth" t₁ λ depth t₂. control "reset" t₂ λ reset t₃.
-    endOf (record { hz = hz; frames = frames; inputs = I.Lfo (record { rate = rate; depth = depth; reset = reset }) }) t₃
+unfoldable pub lfoOf : Head → List ℕ → Reading
+lfoOf head t =
+    control (ascii "rate") t λ rate t₁. control (ascii "depth") t₁ λ depth t₂. control (ascii "reset") t₂ λ reset t₃.
+    endOf (record { head = head; inputs = I.Lfo (record { rate = rate; depth = depth; reset = reset }) }) t₃
 
-unfoldable pub supersawOf : ℕ → ℕ → List ℕ → Reading
-supersawOf hz frames t =
-    control "voct" t λ voct t₁. control "detune" t₁ λ detune t₂. control "mix" t₂ λ mix t₃.
-    endOf (record { hz = hz; frames = frames; inputs = I.Supersaw (record { voct = voct; detune = detune; mix = mix }) }) t₃
+unfoldable pub supersawOf : Head → List ℕ → Reading
+supersawOf head t =
+    control (ascii "voct") t λ voct t₁. control (ascii "detune") t₁ λ detune t₂. control (ascii "mix") t₂ λ mix t₃.
+    endOf (record { head = head; inputs = I.Supersaw (record { voct = voct; detune = detune; mix = mix }) }) t₃
 
-unfoldable pub formantOf : ℕ → ℕ → List ℕ → Reading
-formantOf hz frames t =
-    control "v_oct" t λ voct t₁. control "vowel" t₁ λ vowel t₂. control "formant_shift" t₂ λ shift t₃. control "vibrato" t₃ λ vibrato t₄.
-    endOf (record { hz = hz; frames = frames; inputs = I.Formant (record { «v_oct» = voct; vowel = vowel; «formant_shift» = shift; vibrato = vibrato }) }) t₄
+unfoldable pub formantOf : Head → List ℕ → Reading
+formantOf head t =
+    control (ascii "v_oct") t λ voct t₁. control (ascii "vowel") t₁ λ vowel t₂.
+    control (ascii "formant_shift") t₂ λ shift t₃. control (ascii "vibrato") t₃ λ vibrato t₄.
+    endOf (record { head = head; inputs = I.Formant (record { «v_oct» = voct; vowel = vowel; «formant_shift» = shift; vibrato = vibrato }) }) t₄
 
-abbrev pub inputsOf : Osc → ℕ → ℕ → List ℕ → Reading
+abbrev pub inputsOf : Osc → Head → List ℕ → Reading
 inputsOf O.Vco = vcoOf
 inputsOf O.Lfo = lfoOf
 inputsOf O.Supersaw = supersawOf
 inputsOf O.Formant = formantOf
 
--- osc, hz, frames, and then the oscillator's inputs
-unfoldable pub framesOf : Osc → ℕ → List ℕ → Reading
-framesOf o hz t = whole "frames" 1 480000 t λ frames t₁. inputsOf o hz frames t₁
-
-unfoldable pub hzOf : Osc → List ℕ → Reading
-hzOf o t = whole "hz" 1000 192000 t λ hz t₁. framesOf o hz t₁
-
+-- osc, the head, and then the oscillator's inputs
 unfoldable pub linesOf : List ℕ → Reading
-linesOf t = osc t λ o t₁. hzOf o t₁
+linesOf t = osc t λ o t₁. headOf t₁ λ head t₂. inputsOf o head t₂
 
 -- a text over 1,024 bytes is refused before its lines are read
 unfoldable pub scoreOf : List ℕ → Reading

@@ -9,8 +9,11 @@ use Rattle.line.specs.Number.{numberText}
 use Rattle.line.specs.declared.Number.the-variants.{Whole, Nan}
 use Rattle.score.specs.declared.Control.{Control}
 use Rattle.score.specs.declared.Control.the-variants as C
+use Rattle.score.specs.declared.Osc.{Osc}
+use Rattle.score.specs.declared.Osc.the-variants as O
 use Rattle.score.specs.declared.Inputs.{Inputs}
 use Rattle.score.specs.declared.Inputs.the-variants.{Vco, Lfo, Supersaw, Formant}
+use Rattle.score.specs.declared.Head.{Head}
 use Rattle.score.specs.declared.Score.{Score}
 
 -- the value of an input line, and of a line of a whole number
@@ -26,11 +29,18 @@ wholeText n = numberText (Whole false n)
 abbrev pub lineText : String → List ℕ → List ℕ
 lineText key value = ascii key ++ (61 ∷ (value ++ (10 ∷ [])))
 
-abbrev pub oscText : Inputs → List ℕ
-oscText (Vco i) = ascii "vco"
-oscText (Lfo i) = ascii "lfo"
-oscText (Supersaw i) = ascii "supersaw"
-oscText (Formant i) = ascii "formant"
+-- the oscillator whose inputs they are, and its name
+abbrev pub ownerOf : Inputs → Osc
+ownerOf (Vco i) = O.Vco
+ownerOf (Lfo i) = O.Lfo
+ownerOf (Supersaw i) = O.Supersaw
+ownerOf (Formant i) = O.Formant
+
+abbrev pub nameOf : Osc → List ℕ
+nameOf O.Vco = ascii "vco"
+nameOf O.Lfo = ascii "lfo"
+nameOf O.Supersaw = ascii "supersaw"
+nameOf O.Formant = ascii "formant"
 
 abbrev pub inputsText : Inputs → List ℕ
 inputsText (Vco i) =
@@ -53,9 +63,9 @@ inputsText (Formant i) =
     ++ (lineText "formant_shift" (controlText (i .«formant_shift»))
     ++ (lineText "vibrato" (controlText (i .vibrato)) ++ [])))
 
+-- the head, and what stands after it
+abbrev pub headText : Head → List ℕ → List ℕ
+headText h rest = lineText "hz" (wholeText (h .hz)) ++ (lineText "frames" (wholeText (h .frames)) ++ rest)
+
 unfoldable pub textOf : Score → List ℕ
-textOf s =
-    lineText "osc" (oscText (s .inputs))
-    ++ (lineText "hz" (wholeText (s .hz))
-    ++ (lineText "frames" (wholeText (s .frames))
-    ++ inputsText (s .inputs)))
+textOf s = lineText "osc" (nameOf (ownerOf (s .inputs))) ++ headText (s .head) (inputsText (s .inputs))

@@ -1,10 +1,10 @@
 // The score: osc, hz, frames and then the oscillator's inputs, a line each.
 ghost use mathlib.Core.Path.{_≡_};
-ghost use lib.ListN.{drop};
 ghost use Rattle.score.specs.Control.{voltsOf};
 ghost use Rattle.score.specs.Lines.{oscOf, withinOf, controlOf};
-ghost use Rattle.score.specs.Score.{endOf, vcoOf, lfoOf, supersawOf, formantOf, inputsOf, framesOf, hzOf, scoreOf};
-ghost use Rattle.score.specs.Places.{lineOf, lineAt, oscIn, wholeIn, controlIn, from, beginOf, takenOf, takeOf};
+ghost use Rattle.score.specs.Score.{whole, control, endOf, headOf, vcoOf, lfoOf, supersawOf, formantOf, inputsOf, scoreOf};
+ghost use Rattle.score.specs.Places.{lineOf, lineAt, oscIn, wholeIn, controlIn, from, Takes};
+ghost use Rattle.score.specs.declared.Place.the-variants.{At};
 use line::Number;
 use line::Reader;
 
@@ -58,9 +58,14 @@ pub enum Inputs {
     Formant(FormantInputs),
 }
 
-pub struct Score {
+// The lines between the oscillator and its inputs.
+pub struct Head {
     pub hz: u32,
     pub frames: u32,
+}
+
+pub struct Score {
+    pub head: Head,
     pub inputs: Inputs,
 }
 
@@ -217,65 +222,76 @@ fn control_in(line: Line) -> ControlLine
     }
 }
 
-// ---- the inputs, one line after the other
+// ---- one line after the other
 
+// Where the next line is. After a refusal nothing more is read, and what is held doesn't count.
 enum Place {
     At(usize),
     Refused(u32),
 }
 
-// What an input line held, and the place of the next line. After a refusal nothing more is read, and what is held doesn't count.
-struct Taken {
+// What a line held, and the place of the next one.
+struct TakenWhole {
+    whole: u32,
+    place: Place,
+}
+
+struct TakenControl {
     control: Control,
     place: Place,
 }
 
-fn begin(at: usize) -> Taken
-    ensures { λ r. ⌜ r ≡ beginOf at ⌝ }
+fn take_whole(text: &[u8], key: &[u8], least: u32, most: u32, place: Place) -> TakenWhole
+    ensures { λ r. ⌜ Takes (now (text .entry)) place (whole (now (key .entry)) least most) (r .whole) (r .place) ⌝ }
 {
-    Taken {
-        control: Control::Nan,
-        place: Place::At(at),
-    }
-}
-
-fn taken_of(line: Line) -> Taken
-    ensures { λ r. ⌜ r ≡ takenOf (controlIn line) (line .next) ⌝ }
-{
-    match control_in(line) {
-        ControlLine::Read(control) => Taken {
-            control,
-            place: Place::At(line.next),
-        },
-        ControlLine::Refused(n) => Taken {
-            control: Control::Nan,
+    match place {
+        Place::At(at) => {
+            let line = line_at(text, at, key);
+            match whole_in(line, least, most) {
+                WholeLine::Read(whole) => TakenWhole {
+                    whole,
+                    place: Place::At(line.next),
+                },
+                WholeLine::Refused(n) => TakenWhole {
+                    whole: 0,
+                    place: Place::Refused(n),
+                },
+            }
+        }
+        Place::Refused(n) => TakenWhole {
+            whole: 0,
             place: Place::Refused(n),
         },
     }
 }
 
-// The line after the one that was taken before.
-fn take(text: &[u8], key: &[u8], before: Taken) -> Taken
-    ensures { λ r. ⌜ r ≡ takeOf (now (text .entry)) (now (key .entry)) (before .place) ⌝ }
+fn take_control(text: &[u8], key: &[u8], before: TakenControl) -> TakenControl
+    ensures { λ r. ⌜ Takes (now (text .entry)) (before .place) (control (now (key .entry))) (r .control) (r .place) ⌝ }
 {
     let place = before.place;
     match place {
-        Place::At(at) => taken_of(line_at(text, at, key)),
-        Place::Refused(n) => Taken {
+        Place::At(at) => {
+            let line = line_at(text, at, key);
+            match control_in(line) {
+                ControlLine::Read(control) => TakenControl {
+                    control,
+                    place: Place::At(line.next),
+                },
+                ControlLine::Refused(n) => TakenControl {
+                    control: Control::Nan,
+                    place: Place::Refused(n),
+                },
+            }
+        }
+        Place::Refused(n) => TakenControl {
             control: Control::Nan,
             place: Place::Refused(n),
         },
     }
 }
 
-fn held(taken: Taken) -> Control
-    ensures { λ r. ⌜ r ≡ taken .control ⌝ }
-{
-    taken.control
-}
-
 // The values, where nothing stands after the last line.
-fn end(text: &[u8], last: Taken, score: Score) -> Reading
+fn end(text: &[u8], last: TakenControl, score: Score) -> Reading
     ensures { λ r. ⌜ r ≡ from (now (text .entry)) (last .place) (endOf score) ⌝ }
 {
     let place = last.place;
@@ -291,102 +307,117 @@ fn end(text: &[u8], last: Taken, score: Score) -> Reading
     }
 }
 
-fn read_vco(text: &[u8], at: usize, hz: u32, frames: u32) -> Reading
-    ensures { λ r. ⌜ r ≡ vcoOf hz frames (drop at (now (text .entry))) ⌝ }
+// ---- the head
+
+// `before` stands before the first input and has its place.
+struct TakenHead {
+    head: Head,
+    before: TakenControl,
+}
+
+fn take_head(text: &[u8], at: usize) -> TakenHead
+    ensures { λ r. ⌜ Takes (now (text .entry)) (At at) headOf (r .head) (r .before .place) ⌝ }
 {
-    let voct = take(text, b"voct", begin(at));
-    let fm = take(text, b"fm", voct);
-    let pw = take(text, b"pw", fm);
-    let sync = take(text, b"sync", pw);
-    let fm_lin = take(text, b"fm_lin", sync);
+    let hz = take_whole(text, b"hz", 1000, 192000, Place::At(at));
+    let place = hz.place;
+    let frames = take_whole(text, b"frames", 1, 480000, place);
+    let place = frames.place;
+    TakenHead {
+        head: Head {
+            hz: hz.whole,
+            frames: frames.whole,
+        },
+        before: TakenControl {
+            control: Control::Nan,
+            place,
+        },
+    }
+}
+
+// ---- the inputs
+
+fn read_vco(text: &[u8], before: TakenControl, head: Head) -> Reading
+    ensures { λ r. ⌜ r ≡ from (now (text .entry)) (before .place) (vcoOf head) ⌝ }
+{
+    let voct_line = take_control(text, b"voct", before);
+    let fm_line = take_control(text, b"fm", voct_line);
+    let pw_line = take_control(text, b"pw", fm_line);
+    let sync_line = take_control(text, b"sync", pw_line);
+    let fm_lin_line = take_control(text, b"fm_lin", sync_line);
+    let voct = voct_line.control;
+    let fm = fm_line.control;
+    let pw = pw_line.control;
+    let sync = sync_line.control;
+    let fm_lin = fm_lin_line.control;
     let inputs = Inputs::Vco(VcoInputs {
-        voct: held(voct),
-        fm: held(fm),
-        pw: held(pw),
-        sync: held(sync),
-        fm_lin: held(fm_lin),
+        voct,
+        fm,
+        pw,
+        sync,
+        fm_lin,
     });
-    end(text, fm_lin, Score { hz, frames, inputs })
+    end(text, fm_lin_line, Score { head, inputs })
 }
 
-fn read_lfo(text: &[u8], at: usize, hz: u32, frames: u32) -> Reading
-    ensures { λ r. ⌜ r ≡ lfoOf hz frames (drop at (now (text .entry))) ⌝ }
+fn read_lfo(text: &[u8], before: TakenControl, head: Head) -> Reading
+    ensures { λ r. ⌜ r ≡ from (now (text .entry)) (before .place) (lfoOf head) ⌝ }
 {
-    let rate = take(text, b"rate", begin(at));
-    let depth = take(text, b"depth", rate);
-    let reset = take(text, b"reset", depth);
-    let inputs = Inputs::Lfo(LfoInputs {
-        rate: held(rate),
-        depth: held(depth),
-        reset: held(reset),
-    });
-    end(text, reset, Score { hz, frames, inputs })
+    let rate_line = take_control(text, b"rate", before);
+    let depth_line = take_control(text, b"depth", rate_line);
+    let reset_line = take_control(text, b"reset", depth_line);
+    let rate = rate_line.control;
+    let depth = depth_line.control;
+    let reset = reset_line.control;
+    let inputs = Inputs::Lfo(LfoInputs { rate, depth, reset });
+    end(text, reset_line, Score { head, inputs })
 }
 
-fn read_supersaw(text: &[u8], at: usize, hz: u32, frames: u32) -> Reading
-    ensures { λ r. ⌜ r ≡ supersawOf hz frames (drop at (now (text .entry))) ⌝ }
+fn read_supersaw(text: &[u8], before: TakenControl, head: Head) -> Reading
+    ensures { λ r. ⌜ r ≡ from (now (text .entry)) (before .place) (supersawOf head) ⌝ }
 {
-    let voct = take(text, b"voct", begin(at));
-    let detune = take(text, b"detune", voct);
-    let mix = take(text, b"mix", detune);
-    let inputs = Inputs::Supersaw(SupersawInputs {
-        voct: held(voct),
-        detune: held(detune),
-        mix: held(mix),
-    });
-    end(text, mix, Score { hz, frames, inputs })
+    let voct_line = take_control(text, b"voct", before);
+    let detune_line = take_control(text, b"detune", voct_line);
+    let mix_line = take_control(text, b"mix", detune_line);
+    let voct = voct_line.control;
+    let detune = detune_line.control;
+    let mix = mix_line.control;
+    let inputs = Inputs::Supersaw(SupersawInputs { voct, detune, mix });
+    end(text, mix_line, Score { head, inputs })
 }
 
-fn read_formant(text: &[u8], at: usize, hz: u32, frames: u32) -> Reading
-    ensures { λ r. ⌜ r ≡ formantOf hz frames (drop at (now (text .entry))) ⌝ }
+fn read_formant(text: &[u8], before: TakenControl, head: Head) -> Reading
+    ensures { λ r. ⌜ r ≡ from (now (text .entry)) (before .place) (formantOf head) ⌝ }
 {
-    let v_oct = take(text, b"v_oct", begin(at));
-    let vowel = take(text, b"vowel", v_oct);
-    let formant_shift = take(text, b"formant_shift", vowel);
-    let vibrato = take(text, b"vibrato", formant_shift);
+    let v_oct_line = take_control(text, b"v_oct", before);
+    let vowel_line = take_control(text, b"vowel", v_oct_line);
+    let formant_shift_line = take_control(text, b"formant_shift", vowel_line);
+    let vibrato_line = take_control(text, b"vibrato", formant_shift_line);
+    let v_oct = v_oct_line.control;
+    let vowel = vowel_line.control;
+    let formant_shift = formant_shift_line.control;
+    let vibrato = vibrato_line.control;
     let inputs = Inputs::Formant(FormantInputs {
-        v_oct: held(v_oct),
-        vowel: held(vowel),
-        formant_shift: held(formant_shift),
-        vibrato: held(vibrato),
+        v_oct,
+        vowel,
+        formant_shift,
+        vibrato,
     });
-    end(text, vibrato, Score { hz, frames, inputs })
+    end(text, vibrato_line, Score { head, inputs })
 }
 
-// ---- the lines before them
-
-fn read_inputs(text: &[u8], at: usize, osc: Osc, hz: u32, frames: u32) -> Reading
-    ensures { λ r. ⌜ r ≡ inputsOf osc hz frames (drop at (now (text .entry))) ⌝ }
+fn read_inputs(text: &[u8], before: TakenControl, osc: Osc, head: Head) -> Reading
+    ensures { λ r. ⌜ r ≡ from (now (text .entry)) (before .place) (inputsOf osc head) ⌝ }
 {
     match osc {
-        Osc::Vco => read_vco(text, at, hz, frames),
-        Osc::Lfo => read_lfo(text, at, hz, frames),
-        Osc::Supersaw => read_supersaw(text, at, hz, frames),
-        Osc::Formant => read_formant(text, at, hz, frames),
+        Osc::Vco => read_vco(text, before, head),
+        Osc::Lfo => read_lfo(text, before, head),
+        Osc::Supersaw => read_supersaw(text, before, head),
+        Osc::Formant => read_formant(text, before, head),
     }
 }
 
-fn read_frames(text: &[u8], at: usize, osc: Osc, hz: u32) -> Reading
-    ensures { λ r. ⌜ r ≡ framesOf osc hz (drop at (now (text .entry))) ⌝ }
-{
-    let line = line_at(text, at, b"frames");
-    match whole_in(line, 1, 480000) {
-        WholeLine::Read(frames) => read_inputs(text, line.next, osc, hz, frames),
-        WholeLine::Refused(n) => Reading::Refused(n),
-    }
-}
+// ---- the whole score
 
-fn read_hz(text: &[u8], at: usize, osc: Osc) -> Reading
-    ensures { λ r. ⌜ r ≡ hzOf osc (drop at (now (text .entry))) ⌝ }
-{
-    let line = line_at(text, at, b"hz");
-    match whole_in(line, 1000, 192000) {
-        WholeLine::Read(hz) => read_frames(text, line.next, osc, hz),
-        WholeLine::Refused(n) => Reading::Refused(n),
-    }
-}
-
-// The whole score.
 pub fn read(text: &[u8]) -> Reading
     ensures { λ r. ⌜ r ≡ scoreOf (now (text .entry)) ⌝ }
 {
@@ -395,7 +426,12 @@ pub fn read(text: &[u8]) -> Reading
     }
     let line = line_at(text, 0, b"osc");
     match osc_in(line) {
-        OscLine::Read(osc) => read_hz(text, line.next, osc),
+        OscLine::Read(osc) => {
+            let taken = take_head(text, line.next);
+            let head = taken.head;
+            let before = taken.before;
+            read_inputs(text, before, osc, head)
+        }
         OscLine::Refused(n) => Reading::Refused(n),
     }
 }

@@ -1,7 +1,9 @@
-use mathlib.Core.Path.{sym, _∙_}
+-- `gruttisol_score_read`: the lengths are asked first, and then the text.
+use mathlib.Core.Path.{_∙_}
 use borrow.Author.Needs.{needs}
 use borrow.Author.Tests.{ne-eqb, eq-eqb}
-use Rattle.exports_score.proofs.Slices.{sized}
+use Rattle.answer.proofs.Flat.{sized}
+use Rattle.answer.specs.Flat.{keptSized}
 use Rattle.exports_score.specs.Calls.{scoreReadAt}
 use Rattle.exports_score.proofs.gruttisol_score_read.Statement.{statement}
 use Rattle.exports_score.proofs.gruttisol_score_read.Tie as tie
@@ -13,7 +15,7 @@ read-requires : tie.Need-read-requires
 read-requires c κs = search needs
 
 put-reading-requires : tie.Need-put-reading-requires
-put-reading-requires c κs = sized _ _ (sym (c .before .before .before .before .sizes .ensures) ∙ c .before .before .before .if1 .taken)
+put-reading-requires c κs = sized _ _ _ _ _ (c .before .before .before .before .sizes .ensures) (c .before .before .before .if1 .taken)
 
 same-length : tie.Need-same-length
 same-length c = search needs
@@ -22,8 +24,11 @@ same-length-2 : tie.Need-same-length-2
 same-length-2 c = search needs
 
 returns : tie.Need-returns
-unfolding scoreReadAt
-returns c = c .before .before .before .before .put-reading .ensures ∙ simp (← c .before .before .before .before .before .before .before .before .before .sizes .ensures, eq-eqb _ _ (c .before .before .before .before .before .before .before .before .if1 .taken), c .before .before .before .before .before .before .before .read .ensures)
+unfolding scoreReadAt keptSized
+returns c =
+    let put = c .before .before .before .before in
+    let read = put .before .before .before in
+    put .put-reading .ensures ∙ simp (← read .before .before .sizes .ensures, eq-eqb _ _ (read .before .if1 .taken), read .read .ensures)
 
 same-length-3 : tie.Need-same-length-3
 same-length-3 c = search needs
@@ -32,7 +37,7 @@ same-length-4 : tie.Need-same-length-4
 same-length-4 c = search needs
 
 returns-2 : tie.Need-returns-2
-unfolding scoreReadAt
+unfolding scoreReadAt keptSized
 returns-2 c = simp (← c .before .sizes .ensures, ne-eqb _ _ (c .if1 .left))
 
 pub gruttisol-score-read-spec : {M : Type 1} → statement M

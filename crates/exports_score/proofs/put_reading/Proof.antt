@@ -20,7 +20,9 @@ same-length-2 c = search needs
 
 returns : tie.Need-returns
 unfolding keptOf
-returns c = simp (c .before .before .before .before .before .before .before .before .r .given .1, c .before .before .before .before .store .ensures .0, c .before .before .before .before .store .ensures .1)
+returns c =
+    let stored = c .before .before .before .before in
+    simp (stored .before .before .before .before .r .given .1, stored .store .ensures .0, stored .store .ensures .1)
 
 returns-2 : tie.Need-returns-2
 unfolding keptOf

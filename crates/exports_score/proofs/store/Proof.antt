@@ -47,7 +47,12 @@ same-length-2 c = search needs
 
 returns : tie.Need-returns
 unfolding floatsOf wholesOf
-returns c = (simp (c .before .before .ports-of .ensures) (stored (c .before .before .before .before .before .args .floats .now) (floatsOf (c .before .before .before .before .before .args .s)) (c .before .before .before .before .before .pre .0)), simp (c .before .before .ports-of .ensures) (stored (c .before .before .before .before .before .args .wholes .now) (wholesOf (c .before .before .before .before .before .args .s)) (c .before .before .before .before .before .pre .1)))
+returns c =
+    let made = c .before .before in
+    let begun = made .before .before .before .before in (
+      simp (made .ports-of .ensures) (stored (begun .args .floats .now) (floatsOf (begun .args .s)) (begun .pre .0)),
+      simp (made .ports-of .ensures) (stored (begun .args .wholes .now) (wholesOf (begun .args .s)) (begun .pre .1)),
+    )
 
 pub store-spec : {M : Type 1} → statement M
 store-spec =

@@ -16,7 +16,7 @@ abbrev Inv-loop : tie.InvT-loop
 Inv-loop out₀ input taken score player₀ wrote₀ out player wrote = (length out ≡ 65536) × Stands score player × (wrote ≡ true) × IsRead score
 
 abbrev μ-loop : tie.MeasureT-loop
-μ-loop out₀ input taken score player₀ wrote₀ out player wrote = score .frames - player .frame
+μ-loop out₀ input taken score player₀ wrote₀ out player wrote = score .head .frames - player .frame
 
 new-requires : tie.Need-new-requires Inv-loop μ-loop
 new-requires c κs = search needs
@@ -42,8 +42,7 @@ write-piece-requires c κs =
     let at = c .before .before .before .before .before .before .before in
     let begun = at .before .before .before .before in
     let s = at .loop .inv in
-    let top = begun .good .1 .1 .1 .0 in
-    let written = piece-written _ _ (s .1) (s .3) _ _ _ _ (c .before .before .before .run .ensures) (omega arith) (omega arith) (s .0) in
+    let written = piece-written _ _ (s .1) (s .3) _ _ _ _ (c .before .before .before .run .ensures) (omega arith) (s .0) in
     (begun .pre .1, written, piece-begins _ _ (s .1) (c .before .before .before .before .before .if1 .taken), s .2)
 
 same-length : tie.Need-same-length Inv-loop μ-loop

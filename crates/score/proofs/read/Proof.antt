@@ -1,7 +1,8 @@
 -- `score::read` meets its contract. Assumes nothing.
-use mathlib.Core.Path.{_∙_}
+use mathlib.Core.Path.{sym, _∙_}
 use borrow.Author.Needs.{needs}
 use borrow.Author.Tests.{lt-ltb, le-ltb}
+use Rattle.score.specs.Places.{from}
 use Rattle.score.specs.Score.{osc, linesOf, scoreOf}
 use Rattle.score.proofs.Steps.{osc-at, text-after}
 use Rattle.score.proofs.read.Statement.{statement}
@@ -23,30 +24,37 @@ osc-in-requires c κs = search needs
 enum-known-osc : tie.Need-enum-known-osc
 enum-known-osc c = search needs
 
-read-hz-requires : tie.Need-read-hz-requires
-read-hz-requires c κs = search needs
+take-head-requires : tie.Need-take-head-requires
+take-head-requires c κs = search needs
+
+read-inputs-requires : tie.Need-read-inputs-requires
+read-inputs-requires c κs = search needs
 
 enum-known-n : tie.Need-enum-known-n
 enum-known-n c = search needs
 
 returns-2 : tie.Need-returns-2
-unfolding scoreOf linesOf osc
-returns-2 c = simp (
-  le-ltb _ _ (c .before .before .before .before .before .before .before .if1 .left),
-  osc-at _ 0 _
-      (c .before .before .before .before .before .line-at .ensures) _ (c .before .before .before .before .osc-in .ensures)
-      ∙ c .before .before .osc .given .1,
-  text-after _ 0 _ _ (c .before .before .before .before .before .line-at .ensures),
-  c .read-hz .ensures,
-)
+unfolding scoreOf linesOf osc from
+returns-2 c =
+    let head = c .before .before .before in
+    let chosen = head .before .before in
+    let said = chosen .before .before in
+    let line = said .before in
+    simp (
+      le-ltb _ _ (line .before .before .if1 .left),
+      osc-at _ 0 _ (line .line-at .ensures) _ (said .osc-in .ensures) ∙ chosen .osc .given .1,
+      text-after _ 0 _ _ (line .line-at .ensures),
+    ) (c .read-inputs .ensures ∙ sym (head .take-head .ensures _))
 
 returns-3 : tie.Need-returns-3
 unfolding scoreOf linesOf osc
-returns-3 c = simp (
-  le-ltb _ _ (c .before .before .before .before .before .before .if1 .left),
-  osc-at _ 0 _
-      (c .before .before .before .before .line-at .ensures) _ (c .before .before .before .osc-in .ensures) ∙ c .before .n .given .1,
-)
+returns-3 c =
+    let said = c .before .before .before in
+    let line = said .before in
+    simp (
+      le-ltb _ _ (line .before .before .if1 .left),
+      osc-at _ 0 _ (line .line-at .ensures) _ (said .osc-in .ensures) ∙ c .before .n .given .1,
+    )
 
 pub read-spec : {M : Type 1} → statement M
 read-spec =
@@ -57,7 +65,8 @@ read-spec =
     line-at-requires
     osc-in-requires
     enum-known-osc
-    read-hz-requires
+    take-head-requires
+    read-inputs-requires
     enum-known-n
     returns-2
     returns-3)
