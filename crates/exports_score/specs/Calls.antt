@@ -2,7 +2,7 @@
 use mathlib.Core.List.{List}
 use Prim.Native.Nat.{ℕ}
 use lib.Ieee.{Float}
-use Rattle.answer.specs.Flat.{Kept, kept, keptSized}
+use Rattle.boundary.specs.Flat.{Kept, kept, keptSized}
 use Rattle.score.specs.Score.{scoreOf}
 use Rattle.score.specs.declared.Reading.{Reading}
 use Rattle.score.specs.declared.Reading.the-variants.{Values, Refused}

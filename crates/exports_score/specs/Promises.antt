@@ -3,7 +3,7 @@ use mathlib.Core.List.{List}
 use mathlib.Core.Path.{_≡_}
 use Prim.Native.Nat.{ℕ}
 use lib.Ieee.{Float}
-use Rattle.answer.specs.Flat.{Kept}
+use Rattle.boundary.specs.Flat.{Kept}
 use Rattle.laws.specs.Machine.{Settles}
 use Rattle.exports_score.specs.Calls.{scoreReadAt}
 

@@ -11,7 +11,7 @@ use score::SupersawInputs;
 use score::VcoInputs;
 ghost use mathlib.Core.Path.{_≡_};
 ghost use lib.ListN.{length};
-ghost use Rattle.answer.specs.Flat.{kept};
+ghost use Rattle.boundary.specs.Flat.{kept};
 ghost use Rattle.score.specs.declared.Inputs.the-variants as I;
 ghost use Rattle.exports_score.specs.Cells.{portsOf, floatsOf, wholesOf};
 ghost use Rattle.exports_score.specs.Calls.{keptOf, scoreReadAt};
@@ -143,7 +143,7 @@ fn put_reading(r: Reading, floats: &mut [f64], wholes: &mut [u64]) -> u32
 pub extern "C" fn gruttisol_score_read(text: &[u8], floats: &mut [f64], wholes: &mut [u64]) -> u32
     ensures { λ r. ⌜ kept r (now (floats .exit)) (now (wholes .exit)) ≡ scoreReadAt (now (text .entry)) (now (floats .entry)) (now (wholes .entry)) ⌝ }
 {
-    let n = answer::sizes(FLOATS, WHOLES, floats, wholes);
+    let n = boundary::sizes(FLOATS, WHOLES, floats, wholes);
     if n == 0 {
         put_reading(score::read(text), floats, wholes)
     } else {

@@ -2,8 +2,8 @@
 use mathlib.Core.Path.{_∙_}
 use borrow.Author.Needs.{needs}
 use borrow.Author.Tests.{ne-eqb, eq-eqb}
-use Rattle.answer.proofs.Flat.{sized}
-use Rattle.answer.specs.Flat.{keptSized}
+use Rattle.boundary.proofs.Flat.{sized}
+use Rattle.boundary.specs.Flat.{keptSized}
 use Rattle.exports_score.specs.Calls.{scoreReadAt}
 use Rattle.exports_score.proofs.gruttisol_score_read.Statement.{statement}
 use Rattle.exports_score.proofs.gruttisol_score_read.Tie as tie
