@@ -34,7 +34,7 @@ New-accepts = (rate : Hertz) (l : List Float)
     × (rateOk rate ≡ true → roomOf rate (length l) ≡ 0 → First (newStrung rate l))
 
 -- ---- no call refuses but for its own input
--- whether it takes the trigger's edge
+-- whether a tick with these controls takes the trigger's edge
 abbrev pub taken : KarplusStrong → KarplusStrongControls → Bool
 taken s c = risingOf (s .«trigger_edge») (c .trigger) .rising
 

@@ -8,18 +8,18 @@ use Rattle.karplus_strong.proofs.period_of.Tie as tie
 int-to-float-clamp : tie.Need-int-to-float-clamp
 int-to-float-clamp c =
     let sized = c .before in
-    let began = sized .before .before .before .before .before in
-    held _ (rw (sized .max-len-for .ensures) (max-len-range _ (began .pre .0) .1))
+    let start = sized .before .before .before .before .before in
+    held _ (rw (sized .max-len-for .ensures) (max-len-range _ (start .pre .0) .1))
 
 returns : tie.Need-returns
 returns c =
-    let began = c .before .before .before .before .before in
-    period-high _ _ (began .pre .0) (c .before .if1 .taken) (c .if2 .taken)
+    let start = c .before .before .before .before .before in
+    period-high _ _ (start .pre .0) (c .before .if1 .taken) (c .if2 .taken)
 
 returns-2 : tie.Need-returns-2
 returns-2 c =
-    let began = c .before .before .before .before .before in
-    period-two _ _ (began .pre .0) (began .pre .1) (c .if2 .left)
+    let start = c .before .before .before .before .before in
+    period-two _ _ (start .pre .0) (start .pre .1) (c .if2 .left)
 
 returns-3 : tie.Need-returns-3
 unfolding periodOf

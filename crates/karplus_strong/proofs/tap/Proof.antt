@@ -19,8 +19,8 @@ mul-result-2 c =
 
 shared-slice-read-result-2 : tie.Need-shared-slice-read-result-2
 shared-slice-read-result-2 c =
-    let began = c .before .before .before .before .before in
-    in-line _ _ _ _ _ (c .before .before .behind2 .ensures) (began .pre .0) (began .pre .1)
+    let start = c .before .before .before .before .before in
+    in-line _ _ _ _ _ (c .before .before .behind2 .ensures) (start .pre .0) (start .pre .1)
 
 returns : tie.Need-returns
 returns c = tap-by _ _ _ _ _ _ _ (c .before .before .before .behind .ensures) (c .before .before .behind2 .ensures)

@@ -11,13 +11,13 @@ use Rattle.karplus_strong.proofs.KarplusStrong.block.Tie as tie
 
 run-requires : tie.Need-run-requires
 run-requires c κs =
-    let passed-2 = c .before .before .before in
-    let judged-first = passed-2 .before .before .before in
+    let some-ticks = c .before .before .before in
+    let judged-first = some-ticks .before .before .before in
     let a = judged-first .before .before .before .before .before .args in
-    let judged = rw (judged-first .first-refusal .ensures) at (passed-2 .before .before .block-refusal .ensures) in
-    let f = block-fits nPorts _ (a .tally) (a .samples .now) (a .marks .now) _ judged (passed-2 .before .if1 .taken) in
-    let k = first-none _ _ _ _ _ (f .1) (passed-2 .if2 .left) in
-    let z = passed-2 .if2 .left in
+    let judged = rw (judged-first .first-refusal .ensures) at (some-ticks .before .before .block-refusal .ensures) in
+    let f = block-fits nPorts _ (a .tally) (a .samples .now) (a .marks .now) _ judged (some-ticks .before .if1 .taken) in
+    let k = first-none _ _ _ _ _ (f .1) (some-ticks .if2 .left) in
+    let z = some-ticks .if2 .left in
     (k .0, k .1, omega arith, f .0)
 
 returns : tie.Need-returns
@@ -31,7 +31,7 @@ returns c =
 returns-2 : tie.Need-returns-2
 unfolding karplusStrongBlockOf
 returns-2 c =
-    let known-5 = c .before .before .before .before .before in let ran = known-5 .before .before .before .before in
+    let ran-samples = c .before .before .before .before .before in let ran = ran-samples .before .before .before .before in
     let tested = ran .before .before .before .before .before in
     let judged-first = tested .before .before in
     let a = judged-first .before .before .before .before .before .args in

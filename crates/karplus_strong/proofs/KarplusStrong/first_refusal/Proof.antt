@@ -14,10 +14,10 @@ period-of-requires c κs =
 
 draws-refusal-requires : tie.Need-draws-refusal-requires
 draws-refusal-requires c κs =
-    let tuned = c .before .before .before in
-    let tested = tuned .before .before .before in
+    let pitched = c .before .before .before in
+    let tested = pitched .before .before .before in
     let good = accepted _ _ (sym (tested .before .refusal .ensures) ∙ tested .if1 .taken) .0 in
-    let number = memo-number _ _ _ _ (good .value) (tuned .before .finite-or .ensures) (tuned .voct-to-hz .ensures) in
+    let number = memo-number _ _ _ _ (good .value) (pitched .before .finite-or .ensures) (pitched .voct-to-hz .ensures) in
     rw (c .period-of .ensures) (period-cut _ _ (good .rate) number)
 
 returns : tie.Need-returns
@@ -27,17 +27,17 @@ returns c = simp (← c .before .before .refusal .ensures, c .before .if1 .taken
 returns-2 : tie.Need-returns-2
 unfolding firstRefusalOf triggerRefusalOf
 returns-2 c =
-    let tuned = c .before .before .before .before in
-    let passed-2 = tuned .before .before in
+    let pitched = c .before .before .before .before in
+    let some-ticks = pitched .before .before in
     simp (
-      ← passed-2 .before .before .refusal .ensures,
-      passed-2 .before .if1 .taken,
-      ne-eqb _ _ (passed-2 .if2 .left),
+      ← some-ticks .before .before .refusal .ensures,
+      some-ticks .before .if1 .taken,
+      ne-eqb _ _ (some-ticks .if2 .left),
       c .draws-refusal .ensures,
       c .before .period-of .ensures,
       c .before .before .rising .ensures,
-      tuned .voct-to-hz .ensures,
-      tuned .before .finite-or .ensures,
+      pitched .voct-to-hz .ensures,
+      pitched .before .finite-or .ensures,
     )
 
 returns-3 : tie.Need-returns-3

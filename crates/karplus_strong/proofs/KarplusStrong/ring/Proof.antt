@@ -33,25 +33,25 @@ loop-holds c = (omega arith, refl, refl, refl, joined-none _ _, over-none _ _, r
 turn-requires : tie.Need-turn-requires Inv-loop μ-loop
 turn-requires c κs =
     let looped = c .before .before in
-    let began = looped .before .before .before .before in
-    (looped .loop .inv .7, (let s = looped .loop .inv in omega arith), began .pre .2)
+    let start = looped .before .before .before .before in
+    (looped .loop .inv .7, (let s = looped .loop .inv in omega arith), start .pre .2)
 
 loop-again : tie.Need-loop-again Inv-loop μ-loop
 loop-again c =
     let put = c .before .before .before .before in
-    let known-4 = put .before .before .before .before in let looped = known-4 .before .before .before .before .before in
-    let entered = looped .before .before .before .before in
+    let turned-line = put .before .before .before .before in let looped = turned-line .before .before .before .before .before in
+    let start = looped .before .before .before .before in
     let s = looped .loop .inv in
-    let e = known-4 .before .before .turn .ensures in
+    let e = turned-line .before .before .turn .ensures in
     let p = put .put .ensures in
     let told = heard _ _ _ _ _ _ (e .0) (s .6) in
-    let n = length (entered .args .marks .now) in
+    let n = length (start .args .marks .now) in
     let r = turned-ready _ _ _ _ (e .0) (s .7) in (
       omega arith,
       omega arith,
       omega arith,
       omega arith,
-      rw (p .0) (frames-more nPorts one-port _ _ _ _ n _ _ _ (omega arith) (s .2 ∙ entered .pre .3) (s .4) told),
+      rw (p .0) (frames-more nPorts one-port _ _ _ _ n _ _ _ (omega arith) (s .2 ∙ start .pre .3) (s .4) told),
       rw (p .1) (marks-more nPorts one-port _ _ _ _ _ _ _ (omega arith) (s .5) told),
       moved _ _ _ _ _ _ _ (e .0) (e .1) (s .6),
       r .0,
@@ -69,12 +69,12 @@ same-length-3 c = c .before .loop .inv .3
 
 returns : tie.Need-returns Inv-loop μ-loop
 returns c =
-    let entered = c .before .before .before .before .before in
+    let start = c .before .before .before .before .before in
     let s = c .before .loop .inv in
-    let a = entered .args in
+    let a = start .args in
     let n = le-antisymm (s .0) (omega arith) in (
       s .6 ∙ ap (λ k. afterTicks (heldNext (a .t)) k (strung (a .self) (a .line .now))) n,
-      (frames-done nPorts one-port _ _ _ _ _ _ _ n (entered .pre .3) (s .4), marks-done nPorts one-port _ _ _ _ _ _ _ n refl (s .5)),
+      (frames-done nPorts one-port _ _ _ _ _ _ _ n (start .pre .3) (s .4), marks-done nPorts one-port _ _ _ _ _ _ _ n refl (s .5)),
     )
 
 pub ring-spec : {M : Type 1} → statement M

@@ -9,15 +9,17 @@ use Rattle.karplus_strong.proofs.KarplusStrong.strike.Tie as tie
 
 add-n : tie.Need-add-n
 add-n c =
-    let known = c .before .before .before .before .before in
+    let measured = c .before .before .before .before .before in
     let w = c .whole .ensures in
-    let q = cut-small (known .before .args .period) (subst T (sym (known .before .good .1 .0 .1)) tt) (known .before .pre .0) in
+    let q = cut-small (measured .before .args .period) (subst T (sym (measured .before .good .1 .0 .1)) tt) (measured .before .pre .0) in
     omega arith
 
 excite-requires : tie.Need-excite-requires
 excite-requires c κs =
-    let known = c .before .before .before .before .before in
-    (cut-room _ _ _ (c .before .whole .ensures) (known .before .before .pre .2), cut-room _ _ _ (c .before .whole .ensures) (known .before .before .pre .1))
+    let measured = c .before .before .before .before .before in (
+      cut-room _ _ _ (c .before .whole .ensures) (measured .before .before .pre .2),
+      cut-room _ _ _ (c .before .whole .ensures) (measured .before .before .pre .1),
+    )
 
 returns : tie.Need-returns
 returns c = strike-by _ _ _ _ _ _ _ (c .before .before .before .before .whole .ensures) (c .before .before .excite .ensures)

@@ -9,13 +9,13 @@ within-requires c κs = (zer-fin, one-fin)
 
 strike-requires : tie.Need-strike-requires
 strike-requires c κs =
-    let began = c .before .before .before .before .before in
-    (began .pre .0, draws-enough _ _ (rw (c .before .before .if1 .taken) at (began .pre .1)), began .pre .2)
+    let start = c .before .before .before .before .before in
+    (start .pre .0, draws-enough _ _ (rw (c .before .before .if1 .taken) at (start .pre .1)), start .pre .2)
 
 returns : tie.Need-returns
 returns c =
-    let bounded = c .before .before .before .before in
-    strike-taken _ _ _ _ _ _ _ _ _ (bounded .before .if1 .taken) (bounded .within .ensures) (c .before .before .strike .ensures)
+    let brightened = c .before .before .before .before in
+    strike-taken _ _ _ _ _ _ _ _ _ (brightened .before .if1 .taken) (brightened .within .ensures) (c .before .before .strike .ensures)
 
 returns-2 : tie.Need-returns-2
 returns-2 c = strike-none _ _ _ _ _ _ (c .if1 .left)
