@@ -19,8 +19,7 @@ period-of-requires : tie.Need-period-of-requires
 period-of-requires c κs =
     let bounded = c .before .before .before .before in let known-3 = bounded .before .before .before .before .before in
     let began = known-3 .before .before .before .before in
-    let good = accepted _ _ (began .pre .0) .0 in
-    (good .rate, memo-number _ _ _ _ (good .value) (c .before .before .finite-or .ensures) (c .before .voct-to-hz .ensures))
+    accepted _ _ (began .pre .0) .0 .rate
 
 tuned-requires : tie.Need-tuned-requires
 tuned-requires c κs =
@@ -113,5 +112,6 @@ returns-2 c =
 pub run-spec : {M : Type 1} → statement M
 run-spec =
     tie.close
-    (tie.spec within-requires within-requires-2 (λ c κs. search needs) (λ c κs. search needs) period-of-requires (λ c κs. search needs) tuned-requires within-requires-3
-    strike-requires ring-requires ring-requires-2 (λ c. search needs) (λ c. search needs) (λ c. search needs) returns (λ c. search needs) (λ c. search needs) (λ c. search needs) returns-2)
+    (tie.spec within-requires within-requires-2 (λ c κs. search needs) (λ c κs. search needs) period-of-requires (λ c κs. search needs) tuned-requires
+    within-requires-3 strike-requires ring-requires ring-requires-2 (λ c. search needs) (λ c. search needs) (λ c. search needs) returns (λ c. search needs)
+    (λ c. search needs) (λ c. search needs) returns-2)

@@ -14,8 +14,7 @@ within-requires-2 c κs = (minus-one-fin, one-fin)
 period-of-requires : tie.Need-period-of-requires
 period-of-requires c κs =
     let bounded = c .before .before .before .before in let known = bounded .before .before .before .before .before in
-    let good = accepted _ _ (known .before .before .pre) .0 in
-    (good .rate, memo-number _ _ _ _ (good .value) (c .before .before .finite-or .ensures) (c .before .voct-to-hz .ensures))
+    accepted _ _ (known .before .before .pre) .0 .rate
 
 draws-refusal-requires : tie.Need-draws-refusal-requires
 draws-refusal-requires c κs =
