@@ -7,10 +7,8 @@ use common::Hertz;
 use common::Memo1;
 use common::VoltsPerOctave;
 ghost use mathlib.Core.Path.{_≡_};
-ghost use mathlib.Core.Bool.{cond, not, true};
+ghost use mathlib.Core.Bool.{cond, true};
 ghost use Prim.Native.Nat.{_≤_, _<_, _+_, _-_, _*_, _%_};
-ghost use lib.Ieee.{isNan};
-ghost use lib.Dec.{T};
 ghost use lib.ListN.{length};
 ghost use Rattle.laws.specs.Float.{isFin, zer, one};
 ghost use Rattle.laws.specs.Lists.{tab};
@@ -273,18 +271,13 @@ fn tuned(period: f64, damping: f64, stretch: f64) -> Tuning
     }
 }
 
-// A period in samples, (sample_rate / freq).clamp(2.0, max_len as f64 - 1.0). From 20 Hz on it is below max_len - 1.
+// A period in samples, (sample_rate / freq).clamp(2.0, max_len as f64 - 1.0).
 fn period_of(sample_rate: Hertz, freq: Hertz) -> f64
-    requires { ⌜ (rateOk «sample_rate» ≡ true) × T (not (isNan (freq .0))) ⌝ }
+    requires { ⌜ rateOk «sample_rate» ≡ true ⌝ }
     ensures { λ r. ⌜ r ≡ periodOf «sample_rate» freq ⌝ }
 {
-    let period = sample_rate.0 / freq.0;
-    if freq.0 >= 20.0 {
-        if period >= 2.0 { period } else { 2.0 }
-    } else {
-        let max_len = KarplusStrong::max_len_for(sample_rate);
-        numeric::clamp(period, 2.0, (max_len as f64) - 1.0)
-    }
+    let max_len = KarplusStrong::max_len_for(sample_rate);
+    numeric::clamp(sample_rate.0 / freq.0, 2.0, (max_len as f64) - 1.0)
 }
 
 // A string at rest, of so many cells.

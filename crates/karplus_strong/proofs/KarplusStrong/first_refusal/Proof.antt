@@ -9,8 +9,7 @@ use Rattle.karplus_strong.proofs.KarplusStrong.first_refusal.Tie as tie
 period-of-requires : tie.Need-period-of-requires
 period-of-requires c κs =
     let tested = c .before .before .before .before .before in
-    let good = accepted _ _ (sym (tested .before .refusal .ensures) ∙ tested .if1 .taken) .0 in
-    (good .rate, memo-number _ _ _ _ (good .value) (c .before .before .before .finite-or .ensures) (c .before .before .voct-to-hz .ensures))
+    accepted _ _ (sym (tested .before .refusal .ensures) ∙ tested .if1 .taken) .0 .rate
 
 draws-refusal-requires : tie.Need-draws-refusal-requires
 draws-refusal-requires c κs =
@@ -47,4 +46,5 @@ returns-3 c = simp (← c .before .refusal .ensures, ne-eqb _ _ (c .if1 .left))
 pub first-refusal-spec : {M : Type 1} → statement M
 first-refusal-spec =
     tie.close
-    (tie.spec (λ c κs. search needs) (λ c κs. search needs) (λ c κs. search needs) (λ c κs. search needs) period-of-requires draws-refusal-requires returns returns-2 returns-3)
+    (tie.spec (λ c κs. search needs) (λ c κs. search needs) (λ c κs. search needs) (λ c κs. search needs) period-of-requires draws-refusal-requires returns
+    returns-2 returns-3)

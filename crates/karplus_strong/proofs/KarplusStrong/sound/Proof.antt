@@ -13,25 +13,24 @@ within-requires-2 c κs = (minus-one-fin, one-fin)
 
 period-of-requires : tie.Need-period-of-requires
 period-of-requires c κs =
-    let damped = c .before .before .before .before in let measured = damped .before .before .before .before .before in
-    let good = accepted _ _ (measured .before .before .pre) .0 in
-    (good .rate, memo-number _ _ _ _ (good .value) (c .before .before .finite-or .ensures) (c .before .voct-to-hz .ensures))
+    let bounded = c .before .before .before .before in let known = bounded .before .before .before .before .before in
+    accepted _ _ (known .before .before .pre) .0 .rate
 
 draws-refusal-requires : tie.Need-draws-refusal-requires
 draws-refusal-requires c κs =
-    let pitched = c .before .before .before .before in
-    let damped = pitched .before .before .before in let measured = damped .before .before .before .before .before in
-    let good = accepted _ _ (measured .before .before .pre) .0 in
-    let number = memo-number _ _ _ _ (good .value) (pitched .before .finite-or .ensures) (pitched .voct-to-hz .ensures) in
+    let tuned = c .before .before .before .before in
+    let bounded = tuned .before .before .before in let known = bounded .before .before .before .before .before in
+    let good = accepted _ _ (known .before .before .pre) .0 in
+    let number = memo-number _ _ _ _ (good .value) (tuned .before .finite-or .ensures) (tuned .voct-to-hz .ensures) in
     rw (c .before .before .period-of .ensures) (period-cut _ _ (good .rate) number)
 
 strike-if-requires : tie.Need-strike-if-requires
 strike-if-requires c κs =
     let judged-draws = c .before .before in
-    let pitched = judged-draws .before .before .before .before .before in
-    let damped = pitched .before .before .before in let measured = damped .before .before .before .before .before in
-    let good = accepted _ _ (measured .before .before .pre) in
-    let number = memo-number _ _ _ _ (good .0 .value) (pitched .before .finite-or .ensures) (pitched .voct-to-hz .ensures) in
+    let tuned = judged-draws .before .before .before .before .before in
+    let bounded = tuned .before .before .before in let known = bounded .before .before .before .before .before in
+    let good = accepted _ _ (known .before .before .pre) in
+    let number = memo-number _ _ _ _ (good .0 .value) (tuned .before .finite-or .ensures) (tuned .voct-to-hz .ensures) in
     let period = judged-draws .before .before .before .period-of .ensures in (
       rw period (period-cut _ _ (good .0 .rate) number),
       sym (judged-draws .draws-refusal .ensures) ∙ c .before .if1 .taken,
@@ -41,33 +40,31 @@ strike-if-requires c κs =
 step-requires : tie.Need-step-requires
 step-requires c κs =
     let struck-if = c .before .before .before in
-    let edged = struck-if .before .before .before .before .before in let pitched = edged .before .before .before in
-    let damped = pitched .before .before .before in
-    let measured = damped .before .before .before .before .before in
-    let good = accepted _ _ (measured .before .before .pre) in
-    let number = memo-number _ _ _ _ (good .0 .value) (pitched .before .finite-or .ensures) (pitched .voct-to-hz .ensures) in
+    let edged = struck-if .before .before .before .before .before in let tuned = edged .before .before .before in
+    let bounded = tuned .before .before .before in
+    let known = bounded .before .before .before .before .before in
+    let good = accepted _ _ (known .before .before .pre) in
+    let number = memo-number _ _ _ _ (good .0 .value) (tuned .before .finite-or .ensures) (tuned .voct-to-hz .ensures) in
     sound-ready _ _ _ _ _ _ _ _ _ _ _ _ _ _ _ (good .0) (good .1) number (edged .before .period-of .ensures) (struck-if .strike-if .ensures .0)
-    (struck-if .strike-if .kept .1 .1 .1 .1 .1 .0) (damped .within .ensures) (pitched .before .before .within2 .ensures)
+    (struck-if .strike-if .kept .1 .1 .1 .1 .1 .0) (bounded .within .ensures) (tuned .before .before .within2 .ensures)
 
 returns : tie.Need-returns
 returns c =
     let stepped = c .before .before in
     let struck-if = stepped .before .before .before .before in
     let edged = struck-if .before .before .before .before .before in
-    let pitched = edged .before .before .before in
-    sound-by _ _ _ _ _ _ _ _ _ (pitched .before .finite-or .ensures) (pitched .voct-to-hz .ensures) (edged .before .period-of .ensures) (edged .rising .ensures)
+    let tuned = edged .before .before .before in
+    sound-by _ _ _ _ _ _ _ _ _ (tuned .before .finite-or .ensures) (tuned .voct-to-hz .ensures) (edged .before .period-of .ensures) (edged .rising .ensures)
     (struck-if .before .before .before .draws-refusal .ensures) (struck-if .before .before .if1 .taken) _ _ _ _
-    (pitched .before .before .before .within .ensures) (pitched .before .before .within2 .ensures) (struck-if .strike-if .ensures) _ _
-    (stepped .step .ensures .0)
+    (tuned .before .before .before .within .ensures) (tuned .before .before .within2 .ensures) (struck-if .strike-if .ensures) _ _ (stepped .step .ensures .0)
     (stepped .step .ensures .1)
 
 returns-2 : tie.Need-returns-2
 returns-2 c =
     let edged = c .before .before .before in
-    let pitched = edged .before .before .before in
+    let tuned = edged .before .before .before in
     ticked-parts
-    (sound-no _ _ _ _ _ _ _ _ _ (pitched .before .finite-or .ensures) (pitched .voct-to-hz .ensures) (edged .before .period-of .ensures)
-    (edged .rising .ensures)
+    (sound-no _ _ _ _ _ _ _ _ _ (tuned .before .finite-or .ensures) (tuned .voct-to-hz .ensures) (edged .before .period-of .ensures) (edged .rising .ensures)
     (c .before .draws-refusal .ensures) (c .if1 .left))
 
 pub sound-spec : {M : Type 1} → statement M
