@@ -1,8 +1,8 @@
--- How many harmonics and terms a level has: at least 1, at most 64, and no fewer at a richer level.
+-- How many harmonics and terms a level has: at most 64, and no fewer at a richer level.
 use mathlib.Core.Bool.{Bool, true, false, cond}
 use mathlib.Core.Logic.{⊎-elim}
 use mathlib.Core.Path.{_≡_, subst}
-use Prim.Native.Nat.{ℕ, zero, suc, _+_, _-_, _/_, _^_, _<_, _≤_, max}
+use Prim.Native.Nat.{ℕ, zero, suc, _+_, _/_, _^_, _<_, _≤_, max}
 use native.Mathlib.Nat.{le-trans, mul-le-mul-left, le-refl, eq-or-lt-of-le, le-of-suc-le-suc}
 use native.Mathlib.Omega.{arith}
 use lib.Ieee.Nearest.{div-mono}
@@ -29,10 +29,6 @@ more-or n h = omega arith
 
 half-less : (n l : ℕ) → n / 2 ^ (suc l) ≤ n / 2 ^ l
 half-less n l = div-mono n (2 ^ suc l) n (2 ^ l) (pow-pos (suc l)) (pow-pos l) (mul-le-mul-left n (let p = pow-pos l in omega arith))
-
-pub harmonics-least : (t l : ℕ) → 0 < maxHarmonic t l
-unfolding maxHarmonic
-harmonics-least t l = omega arith
 
 pub harmonics-fall : (t l : ℕ) → maxHarmonic t (suc l) ≤ maxHarmonic t l
 unfolding maxHarmonic

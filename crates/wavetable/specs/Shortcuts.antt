@@ -3,8 +3,8 @@
 use mathlib.Core.Bool.{true, false, cond}
 use mathlib.Core.List.{List}
 use mathlib.Core.Path.{_≡_}
-use Prim.Native.Nat.{ℕ, zero, suc, _+_, _-_, _*_, _%_, _<_, _≤_}
-use lib.Dec.{eqb, leb}
+use Prim.Native.Nat.{ℕ, _+_, _*_, _%_, _<_, _≤_}
+use lib.Dec.{eqb}
 use lib.Ieee.{Float, nan, binary64, add, sub, mul, neg}
 use lib.ListN.{getD}
 use Rattle.answer.specs.Answer.{volts1}
@@ -18,7 +18,6 @@ use Rattle.numeric.specs.Basic.{wholeOf, realOf}
 use Rattle.numeric.specs.Floor.{floorOf}
 use Rattle.wavetable.specs.Bank.{harmonicOf, turned, coefOf, cellOf}
 use Rattle.wavetable.specs.Consts.{tableSize, numMips, bankSize, tableSizeReal, quarter, eighth}
-use Rattle.wavetable.specs.Harmonics.{maxHarmonic}
 use Rattle.wavetable.specs.Reads.{between, startOf, selectLevel, tablePosOf, tableIndexOf, blendOf}
 use Rattle.wavetable.specs.declared.Pair.{Pair}
 
@@ -36,12 +35,6 @@ factorOf table k =
 abbrev pub Right : ℕ → List Float → ℕ → ℕ → Type 0
 Right table part i level =
     (l m : ℕ) → l < numMips → m < tableSize → numMips * m + level ≤ numMips * i + l → getD part (tableSize * l + m) nan ≡ cellOf table l m
-
--- ---- the search for a level among whole numbers: the Rust turns each count into a float
--- of the last n levels the first with no harmonic above `most`; none gives the last
-unfoldable pub levelWithin : ℕ → ℕ → ℕ → ℕ
-levelWithin table most zero = 7
-levelWithin table most (suc n) = cond (leb (maxHarmonic table (7 - n)) most) (7 - n) (levelWithin table most n)
 
 -- ---- a tick whose sync and v_oct stand still: no edge is taken and the memo holds, so only the phase moves
 -- the two tables that table and morph ask for, at the levels for this increment

@@ -21,8 +21,8 @@ ghost use Rattle.numeric.specs.Basic.{wholeOf, realOf};
 ghost use Rattle.numeric.specs.Floor.{floorOf};
 ghost use Rattle.wavetable.specs.Consts.{nPorts, tableSize, numTables, numMips, bankSize};
 ghost use Rattle.wavetable.specs.Harmonics.{maxHarmonic};
-ghost use Rattle.wavetable.specs.Reads.{allowedOf, startOf, between, tablePosOf, tableIndexOf, blendOf};
-ghost use Rattle.wavetable.specs.Shortcuts.{levelWithin, PairFits, pairOf, mixAt, heldAnswer, heldNext};
+ghost use Rattle.wavetable.specs.Reads.{allowedOf, levelFrom, startOf, between, tablePosOf, tableIndexOf, blendOf};
+ghost use Rattle.wavetable.specs.Shortcuts.{PairFits, pairOf, mixAt, heldAnswer, heldNext};
 ghost use Rattle.wavetable.specs.Wavetable.{wavetableRefusalOf, wavetableTickRefusalOf, wavetableRateRefusalOf, wavetableSoundOf};
 ghost use Rattle.wavetable.specs.Wavetable.{wavetableNewOf, wavetableTickOf, wavetableToldOf, wavetableNextOf, wavetableBlockOf};
 ghost use Rattle.wavetable.specs.Wavetable.{wavetableResetOf, wavetableSetSampleRateOf};
@@ -101,22 +101,21 @@ fn max_harmonic(table: usize, level: usize) -> usize
     if n < 1 { 1 } else { n }
 }
 
-// The highest harmonic that stays below half the sample rate. The Rust works it out for each table and leaves it a float.
-fn allowed(phase_inc: Turns) -> usize
-    ensures { λ r. ⌜ r ≡ wholeOf (allowedOf («phase_inc» .0)) ⌝ }
+// The highest harmonic that stays below half the sample rate. The Rust works it out for each table.
+fn allowed(phase_inc: Turns) -> f64
+    ensures { λ r. ⌜ r ≡ allowedOf («phase_inc» .0) ⌝ }
 {
-    let most = numeric::floor(0.5 / numeric::max(numeric::fabs(phase_inc.0), 1e-9));
-    numeric::to_usize(most)
+    numeric::floor(0.5 / numeric::max(numeric::fabs(phase_inc.0), 1e-9))
 }
 
 // The first level of a table whose harmonics are all allowed, or else the last.
-fn select_level(table: usize, most: usize) -> usize
+fn select_level(table: usize, allowed: f64) -> usize
     requires { ⌜ table < numTables ⌝ }
-    ensures { λ r. ⌜ r ≡ levelWithin table most numMips ⌝ }
+    ensures { λ r. ⌜ r ≡ levelFrom table allowed numMips ⌝ }
 {
     let mut level = 0;
     while level < NUM_MIPS {
-        if max_harmonic(table, level) <= most {
+        if real(max_harmonic(table, level)) <= allowed {
             return level;
         }
         level += 1;
@@ -188,9 +187,9 @@ fn choose(table: f64, morph: f64, phase_inc: Turns) -> Pair
 {
     let pos = table_pos(table);
     let index = table_index(pos);
-    let most = allowed(phase_inc);
-    let first0 = start(index, select_level(index, most));
-    let first1 = start(index + 1, select_level(index + 1, most));
+    let allowed = allowed(phase_inc);
+    let first0 = start(index, select_level(index, allowed));
+    let first1 = start(index + 1, select_level(index + 1, allowed));
     Pair {
         first0,
         first1,

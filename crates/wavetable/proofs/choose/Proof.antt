@@ -1,7 +1,7 @@
 use native.Mathlib.Omega.{arith}
 use borrow.Author.Needs.{needs}
 use Rattle.wavetable.proofs.Accepted.{index-few}
-use Rattle.wavetable.proofs.Levels.{select-is}
+use Rattle.wavetable.specs.Reads.{selectLevel}
 use Rattle.wavetable.specs.Shortcuts.{pairOf}
 use Rattle.wavetable.proofs.choose.Statement.{statement}
 use Rattle.wavetable.proofs.choose.Tie as tie
@@ -19,7 +19,7 @@ select-level-requires-2 : tie.Need-select-level-requires-2
 select-level-requires-2 c κs = let k = index-few _ _ (c .before .before .before .table-index .ensures) in omega arith
 
 returns : tie.Need-returns
-unfolding pairOf
+unfolding pairOf selectLevel
 returns c =
     let selected = c .before .before .before .before in
     simp (
@@ -31,7 +31,6 @@ returns c =
       selected .before .allowed .ensures,
       selected .before .before .table-index .ensures,
       selected .before .before .before .table-pos .ensures,
-      select-is,
     )
 
 pub choose-spec : {M : Type 1} → statement M
