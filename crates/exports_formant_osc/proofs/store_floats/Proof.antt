@@ -23,7 +23,7 @@ store-cells-requires-2 : tie.Need-store-cells-requires-2
 store-cells-requires-2 c κs =
     let stored = c .before .before .before .before in
     let lent = stored .before .before .before .before .before in let ready = lent .before .before .before .before .before in
-    let a : length (ready .before .before .args .s .«coef_memo» .val) ≡ 15 = search needs in
+    let a : length (ready .before .before .args .s .«coef_memo» .val) ≡ 15 = search (needs, ready .before .before .good .0 .1 .1 .1 .1 .1 .1 .1 .0) in
     room _ _ _ _ (stored .store-cells .kept .1 .1 .0 ∙ ready .before .before .pre) a (lit≤ tt)
 
 slice-write-floats : tie.Need-slice-write-floats
@@ -59,8 +59,8 @@ returns c =
     let stored = filled .before .before .before .before .before in
     let lent = stored .before .before in let ready = lent .before .before .before .before .before in
     let entered = ready .before .before .before .before .before in
-    let a : length (entered .args .s .«resonator_state») ≡ 10 = search needs in
-    let g = entered .good .0 .1 .1 .1 .1 .1 .1 .1 .0 in
+    let a : length (entered .args .s .«resonator_state») ≡ 10 = search (needs, entered .good .0 .1 .1 .1 .1 .0) in
+    let g = entered .good .0 .1 .1 .1 .1 .1 .1 .1 .0 .1 .1 .1 .1 .1 .0 in
     let b : length (entered .args .s .«coef_memo» .val) ≡ 15 = search (needs, g) in
     all-stored (entered .args .s) (entered .args .floats .now) _ _ (entered .pre) a b (stored .store-cells .ensures)
     (filled .store-cells2 .ensures)
