@@ -14,7 +14,8 @@ use Rattle.player.proofs.Worked.{worked}
 use Rattle.examples.specs.Table.{Examples, _also_, none}
 
 pub examples : Examples
-unfolding wrapOf floorOf polyblepOf drawOf bipolarOf thresholdOf risesAbove risingAboveOf risingOf fracAbove crossedAboveOf crossedOf maxLenOf maxHarmonic allowedOf levelFrom selectLevel offsetOne offsetTwo tablePosOf tableIndexOf blendOf fabsOf clampOf minOf maxOf sub mul div le isNan ofInt toUnsigned ofBits
+unfolding wrapOf floorOf polyblepOf drawOf bipolarOf thresholdOf risesAbove risingAboveOf risingOf fracAbove crossedAboveOf crossedOf maxLenOf maxHarmonic
+    allowedOf levelFrom selectLevel offsetOne offsetTwo tablePosOf tableIndexOf blendOf fabsOf clampOf minOf maxOf sub mul div le isNan ofInt toUnsigned ofBits
 examples =
     refl also refl also refl
     also refl also refl

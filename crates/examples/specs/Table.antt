@@ -106,7 +106,9 @@ Holds (edge prev v at) =
 Holds (maxLen hz cells) = maxLenOf (record { 0 = realOf hz }) ≡ cells
 Holds (level n inc selected) = selectLevel n inc ≡ selected
 Holds (offsets len delay one two) = _≡_ {A = ℕ × ℕ} (offsetOne len delay, offsetTwo len delay) (one, two)
-Holds (blend control morph index share) = let pos = tablePosOf control in _≡_ {A = ℕ × Float} (tableIndexOf pos, blendOf pos (tableIndexOf pos) morph) (index, share)
+Holds (blend control morph index share) =
+    let pos = tablePosOf control in
+    _≡_ {A = ℕ × Float} (tableIndexOf pos, blendOf pos (tableIndexOf pos) morph) (index, share)
 Holds (render text prints) = renderOf (ascii text) ≡ ascii prints
 
 -- each row holds

@@ -27,7 +27,8 @@ last : (k m b : ℕ) → 0 < m → 48 ≤ b → b ≤ 57 → decimalOf (suc k) (
 last k m b h l g =
     let e : (m * 10 + (b - 48)) / 10 ≡ m = omega arith in
     let f : 48 + (m * 10 + (b - 48)) % 10 ≡ b = omega arith in
-    large k (m * 10 + (b - 48)) (omega arith) ∙ ap (λ (i : ℕ). decimalOf k i ++ ((48 + (m * 10 + (b - 48)) % 10) ∷ [])) e ∙ ap (λ (i : ℕ). decimalOf k m ++ (i ∷ [])) f
+    large k (m * 10 + (b - 48)) (omega arith) ∙ ap (λ (i : ℕ). decimalOf k i ++ ((48 + (m * 10 + (b - 48)) % 10) ∷ [])) e
+    ∙ ap (λ (i : ℕ). decimalOf k m ++ (i ∷ [])) f
 
 -- digits read after those of m, of which there are k at most
 data After (k m : ℕ) (xs : List ℕ) : Number → Type 0 where
@@ -41,7 +42,8 @@ module _ (k m b : ℕ) (bs : List ℕ) (h : 0 < m) where
       right n (ap (λ (j : ℕ). decimalOf j n) i ∙ e ∙ ap (λ (l : List ℕ). l ++ bs) (last k m b h l g) ∙ append-assoc (decimalOf k m) (b ∷ []) bs)
   digit l g wrong = wrong
 
-  byte : (x : Number) (t u : Bool) → ltb b 48 ≡ t → ltb 57 b ≡ u → After (suc k) (m * 10 + (b - 48)) bs x → After k m (b ∷ bs) (cond t Malformed (cond u Malformed x))
+  byte : (x : Number) (t u : Bool) → ltb b 48 ≡ t → ltb 57 b ≡ u → After (suc k) (m * 10 + (b - 48)) bs x
+      → After k m (b ∷ bs) (cond t Malformed (cond u Malformed x))
   byte x true u et eu r = wrong
   byte x false true et eu r = wrong
   byte x false false et eu r = digit (ltb-false b 48 et) (ltb-false 57 b eu) r
@@ -62,10 +64,12 @@ module _ (b : ℕ) (bs : List ℕ) where
   run l g s (right n e) =
       let i : 12 ≡ suc (11 - length bs) + length bs = omega arith in
       let f : 48 + (0 * 10 + (b - 48)) ≡ b = omega arith in
-      digits n (ap (λ (j : ℕ). decimalOf j n) i ∙ e ∙ ap (λ (l : List ℕ). l ++ bs) (small (11 - length bs) (0 * 10 + (b - 48)) (omega arith) ∙ ap (λ (j : ℕ). j ∷ []) f))
+      digits n (ap (λ (j : ℕ). decimalOf j n) i ∙ e
+      ∙ ap (λ (l : List ℕ). l ++ bs) (small (11 - length bs) (0 * 10 + (b - 48)) (omega arith) ∙ ap (λ (j : ℕ). j ∷ []) f))
   run l g s wrong = none
 
-  bytes : (t u : Bool) → ltb b 48 ≡ t → ltb 57 b ≡ u → (b ≡ 48 → ⊥) → length bs ≤ 11 → Digits (b ∷ bs) (cond t Malformed (cond u Malformed (digitsFrom (0 * 10 + (b - 48)) bs)))
+  bytes : (t u : Bool) → ltb b 48 ≡ t → ltb 57 b ≡ u → (b ≡ 48 → ⊥) → length bs ≤ 11
+      → Digits (b ∷ bs) (cond t Malformed (cond u Malformed (digitsFrom (0 * 10 + (b - 48)) bs)))
   bytes true u et eu ne s = none
   bytes false true et eu ne s = none
   bytes false false et eu ne s =

@@ -124,11 +124,13 @@ module _ (x b : ℕ) (bs : List ℕ) where
   take-step true h = refl
   take-step false h = ap (λ (l : List ℕ). b ∷ l) h
 
-  drop-step : (e : Bool) → drop (suc (length (untilOf x bs))) bs ≡ pastOf x bs → drop (suc (length (cond e [] (b ∷ untilOf x bs)))) (b ∷ bs) ≡ cond e bs (pastOf x bs)
+  drop-step : (e : Bool) → drop (suc (length (untilOf x bs))) bs ≡ pastOf x bs
+      → drop (suc (length (cond e [] (b ∷ untilOf x bs)))) (b ∷ bs) ≡ cond e bs (pastOf x bs)
   drop-step true h = refl
   drop-step false h = h
 
-  has-step : (e : Bool) → hasOf x bs ≡ ltb (length (untilOf x bs)) (length bs) → cond e true (hasOf x bs) ≡ ltb (length (cond e [] (b ∷ untilOf x bs))) (length (b ∷ bs))
+  has-step : (e : Bool) → hasOf x bs ≡ ltb (length (untilOf x bs)) (length bs)
+      → cond e true (hasOf x bs) ≡ ltb (length (cond e [] (b ∷ untilOf x bs))) (length (b ∷ bs))
   has-step true h = sym (lt-ltb 0 (suc (length bs)) (omega arith))
   has-step false h = h ∙ sym (leb·suc-suc (suc (length (untilOf x bs))) (length bs))
 
@@ -172,7 +174,8 @@ pub after-line : (s : List ℕ) (at n : ℕ) → n ≡ nextOf s at → afterLine
 after-line s at n e = sym (next-rest s at) ∙ ap (λ (i : ℕ). drop i s) (sym e)
 
 -- the parts of a text that has the byte make the text
-split-step : (x b : ℕ) (bs : List ℕ) (e : Bool) → eqb b x ≡ e → (hasOf x bs ≡ true → untilOf x bs ++ (x ∷ pastOf x bs) ≡ bs) → cond e true (hasOf x bs) ≡ true → cond e [] (b ∷ untilOf x bs) ++ (x ∷ cond e bs (pastOf x bs)) ≡ b ∷ bs
+split-step : (x b : ℕ) (bs : List ℕ) (e : Bool) → eqb b x ≡ e → (hasOf x bs ≡ true → untilOf x bs ++ (x ∷ pastOf x bs) ≡ bs) → cond e true (hasOf x bs) ≡ true
+    → cond e [] (b ∷ untilOf x bs) ++ (x ∷ cond e bs (pastOf x bs)) ≡ b ∷ bs
 split-step x b bs true e f p = ap (λ (i : ℕ). i ∷ bs) (sym (eqb-true b x e))
 split-step x b bs false e f p = ap (λ (l : List ℕ). b ∷ l) (f p)
 
@@ -186,7 +189,8 @@ pub line-split : (key t : List ℕ) → isLine key t ≡ true → key ++ (61 ∷
 unfolding isLine keyOf valueOf lineOf afterLine
 line-split key t p = tests (hasOf 10 t) (hasOf 61 (untilOf 10 t)) refl refl p
   where
-    tests : (a b : Bool) → hasOf 10 t ≡ a → hasOf 61 (untilOf 10 t) ≡ b → cond a (cond b (sameOf (untilOf 61 (untilOf 10 t)) key) false) false ≡ true → key ++ (61 ∷ (pastOf 61 (untilOf 10 t) ++ (10 ∷ pastOf 10 t))) ≡ t
+    tests : (a b : Bool) → hasOf 10 t ≡ a → hasOf 61 (untilOf 10 t) ≡ b → cond a (cond b (sameOf (untilOf 61 (untilOf 10 t)) key) false) false ≡ true
+        → key ++ (61 ∷ (pastOf 61 (untilOf 10 t) ++ (10 ∷ pastOf 10 t))) ≡ t
     tests true true ea eb p =
         ap (λ (l : List ℕ). l ++ (61 ∷ (pastOf 61 (untilOf 10 t) ++ (10 ∷ pastOf 10 t)))) (sym (same-equal (untilOf 61 (untilOf 10 t)) key p))
         ∙ sym (append-assoc (untilOf 61 (untilOf 10 t)) (61 ∷ pastOf 61 (untilOf 10 t)) (10 ∷ pastOf 10 t))

@@ -1,4 +1,5 @@
--- One line of a score: what its value says, or the number of its refusal: 21 where the line isn't this one, 22 for a bad number form, 23 for a number out of range.
+-- One line of a score: what its value says, or the number of its refusal: 21 where the line isn't this one, 22 for a bad number form, 23 for a number out of
+-- range.
 -- Assumes nothing.
 use Prim.Native.Nat.{ℕ}
 use mathlib.Core.List.{List}

@@ -5,20 +5,8 @@ use Rattle.exports_formant_osc.specs.Calls.{formantOscNewAt}
 use Rattle.exports_formant_osc.proofs.gruttisol_formant_osc_new.Statement.{statement}
 use Rattle.exports_formant_osc.proofs.gruttisol_formant_osc_new.Tie as tie
 
-sizes-requires : tie.Need-sizes-requires
-sizes-requires c κs = search needs
-
-new-requires : tie.Need-new-requires
-new-requires c κs = search needs
-
 put-made-requires : tie.Need-put-made-requires
 put-made-requires c κs = sized _ _ _ _ _ (c .before .before .before .before .sizes .ensures) (c .before .before .before .if1 .taken)
-
-same-length : tie.Need-same-length
-same-length c = search needs
-
-same-length-2 : tie.Need-same-length-2
-same-length-2 c = search needs
 
 returns : tie.Need-returns
 unfolding formantOscNewAt
@@ -29,12 +17,6 @@ returns c =
     kept-done _ _ _ _ _ (tested .before .sizes .ensures) (tested .if1 .taken) _ _
     (stored .put-made .ensures ∙ simp (made .new .ensures))
 
-same-length-3 : tie.Need-same-length-3
-same-length-3 c = search needs
-
-same-length-4 : tie.Need-same-length-4
-same-length-4 c = search needs
-
 returns-2 : tie.Need-returns-2
 unfolding formantOscNewAt
 returns-2 c = kept-refused _ _ _ _ _ (c .before .sizes .ensures) (c .if1 .left) _
@@ -43,12 +25,12 @@ pub gruttisol-formant-osc-new-spec : {M : Type 1} → statement M
 gruttisol-formant-osc-new-spec =
     tie.close
     (tie.spec
-    sizes-requires
-    new-requires
+    (λ c κs. search needs)
+    (λ c κs. search needs)
     put-made-requires
-    same-length
-    same-length-2
+    (λ c. search needs)
+    (λ c. search needs)
     returns
-    same-length-3
-    same-length-4
+    (λ c. search needs)
+    (λ c. search needs)
     returns-2)

@@ -3,24 +3,6 @@ use borrow.Author.Needs.{needs}
 use Rattle.exports_formant_osc.proofs.put_made.Statement.{statement}
 use Rattle.exports_formant_osc.proofs.put_made.Tie as tie
 
-enum-told : tie.Need-enum-told
-enum-told c = search needs
-
-store-floats-requires : tie.Need-store-floats-requires
-store-floats-requires c κs = search needs
-
-store-wholes-requires : tie.Need-store-wholes-requires
-store-wholes-requires c κs = search needs
-
-enum-known-outcome : tie.Need-enum-known-outcome
-enum-known-outcome c = search needs
-
-same-length : tie.Need-same-length
-same-length c = search needs
-
-same-length-2 : tie.Need-same-length-2
-same-length-2 c = search needs
-
 returns : tie.Need-returns
 unfolding keptBy
 returns c =
@@ -36,11 +18,11 @@ pub put-made-spec : {M : Type 1} → statement M
 put-made-spec =
     tie.close
     (tie.spec
-    enum-told
-    store-floats-requires
-    store-wholes-requires
-    enum-known-outcome
-    same-length
-    same-length-2
+    (λ c. search needs)
+    (λ c κs. search needs)
+    (λ c κs. search needs)
+    (λ c. search needs)
+    (λ c. search needs)
+    (λ c. search needs)
     returns
     returns-2)

@@ -20,27 +20,6 @@ abbrev μ-loop : tie.MeasureT-loop
 loop-holds : tie.Need-loop-holds Inv-loop μ-loop
 loop-holds c = (omega arith, c .pre, refl, paste-zero (c .args .floats .now) (c .args .at) (c .args .cells .now))
 
-mul-floats : tie.Need-mul-floats Inv-loop μ-loop
-mul-floats c = omega arith
-
-shared-slice-read-floats : tie.Need-shared-slice-read-floats Inv-loop μ-loop
-shared-slice-read-floats c = omega arith
-
-add-floats : tie.Need-add-floats Inv-loop μ-loop
-add-floats c = omega arith
-
-mul-floats-2 : tie.Need-mul-floats-2 Inv-loop μ-loop
-mul-floats-2 c = omega arith
-
-slice-write-floats : tie.Need-slice-write-floats Inv-loop μ-loop
-slice-write-floats c = omega arith
-
-add-i : tie.Need-add-i Inv-loop μ-loop
-add-i c = omega arith
-
-loop-less : tie.Need-loop-less Inv-loop μ-loop
-loop-less c = omega arith
-
 loop-again : tie.Need-loop-again Inv-loop μ-loop
 loop-again c =
     let s = c .before .before .loop .inv in
@@ -68,13 +47,13 @@ store-cells-spec =
     Inv-loop
     μ-loop
     loop-holds
-    mul-floats
-    shared-slice-read-floats
-    add-floats
-    mul-floats-2
-    slice-write-floats
-    add-i
-    loop-less
+    (λ c. omega arith)
+    (λ c. omega arith)
+    (λ c. omega arith)
+    (λ c. omega arith)
+    (λ c. omega arith)
+    (λ c. omega arith)
+    (λ c. omega arith)
     loop-again
     same-length
     returns)

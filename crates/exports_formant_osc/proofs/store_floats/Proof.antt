@@ -7,17 +7,11 @@ use Rattle.exports_formant_osc.proofs.Stores.{room, all-stored}
 use Rattle.exports_formant_osc.proofs.store_floats.Statement.{statement}
 use Rattle.exports_formant_osc.proofs.store_floats.Tie as tie
 
-slice-aggregate-store-cells : tie.Need-slice-aggregate-store-cells
-slice-aggregate-store-cells c = search needs
-
 store-cells-requires : tie.Need-store-cells-requires
 store-cells-requires c κs =
     let ready = c .before .before .before .before .before in let known = ready .before .before .before .before .before in
     let a : length (known .before .args .s .«resonator_state») ≡ 10 = search needs in
     room _ _ _ _ (known .before .pre) a (lit≤ tt)
-
-slice-aggregate-store-cells-2 : tie.Need-slice-aggregate-store-cells-2
-slice-aggregate-store-cells-2 c = search needs
 
 store-cells-requires-2 : tie.Need-store-cells-requires-2
 store-cells-requires-2 c κs =
@@ -25,9 +19,6 @@ store-cells-requires-2 c κs =
     let lent = stored .before .before .before .before .before in let ready = lent .before .before .before .before .before in
     let a : length (ready .before .before .args .s .«coef_memo» .val) ≡ 15 = search (needs, ready .before .before .good .0 .1 .1 .1 .1 .1 .1 .1 .0) in
     room _ _ _ _ (stored .store-cells .kept .1 .1 .0 ∙ ready .before .before .pre) a (lit≤ tt)
-
-slice-write-floats : tie.Need-slice-write-floats
-slice-write-floats c = search needs
 
 slice-write-floats-2 : tie.Need-slice-write-floats-2
 slice-write-floats-2 c =
@@ -67,5 +58,5 @@ returns c =
 
 pub store-floats-spec : {M : Type 1} → statement M
 store-floats-spec = tie.close
-    (tie.spec slice-aggregate-store-cells store-cells-requires slice-aggregate-store-cells-2 store-cells-requires-2 slice-write-floats slice-write-floats-2
+    (tie.spec (λ c. search needs) store-cells-requires (λ c. search needs) store-cells-requires-2 (λ c. search needs) slice-write-floats-2
     slice-write-floats-3 slice-write-floats-4 same-length returns)

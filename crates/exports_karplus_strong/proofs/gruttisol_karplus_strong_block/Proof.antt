@@ -5,22 +5,10 @@ use Rattle.exports_karplus_strong.proofs.CallLaws.{rung-done, rung-unco
 use Rattle.exports_karplus_strong.proofs.gruttisol_karplus_strong_block.Statement.{statement}
 use Rattle.exports_karplus_strong.proofs.gruttisol_karplus_strong_block.Tie as tie
 
-sizes-requires : tie.Need-sizes-requires
-sizes-requires c κs = search needs
-
-tally-of-requires : tie.Need-tally-of-requires
-tally-of-requires c κs = search needs
-
-enum-known-given : tie.Need-enum-known-given
-enum-known-given c = search needs
-
 state-requires : tie.Need-state-requires
 state-requires c κs =
     let found-tally = c .before .before .before .before .before in
     sized _ _ _ _ _ (found-tally .before .before .before .sizes .ensures) (found-tally .before .before .if1 .taken)
-
-block-requires : tie.Need-block-requires
-block-requires c κs = search needs
 
 put-block-requires : tie.Need-put-block-requires
 put-block-requires c κs =
@@ -29,27 +17,6 @@ put-block-requires c κs =
     let tested = taken .before .before .before .before in
     let z = sized _ _ _ _ _ (tested .before .sizes .ensures) (tested .if1 .taken) in
     (z .0, z .1, all-counts _ _ _ (taken .before .before .tally-of .ensures) (taken .given .given .1))
-
-enum-known-given-2 : tie.Need-enum-known-given-2
-enum-known-given-2 c = search needs
-
-same-length : tie.Need-same-length
-same-length c = search needs
-
-same-length-2 : tie.Need-same-length-2
-same-length-2 c = search needs
-
-same-length-3 : tie.Need-same-length-3
-same-length-3 c = search needs
-
-same-length-4 : tie.Need-same-length-4
-same-length-4 c = search needs
-
-same-length-5 : tie.Need-same-length-5
-same-length-5 c = search needs
-
-same-length-6 : tie.Need-same-length-6
-same-length-6 c = search needs
 
 returns : tie.Need-returns
 unfolding karplusStrongBlockAt
@@ -62,27 +29,12 @@ returns c =
     rung-done _ _ _ _ (tested .before .sizes .ensures) _ _ _ _ (tested .if1 .taken) _ _ _ _ (taken .before .before .tally-of .ensures) (taken .given .given .1)
     (rw (loaded .state .ensures) at (played .block .ensures)) (put .put-block .ensures _ _ _)
 
-same-length-7 : tie.Need-same-length-7
-same-length-7 c = search needs
-
-same-length-8 : tie.Need-same-length-8
-same-length-8 c = search needs
-
-same-length-9 : tie.Need-same-length-9
-same-length-9 c = search needs
-
 returns-2 : tie.Need-returns-2
 unfolding karplusStrongBlockAt
 returns-2 c =
     let tested = c .before .before .before .before .before in
     rung-uncounted _ _ _ _ (tested .before .sizes .ensures) _ _ _ _ (tested .if1 .taken) _ _ (c .before .before .before .tally-of .ensures)
     (c .before .given2 .given .1)
-
-same-length-10 : tie.Need-same-length-10
-same-length-10 c = search needs
-
-same-length-11 : tie.Need-same-length-11
-same-length-11 c = search needs
 
 returns-3 : tie.Need-returns-3
 unfolding karplusStrongBlockAt
@@ -91,6 +43,8 @@ returns-3 c = rung-refused _ _ _ _ (c .before .sizes .ensures) _ _ _ _ (c .if1 .
 pub gruttisol-karplus-strong-block-spec : {M : Type 1} → statement M
 gruttisol-karplus-strong-block-spec =
     tie.close
-    (tie.spec sizes-requires tally-of-requires enum-known-given state-requires block-requires put-block-requires enum-known-given-2 same-length same-length-2
-    same-length-3 same-length-4 same-length-5 same-length-6 returns same-length-7 same-length-8 same-length-9 returns-2 same-length-10 same-length-11
+    (tie.spec (λ c κs. search needs) (λ c κs. search needs) (λ c. search needs) state-requires (λ c κs. search needs) put-block-requires (λ c. search needs)
+    (λ c. search needs) (λ c. search needs)
+    (λ c. search needs) (λ c. search needs) (λ c. search needs) (λ c. search needs) returns (λ c. search needs) (λ c. search needs)
+    (λ c. search needs) returns-2 (λ c. search needs) (λ c. search needs)
     returns-3)

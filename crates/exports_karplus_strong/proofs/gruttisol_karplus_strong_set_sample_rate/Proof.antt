@@ -6,28 +6,13 @@ use Rattle.exports_karplus_strong.specs.Calls.{karplusStrongSetSampleRat
 use Rattle.exports_karplus_strong.proofs.gruttisol_karplus_strong_set_sample_rate.Statement.{statement}
 use Rattle.exports_karplus_strong.proofs.gruttisol_karplus_strong_set_sample_rate.Tie as tie
 
-sizes-requires : tie.Need-sizes-requires
-sizes-requires c κs = search needs
-
 state-requires : tie.Need-state-requires
 state-requires c κs = sized _ _ _ _ _ (c .before .before .before .sizes .ensures) (c .before .before .if1 .taken)
-
-set-sample-rate-requires : tie.Need-set-sample-rate-requires
-set-sample-rate-requires c κs = search needs
 
 put-made-requires : tie.Need-put-made-requires
 put-made-requires c κs =
     let retuned = c .before .before .before .before in let tested = retuned .before .before .before .before .before in
     sized _ _ _ _ _ (tested .before .sizes .ensures) (tested .if1 .taken)
-
-same-length : tie.Need-same-length
-same-length c = search needs
-
-same-length-2 : tie.Need-same-length-2
-same-length-2 c = search needs
-
-same-length-3 : tie.Need-same-length-3
-same-length-3 c = search needs
 
 returns : tie.Need-returns
 unfolding karplusStrongSetSampleRateAt
@@ -39,12 +24,6 @@ returns c =
     (put .put-made .ensures ∙ simp (retuned .set-sample-rate .ensures .0, retuned .before .before .state .ensures))
     (rw (retuned .before .before .state .ensures) at (retuned .set-sample-rate .ensures .1))
 
-same-length-4 : tie.Need-same-length-4
-same-length-4 c = search needs
-
-same-length-5 : tie.Need-same-length-5
-same-length-5 c = search needs
-
 returns-2 : tie.Need-returns-2
 unfolding karplusStrongSetSampleRateAt
 returns-2 c = left-refused _ _ _ _ (c .before .sizes .ensures) (c .if1 .left) _
@@ -52,5 +31,6 @@ returns-2 c = left-refused _ _ _ _ (c .before .sizes .ensures) (c .if1 .left) _
 pub gruttisol-karplus-strong-set-sample-rate-spec : {M : Type 1} → statement M
 gruttisol-karplus-strong-set-sample-rate-spec =
     tie.close
-    (tie.spec sizes-requires state-requires set-sample-rate-requires put-made-requires same-length same-length-2 same-length-3 returns same-length-4
-    same-length-5 returns-2)
+    (tie.spec (λ c κs. search needs) state-requires (λ c κs. search needs) put-made-requires (λ c. search needs) (λ c. search needs)
+    (λ c. search needs) returns (λ c. search needs)
+    (λ c. search needs) returns-2)

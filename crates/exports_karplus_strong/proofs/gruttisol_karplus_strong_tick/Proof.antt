@@ -6,16 +6,10 @@ use Rattle.exports_karplus_strong.specs.Calls.{karplusStrongTickAt}
 use Rattle.exports_karplus_strong.proofs.gruttisol_karplus_strong_tick.Statement.{statement}
 use Rattle.exports_karplus_strong.proofs.gruttisol_karplus_strong_tick.Tie as tie
 
-tick-sizes-requires : tie.Need-tick-sizes-requires
-tick-sizes-requires c κs = search needs
-
 state-requires : tie.Need-state-requires
 state-requires c κs =
     let z = tick-sized _ _ _ _ _ _ _ (c .before .before .before .tick-sizes .ensures) (c .before .before .if1 .taken) in
     (z .0, z .1)
-
-tick-requires : tie.Need-tick-requires
-tick-requires c κs = search needs
 
 put-ticked-requires : tie.Need-put-ticked-requires
 put-ticked-requires c κs =
@@ -23,18 +17,6 @@ put-ticked-requires c κs =
     let tested = ticked .before .before .before .before .before in
     let z = tick-sized _ _ _ _ _ _ _ (tested .before .tick-sizes .ensures) (tested .if1 .taken) in
     (z .0, z .1, z .2, rate-stands _ _ _ _ _ _ _ (ticked .before .before .state .ensures) (ticked .tick .ensures .0))
-
-same-length : tie.Need-same-length
-same-length c = search needs
-
-same-length-2 : tie.Need-same-length-2
-same-length-2 c = search needs
-
-same-length-3 : tie.Need-same-length-3
-same-length-3 c = search needs
-
-same-length-4 : tie.Need-same-length-4
-same-length-4 c = search needs
 
 returns : tie.Need-returns
 unfolding karplusStrongTickAt
@@ -46,15 +28,6 @@ returns c =
     (ready .before .put-ticked .ensures ∙ simp (ticked .tick .ensures .0, ticked .before .before .state .ensures))
     (rw (ticked .before .before .state .ensures) at (ticked .tick .ensures .1))
 
-same-length-5 : tie.Need-same-length-5
-same-length-5 c = search needs
-
-same-length-6 : tie.Need-same-length-6
-same-length-6 c = search needs
-
-same-length-7 : tie.Need-same-length-7
-same-length-7 c = search needs
-
 returns-2 : tie.Need-returns-2
 unfolding karplusStrongTickAt
 returns-2 c = sounded-refused _ _ _ _ _ (c .before .tick-sizes .ensures) (c .if1 .left) _
@@ -62,5 +35,6 @@ returns-2 c = sounded-refused _ _ _ _ _ (c .before .tick-sizes .ensures) (c .if1
 pub gruttisol-karplus-strong-tick-spec : {M : Type 1} → statement M
 gruttisol-karplus-strong-tick-spec =
     tie.close
-    (tie.spec tick-sizes-requires state-requires tick-requires put-ticked-requires same-length same-length-2 same-length-3 same-length-4 returns same-length-5
-    same-length-6 same-length-7 returns-2)
+    (tie.spec (λ c κs. search needs) state-requires (λ c κs. search needs) put-ticked-requires (λ c. search needs) (λ c. search needs) (λ c. search needs)
+    (λ c. search needs) returns (λ c. search needs)
+    (λ c. search needs) (λ c. search needs) returns-2)

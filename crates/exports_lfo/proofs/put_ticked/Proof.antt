@@ -44,5 +44,6 @@ returns-2 c = simp (c .before .before .host-number .ensures, ← c .before .is-a
 
 pub put-ticked-spec : {M : Type 1} → statement M
 put-ticked-spec = tie.close
-    (tie.spec (λ c κs. search needs) (λ c κs. search needs) (λ c κs. search needs) (λ c κs. search needs) (λ c. search needs) slice-write-samples-2 slice-write-samples-3
+    (tie.spec (λ c κs. search needs) (λ c κs. search needs) (λ c κs. search needs) (λ c κs. search needs)
+    (λ c. search needs) slice-write-samples-2 slice-write-samples-3
     slice-write-samples-4 slice-write-samples-5 (λ c. search needs) (λ c. search needs) (λ c. search needs) returns returns-2)

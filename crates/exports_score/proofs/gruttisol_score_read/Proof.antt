@@ -8,20 +8,8 @@ use Rattle.exports_score.specs.Calls.{scoreReadAt}
 use Rattle.exports_score.proofs.gruttisol_score_read.Statement.{statement}
 use Rattle.exports_score.proofs.gruttisol_score_read.Tie as tie
 
-sizes-requires : tie.Need-sizes-requires
-sizes-requires c κs = search needs
-
-read-requires : tie.Need-read-requires
-read-requires c κs = search needs
-
 put-reading-requires : tie.Need-put-reading-requires
 put-reading-requires c κs = sized _ _ _ _ _ (c .before .before .before .before .sizes .ensures) (c .before .before .before .if1 .taken)
-
-same-length : tie.Need-same-length
-same-length c = search needs
-
-same-length-2 : tie.Need-same-length-2
-same-length-2 c = search needs
 
 returns : tie.Need-returns
 unfolding scoreReadAt keptSized
@@ -29,12 +17,6 @@ returns c =
     let put = c .before .before .before .before in
     let read = put .before .before .before in
     put .put-reading .ensures ∙ simp (← read .before .before .sizes .ensures, eq-eqb _ _ (read .before .if1 .taken), read .read .ensures)
-
-same-length-3 : tie.Need-same-length-3
-same-length-3 c = search needs
-
-same-length-4 : tie.Need-same-length-4
-same-length-4 c = search needs
 
 returns-2 : tie.Need-returns-2
 unfolding scoreReadAt keptSized
@@ -44,12 +26,12 @@ pub gruttisol-score-read-spec : {M : Type 1} → statement M
 gruttisol-score-read-spec =
     tie.close
     (tie.spec
-    sizes-requires
-    read-requires
+    (λ c κs. search needs)
+    (λ c κs. search needs)
     put-reading-requires
-    same-length
-    same-length-2
+    (λ c. search needs)
+    (λ c. search needs)
     returns
-    same-length-3
-    same-length-4
+    (λ c. search needs)
+    (λ c. search needs)
     returns-2)

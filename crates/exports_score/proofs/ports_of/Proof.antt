@@ -2,30 +2,6 @@ use borrow.Author.Needs.{needs}
 use Rattle.exports_score.proofs.ports_of.Statement.{statement}
 use Rattle.exports_score.proofs.ports_of.Tie as tie
 
-enum-known-inputs : tie.Need-enum-known-inputs
-enum-known-inputs c = search needs
-
-vco-ports-requires : tie.Need-vco-ports-requires
-vco-ports-requires c κs = search needs
-
-enum-known-inputs-2 : tie.Need-enum-known-inputs-2
-enum-known-inputs-2 c = search needs
-
-lfo-ports-requires : tie.Need-lfo-ports-requires
-lfo-ports-requires c κs = search needs
-
-enum-known-inputs-3 : tie.Need-enum-known-inputs-3
-enum-known-inputs-3 c = search needs
-
-supersaw-ports-requires : tie.Need-supersaw-ports-requires
-supersaw-ports-requires c κs = search needs
-
-enum-known-inputs-4 : tie.Need-enum-known-inputs-4
-enum-known-inputs-4 c = search needs
-
-formant-ports-requires : tie.Need-formant-ports-requires
-formant-ports-requires c κs = search needs
-
 returns : tie.Need-returns
 returns c = simp (c .vco-ports .ensures, c .before .before .inputs .given .1)
 
@@ -42,14 +18,14 @@ pub ports-of-spec : {M : Type 1} → statement M
 ports-of-spec =
     tie.close
     (tie.spec
-    enum-known-inputs
-    vco-ports-requires
-    enum-known-inputs-2
-    lfo-ports-requires
-    enum-known-inputs-3
-    supersaw-ports-requires
-    enum-known-inputs-4
-    formant-ports-requires
+    (λ c. search needs)
+    (λ c κs. search needs)
+    (λ c. search needs)
+    (λ c κs. search needs)
+    (λ c. search needs)
+    (λ c κs. search needs)
+    (λ c. search needs)
+    (λ c κs. search needs)
     returns
     returns-2
     returns-3

@@ -34,5 +34,6 @@ returns-2 c = simp (c .before .before .host-number .ensures, ← c .before .is-a
 
 pub put-ticked-spec : {M : Type 1} → statement M
 put-ticked-spec = tie.close
-    (tie.spec (λ c κs. search needs) (λ c κs. search needs) (λ c κs. search needs) (λ c κs. search needs) (λ c. search needs) slice-write-samples-2 (λ c. search needs) (λ c. search needs)
+    (tie.spec (λ c κs. search needs) (λ c κs. search needs) (λ c κs. search needs) (λ c κs. search needs) (λ c. search needs) slice-write-samples-2
+    (λ c. search needs) (λ c. search needs)
     (λ c. search needs) returns returns-2)

@@ -3,21 +3,6 @@ use borrow.Author.Needs.{needs}
 use Rattle.exports_vco.proofs.put_made.Statement.{statement}
 use Rattle.exports_vco.proofs.put_made.Tie as tie
 
-enum-told : tie.Need-enum-told
-enum-told c = search needs
-
-store-requires : tie.Need-store-requires
-store-requires c κs = search needs
-
-enum-known-outcome : tie.Need-enum-known-outcome
-enum-known-outcome c = search needs
-
-same-length : tie.Need-same-length
-same-length c = search needs
-
-same-length-2 : tie.Need-same-length-2
-same-length-2 c = search needs
-
 returns : tie.Need-returns
 unfolding keptBy
 returns c =
@@ -33,10 +18,10 @@ pub put-made-spec : {M : Type 1} → statement M
 put-made-spec =
     tie.close
     (tie.spec
-    enum-told
-    store-requires
-    enum-known-outcome
-    same-length
-    same-length-2
+    (λ c. search needs)
+    (λ c κs. search needs)
+    (λ c. search needs)
+    (λ c. search needs)
+    (λ c. search needs)
     returns
     returns-2)

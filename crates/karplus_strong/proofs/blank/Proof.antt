@@ -41,4 +41,5 @@ returns c =
     (le-antisymm (s .1) (c .loop-test .left))
 
 pub blank-spec : {M : Type 1} → statement M
-blank-spec = tie.close (tie.spec Inv-loop μ-loop loop-holds (λ c. omega arith) (λ c. omega arith) (λ c. omega arith) (λ c. omega arith) loop-again same-length returns)
+blank-spec =
+    tie.close (tie.spec Inv-loop μ-loop loop-holds (λ c. omega arith) (λ c. omega arith) (λ c. omega arith) (λ c. omega arith) loop-again same-length returns)

@@ -26,4 +26,5 @@ returns : tie.Need-returns
 returns c = tap-by _ _ _ _ _ _ _ (c .before .before .before .behind .ensures) (c .before .before .behind2 .ensures)
 
 pub tap-spec : {M : Type 1} → statement M
-tap-spec = tie.close (tie.spec (λ c κs. search needs) (λ c. search needs) (λ c κs. search needs) mul-result shared-slice-read-result mul-result-2 shared-slice-read-result-2 returns)
+tap-spec = tie.close (tie.spec (λ c κs. search needs) (λ c. search needs)
+    (λ c κs. search needs) mul-result shared-slice-read-result mul-result-2 shared-slice-read-result-2 returns)

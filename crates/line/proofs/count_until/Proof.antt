@@ -14,23 +14,17 @@ Inv-loop t byte i₀ i = (i ≤ length t) × (i + length (untilOf byte (drop i t
 abbrev μ-loop : tie.MeasureT-loop
 μ-loop t byte i₀ i = length t - i
 
-loop-holds : tie.Need-loop-holds Inv-loop μ-loop
-loop-holds c = omega arith
-
-shared-slice-read-if1 : tie.Need-shared-slice-read-if1 Inv-loop μ-loop
-shared-slice-read-if1 c = search needs
-
 returns : tie.Need-returns Inv-loop μ-loop
-returns c = omega (arith, ap length (until-here (c .before .before .before .before .args .t .now) (c .before .before .before .loop .i) (c .before .before .loop-test .taken) (c .before .before .before .before .args .byte) (c .if1 .taken)))
-
-add-i : tie.Need-add-i Inv-loop μ-loop
-add-i c = search needs
-
-loop-less : tie.Need-loop-less Inv-loop μ-loop
-loop-less c = search needs
+returns c =
+    let going = c .before .before in
+    let entered = going .before .before in
+    omega (arith, ap length (until-here (entered .args .t .now) (going .before .loop .i) (going .loop-test .taken) (entered .args .byte) (c .if1 .taken)))
 
 loop-again : tie.Need-loop-again Inv-loop μ-loop
-loop-again c = omega (arith, ap length (until-next (c .before .before .before .before .args .t .now) (c .before .before .before .loop .i) (c .before .before .loop-test .taken) (c .before .before .before .before .args .byte) (c .if1 .left)))
+loop-again c =
+    let going = c .before .before in
+    let entered = going .before .before in
+    omega (arith, ap length (until-next (entered .args .t .now) (going .before .loop .i) (going .loop-test .taken) (entered .args .byte) (c .if1 .left)))
 
 returns-2 : tie.Need-returns-2 Inv-loop μ-loop
 returns-2 c = omega (arith, ap length (until-end (c .before .before .args .t .now) (c .before .loop .i) (c .before .before .args .byte) (c .loop-test .left)))
@@ -41,10 +35,10 @@ count-until-spec =
     (tie.spec
     Inv-loop
     μ-loop
-    loop-holds
-    shared-slice-read-if1
+    (λ c. omega arith)
+    (λ c. search needs)
     returns
-    add-i
-    loop-less
+    (λ c. search needs)
+    (λ c. search needs)
     loop-again
     returns-2)

@@ -25,29 +25,31 @@ returns-2 : tie.Need-returns-2 Inv-loop μ-loop
 unfolding digitsOf
 returns-2 c = simp (ne-eqb _ _ (c .before .if1 .left), lt-ltb _ _ (c .if2 .taken))
 
-shared-slice-read-if3 : tie.Need-shared-slice-read-if3 Inv-loop μ-loop
-shared-slice-read-if3 c = search needs
-
 returns-3 : tie.Need-returns-3 Inv-loop μ-loop
 unfolding digitsOf
-returns-3 c = simp (ne-eqb _ _ (c .before .before .before .before .if1 .left), le-ltb _ _ (c .before .before .before .if2 .left), eq-eqb _ _ (c .before .if3 .taken), eq-eqb _ _ (c .if4 .taken))
+returns-3 c =
+    let passed-2 = c .before .before .before in
+    simp (ne-eqb _ _ (passed-2 .before .if1 .left), le-ltb _ _ (passed-2 .if2 .left), eq-eqb _ _ (c .before .if3 .taken), eq-eqb _ _ (c .if4 .taken))
 
 returns-4 : tie.Need-returns-4 Inv-loop μ-loop
 unfolding digitsOf
-returns-4 c = simp (ne-eqb _ _ (c .before .before .before .before .if1 .left), le-ltb _ _ (c .before .before .before .if2 .left), eq-eqb _ _ (c .before .if3 .taken), ne-eqb _ _ (c .if4 .left))
+returns-4 c =
+    let passed-2 = c .before .before .before in
+    simp (ne-eqb _ _ (passed-2 .before .if1 .left), le-ltb _ _ (passed-2 .if2 .left), eq-eqb _ _ (c .before .if3 .taken), ne-eqb _ _ (c .if4 .left))
 
 loop-holds : tie.Need-loop-holds Inv-loop μ-loop
 unfolding digitsOf
-loop-holds c = (search needs, (search needs, simp (ne-eqb _ _ (c .before .before .before .if1 .left), le-ltb _ _ (c .before .before .if2 .left), ne-eqb _ _ (c .if3 .left))))
-
-shared-slice-read-b : tie.Need-shared-slice-read-b Inv-loop μ-loop
-shared-slice-read-b c = search needs
+loop-holds c = (
+  search needs,
+  (search needs, simp (ne-eqb _ _ (c .before .before .before .if1 .left), le-ltb _ _ (c .before .before .if2 .left), ne-eqb _ _ (c .if3 .left))),
+)
 
 returns-5 : tie.Need-returns-5 Inv-loop μ-loop
 returns-5 c = sym (c .before .before .before .loop .inv .1 .1 ∙ digits-low _ _ (c .before .before .loop-test .taken) _ (c .if5 .taken))
 
 returns-6 : tie.Need-returns-6 Inv-loop μ-loop
-returns-6 c = sym (c .before .before .before .before .loop .inv .1 .1 ∙ digits-high _ _ (c .before .before .before .loop-test .taken) _ (c .before .if5 .left) (c .if6 .taken))
+returns-6 c = sym (c .before .before .before .before .loop .inv .1 .1
+    ∙ digits-high _ _ (c .before .before .before .loop-test .taken) _ (c .before .if5 .left) (c .if6 .taken))
 
 -- the number so far, with fewer than 12 digits
 below12 : (c : tie.Else6 Inv-loop μ-loop) → c .before .before .before .before .loop .size < 10 ^ 12
@@ -56,17 +58,8 @@ below12 c = twelve _ (c .before .before .before .before .loop .i) (c .before .be
 mul-size : tie.Need-mul-size Inv-loop μ-loop
 mul-size c = omega (arith, below12 c)
 
-cast-size : tie.Need-cast-size Inv-loop μ-loop
-cast-size c = omega arith
-
 add-size : tie.Need-add-size Inv-loop μ-loop
 add-size c = omega (arith, below12 c)
-
-add-i : tie.Need-add-i Inv-loop μ-loop
-add-i c = search needs
-
-loop-less : tie.Need-loop-less Inv-loop μ-loop
-loop-less c = search needs
 
 loop-again : tie.Need-loop-again Inv-loop μ-loop
 loop-again c = (
@@ -88,17 +81,17 @@ digits-of-spec =
     μ-loop
     returns
     returns-2
-    shared-slice-read-if3
+    (λ c. search needs)
     returns-3
     returns-4
     loop-holds
-    shared-slice-read-b
+    (λ c. search needs)
     returns-5
     returns-6
     mul-size
-    cast-size
+    (λ c. omega arith)
     add-size
-    add-i
-    loop-less
+    (λ c. search needs)
+    (λ c. search needs)
     loop-again
     returns-7)

@@ -7,24 +7,6 @@ use Rattle.line.proofs.Laws.{rest-of}
 use Rattle.line.proofs.from.Statement.{statement}
 use Rattle.line.proofs.from.Tie as tie
 
-sub-result : tie.Need-sub-result
-sub-result c = search needs
-
-part-result-start : tie.Need-part-result-start
-part-result-start c = search needs
-
-part-result-end : tie.Need-part-result-end
-part-result-end c = search needs
-
-sub-result-2 : tie.Need-sub-result-2
-sub-result-2 c = search needs
-
-part-result-start-2 : tie.Need-part-result-start-2
-part-result-start-2 c = search needs
-
-part-result-end-2 : tie.Need-part-result-end-2
-part-result-end-2 c = search needs
-
 returns : tie.Need-returns
 returns c = rest-of (c .before .before .args .t .now) (c .before .before .args .at)
 
@@ -35,11 +17,11 @@ pub from-spec : {M : Type 1} → statement M
 from-spec =
     tie.close
     (tie.spec
-    sub-result
-    part-result-start
-    part-result-end
-    sub-result-2
-    part-result-start-2
-    part-result-end-2
+    (λ c. search needs)
+    (λ c. search needs)
+    (λ c. search needs)
+    (λ c. search needs)
+    (λ c. search needs)
+    (λ c. search needs)
     returns
     returns-2)

@@ -4,11 +4,8 @@ use Rattle.line.proofs.Laws.{has-until}
 use Rattle.line.proofs.has.Statement.{statement}
 use Rattle.line.proofs.has.Tie as tie
 
-count-until-requires : tie.Need-count-until-requires
-count-until-requires c κs = search needs
-
 returns : tie.Need-returns
 returns c = simp (c .count-until .ensures, has-until)
 
 pub has-spec : {M : Type 1} → statement M
-has-spec = tie.close (tie.spec count-until-requires returns)
+has-spec = tie.close (tie.spec (λ c κs. search needs) returns)

@@ -6,18 +6,9 @@ use Rattle.line.specs.Line.{lineOf, valueOf}
 use Rattle.line.proofs.line_value.Statement.{statement}
 use Rattle.line.proofs.line_value.Tie as tie
 
-from-requires : tie.Need-from-requires
-from-requires c κs = search needs
-
-until-requires : tie.Need-until-requires
-until-requires c κs = search needs
-
-past-requires : tie.Need-past-requires
-past-requires c κs = search needs
-
 returns : tie.Need-returns
 unfolding valueOf lineOf
 returns c = c .past .ensures ∙ ap (pastOf 61) (c .before .until .ensures ∙ ap (untilOf 10) (c .before .before .from .ensures))
 
 pub line-value-spec : {M : Type 1} → statement M
-line-value-spec = tie.close (tie.spec from-requires until-requires past-requires returns)
+line-value-spec = tie.close (tie.spec (λ c κs. search needs) (λ c κs. search needs) (λ c κs. search needs) returns)

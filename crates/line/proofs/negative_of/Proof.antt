@@ -5,15 +5,6 @@ use Rattle.line.specs.Number.{negativeOf}
 use Rattle.line.proofs.negative_of.Statement.{statement}
 use Rattle.line.proofs.negative_of.Tie as tie
 
-enum-known-n : tie.Need-enum-known-n
-enum-known-n c = search needs
-
-enum-told : tie.Need-enum-told
-enum-told c = search needs
-
-enum-told-2 : tie.Need-enum-told-2
-enum-told-2 c = search needs
-
 returns : tie.Need-returns
 unfolding negativeOf
 returns c = simp (c .before .before .n .given .1, eq-eqb _ _ (c .if1 .taken))
@@ -32,4 +23,4 @@ returns-4 c = simp (c .enum-told2 .given .1)
 
 pub negative-of-spec : {M : Type 1} → statement M
 negative-of-spec =
-    tie.close (tie.spec enum-known-n enum-told enum-told-2 returns returns-2 returns-3 returns-4)
+    tie.close (tie.spec (λ c. search needs) (λ c. search needs) (λ c. search needs) returns returns-2 returns-3 returns-4)

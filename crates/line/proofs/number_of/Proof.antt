@@ -5,15 +5,6 @@ use Rattle.line.specs.Number.{numberOf}
 use Rattle.line.proofs.number_of.Statement.{statement}
 use Rattle.line.proofs.number_of.Tie as tie
 
-slice-aggregate-same : tie.Need-slice-aggregate-same
-slice-aggregate-same c = search needs
-
-same-requires : tie.Need-same-requires
-same-requires c κs = search needs
-
-signed-of-requires : tie.Need-signed-of-requires
-signed-of-requires c κs = search needs
-
 returns : tie.Need-returns
 unfolding numberOf
 returns c = simp (sym (c .before .same .ensures) ∙ c .if1 .taken)
@@ -24,4 +15,4 @@ returns-2 c = simp (sym (c .before .before .same .ensures) ∙ c .before .if1 .l
 
 pub number-of-spec : {M : Type 1} → statement M
 number-of-spec =
-    tie.close (tie.spec slice-aggregate-same same-requires signed-of-requires returns returns-2)
+    tie.close (tie.spec (λ c. search needs) (λ c κs. search needs) (λ c κs. search needs) returns returns-2)

@@ -6,17 +6,11 @@ use Rattle.line.proofs.Laws.{past-part, until-short}
 use Rattle.line.proofs.past.Statement.{statement}
 use Rattle.line.proofs.past.Tie as tie
 
-count-until-requires : tie.Need-count-until-requires
-count-until-requires c κs = search needs
-
 add-from : tie.Need-add-from
 add-from c = omega (arith, c .count-until .ensures, until-short (c .before .before .args .byte) (c .before .before .args .t .now))
-
-from-requires : tie.Need-from-requires
-from-requires c κs = search needs
 
 returns : tie.Need-returns
 returns c = c .from .ensures ∙ past-part _ _ _ (c .before .count-until .ensures)
 
 pub past-spec : {M : Type 1} → statement M
-past-spec = tie.close (tie.spec count-until-requires add-from from-requires returns)
+past-spec = tie.close (tie.spec (λ c κs. search needs) add-from (λ c κs. search needs) returns)

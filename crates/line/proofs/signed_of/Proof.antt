@@ -11,30 +11,16 @@ returns : tie.Need-returns
 unfolding signedOf
 returns c = simp (eq-eqb _ _ (c .if1 .taken))
 
-shared-slice-read-if2 : tie.Need-shared-slice-read-if2
-shared-slice-read-if2 c = search needs
-
-sub-digits-of : tie.Need-sub-digits-of
-sub-digits-of c = search needs
-
-part-digits-of-start : tie.Need-part-digits-of-start
-part-digits-of-start c = search needs
-
-part-digits-of-end : tie.Need-part-digits-of-end
-part-digits-of-end c = search needs
-
-digits-of-requires : tie.Need-digits-of-requires
-digits-of-requires c κs = search needs
-
-negative-of-requires : tie.Need-negative-of-requires
-negative-of-requires c κs = search needs
-
-digits-of-requires-2 : tie.Need-digits-of-requires-2
-digits-of-requires-2 c κs = search needs
-
 returns-2 : tie.Need-returns-2
 unfolding signedOf
-returns-2 c = simp (ne-eqb _ _ (c .before .before .before .before .before .if1 .left), eq-eqb _ _ (c .before .before .before .if2 .taken), ap digitsOf (sym (rest-of (c .before .before .before .before .before .before .before .args .v .now) 1)) ∙ sym (c .before .digits-of .ensures), c .negative-of .ensures)
+returns-2 c =
+    let passed = c .before .before .before .before .before in
+    simp (
+      ne-eqb _ _ (passed .if1 .left),
+      eq-eqb _ _ (c .before .before .before .if2 .taken),
+      ap digitsOf (sym (rest-of (passed .before .before .args .v .now) 1)) ∙ sym (c .before .digits-of .ensures),
+      c .negative-of .ensures,
+    )
 
 returns-3 : tie.Need-returns-3
 unfolding signedOf
@@ -45,12 +31,12 @@ signed-of-spec =
     tie.close
     (tie.spec
     returns
-    shared-slice-read-if2
-    sub-digits-of
-    part-digits-of-start
-    part-digits-of-end
-    digits-of-requires
-    negative-of-requires
-    digits-of-requires-2
+    (λ c. search needs)
+    (λ c. search needs)
+    (λ c. search needs)
+    (λ c. search needs)
+    (λ c κs. search needs)
+    (λ c κs. search needs)
+    (λ c κs. search needs)
     returns-2
     returns-3)

@@ -6,9 +6,6 @@ use Rattle.line.proofs.Laws.{until-part}
 use Rattle.line.proofs.until.Statement.{statement}
 use Rattle.line.proofs.until.Tie as tie
 
-count-until-requires : tie.Need-count-until-requires
-count-until-requires c κs = search needs
-
 slice-aggregate-result : tie.Need-slice-aggregate-result
 slice-aggregate-result c = c .before .count-until .ensures ∙ ap length (sym (until-part _ _ _ (c .before .count-until .ensures)))
 
@@ -16,4 +13,4 @@ returns : tie.Need-returns
 returns c = until-part _ _ _ (c .before .count-until .ensures)
 
 pub until-spec : {M : Type 1} → statement M
-until-spec = tie.close (tie.spec count-until-requires slice-aggregate-result returns)
+until-spec = tie.close (tie.spec (λ c κs. search needs) slice-aggregate-result returns)

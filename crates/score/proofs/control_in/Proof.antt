@@ -4,9 +4,6 @@ use Rattle.score.specs.Places.{controlIn}
 use Rattle.score.proofs.control_in.Statement.{statement}
 use Rattle.score.proofs.control_in.Tie as tie
 
-control-of-requires : tie.Need-control-of-requires
-control-of-requires c κs = search needs
-
 returns : tie.Need-returns
 unfolding controlIn
 returns c = simp (c .before .if1 .taken, c .control-of .ensures)
@@ -16,4 +13,4 @@ unfolding controlIn
 returns-2 c = simp (c .if1 .left)
 
 pub control-in-spec : {M : Type 1} → statement M
-control-in-spec = tie.close (tie.spec control-of-requires returns returns-2)
+control-in-spec = tie.close (tie.spec (λ c κs. search needs) returns returns-2)

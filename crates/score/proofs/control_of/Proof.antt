@@ -7,23 +7,8 @@ use Rattle.score.specs.Lines.{controlOf}
 use Rattle.score.proofs.control_of.Statement.{statement}
 use Rattle.score.proofs.control_of.Tie as tie
 
-enum-known-n : tie.Need-enum-known-n
-enum-known-n c = search needs
-
-cast-t9 : tie.Need-cast-t9
-cast-t9 c = search needs
-
 sub-t10 : tie.Need-sub-t10
 sub-t10 c = minus-fits _ (c .before .if1 .left) (lit≤ tt)
-
-cast-t12 : tie.Need-cast-t12
-cast-t12 c = search needs
-
-enum-told : tie.Need-enum-told
-enum-told c = search needs
-
-enum-told-2 : tie.Need-enum-told-2
-enum-told-2 c = search needs
 
 returns : tie.Need-returns
 unfolding controlOf
@@ -49,12 +34,12 @@ pub control-of-spec : {M : Type 1} → statement M
 control-of-spec =
     tie.close
     (tie.spec
-    enum-known-n
-    cast-t9
+    (λ c. search needs)
+    (λ c. search needs)
     sub-t10
-    cast-t12
-    enum-told
-    enum-told-2
+    (λ c. search needs)
+    (λ c. search needs)
+    (λ c. search needs)
     returns
     returns-2
     returns-3

@@ -8,12 +8,6 @@ use Rattle.score.specs.Score.{endOf}
 use Rattle.score.proofs.end.Statement.{statement}
 use Rattle.score.proofs.end.Tie as tie
 
-enum-known-place : tie.Need-enum-known-place
-enum-known-place c = search needs
-
-enum-known-place-2 : tie.Need-enum-known-place-2
-enum-known-place-2 c = search needs
-
 returns : tie.Need-returns
 unfolding from endOf
 returns c = simp (c .before .before .place .given .1, length-drop, eq-eqb _ _ (text-ended _ _ (c .if1 .taken)))
@@ -27,4 +21,4 @@ unfolding from endOf
 returns-3 c = simp (c .before .place2 .given .1)
 
 pub end-spec : {M : Type 1} → statement M
-end-spec = tie.close (tie.spec enum-known-place enum-known-place-2 returns returns-2 returns-3)
+end-spec = tie.close (tie.spec (λ c. search needs) (λ c. search needs) returns returns-2 returns-3)

@@ -4,15 +4,9 @@ use Rattle.score.specs.Places.{lineOf}
 use Rattle.score.proofs.line_of.Statement.{statement}
 use Rattle.score.proofs.line_of.Tie as tie
 
-osc-of-requires : tie.Need-osc-of-requires
-osc-of-requires c κs = search needs
-
-number-of-requires : tie.Need-number-of-requires
-number-of-requires c κs = search needs
-
 returns : tie.Need-returns
 unfolding lineOf
 returns c = simp (c .before .osc-of .ensures, c .number-of .ensures)
 
 pub line-of-spec : {M : Type 1} → statement M
-line-of-spec = tie.close (tie.spec osc-of-requires number-of-requires returns)
+line-of-spec = tie.close (tie.spec (λ c κs. search needs) (λ c κs. search needs) returns)

@@ -5,64 +5,69 @@ use Rattle.score.specs.Lines.{oscOf}
 use Rattle.score.proofs.osc_of.Statement.{statement}
 use Rattle.score.proofs.osc_of.Tie as tie
 
-slice-aggregate-same : tie.Need-slice-aggregate-same
-slice-aggregate-same c = search needs
-
-same-requires : tie.Need-same-requires
-same-requires c κs = search needs
-
 returns : tie.Need-returns
 unfolding oscOf
 returns c = simp (sym (c .before .same .ensures) ∙ c .if1 .taken)
 
-slice-aggregate-same-2 : tie.Need-slice-aggregate-same-2
-slice-aggregate-same-2 c = search needs
-
-same-requires-2 : tie.Need-same-requires-2
-same-requires-2 c κs = search needs
-
 returns-2 : tie.Need-returns-2
 unfolding oscOf
-returns-2 c = simp (sym (c .before .before .before .before .same .ensures) ∙ c .before .before .before .if1 .left, sym (c .before .same2 .ensures) ∙ c .if2 .taken)
-
-slice-aggregate-same-3 : tie.Need-slice-aggregate-same-3
-slice-aggregate-same-3 c = search needs
-
-same-requires-3 : tie.Need-same-requires-3
-same-requires-3 c κs = search needs
+returns-2 c =
+    simp (sym (c .before .before .before .before .same .ensures) ∙ c .before .before .before .if1 .left, sym (c .before .same2 .ensures) ∙ c .if2 .taken)
 
 returns-3 : tie.Need-returns-3
 unfolding oscOf
-returns-3 c = simp (sym (c .before .before .before .before .before .before .before .same .ensures) ∙ c .before .before .before .before .before .before .if1 .left, sym (c .before .before .before .before .same2 .ensures) ∙ c .before .before .before .if2 .left, sym (c .before .same3 .ensures) ∙ c .if3 .taken)
-
-slice-aggregate-same-4 : tie.Need-slice-aggregate-same-4
-slice-aggregate-same-4 c = search needs
-
-same-requires-4 : tie.Need-same-requires-4
-same-requires-4 c κs = search needs
+returns-3 c =
+    let passed-2 = c .before .before .before in
+    let passed = passed-2 .before .before .before in
+    simp (
+      sym (passed .before .same .ensures) ∙ passed .if1 .left,
+      sym (passed-2 .before .same2 .ensures)
+          ∙ passed-2 .if2 .left,
+      sym (c .before .same3 .ensures) ∙ c .if3 .taken,
+    )
 
 returns-4 : tie.Need-returns-4
 unfolding oscOf
-returns-4 c = simp (sym (c .before .before .before .before .before .before .before .before .before .before .same .ensures) ∙ c .before .before .before .before .before .before .before .before .before .if1 .left, sym (c .before .before .before .before .before .before .before .same2 .ensures) ∙ c .before .before .before .before .before .before .if2 .left, sym (c .before .before .before .before .same3 .ensures) ∙ c .before .before .before .if3 .left, sym (c .before .same4 .ensures) ∙ c .if4 .taken)
+returns-4 c =
+    let passed-3 = c .before .before .before in
+    let passed-2 = passed-3 .before .before .before in
+    let passed = passed-2 .before .before .before in
+    simp (
+      sym (passed .before .same .ensures) ∙ passed .if1 .left,
+      sym (passed-2 .before .same2 .ensures)
+          ∙ passed-2 .if2 .left,
+      sym (passed-3 .before .same3 .ensures) ∙ passed-3 .if3 .left,
+      sym (c .before .same4 .ensures) ∙ c .if4 .taken,
+    )
 
 returns-5 : tie.Need-returns-5
 unfolding oscOf
-returns-5 c = simp (sym (c .before .before .before .before .before .before .before .before .before .before .same .ensures) ∙ c .before .before .before .before .before .before .before .before .before .if1 .left, sym (c .before .before .before .before .before .before .before .same2 .ensures) ∙ c .before .before .before .before .before .before .if2 .left, sym (c .before .before .before .before .same3 .ensures) ∙ c .before .before .before .if3 .left, sym (c .before .same4 .ensures) ∙ c .if4 .left)
+returns-5 c =
+    let passed-3 = c .before .before .before in
+    let passed-2 = passed-3 .before .before .before in
+    let passed = passed-2 .before .before .before in
+    simp (
+      sym (passed .before .same .ensures) ∙ passed .if1 .left,
+      sym (passed-2 .before .same2 .ensures)
+          ∙ passed-2 .if2 .left,
+      sym (passed-3 .before .same3 .ensures) ∙ passed-3 .if3 .left,
+      sym (c .before .same4 .ensures) ∙ c .if4 .left,
+    )
 
 pub osc-of-spec : {M : Type 1} → statement M
 osc-of-spec =
     tie.close
     (tie.spec
-    slice-aggregate-same
-    same-requires
+    (λ c. search needs)
+    (λ c κs. search needs)
     returns
-    slice-aggregate-same-2
-    same-requires-2
+    (λ c. search needs)
+    (λ c κs. search needs)
     returns-2
-    slice-aggregate-same-3
-    same-requires-3
+    (λ c. search needs)
+    (λ c κs. search needs)
     returns-3
-    slice-aggregate-same-4
-    same-requires-4
+    (λ c. search needs)
+    (λ c κs. search needs)
     returns-4
     returns-5)

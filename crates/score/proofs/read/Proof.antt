@@ -12,27 +12,6 @@ returns : tie.Need-returns
 unfolding scoreOf
 returns c = simp (lt-ltb _ _ (c .if1 .taken))
 
-slice-aggregate-line-at : tie.Need-slice-aggregate-line-at
-slice-aggregate-line-at c = search needs
-
-line-at-requires : tie.Need-line-at-requires
-line-at-requires c κs = search needs
-
-osc-in-requires : tie.Need-osc-in-requires
-osc-in-requires c κs = search needs
-
-enum-known-osc : tie.Need-enum-known-osc
-enum-known-osc c = search needs
-
-take-head-requires : tie.Need-take-head-requires
-take-head-requires c κs = search needs
-
-read-inputs-requires : tie.Need-read-inputs-requires
-read-inputs-requires c κs = search needs
-
-enum-known-n : tie.Need-enum-known-n
-enum-known-n c = search needs
-
 returns-2 : tie.Need-returns-2
 unfolding scoreOf linesOf osc from
 returns-2 c =
@@ -61,12 +40,12 @@ read-spec =
     tie.close
     (tie.spec
     returns
-    slice-aggregate-line-at
-    line-at-requires
-    osc-in-requires
-    enum-known-osc
-    take-head-requires
-    read-inputs-requires
-    enum-known-n
+    (λ c. search needs)
+    (λ c κs. search needs)
+    (λ c κs. search needs)
+    (λ c. search needs)
+    (λ c κs. search needs)
+    (λ c κs. search needs)
+    (λ c. search needs)
     returns-2
     returns-3)

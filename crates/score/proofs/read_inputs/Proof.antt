@@ -3,30 +3,6 @@ use borrow.Author.Needs.{needs}
 use Rattle.score.proofs.read_inputs.Statement.{statement}
 use Rattle.score.proofs.read_inputs.Tie as tie
 
-enum-told : tie.Need-enum-told
-enum-told c = search needs
-
-read-vco-requires : tie.Need-read-vco-requires
-read-vco-requires c κs = search needs
-
-enum-told-2 : tie.Need-enum-told-2
-enum-told-2 c = search needs
-
-read-lfo-requires : tie.Need-read-lfo-requires
-read-lfo-requires c κs = search needs
-
-enum-told-3 : tie.Need-enum-told-3
-enum-told-3 c = search needs
-
-read-supersaw-requires : tie.Need-read-supersaw-requires
-read-supersaw-requires c κs = search needs
-
-enum-told-4 : tie.Need-enum-told-4
-enum-told-4 c = search needs
-
-read-formant-requires : tie.Need-read-formant-requires
-read-formant-requires c κs = search needs
-
 returns : tie.Need-returns
 returns c = simp (c .before .enum-told .given .1, c .read-vco .ensures)
 
@@ -43,14 +19,14 @@ pub read-inputs-spec : {M : Type 1} → statement M
 read-inputs-spec =
     tie.close
     (tie.spec
-    enum-told
-    read-vco-requires
-    enum-told-2
-    read-lfo-requires
-    enum-told-3
-    read-supersaw-requires
-    enum-told-4
-    read-formant-requires
+    (λ c. search needs)
+    (λ c κs. search needs)
+    (λ c. search needs)
+    (λ c κs. search needs)
+    (λ c. search needs)
+    (λ c κs. search needs)
+    (λ c. search needs)
+    (λ c κs. search needs)
     returns
     returns-2
     returns-3

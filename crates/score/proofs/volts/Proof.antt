@@ -7,15 +7,6 @@ use Rattle.score.specs.Control.{voltsOf}
 use Rattle.score.proofs.volts.Statement.{statement}
 use Rattle.score.proofs.volts.Tie as tie
 
-enum-known-c : tie.Need-enum-known-c
-enum-known-c c = search needs
-
-int-to-float-result : tie.Need-int-to-float-result
-int-to-float-result c = search needs
-
-enum-told : tie.Need-enum-told
-enum-told c = search needs
-
 returns : tie.Need-returns
 unfolding voltsOf
 returns c = simp (c .before .before .c .given .1, toZ-ofZ w32 (c .before .before .c .given .0 .0) (search needs))
@@ -25,4 +16,4 @@ unfolding voltsOf div ofBits
 returns-2 c = simp (c .enum-told .given .1)
 
 pub volts-spec : {M : Type 1} → statement M
-volts-spec = tie.close (tie.spec enum-known-c int-to-float-result enum-told returns returns-2)
+volts-spec = tie.close (tie.spec (λ c. search needs) (λ c. search needs) (λ c. search needs) returns returns-2)

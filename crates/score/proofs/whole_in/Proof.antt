@@ -4,9 +4,6 @@ use Rattle.score.specs.Places.{wholeIn}
 use Rattle.score.proofs.whole_in.Statement.{statement}
 use Rattle.score.proofs.whole_in.Tie as tie
 
-within-requires : tie.Need-within-requires
-within-requires c κs = search needs
-
 returns : tie.Need-returns
 unfolding wholeIn
 returns c = simp (c .before .if1 .taken, c .within .ensures)
@@ -16,4 +13,4 @@ unfolding wholeIn
 returns-2 c = simp (c .if1 .left)
 
 pub whole-in-spec : {M : Type 1} → statement M
-whole-in-spec = tie.close (tie.spec within-requires returns returns-2)
+whole-in-spec = tie.close (tie.spec (λ c κs. search needs) returns returns-2)

@@ -5,18 +5,6 @@ use Rattle.score.specs.Lines.{withinOf}
 use Rattle.score.proofs.within.Statement.{statement}
 use Rattle.score.proofs.within.Tie as tie
 
-enum-known-n : tie.Need-enum-known-n
-enum-known-n c = search needs
-
-cast-t15 : tie.Need-cast-t15
-cast-t15 c = search needs
-
-enum-told : tie.Need-enum-told
-enum-told c = search needs
-
-enum-told-2 : tie.Need-enum-told-2
-enum-told-2 c = search needs
-
 returns : tie.Need-returns
 unfolding withinOf
 returns c = simp (c .before .before .n .given .1, c .if1 .taken)
@@ -45,10 +33,10 @@ pub within-spec : {M : Type 1} → statement M
 within-spec =
     tie.close
     (tie.spec
-    enum-known-n
-    cast-t15
-    enum-told
-    enum-told-2
+    (λ c. search needs)
+    (λ c. search needs)
+    (λ c. search needs)
+    (λ c. search needs)
     returns
     returns-2
     returns-3

@@ -36,5 +36,6 @@ returns-3 c = made-parts (new-rate _ _ _ _ (c .string-of3 .ensures) (sym (c .bef
 pub new-spec : {M : Type 1} → statement M
 new-spec =
     tie.close
-    (tie.spec (λ c κs. search needs) room-requires max-len-for-requires blank-requires (λ c κs. search needs) (λ c κs. search needs) (λ c κs. search needs) (λ c. search needs)
+    (tie.spec (λ c κs. search needs) room-requires max-len-for-requires blank-requires (λ c κs. search needs) (λ c κs. search needs) (λ c κs. search needs)
+    (λ c. search needs)
     returns returns-2 returns-3)

@@ -80,4 +80,5 @@ returns c =
 pub ring-spec : {M : Type 1} → statement M
 ring-spec =
     tie.close
-    (tie.spec Inv-loop μ-loop loop-holds turn-requires (λ c κs. search needs) (λ c. omega arith) (λ c. omega arith) loop-again same-length same-length-2 same-length-3 returns)
+    (tie.spec Inv-loop μ-loop loop-holds turn-requires (λ c κs. search needs) (λ c. omega arith)
+    (λ c. omega arith) loop-again same-length same-length-2 same-length-3 returns)
