@@ -1,3 +1,4 @@
 pub mod Lengths
+pub mod Played
 pub mod Claim
 pub mod Settled

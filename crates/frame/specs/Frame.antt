@@ -24,7 +24,8 @@ sampleLine key x = key ++ hexText (toBits binary64 x) ++ ascii "\n"
 
 -- the outputs, in the Rust's port order and names
 unfoldable pub wavesText : Volts → List ℕ
-wavesText v = sampleLine (ascii "sin=") (v .p10) ++ sampleLine (ascii "tri=") (v .p11) ++ sampleLine (ascii "saw=") (v .p12) ++ sampleLine (ascii "sqr=") (v .p13)
+wavesText v =
+    sampleLine (ascii "sin=") (v .p10) ++ sampleLine (ascii "tri=") (v .p11) ++ sampleLine (ascii "saw=") (v .p12) ++ sampleLine (ascii "sqr=") (v .p13)
 
 unfoldable pub outputsText : Osc → Volts → List ℕ
 outputsText Vco v = wavesText v

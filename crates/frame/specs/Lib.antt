@@ -1,3 +1,4 @@
 pub mod Frame
+pub mod Frames
 pub mod End
 pub mod Promises

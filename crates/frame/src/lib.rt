@@ -4,9 +4,13 @@ use answer::Tally;
 use answer::Volts;
 use score::Osc;
 ghost use mathlib.Core.Path.{_≡_};
+ghost use Prim.Native.Nat.{_≤_, _+_, _*_};
+ghost use lib.ListN.{length};
 ghost use lib.Seq.{sets};
+ghost use Rattle.text.specs.Promises.{Put};
 ghost use Rattle.text.specs.Put.{placeOf};
 ghost use Rattle.frame.specs.Frame.{wordLine, countLine, sampleLine, wavesText, outputsText, markedText, frameText};
+ghost use Rattle.frame.specs.Frames.{portsIn, outputAt, voltsAt, toldTexts, areFrames, playedText};
 ghost use Rattle.frame.specs.End.{countsText, claimedOf, endText, refusedText};
 
 // ---- a line: its key with the equals sign, its value, a line feed
@@ -89,6 +93,105 @@ pub fn put_frame(out: &mut [u8], at: usize, osc: Osc, n: u32, a: Answer) -> usiz
         Answer::NotFinite(v) => put_marked(out, at, osc, n, b"notfinite", v),
         Answer::Lost(v) => put_marked(out, at, osc, n, b"lost", v),
         Answer::Refused(_) => text::put_text(out, at, b""),
+    }
+}
+
+// ---- frames that were played, told by samples and marks
+
+// How many outputs it has: so many samples are a frame's.
+pub fn ports_of(osc: Osc) -> usize
+    ensures { λ r. ⌜ r ≡ portsIn osc ⌝ }
+{
+    match osc {
+        Osc::Vco => 4,
+        Osc::Lfo => 5,
+        Osc::Supersaw => 2,
+        Osc::Formant => 1,
+    }
+}
+
+// Output j of frame i; 0.0 where there is no such output.
+fn output_at(ports: usize, samples: &[f64], i: usize, j: usize) -> f64
+    requires { ⌜ ports * (i + 1) ≤ length (now samples) ⌝ }
+    ensures { λ r. ⌜ r ≡ outputAt ports (now (samples .entry)) i j ⌝ }
+{
+    if j < ports {
+        samples[ports * i + j]
+    } else {
+        0.0
+    }
+}
+
+fn volts_at(ports: usize, samples: &[f64], i: usize) -> Volts
+    requires { ⌜ ports * (i + 1) ≤ length (now samples) ⌝ }
+    ensures { λ r. ⌜ r ≡ voltsAt ports (now (samples .entry)) i ⌝ }
+{
+    Volts {
+        p10: output_at(ports, samples, i, 0),
+        p11: output_at(ports, samples, i, 1),
+        p12: output_at(ports, samples, i, 2),
+        p13: output_at(ports, samples, i, 3),
+        p14: output_at(ports, samples, i, 4),
+    }
+}
+
+// Whether so many samples are those of n frames, and a u32 can number these from `first` on.
+fn are_frames(osc: Osc, first: u32, samples: usize, n: usize) -> bool
+    ensures { λ r. ⌜ r ≡ areFrames osc first samples n ⌝ }
+{
+    let ports = ports_of(osc);
+    if samples % ports == 0 {
+        if samples / ports == n {
+            n <= 4294967295 - (first as usize)
+        } else {
+            false
+        }
+    } else {
+        false
+    }
+}
+
+fn put_each(
+    out: &mut [u8],
+    at: usize,
+    osc: Osc,
+    first: u32,
+    samples: &[f64],
+    marks: &[u32],
+) -> usize
+    requires { ⌜ (at ≤ length (now out)) × (first + length (now marks) ≤ 4294967295)
+        × (length (now samples) ≡ portsIn osc * length (now marks)) ⌝ }
+    ensures { λ r. ⌜ Put (now (out .entry)) at (toldTexts osc first (now (samples .entry)) (now (marks .entry)) (length (now (marks .entry)))) r
+        (now (out .exit)) ⌝ }
+{
+    let ports = ports_of(osc);
+    let mut to = at;
+    let mut i = 0;
+    while i < marks.len() {
+        let told = answer::answer_of(marks[i], volts_at(ports, samples, i));
+        to = put_frame(&mut *out, to, osc, first + (i as u32), told);
+        i += 1;
+    }
+    to
+}
+
+// The texts of frames, numbered from `first` on. Samples and marks that aren't those of frames have no text.
+pub fn put_frames(
+    out: &mut [u8],
+    at: usize,
+    osc: Osc,
+    first: u32,
+    samples: &[f64],
+    marks: &[u32],
+) -> usize
+    ensures { λ r. ⌜ r ≡ placeOf (now (out .entry)) at (playedText osc first (now (samples .entry)) (now (marks .entry))) ⌝ }
+    ensures { λ r. ⌜ now (out .exit) ≡ sets (now (out .entry)) at (playedText osc first (now (samples .entry)) (now (marks .entry))) ⌝ }
+{
+    let start = text::put_text(&mut *out, at, b"");
+    if are_frames(osc, first, samples.len(), marks.len()) {
+        put_each(out, start, osc, first, samples, marks)
+    } else {
+        start
     }
 }
 

@@ -1,5 +1,5 @@
 -- No frame of a score with a good rate is refused: each tick's oscillator is reached from a new one.
-use Prim.Native.Nat.{ℕ, zero, suc}
+use Prim.Native.Nat.{ℕ}
 use mathlib.Core.Bool.{true}
 use mathlib.Core.Path.{_≡_}
 use lib.Ieee.{binary64}
@@ -7,7 +7,11 @@ use lib.Ieee.Fits.{nan-fits, div-fits, ofInt-fits}
 use lib.IntN.{pos}
 use Rattle.laws.specs.Float.{F64}
 use Rattle.laws.specs.Machine.{begun, more}
+use Rattle.answer.specs.Answer.{accepted}
+use Rattle.answer.specs.Block.{answerAt}
+use Rattle.answer.specs.Promises.{AllAccepted}
 use Rattle.answer.specs.declared.Answer.{Answer}
+use Rattle.answer.proofs.Blocks.{ticks-keep}
 use Rattle.common.specs.Tests.{rateOk}
 use Rattle.score.specs.Control.{voltsOf}
 use Rattle.score.specs.declared.Control.{Control}
@@ -17,6 +21,7 @@ use Rattle.score.specs.declared.LfoInputs.{LfoInputs}
 use Rattle.score.specs.declared.FormantInputs.{FormantInputs}
 use Rattle.score.specs.declared.Inputs.{Inputs}
 use Rattle.score.specs.declared.Inputs.the-variants as inputs
+use Rattle.score.specs.declared.Score.{Score}
 use Rattle.vco.specs.Vco.{newVco, vcoTickOf}
 use Rattle.vco.specs.Calls as vco
 use Rattle.vco.specs.declared.Vco.{Vco}
@@ -34,16 +39,16 @@ use Rattle.formant_osc.specs.FormantOsc.{newFormantOsc, formantTickOf}
 use Rattle.formant_osc.specs.Calls as formant
 use Rattle.formant_osc.specs.declared.FormantOsc.{FormantOsc}
 use Rattle.formant_osc.proofs.Reached as formants
-use Rattle.player.specs.Begin.{rateOf, vcoControls, lfoControls, supersawControls, formantControls}
-use Rattle.player.specs.Play.{answers, heardFrom, heardOf}
-use Rattle.player.specs.Promises.{Every, Accepted, Frames-accepted}
+use Rattle.player.specs.Begin.{vcoAll, lfoAll, rateOf, vcoControls, lfoControls, supersawControls, formantControls}
+use Rattle.player.specs.Frames.{heardAt}
+use Rattle.player.specs.Player.{controlsOf, playerFrom, answerBy, nextBy}
+use Rattle.player.proofs.Carried.{accepted-carried, vco-carries, lfo-carries, supersaw-carries, formant-carries}
 
 -- what is accepted at each state that is reached is accepted in each tick
-every : {S : Type 0} (a : S → Answer) (n : S → S) (R : S → Type 0) → ((s : S) → R s → Accepted (a s)) → ((s : S) → R s → R (n s))
-    → (k : ℕ) (s : S) → R s → Every Accepted (answers a n k s)
-unfolding answers Every
-every a n R ok next zero s r = tt
-every a n R ok next (suc k) s r = (ok s r, every a n R ok next k (n s) (next s r))
+always : {S : Type 0} (a : S → Answer) (n : S → S) (R : S → Type 0) → ((s : S) → R s → accepted (a s) ≡ true) → ((s : S) → R s → R (n s))
+    → (s : S) → R s → AllAccepted a n s
+unfolding answerAt
+always a n R ok next s r k = ok _ (ticks-keep R n next s r k)
 
 volts-fit : (c : Control) → F64 (voltsOf c)
 unfolding voltsOf
@@ -55,13 +60,13 @@ unfolding rateOf
 rate-fits hz = ofInt-fits binary64 (pos hz)
 
 -- a tick reaches the next state
-vco-next : (i : VcoInputs) (s : Vco) → vco.ReachedVco s → vco.ReachedVco (vcoTickOf s (vcoControls i) 15 .vco)
+vco-next : (i : VcoInputs) (s : Vco) → vco.ReachedVco s → vco.ReachedVco (vcoTickOf s (vcoControls i) vcoAll .vco)
 unfolding vco.after vcoControls
-vco-next i s h = more h (vco.Tick (vcoControls i) 15) (volts-fit (i .voct), volts-fit (i .fm), volts-fit (i .«fm_lin»))
+vco-next i s h = more h (vco.Tick (vcoControls i) vcoAll) (volts-fit (i .voct), volts-fit (i .fm), volts-fit (i .«fm_lin»))
 
-lfo-next : (i : LfoInputs) (s : Lfo) → lfo.ReachedLfo s → lfo.ReachedLfo (lfoTickOf s (lfoControls i) 31 .lfo)
+lfo-next : (i : LfoInputs) (s : Lfo) → lfo.ReachedLfo s → lfo.ReachedLfo (lfoTickOf s (lfoControls i) lfoAll .lfo)
 unfolding lfo.after lfoControls
-lfo-next i s h = more h (lfo.Tick (lfoControls i) 31) (volts-fit (i .rate))
+lfo-next i s h = more h (lfo.Tick (lfoControls i) lfoAll) (volts-fit (i .rate))
 
 supersaw-next : (c : SupersawControls) (s : Supersaw) → supersaw.ReachedSupersaw s → supersaw.ReachedSupersaw (supersawTickOf s c .supersaw)
 unfolding supersaw.after
@@ -71,21 +76,25 @@ formant-next : (i : FormantInputs) (s : FormantOsc) → formant.ReachedFormant s
 unfolding formant.after formantControls
 formant-next i s h = more h (formant.Tick (formantControls i)) (volts-fit (i .vowel), volts-fit (i .«formant_shift»))
 
-heard-accepted : (i : Inputs) (hz n : ℕ) → rateOk (rateOf hz) ≡ true → Every Accepted (heardFrom i hz n)
-unfolding heardFrom
-heard-accepted (inputs.Vco i) hz n ok =
-    every _ _ vco.ReachedVco (λ s h. vcos.never-refused s h .tick (vcoControls i) 15) (vco-next i) n _
-    (begun (newVco (rateOf hz)) (vcos.new-accepts (rateOf hz) .1 ok))
-heard-accepted (inputs.Lfo i) hz n ok =
-    every _ _ lfo.ReachedLfo (λ s h. lfos.never-refused s h .ticks (lfoControls i) 31) (lfo-next i) n _
-    (begun (newLfo (rateOf hz)) (lfos.new-accepts (rateOf hz) .1 ok))
-heard-accepted (inputs.Supersaw i) hz n ok =
-    every _ _ supersaw.ReachedSupersaw (λ s h. supersaws.never-refused s h .ticks (supersawControls i)) (supersaw-next (supersawControls i)) n _
-    (begun (newSupersaw (rateOf hz)) (supersaws.new-accepts (rateOf hz) .1 ok))
-heard-accepted (inputs.Formant i) hz n ok =
-    every _ _ formant.ReachedFormant (λ s h. formants.never-refused s h .ticks (formantControls i)) (formant-next i) n _
-    (begun (newFormantOsc (rateOf hz)) (formants.new-accepts (rateOf hz) .1 ok (rate-fits hz)))
+all-accepted : (i : Inputs) (hz : ℕ) → rateOk (rateOf hz) ≡ true → AllAccepted (answerBy (controlsOf i)) (nextBy (controlsOf i)) (playerFrom i hz)
+unfolding controlsOf playerFrom
+all-accepted (inputs.Vco i) hz ok =
+    accepted-carried (vco-carries (playerFrom (inputs.Vco i) hz) (vcoControls i)) _
+    (always _ _ vco.ReachedVco (λ s h. vcos.never-refused s h .tick (vcoControls i) vcoAll) (vco-next i) _
+    (begun (newVco (rateOf hz)) (vcos.new-accepts (rateOf hz) .1 ok)))
+all-accepted (inputs.Lfo i) hz ok =
+    accepted-carried (lfo-carries (playerFrom (inputs.Lfo i) hz) (lfoControls i)) _
+    (always _ _ lfo.ReachedLfo (λ s h. lfos.never-refused s h .ticks (lfoControls i) lfoAll) (lfo-next i) _
+    (begun (newLfo (rateOf hz)) (lfos.new-accepts (rateOf hz) .1 ok)))
+all-accepted (inputs.Supersaw i) hz ok =
+    accepted-carried (supersaw-carries (playerFrom (inputs.Supersaw i) hz) (supersawControls i)) _
+    (always _ _ supersaw.ReachedSupersaw (λ s h. supersaws.never-refused s h .ticks (supersawControls i)) (supersaw-next (supersawControls i)) _
+    (begun (newSupersaw (rateOf hz)) (supersaws.new-accepts (rateOf hz) .1 ok)))
+all-accepted (inputs.Formant i) hz ok =
+    accepted-carried (formant-carries (playerFrom (inputs.Formant i) hz) (formantControls i)) _
+    (always _ _ formant.ReachedFormant (λ s h. formants.never-refused s h .ticks (formantControls i)) (formant-next i) _
+    (begun (newFormantOsc (rateOf hz)) (formants.new-accepts (rateOf hz) .1 ok (rate-fits hz))))
 
-pub frames-accepted : Frames-accepted
-unfolding heardOf
-frames-accepted s ok = heard-accepted (s .inputs) (s .head .hz) (s .head .frames) ok
+pub heard-accepted : (s : Score) → rateOk (rateOf (s .head .hz)) ≡ true → (k : ℕ) → accepted (heardAt s k) ≡ true
+unfolding heardAt
+heard-accepted s ok = all-accepted (s .inputs) (s .head .hz) ok

@@ -2,7 +2,7 @@
 use Prim.Native.Nat.{ℕ, zero, suc, _+_, _≤_}
 use mathlib.Core.Bool.{Bool, true, false, cond}
 use mathlib.Core.List.{List, [], _∷_}
-use mathlib.Core.Path.{_≡_, refl, ap}
+use mathlib.Core.Path.{_≡_, refl}
 use native.Mathlib.Omega.{arith}
 use lib.Dec.{eqb}
 use lib.ListN.{length}
@@ -13,12 +13,11 @@ use Rattle.answer.specs.Promises.{CountsAll}
 use Rattle.answer.specs.Tally.{oneIf, many, acceptedIn, tallyAfter}
 use Rattle.answer.specs.declared.Answer.{Answer}
 use Rattle.answer.specs.declared.Answer.the-variants as answer
-use Rattle.score.specs.declared.Inputs.{Inputs}
-use Rattle.score.specs.declared.Inputs.the-variants as inputs
 use Rattle.score.specs.declared.Score.{Score}
 use Rattle.frame.proofs.Claim.{claimed-says}
-use Rattle.player.specs.Play.{answers, heardFrom, heardOf}
+use Rattle.player.specs.Play.{heardOf}
 use Rattle.player.specs.Promises.{Every, Accepted, Clean, Claimed-clean}
+use Rattle.player.proofs.Heard.{frames-heard}
 
 -- ---- all begin
 accepted-most : (xs : List Answer) → acceptedIn xs ≤ length xs
@@ -81,23 +80,7 @@ clean-all (a ∷ xs) (c, h) = let m = clean-all xs h in omega (arith, counts-one
     counts-one : (a : Answer) → markNumber a ≡ 4 → oneIf (markNumber a) 4 ≡ 1
     counts-one a c = unfold oneIf in rw (eq-eqb (markNumber a) 4 c) refl
 
--- ---- a score has an answer for each frame
-answers-length : {S : Type 0} (a : S → Answer) (n : S → S) (k : ℕ) (s : S) → length (answers a n k s) ≡ k
-unfolding answers
-answers-length a n zero s = refl
-answers-length a n (suc k) s = ap suc (answers-length a n k (n s))
-
-heard-length : (i : Inputs) (hz n : ℕ) → length (heardFrom i hz n) ≡ n
-unfolding heardFrom
-heard-length (inputs.Vco i) hz n = answers-length _ _ n _
-heard-length (inputs.Lfo i) hz n = answers-length _ _ n _
-heard-length (inputs.Supersaw i) hz n = answers-length _ _ n _
-heard-length (inputs.Formant i) hz n = answers-length _ _ n _
-
-pub frames-heard : (s : Score) → length (heardOf s) ≡ s .head .frames
-unfolding heardOf
-frames-heard s = heard-length (s .inputs) (s .head .hz) (s .head .frames)
-
+-- ---- so of a score's frames
 pub heard-counts : (s : Score) → s .head .frames ≤ 4294967295 → CountsAll (heardOf s)
 heard-counts s h = tally-takes-all (heardOf s) (omega (arith, accepted-most (heardOf s), frames-heard s))
 

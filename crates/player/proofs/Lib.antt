@@ -1,11 +1,10 @@
 pub mod New
-pub mod Pieces
-pub mod Steps
-pub mod Blocks
-pub mod Whole
-pub mod Counts
-pub mod Accepted
+pub mod Carried
 pub mod Range
-pub mod Unrefused
+pub mod Accepted
+pub mod Heard
+pub mod Counts
 pub mod Rendered
+pub mod Whole
+pub mod On
 pub mod Worked

@@ -4,10 +4,10 @@ use native.Mathlib.Omega.{arith}
 use Rattle.laws.proofs.Settled as laws
 use Rattle.score.proofs.Text.{read-valid}
 use Rattle.player.specs.Play.{heardOf}
-use Rattle.player.specs.Player.{beginOf}
+use Rattle.player.specs.Player.{playerOf, playedOf}
 use Rattle.player.specs.Promises.{Read-renders, Settled}
-use Rattle.player.proofs.Accepted.{frames-accepted}
-use Rattle.player.proofs.Counts.{all-begin, heard-counts, frames-heard, claimed-clean}
+use Rattle.player.proofs.Counts.{all-begin, heard-counts, claimed-clean}
+use Rattle.player.proofs.Heard.{frames-heard, frames-accepted}
 use Rattle.player.proofs.Range.{valid-rate}
 
 pub read-renders : Read-renders
@@ -26,4 +26,4 @@ read-renders text s e =
     }
 
 pub settled : Settled
-settled = record { new = λ s. laws.settled (beginOf s); run = λ p out budget. laws.both _ _; finish = λ p out. laws.both _ _ }
+settled = record { new = λ s. laws.settled (playerOf s); play = λ p t o m. laws.settled (playedOf p t o m) }

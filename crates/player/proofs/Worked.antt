@@ -31,7 +31,7 @@ use Rattle.vco.specs.declared.VcoControls.{VcoControls}
 use Rattle.vco.proofs.Frame.{first-frame}
 use Rattle.frame.specs.Frame.{wordLine, countLine, sampleLine, wavesText, outputsText, markedText, frameText}
 use Rattle.frame.specs.End.{countsText, claimedOf, endText}
-use Rattle.player.specs.Begin.{rateOf, vcoControls}
+use Rattle.player.specs.Begin.{vcoAll, rateOf, vcoControls}
 use Rattle.player.specs.Play.{answers, heardFrom, heardOf, framesText, playOf, printedOf, renderOf}
 use Rattle.player.specs.Promises.{Worked}
 
@@ -62,7 +62,7 @@ controls = refl
 is-heard : heardOf score ≡ answer.Clean volts ∷ []
 unfolding heardOf heardFrom answers score volts
 is-heard =
-    ap (λ (a : Answer). a ∷ []) (ap (λ (r : Hertz). vcoTickOf (newVco r) (vcoControls inputs) 15 .answer) rate ∙ ap (λ (c : VcoControls). vcoTickOf (newVco frameRate) c 15 .answer) controls ∙ first-frame)
+    ap (λ (a : Answer). a ∷ []) (ap (λ (r : Hertz). vcoTickOf (newVco r) (vcoControls inputs) vcoAll .answer) rate ∙ ap (λ (c : VcoControls). vcoTickOf (newVco frameRate) c vcoAll .answer) controls ∙ first-frame)
 
 printed : List Answer → List ℕ
 printed xs = framesText kind.Vco 0 xs ++ endText 1 (tallyAfter xs)

@@ -13,6 +13,13 @@ use Rattle.lfo.specs.declared.LfoControls.{LfoControls}
 use Rattle.supersaw.specs.declared.SupersawControls.{SupersawControls}
 use Rattle.formant_osc.specs.declared.FormantControls.{FormantControls}
 
+-- all outputs wanted
+abbrev pub vcoAll : ℕ
+vcoAll = 15
+
+abbrev pub lfoAll : ℕ
+lfoAll = 31
+
 unfoldable pub rateOf : ℕ → Hertz
 rateOf hz = record { 0 = ofInt binary64 (pos hz) }
 

@@ -1,5 +1,5 @@
 pub mod Begin
-pub mod Block
 pub mod Play
 pub mod Player
+pub mod Frames
 pub mod Promises

@@ -18,7 +18,7 @@ use Rattle.supersaw.specs.Supersaw.{newSupersaw, supersawTickOf}
 use Rattle.formant_osc.specs.FormantOsc.{newFormantOsc, formantTickOf}
 use Rattle.frame.specs.Frame.{frameText}
 use Rattle.frame.specs.End.{endText, refusedText}
-use Rattle.player.specs.Begin.{rateOf, vcoControls, lfoControls, supersawControls, formantControls}
+use Rattle.player.specs.Begin.{vcoAll, lfoAll, rateOf, vcoControls, lfoControls, supersawControls, formantControls}
 
 -- what n ticks answer, from a state on; the state after a tick is `next`
 unfoldable pub answers : {S : Type 0} → (S → Answer) → (S → S) → ℕ → S → List Answer
@@ -26,10 +26,18 @@ answers answer next zero s = []
 answers answer next (suc n) s = answer s ∷ answers answer next n (next s)
 
 unfoldable pub heardFrom : Inputs → ℕ → ℕ → List Answer
-heardFrom (Vco i) hz n = answers (λ s. vcoTickOf s (vcoControls i) 15 .answer) (λ s. vcoTickOf s (vcoControls i) 15 .vco) n (newVco (rateOf hz))
-heardFrom (Lfo i) hz n = answers (λ s. lfoTickOf s (lfoControls i) 31 .answer) (λ s. lfoTickOf s (lfoControls i) 31 .lfo) n (newLfo (rateOf hz))
-heardFrom (Supersaw i) hz n = answers (λ s. supersawTickOf s (supersawControls i) .answer) (λ s. supersawTickOf s (supersawControls i) .supersaw) n (newSupersaw (rateOf hz))
-heardFrom (Formant i) hz n = answers (λ s. formantTickOf s (formantControls i) .answer) (λ s. formantTickOf s (formantControls i) .formant) n (newFormantOsc (rateOf hz))
+heardFrom (Vco i) hz n =
+    let c = vcoControls i in
+    answers (λ s. vcoTickOf s c vcoAll .answer) (λ s. vcoTickOf s c vcoAll .vco) n (newVco (rateOf hz))
+heardFrom (Lfo i) hz n =
+    let c = lfoControls i in
+    answers (λ s. lfoTickOf s c lfoAll .answer) (λ s. lfoTickOf s c lfoAll .lfo) n (newLfo (rateOf hz))
+heardFrom (Supersaw i) hz n =
+    let c = supersawControls i in
+    answers (λ s. supersawTickOf s c .answer) (λ s. supersawTickOf s c .supersaw) n (newSupersaw (rateOf hz))
+heardFrom (Formant i) hz n =
+    let c = formantControls i in
+    answers (λ s. formantTickOf s c .answer) (λ s. formantTickOf s c .formant) n (newFormantOsc (rateOf hz))
 
 unfoldable pub heardOf : Score → List Answer
 heardOf s = heardFrom (s .inputs) (s .head .hz) (s .head .frames)

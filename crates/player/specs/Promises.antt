@@ -3,38 +3,41 @@ use Prim.Native.Nat.{ℕ, _+_, _*_, _≤_}
 use mathlib.Core.Bool.{Bool, true}
 use mathlib.Core.List.{List, [], _∷_, _++_}
 use mathlib.Core.Path.{_≡_}
+use lib.Ieee.{Float}
 use lib.ListN.{length}
-use lib.Seq.{sets}
 use Rattle.laws.specs.Machine.{Settles}
 use Rattle.answer.specs.Answer.{markNumber, accepted}
+use Rattle.answer.specs.Block.{Block, block}
 use Rattle.answer.specs.Promises.{CountsAll}
 use Rattle.answer.specs.Tally.{tallyAfter}
 use Rattle.answer.specs.declared.Answer.{Answer}
+use Rattle.answer.specs.declared.Tally.{Tally}
 use Rattle.common.specs.Tests.{rateOk}
 use Rattle.line.specs.Bytes.{ascii}
 use Rattle.score.specs.Score.{scoreOf}
 use Rattle.score.specs.Promises.{Valid}
+use Rattle.score.specs.Text.{ownerOf}
 use Rattle.score.specs.declared.Score.{Score}
 use Rattle.score.specs.declared.Reading.the-variants.{Values}
-use Rattle.text.specs.Promises.{Put}
-use Rattle.frame.specs.End.{claimedOf}
+use Rattle.frame.specs.End.{claimedOf, endText}
+use Rattle.frame.specs.Frames.{portsIn, playedText}
 use Rattle.player.specs.Begin.{rateOf}
+use Rattle.player.specs.Frames.{playerAt, tallyAt, samplesFrom, marksFrom, textFrom}
 use Rattle.player.specs.Play.{heardOf, playOf, renderOf}
-use Rattle.player.specs.Player.{beginOf, textOf, afterOf, turnsOf, refusalOf, runText, ranOf, finishOf}
+use Rattle.player.specs.Player.{playerOf, playedOf}
 use Rattle.player.specs.declared.Player.{Player}
-use Rattle.player.specs.declared.Played.{Played}
 
--- ---- runs in pieces are one run
+-- ---- the frames in pieces are all frames
 abbrev pub Pieces : Type 0
-Pieces = (p : Player) (j k : ℕ) → (textOf (j + k) p ≡ textOf j p ++ textOf k (afterOf j p)) × (afterOf (j + k) p ≡ afterOf k (afterOf j p))
+Pieces = (s : Score) (k j n : ℕ) → textFrom s k (j + n) ≡ textFrom s k j ++ textFrom s (k + j) n
 
--- and a run of all frames, with the end, is what is printed of the score
+-- and all frames, with the end, are what is printed of the score
 abbrev pub Plays : Type 0
-Plays = (s : Score) → textOf (s .head .frames) (beginOf s) ++ finishOf (afterOf (s .head .frames) (beginOf s)) ≡ playOf s
+Plays = (s : Score) → textFrom s 0 (s .head .frames) ++ endText (s .head .frames) (tallyAt s (s .head .frames)) ≡ playOf s
 
 -- ---- how long a piece can be; a frame's number has at most 10 digits
 abbrev pub Piece-length : Type 0
-Piece-length = (p : Player) (k : ℕ) → p .frame + k ≤ 10000000000 → length (textOf k p) ≤ 137 * k
+Piece-length = (s : Score) (k n : ℕ) → k + n ≤ 10000000000 → length (textFrom s k n) ≤ 137 * n
 
 -- ---- the rate of a valid score, as each one that is read is, is a good one
 abbrev pub Valid-rate : Type 0
@@ -76,20 +79,25 @@ pub record Rendered (s : Score) : Type 0 where
 abbrev pub Read-renders : Type 0
 Read-renders = (text : List ℕ) (s : Score) → scoreOf text ≡ Values s → Rendered s
 
--- ---- and none of its runs is refused, from any frame on
-abbrev pub Never-refused : Type 0
-Never-refused = (text : List ℕ) (s : Score) → scoreOf text ≡ Values s → (k budget : ℕ) → k ≤ s .head .frames
-    → refusalOf (afterOf k (beginOf s)) (turnsOf (afterOf k (beginOf s)) budget) ≡ 0
+-- ---- and none of its frames is refused, played from any frame on, so many at a time: what is played is what the scope has
+abbrev pub Plays-on : Type 0
+Plays-on = (text : List ℕ) (s : Score) → scoreOf text ≡ Values s → (k n : ℕ) → k + n ≤ s .head .frames
+    → (o : List Float) (m : List ℕ) → length m ≡ n → length o ≡ portsIn (ownerOf (s .inputs)) * n
+    → playedOf (playerAt s k) (tallyAt s k) o m ≡ block 0 (playerAt s (k + n)) (tallyAt s (k + n)) (samplesFrom s k n) (marksFrom s k n)
 
--- ---- each contract settles its answer and the lent buffer
+-- and so is what is printed of it
+abbrev pub Prints-on : Type 0
+Prints-on = (text : List ℕ) (s : Score) → scoreOf text ≡ Values s → (k n : ℕ) → k + n ≤ s .head .frames
+    → playedText (ownerOf (s .inputs)) k (samplesFrom s k n) (marksFrom s k n) ≡ textFrom s k n
+
+-- ---- each contract settles its answer and the lent buffers
 pub record Settled : Type 0 where
-  pub new : (s : Score) → Settles (λ (p : Player). p ≡ beginOf s)
-  pub run : (p : Player) (out : List ℕ) (budget : ℕ)
-      → Settles (λ (a : Played × List ℕ). (a .0 ≡ ranOf out (turnsOf p budget) p) × (a .1 ≡ sets out 0 (runText (turnsOf p budget) p)))
-  pub finish : (p : Player) (out : List ℕ) → Settles (λ (a : ℕ × List ℕ). Put out 0 (finishOf p) (a .0) (a .1))
+  pub new : (s : Score) → Settles (λ (p : Player). p ≡ playerOf s)
+  pub play : (p : Player) (t : Tally) (o : List Float) (m : List ℕ) → Settles (λ (b : Block Player). b ≡ playedOf p t o m)
 
 -- ---- the scope's example
 abbrev pub Worked : Type 0
 Worked =
     renderOf (ascii "osc=vco\nhz=48000\nframes=1\nvoct=0\nfm=0\npw=500000\nsync=0\nfm_lin=-5000000\n")
-    ≡ ascii "n=0\nmark=clean\nsin=0000000000000000\ntri=C014000000000000\nsaw=C014000000000000\nsqr=4014000000000000\nbegun=1\nfinished=1\ncleared=0\nnotfinite=0\nlost=0\nclaimed=yes\n"
+    ≡ ascii "n=0\nmark=clean\nsin=0000000000000000\ntri=C014000000000000\nsaw=C014000000000000\nsqr=4014000000000000\n"
+    ++ ascii "begun=1\nfinished=1\ncleared=0\nnotfinite=0\nlost=0\nclaimed=yes\n"

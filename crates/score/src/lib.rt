@@ -4,6 +4,7 @@ ghost use Rattle.score.specs.Control.{voltsOf};
 ghost use Rattle.score.specs.Lines.{oscOf, withinOf, controlOf};
 ghost use Rattle.score.specs.Score.{whole, control, endOf, headOf, vcoOf, lfoOf, supersawOf, formantOf, inputsOf, scoreOf};
 ghost use Rattle.score.specs.Places.{lineOf, lineAt, oscIn, wholeIn, controlIn, from, Takes};
+ghost use Rattle.score.specs.Text.{ownerOf};
 ghost use Rattle.score.specs.declared.Place.the-variants.{At};
 use line::Number;
 use line::Reader;
@@ -81,6 +82,18 @@ pub fn volts(c: Control) -> f64
     match c {
         Control::Microvolts(n) => n as f64 / 1000000.0,
         Control::Nan => 0.0 / 0.0,
+    }
+}
+
+// The oscillator whose inputs they are.
+pub fn owner_of(inputs: Inputs) -> Osc
+    ensures { λ r. ⌜ r ≡ ownerOf inputs ⌝ }
+{
+    match inputs {
+        Inputs::Vco(_) => Osc::Vco,
+        Inputs::Lfo(_) => Osc::Lfo,
+        Inputs::Supersaw(_) => Osc::Supersaw,
+        Inputs::Formant(_) => Osc::Formant,
     }
 }
 

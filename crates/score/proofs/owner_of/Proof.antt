@@ -1,8 +1,7 @@
--- `player::kind_of`: by cases.
-use Rattle.player.specs.Player.{kindOf}
+-- `score::owner_of` meets its contract, by cases. Assumes nothing.
 use borrow.Author.Needs.{needs}
-use Rattle.player.proofs.kind_of.Statement.{statement}
-use Rattle.player.proofs.kind_of.Tie as tie
+use Rattle.score.proofs.owner_of.Statement.{statement}
+use Rattle.score.proofs.owner_of.Tie as tie
 
 enum-told : tie.Need-enum-told
 enum-told c = search needs
@@ -17,22 +16,18 @@ enum-told-4 : tie.Need-enum-told-4
 enum-told-4 c = search needs
 
 returns : tie.Need-returns
-unfolding kindOf
 returns c = simp (c .enum-told .given .1)
 
 returns-2 : tie.Need-returns-2
-unfolding kindOf
 returns-2 c = simp (c .enum-told2 .given .1)
 
 returns-3 : tie.Need-returns-3
-unfolding kindOf
 returns-3 c = simp (c .enum-told3 .given .1)
 
 returns-4 : tie.Need-returns-4
-unfolding kindOf
 returns-4 c = simp (c .enum-told4 .given .1)
 
-pub kind-of-spec : {M : Type 1} → statement M
-kind-of-spec =
+pub owner-of-spec : {M : Type 1} → statement M
+owner-of-spec =
     tie.close
     (tie.spec enum-told enum-told-2 enum-told-3 enum-told-4 returns returns-2 returns-3 returns-4)

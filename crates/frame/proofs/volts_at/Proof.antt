@@ -1,8 +1,8 @@
--- `player::volts_at`: output by output.
+-- `frame::volts_at`: output by output.
 use borrow.Author.Needs.{needs}
-use Rattle.player.specs.Block.{voltsAt}
-use Rattle.player.proofs.volts_at.Statement.{statement}
-use Rattle.player.proofs.volts_at.Tie as tie
+use Rattle.frame.specs.Frames.{voltsAt}
+use Rattle.frame.proofs.volts_at.Statement.{statement}
+use Rattle.frame.proofs.volts_at.Tie as tie
 
 output-at-requires : tie.Need-output-at-requires
 output-at-requires c κs = search needs

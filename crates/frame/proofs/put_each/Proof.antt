@@ -1,4 +1,4 @@
--- `player::put_frames`: after i turns the texts of i frames are put.
+-- `frame::put_each`: after i turns the texts of i frames are put.
 use Prim.Native.Nat.{_+_, _*_, _-_, _≤_}
 use mathlib.Core.Path.{_≡_, refl}
 use native.Mathlib.Nat.{le-antisymm}
@@ -8,14 +8,14 @@ use Rattle.answer.specs.Block.{joined}
 use Rattle.text.proofs.PutLaws.{within}
 use Rattle.text.specs.Promises.{Put}
 use Rattle.text.specs.Put.{placeOf}
-use Rattle.player.specs.Block.{portsIn, blockText}
-use Rattle.player.proofs.Blocks.{frame-put, frame-inside}
-use Rattle.player.proofs.put_frames.Statement.{statement}
-use Rattle.player.proofs.put_frames.Tie as tie
+use Rattle.frame.specs.Frames.{portsIn, toldTexts}
+use Rattle.frame.proofs.Played.{frame-put, frame-inside}
+use Rattle.frame.proofs.put_each.Statement.{statement}
+use Rattle.frame.proofs.put_each.Tie as tie
 
 abbrev Inv-loop : tie.InvT-loop
 Inv-loop out₀ at osc first samples marks ports to₀ i₀ out to i =
-    (i ≤ length marks) × (first + length marks ≤ 4294967295) × (length samples ≡ portsIn osc * length marks) × (ports ≡ portsIn osc) × Put out₀ at (blockText osc first samples marks i) to out
+    (i ≤ length marks) × (first + length marks ≤ 4294967295) × (length samples ≡ portsIn osc * length marks) × (ports ≡ portsIn osc) × Put out₀ at (toldTexts osc first samples marks i) to out
 
 abbrev μ-loop : tie.MeasureT-loop
 μ-loop out₀ at osc first samples marks ports to₀ i₀ out to i = length marks - i
@@ -24,7 +24,7 @@ ports-of-requires : tie.Need-ports-of-requires Inv-loop μ-loop
 ports-of-requires c κs = tt
 
 loop-holds : tie.Need-loop-holds Inv-loop μ-loop
-unfolding blockText joined placeOf
+unfolding toldTexts joined placeOf
 loop-holds c = let p = c .before .before .before .before .pre in (omega arith, p .1, p .2, c .ports-of .ensures, (omega (arith, p .0), refl))
 
 mul-answer-of : tie.Need-mul-answer-of Inv-loop μ-loop
@@ -69,8 +69,8 @@ returns c =
     let n : c .before .loop .i ≡ length (c .before .before .before .before .before .before .args .marks .now) = le-antisymm (s .0) (omega arith) in
     rw (← n) (s .4)
 
-pub put-frames-spec : {M : Type 1} → statement M
-put-frames-spec =
+pub put-each-spec : {M : Type 1} → statement M
+put-each-spec =
     tie.close
     (tie.spec
     Inv-loop

@@ -1,8 +1,8 @@
--- `player::ports_of`: by cases.
-use Rattle.player.specs.Block.{portsIn}
+-- `frame::ports_of`: by cases.
+use Rattle.frame.specs.Frames.{portsIn}
 use borrow.Author.Needs.{needs}
-use Rattle.player.proofs.ports_of.Statement.{statement}
-use Rattle.player.proofs.ports_of.Tie as tie
+use Rattle.frame.proofs.ports_of.Statement.{statement}
+use Rattle.frame.proofs.ports_of.Tie as tie
 
 enum-told : tie.Need-enum-told
 enum-told c = search needs

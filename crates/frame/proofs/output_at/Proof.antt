@@ -1,9 +1,9 @@
--- `player::output_at`: a sample of the frame, or 0.0.
+-- `frame::output_at`: a sample of the frame, or 0.0.
 use borrow.Author.Needs.{needs}
 use borrow.Author.Tests.{lt-ltb, le-ltb}
-use Rattle.player.specs.Block.{outputAt}
-use Rattle.player.proofs.output_at.Statement.{statement}
-use Rattle.player.proofs.output_at.Tie as tie
+use Rattle.frame.specs.Frames.{outputAt}
+use Rattle.frame.proofs.output_at.Statement.{statement}
+use Rattle.frame.proofs.output_at.Tie as tie
 
 mul-result : tie.Need-mul-result
 mul-result c = search needs
