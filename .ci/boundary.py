@@ -67,19 +67,39 @@ def in_host(files):
     return found
 
 
-# Places that say a number of the header: its name, the crate, the text with the number
+# Numbers of the header that a constant of a crate says: the header's name, the crate, the constant. Beside these FLOATS, WHOLES and SAMPLES of each
+# `exports_NAME` are the header's NAME_FLOATS, NAME_WHOLES and NAME_SAMPLES
+CONSTANTS = [
+    ("COUNTS", "boundary", "COUNTS"),
+    ("BANK", "wavetable", "BANK_SIZE"),
+    ("TABLE", "wavetable", "PART_SIZE"),
+    *((mark, "answer", f"TOLD_{mark}") for mark in ("CLEARED", "NOTFINITE", "LOST", "CLEAN")),
+]
+# and that another place says: the text with the number
 SAID = [
-    ("COUNTS", "answer", r"\bcounts\.len\(\) == (\d+)"),
-    ("BANK", "wavetable", r"\bBANK_SIZE: usize = (\d+)"),
-    ("TABLE", "wavetable", r"\bPART_SIZE: usize = (\d+)"),
-    ("SCORE_FLOATS", "exports_score", r"\bfloats\.len\(\) == (\d+)"),
-    ("SCORE_WHOLES", "exports_score", r"\bwholes\.len\(\) == (\d+)"),
     ("SCORE_TEXT", "score", r"\bif (\d+) < text\.len\(\)"),
     *((f"OSC_{osc.upper()}", "exports_score", rf"\bfn {osc}_ports\b(?s:.*?)\bosc: (\d+)") for osc in ("vco", "lfo", "supersaw", "formant")),
-    *((mark.upper(), "answer", rf"\bfn host_number\b(?s:.*?)\bAnswer::{mark}\(_\) => (\d+)") for mark in ("Cleared", "NotFinite", "Lost", "Clean")),
 ]
 # Numbers that no one place of the crates says: refusals, and what is enough for a string at every rate and for every tick of noise
 NOWHERE = r"BAD_\w+|SHORT_LINE|FEW_DRAWS|LONG_SCORE|OUT_OF_RANGE|KARPLUS_STRONG_(?:LINE|DRAWS)|NOISE_GENERATOR_DRAWS"
+
+
+def constant(sources, crate, name):
+    """The number that a constant of a crate is, a sum or product of numbers and constants, or None."""
+    m = re.search(rf"\bconst {name}: u\w+ = ([^;]+);", sources.get(crate, ""))
+    if not m:
+        return None
+    numbers = []
+    for word in re.split(r"\s*([+*])\s*", m[1].strip()):
+        if word.isdigit() or word in "+*":
+            numbers.append(word)
+        else:
+            owner, _, other = word.rpartition("::")
+            value = constant(sources, owner if owner in sources else crate, other)
+            if value is None:
+                return None
+            numbers.append(str(value))
+    return eval("".join(numbers))  # digits, + and * alone
 
 
 def said(files):
@@ -90,11 +110,12 @@ def said(files):
             crate = path.split("/")[1]
             sources[crate] = sources.get(crate, "") + blanked(path, text)
     found = {name: set(re.findall(place, sources[crate])) for name, crate, place in SAID}
-    for crate, text in sources.items():
-        for m in re.finditer(r"\banswer::(?:tick_)?sizes\((\d+), (\d+), (?:(\d+), )?floats\b", text):
-            for part, number in zip(("FLOATS", "WHOLES", "SAMPLES"), m.groups()):
-                if number:
-                    found.setdefault(f"{crate.removeprefix('exports_').upper()}_{part}", set()).add(number)
+    exported = [(f"{crate.removeprefix('exports_').upper()}_{part}", crate, part)
+                for crate in sources if crate.startswith("exports_") for part in ("FLOATS", "WHOLES", "SAMPLES")]
+    for name, crate, word in CONSTANTS + exported:
+        number = constant(sources, crate, word)
+        if number is not None:
+            found[name] = {str(number)}
     return found
 
 

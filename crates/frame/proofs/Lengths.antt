@@ -59,7 +59,12 @@ count-length key n h = omega (arith, ten-digits n h, length-append (key ++ decim
 
 sample-length : (key : List ℕ) (x : Float) → length (sampleLine key x) ≡ length key + 17
 unfolding sampleLine
-sample-length key x = omega (arith, hex-length (toBits binary64 x), length-append (key ++ hexText (toBits binary64 x)) (ascii "\n"), length-append key (hexText (toBits binary64 x)))
+sample-length key x = omega (
+  arith,
+  hex-length (toBits binary64 x),
+  length-append (key ++ hexText (toBits binary64 x)) (ascii "\n"),
+  length-append key (hexText (toBits binary64 x)),
+)
 
 -- ---- a frame
 waves-length : (v : Volts) → length (wavesText v) ≡ 84

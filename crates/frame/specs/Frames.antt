@@ -6,7 +6,7 @@ use lib.Dec.{eqb, leb, ltb}
 use lib.Ieee.{Float, nan}
 use lib.ListN.{length, getD}
 use Rattle.laws.specs.Float.{zer}
-use Rattle.answer.specs.Answer.{answerOf}
+use Rattle.answer.specs.Answer.{answerOf, volts5}
 use Rattle.answer.specs.Block.{joined}
 use Rattle.answer.specs.declared.Volts.{Volts}
 use Rattle.score.specs.declared.Osc.{Osc}
@@ -26,13 +26,7 @@ outputAt ports samples i j = cond (ltb j ports) (getD samples (ports * i + j) na
 
 unfoldable pub voltsAt : ℕ → List Float → ℕ → Volts
 voltsAt ports samples i =
-    record {
-      p10 = outputAt ports samples i 0;
-      p11 = outputAt ports samples i 1;
-      p12 = outputAt ports samples i 2;
-      p13 = outputAt ports samples i 3;
-      p14 = outputAt ports samples i 4;
-    }
+    volts5 (outputAt ports samples i 0) (outputAt ports samples i 1) (outputAt ports samples i 2) (outputAt ports samples i 3) (outputAt ports samples i 4)
 
 -- the text of frame i, and those of the first k frames, numbered from `first` on
 abbrev pub toldText : Osc → ℕ → List Float → List ℕ → ℕ → List ℕ

@@ -126,13 +126,13 @@ fn volts_at(ports: usize, samples: &[f64], i: usize) -> Volts
     requires { ⌜ ports * (i + 1) ≤ length (now samples) ⌝ }
     ensures { λ r. ⌜ r ≡ voltsAt ports (now (samples .entry)) i ⌝ }
 {
-    Volts {
-        p10: output_at(ports, samples, i, 0),
-        p11: output_at(ports, samples, i, 1),
-        p12: output_at(ports, samples, i, 2),
-        p13: output_at(ports, samples, i, 3),
-        p14: output_at(ports, samples, i, 4),
-    }
+    answer::volts5(
+        output_at(ports, samples, i, 0),
+        output_at(ports, samples, i, 1),
+        output_at(ports, samples, i, 2),
+        output_at(ports, samples, i, 3),
+        output_at(ports, samples, i, 4),
+    )
 }
 
 // Whether so many samples are those of n frames, and a u32 can number these from `first` on.

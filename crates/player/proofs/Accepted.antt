@@ -35,7 +35,7 @@ use Rattle.supersaw.specs.Calls as supersaw
 use Rattle.supersaw.specs.declared.Supersaw.{Supersaw}
 use Rattle.supersaw.specs.declared.SupersawControls.{SupersawControls}
 use Rattle.supersaw.proofs.Reached as supersaws
-use Rattle.formant_osc.specs.FormantOsc.{newFormantOsc, formantTickOf}
+use Rattle.formant_osc.specs.FormantOsc.{newFormantOsc, formantOscTickOf}
 use Rattle.formant_osc.specs.Calls as formant
 use Rattle.formant_osc.specs.declared.FormantOsc.{FormantOsc}
 use Rattle.formant_osc.proofs.Reached as formants
@@ -72,7 +72,8 @@ supersaw-next : (c : SupersawControls) (s : Supersaw) → supersaw.ReachedSupers
 unfolding supersaw.after
 supersaw-next c s h = more h (supersaw.Tick c) tt
 
-formant-next : (i : FormantInputs) (s : FormantOsc) → formant.ReachedFormant s → formant.ReachedFormant (formantTickOf s (formantControls i) .formant)
+formant-next : (i : FormantInputs) (s : FormantOsc) → formant.ReachedFormantOsc s
+    → formant.ReachedFormantOsc (formantOscTickOf s (formantControls i) .«formant_osc»)
 unfolding formant.after formantControls
 formant-next i s h = more h (formant.Tick (formantControls i)) (volts-fit (i .vowel), volts-fit (i .«formant_shift»))
 
@@ -84,15 +85,15 @@ all-accepted (inputs.Vco i) hz ok =
     (begun (newVco (rateOf hz)) (vcos.new-accepts (rateOf hz) .1 ok)))
 all-accepted (inputs.Lfo i) hz ok =
     accepted-carried (lfo-carries (playerFrom (inputs.Lfo i) hz) (lfoControls i)) _
-    (always _ _ lfo.ReachedLfo (λ s h. lfos.never-refused s h .ticks (lfoControls i) lfoAll) (lfo-next i) _
+    (always _ _ lfo.ReachedLfo (λ s h. lfos.never-refused s h .tick (lfoControls i) lfoAll) (lfo-next i) _
     (begun (newLfo (rateOf hz)) (lfos.new-accepts (rateOf hz) .1 ok)))
 all-accepted (inputs.Supersaw i) hz ok =
     accepted-carried (supersaw-carries (playerFrom (inputs.Supersaw i) hz) (supersawControls i)) _
-    (always _ _ supersaw.ReachedSupersaw (λ s h. supersaws.never-refused s h .ticks (supersawControls i)) (supersaw-next (supersawControls i)) _
+    (always _ _ supersaw.ReachedSupersaw (λ s h. supersaws.never-refused s h .tick (supersawControls i)) (supersaw-next (supersawControls i)) _
     (begun (newSupersaw (rateOf hz)) (supersaws.new-accepts (rateOf hz) .1 ok)))
 all-accepted (inputs.Formant i) hz ok =
     accepted-carried (formant-carries (playerFrom (inputs.Formant i) hz) (formantControls i)) _
-    (always _ _ formant.ReachedFormant (λ s h. formants.never-refused s h .ticks (formantControls i)) (formant-next i) _
+    (always _ _ formant.ReachedFormantOsc (λ s h. formants.never-refused s h .tick (formantControls i)) (formant-next i) _
     (begun (newFormantOsc (rateOf hz)) (formants.new-accepts (rateOf hz) .1 ok (rate-fits hz))))
 
 pub heard-accepted : (s : Score) → rateOk (rateOf (s .head .hz)) ≡ true → (k : ℕ) → accepted (heardAt s k) ≡ true

@@ -25,9 +25,9 @@ use Rattle.supersaw.specs.Supersaw.{supersawTickOf, supersawBlockOf}
 use Rattle.supersaw.specs.declared.Supersaw.{Supersaw}
 use Rattle.supersaw.specs.declared.SupersawControls.{SupersawControls}
 use Rattle.formant_osc.proofs.Held as formant-held
-use Rattle.formant_osc.specs.FormantOsc.{formantTickOf, formantBlockOf}
+use Rattle.formant_osc.specs.FormantOsc.{formantOscTickOf, formantOscBlockOf}
 use Rattle.formant_osc.specs.declared.FormantOsc.{FormantOsc}
-use Rattle.formant_osc.specs.declared.FormantControls.{FormantControls}
+use Rattle.formant_osc.specs.declared.FormantOscControls.{FormantOscControls}
 use Rattle.frame.specs.Frames.{portsIn}
 use Rattle.player.specs.Begin.{vcoAll, lfoAll}
 use Rattle.player.specs.Player.{kindOf, soundOf, answerBy, nextBy, playBy, playedOf}
@@ -115,7 +115,8 @@ module _ (p : Player) where
   unfolding soundOf
   supersaw-carries c = record { same-answer = λ s. refl; same-next = λ s. refl }
 
-  pub formant-carries : (c : FormantControls) → Carries (controls.Formant c) (λ s. formantTickOf s c .answer) (λ s. formantTickOf s c .formant) with-formant
+  pub formant-carries : (c : FormantOscControls)
+      → Carries (controls.Formant c) (λ s. formantOscTickOf s c .answer) (λ s. formantOscTickOf s c .«formant_osc») with-formant
   unfolding soundOf
   formant-carries c = record { same-answer = λ s. refl; same-next = λ s. refl }
 
@@ -135,7 +136,7 @@ module _ (p : Player) where
     unfolding supersawBlockOf kindOf portsIn
     supersaw-played c s = played (supersaw-carries c) _ (p .supersaw) t o m r s u after marked (supersaw-held.tick-refusal (p .supersaw) c)
 
-    pub formant-played : (c : FormantControls) (s : FormantOsc) → block r s u after marked ≡ formantBlockOf (p .formant) c t o m
+    pub formant-played : (c : FormantOscControls) (s : FormantOsc) → block r s u after marked ≡ formantOscBlockOf (p .formant) c t o m
         → block r (with-formant s) u after marked ≡ playBy (controls.Formant c) p t o m
-    unfolding formantBlockOf kindOf portsIn
+    unfolding formantOscBlockOf kindOf portsIn
     formant-played c s = played (formant-carries c) _ (p .formant) t o m r s u after marked (formant-held.tick-refusal (p .formant) c)

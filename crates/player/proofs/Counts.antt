@@ -7,7 +7,7 @@ use native.Mathlib.Omega.{arith}
 use lib.Dec.{eqb}
 use lib.ListN.{length}
 use borrow.Author.Tests.{eq-eqb, eqb-true}
-use Rattle.answer.specs.Answer.{markNumber, accepted}
+use Rattle.answer.specs.Answer.{markNumber, accepted, cleared, notfinite, lost, clean}
 use Rattle.answer.proofs.Laws.{tally-takes-all}
 use Rattle.answer.specs.Promises.{CountsAll}
 use Rattle.answer.specs.Tally.{oneIf, many, acceptedIn, tallyAfter}
@@ -47,7 +47,7 @@ one-is n k h = go (eqb n k) refl h
         none h = omega arith
 
 -- an answer has one mark at most
-marks-most : (xs : List Answer) → many 4 xs + many 1 xs + many 2 xs + many 3 xs ≤ length xs
+marks-most : (xs : List Answer) → many clean xs + many cleared xs + many notfinite xs + many lost xs ≤ length xs
 unfolding many oneIf markNumber
 marks-most [] = omega arith
 marks-most (answer.Clean v ∷ xs) = omega (arith, marks-most xs)
@@ -56,29 +56,29 @@ marks-most (answer.NotFinite v ∷ xs) = omega (arith, marks-most xs)
 marks-most (answer.Lost v ∷ xs) = omega (arith, marks-most xs)
 marks-most (answer.Refused n ∷ xs) = omega (arith, marks-most xs)
 
-one-most : (a : Answer) → oneIf (markNumber a) 4 ≤ 1
+one-most : (a : Answer) → oneIf (markNumber a) clean ≤ 1
 unfolding oneIf
-one-most a = go (eqb (markNumber a) 4)
+one-most a = go (eqb (markNumber a) clean)
   where
     go : (b : Bool) → cond b 1 0 ≤ 1
     go true = omega arith
     go false = omega arith
 
-all-clean : (xs : List Answer) → many 4 xs ≡ length xs → Every Clean xs
+all-clean : (xs : List Answer) → many clean xs ≡ length xs → Every Clean xs
 unfolding many Every
 all-clean [] h = tt
 all-clean (a ∷ xs) h =
     let m = marks-most xs in
     let o = one-most a in
-    (one-is (markNumber a) 4 (omega arith), all-clean xs (omega arith))
+    (one-is (markNumber a) clean (omega arith), all-clean xs (omega arith))
 
-clean-all : (xs : List Answer) → Every Clean xs → many 4 xs ≡ length xs
+clean-all : (xs : List Answer) → Every Clean xs → many clean xs ≡ length xs
 unfolding many Every
 clean-all [] h = refl
 clean-all (a ∷ xs) (c, h) = let m = clean-all xs h in omega (arith, counts-one a c)
   where
-    counts-one : (a : Answer) → markNumber a ≡ 4 → oneIf (markNumber a) 4 ≡ 1
-    counts-one a c = unfold oneIf in rw (eq-eqb (markNumber a) 4 c) refl
+    counts-one : (a : Answer) → markNumber a ≡ clean → oneIf (markNumber a) clean ≡ 1
+    counts-one a c = unfold oneIf in rw (eq-eqb (markNumber a) clean c) refl
 
 -- ---- so of a score's frames
 pub heard-counts : (s : Score) → s .head .frames ≤ 4294967295 → CountsAll (heardOf s)

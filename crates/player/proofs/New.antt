@@ -1,29 +1,37 @@
--- What a new hands out, made or refused, is the new oscillator.
+-- What `new` hands out is the new state, also where it refuses the rate.
 use mathlib.Core.Bool.{Bool, true, false, cond}
 use mathlib.Core.Path.{_≡_, refl}
-use Prim.Native.Nat.{ℕ}
-use lib.Dec.{eqb}
-use Rattle.answer.specs.declared.Outcome.the-variants as outcome
 use Rattle.common.specs.declared.Hertz.{Hertz}
-use Rattle.supersaw.specs.Supersaw.{newSupersaw, madeUnless, supersawNewOf}
-use Rattle.supersaw.specs.declared.Supersaw.{Supersaw}
+use Rattle.formant_osc.specs.FormantOsc as formant
+use Rattle.formant_osc.specs.FormantOsc.{newFormantOsc, formantOscNewOf}
+use Rattle.formant_osc.specs.declared.FormantOscMade.{FormantOscMade}
+use Rattle.lfo.specs.Lfo as lfo
+use Rattle.lfo.specs.Lfo.{newLfo, lfoNewOf}
+use Rattle.lfo.specs.declared.LfoMade.{LfoMade}
+use Rattle.supersaw.specs.Supersaw as supersaw
+use Rattle.supersaw.specs.Supersaw.{newSupersaw, supersawNewOf}
 use Rattle.supersaw.specs.declared.SupersawMade.{SupersawMade}
-use Rattle.formant_osc.specs.FormantOsc.{newFormantOsc, formantNewOf}
-use Rattle.formant_osc.proofs.Either.{unless-either}
-use Rattle.formant_osc.specs.declared.FormantOsc.{FormantOsc}
+use Rattle.vco.specs.Vco as vco
+use Rattle.vco.specs.Vco.{newVco, vcoNewOf}
+use Rattle.vco.specs.declared.VcoMade.{VcoMade}
 
-unless-same : (n : ℕ) (s : Supersaw) → madeUnless n s s .supersaw ≡ s
-unfolding madeUnless
-unless-same n s = go (eqb n 0)
-  where
-    go : (b : Bool) → cond {A = SupersawMade} b (record { outcome = outcome.Done; supersaw = s }) (record { outcome = outcome.Refused n; supersaw = s }) .supersaw ≡ s
-    go true = refl
-    go false = refl
+-- done or refused
+either : {M S : Type 0} (of : M → S) (b : Bool) (x y : M) (s : S) → of x ≡ s → of y ≡ s → of (cond b x y) ≡ s
+either of true x y s p q = p
+either of false x y s p q = q
+
+pub vco-new : (r : Hertz) → vcoNewOf r .vco ≡ newVco r
+unfolding vcoNewOf vco.madeUnless
+vco-new r = either (λ (m : VcoMade). m .vco) _ _ _ (newVco r) refl refl
+
+pub lfo-new : (r : Hertz) → lfoNewOf r .lfo ≡ newLfo r
+unfolding lfoNewOf lfo.madeUnless
+lfo-new r = either (λ (m : LfoMade). m .lfo) _ _ _ (newLfo r) refl refl
 
 pub supersaw-new : (r : Hertz) → supersawNewOf r .supersaw ≡ newSupersaw r
-unfolding supersawNewOf
-supersaw-new r = unless-same _ (newSupersaw r)
+unfolding supersawNewOf supersaw.madeUnless
+supersaw-new r = either (λ (m : SupersawMade). m .supersaw) _ _ _ (newSupersaw r) refl refl
 
-pub formant-new : (r : Hertz) → formantNewOf r .formant ≡ newFormantOsc r
-unfolding formantNewOf
-formant-new r = unless-either (λ (s : FormantOsc). s ≡ newFormantOsc r) _ (newFormantOsc r) (newFormantOsc r) refl refl
+pub formant-new : (r : Hertz) → formantOscNewOf r .«formant_osc» ≡ newFormantOsc r
+unfolding formantOscNewOf formant.madeUnless
+formant-new r = either (λ (m : FormantOscMade). m .«formant_osc») _ _ _ (newFormantOsc r) refl refl

@@ -4,13 +4,12 @@ use mathlib.Core.Path.{_≡_, refl, ap, _∙_}
 use Prim.Native.Nat.{ℕ}
 use lib.IntN.{pos, negsuc}
 use lib.Ieee.{binary64, ofBits, toBits, ofInt, div, neg}
-use Rattle.laws.specs.Float.{zer}
 use Rattle.line.specs.Bytes.{ascii, sameOf, hasOf, untilOf, pastOf}
 use Rattle.line.specs.Line.{lineOf, afterLine, keyOf, valueOf, isLine}
 use Rattle.line.specs.Number.{digitsFrom, digitsOf, negativeOf, signedOf, numberOf}
 use Rattle.text.specs.Decimal.{decimalFrom, decimalText}
 use Rattle.text.specs.Hex.{glyph, hexFrom, hexText}
-use Rattle.answer.specs.Answer.{markNumber}
+use Rattle.answer.specs.Answer.{markNumber, volts4}
 use Rattle.answer.specs.Tally.{addsUp, oneIf, counted, talliedNumber, tallyOr, tallyOf, settle, run, tallyAfter}
 use Rattle.answer.specs.declared.Answer.{Answer}
 use Rattle.answer.specs.declared.Answer.the-variants as answer
@@ -39,16 +38,23 @@ given : List ℕ
 given = ascii "osc=vco\nhz=48000\nframes=1\nvoct=0\nfm=0\npw=500000\nsync=0\nfm_lin=-5000000\n"
 
 inputs : VcoInputs
-inputs = record { voct = Microvolts (pos 0); fm = Microvolts (pos 0); pw = Microvolts (pos 500000); sync = Microvolts (pos 0); «fm_lin» = Microvolts (negsuc 4999999) }
+inputs = record {
+  voct = Microvolts (pos 0);
+  fm = Microvolts (pos 0);
+  pw = Microvolts (pos 500000);
+  sync = Microvolts (pos 0);
+  «fm_lin» = Microvolts (negsuc 4999999);
+}
 
 score : Score
 score = record { head = record { hz = 48000; frames = 1 }; inputs = Vco inputs }
 
 volts : Volts
-volts = record { p10 = ofBits binary64 0; p11 = ofBits binary64 0xc014000000000000; p12 = ofBits binary64 0xc014000000000000; p13 = ofBits binary64 0x4014000000000000; p14 = zer }
+volts = volts4 (ofBits binary64 0) (ofBits binary64 0xc014000000000000) (ofBits binary64 0xc014000000000000) (ofBits binary64 0x4014000000000000)
 
 is-read : scoreOf given ≡ Values score
-unfolding given score inputs sameOf hasOf untilOf pastOf lineOf afterLine keyOf valueOf isLine digitsFrom digitsOf negativeOf signedOf numberOf oscOf withinOf controlOf oscLine wholeLine controlLine osc whole control endOf vcoOf headOf linesOf scoreOf
+unfolding given score inputs sameOf hasOf untilOf pastOf lineOf afterLine keyOf valueOf isLine digitsFrom digitsOf negativeOf signedOf numberOf oscOf withinOf
+    controlOf oscLine wholeLine controlLine osc whole control endOf vcoOf headOf linesOf scoreOf
 is-read = refl
 
 rate : rateOf 48000 ≡ frameRate
@@ -62,7 +68,9 @@ controls = refl
 is-heard : heardOf score ≡ answer.Clean volts ∷ []
 unfolding heardOf heardFrom answers score volts
 is-heard =
-    ap (λ (a : Answer). a ∷ []) (ap (λ (r : Hertz). vcoTickOf (newVco r) (vcoControls inputs) vcoAll .answer) rate ∙ ap (λ (c : VcoControls). vcoTickOf (newVco frameRate) c vcoAll .answer) controls ∙ first-frame)
+    ap (λ (a : Answer). a ∷ [])
+    (ap (λ (r : Hertz). vcoTickOf (newVco r) (vcoControls inputs) vcoAll .answer) rate
+    ∙ ap (λ (c : VcoControls). vcoTickOf (newVco frameRate) c vcoAll .answer) controls ∙ first-frame)
 
 printed : List Answer → List ℕ
 printed xs = framesText kind.Vco 0 xs ++ endText 1 (tallyAfter xs)
@@ -71,7 +79,9 @@ is-printed : playOf score ≡ printed (answer.Clean volts ∷ [])
 unfolding playOf printed score
 is-printed = ap printed is-heard
 
-text : printed (answer.Clean volts ∷ []) ≡ ascii "n=0\nmark=clean\nsin=0000000000000000\ntri=C014000000000000\nsaw=C014000000000000\nsqr=4014000000000000\nbegun=1\nfinished=1\ncleared=0\nnotfinite=0\nlost=0\nclaimed=yes\n"
+text : printed (answer.Clean volts ∷ [])
+    ≡ ascii
+    "n=0\nmark=clean\nsin=0000000000000000\ntri=C014000000000000\nsaw=C014000000000000\nsqr=4014000000000000\nbegun=1\nfinished=1\ncleared=0\nnotfinite=0\nlost=0\nclaimed=yes\n"
 unfolding printed volts framesText frameText markedText outputsText wavesText sampleLine wordLine countLine decimalText decimalFrom glyph
     hexText hexFrom toBits ofBits endText countsText claimedOf tallyAfter run settle talliedNumber tallyOr tallyOf addsUp counted oneIf markNumber
 text = refl

@@ -11,7 +11,7 @@ use Rattle.score.specs.declared.FormantInputs.{FormantInputs}
 use Rattle.vco.specs.declared.VcoControls.{VcoControls}
 use Rattle.lfo.specs.declared.LfoControls.{LfoControls}
 use Rattle.supersaw.specs.declared.SupersawControls.{SupersawControls}
-use Rattle.formant_osc.specs.declared.FormantControls.{FormantControls}
+use Rattle.formant_osc.specs.declared.FormantOscControls.{FormantOscControls}
 
 -- all outputs wanted
 abbrev pub vcoAll : ℕ
@@ -39,7 +39,7 @@ lfoControls i = record { rate = voltsOf (i .rate); depth = voltsOf (i .depth); r
 unfoldable pub supersawControls : SupersawInputs → SupersawControls
 supersawControls i = record { voct = record { 0 = voltsOf (i .voct) }; detune = voltsOf (i .detune); mix = voltsOf (i .mix) }
 
-unfoldable pub formantControls : FormantInputs → FormantControls
+unfoldable pub formantControls : FormantInputs → FormantOscControls
 formantControls i =
     record {
       «v_oct» = record { 0 = voltsOf (i .«v_oct») };

@@ -15,7 +15,7 @@ use Rattle.score.specs.declared.Reading.the-variants.{Values, Refused}
 use Rattle.vco.specs.Vco.{newVco, vcoTickOf}
 use Rattle.lfo.specs.Lfo.{newLfo, lfoTickOf}
 use Rattle.supersaw.specs.Supersaw.{newSupersaw, supersawTickOf}
-use Rattle.formant_osc.specs.FormantOsc.{newFormantOsc, formantTickOf}
+use Rattle.formant_osc.specs.FormantOsc.{newFormantOsc, formantOscTickOf}
 use Rattle.frame.specs.Frame.{frameText}
 use Rattle.frame.specs.End.{endText, refusedText}
 use Rattle.player.specs.Begin.{vcoAll, lfoAll, rateOf, vcoControls, lfoControls, supersawControls, formantControls}
@@ -37,7 +37,7 @@ heardFrom (Supersaw i) hz n =
     answers (λ s. supersawTickOf s c .answer) (λ s. supersawTickOf s c .supersaw) n (newSupersaw (rateOf hz))
 heardFrom (Formant i) hz n =
     let c = formantControls i in
-    answers (λ s. formantTickOf s c .answer) (λ s. formantTickOf s c .formant) n (newFormantOsc (rateOf hz))
+    answers (λ s. formantOscTickOf s c .answer) (λ s. formantOscTickOf s c .«formant_osc») n (newFormantOsc (rateOf hz))
 
 unfoldable pub heardOf : Score → List Answer
 heardOf s = heardFrom (s .inputs) (s .head .hz) (s .head .frames)

@@ -14,7 +14,7 @@ use Rattle.score.specs.declared.Score.{Score}
 use Rattle.vco.specs.Vco.{newVco, vcoTickOf}
 use Rattle.lfo.specs.Lfo.{newLfo, lfoTickOf}
 use Rattle.supersaw.specs.Supersaw.{newSupersaw, supersawTickOf}
-use Rattle.formant_osc.specs.FormantOsc.{newFormantOsc, formantTickOf}
+use Rattle.formant_osc.specs.FormantOsc.{newFormantOsc, formantOscTickOf}
 use Rattle.frame.specs.Frames.{portsIn}
 use Rattle.player.specs.Begin.{vcoAll, lfoAll, rateOf, vcoControls, lfoControls, supersawControls, formantControls}
 use Rattle.player.specs.declared.Controls.{Controls}
@@ -58,8 +58,8 @@ soundOf (Supersaw c) p =
     let t = supersawTickOf (p .supersaw) c in
     record { answer = t .answer; player = record { controls = p .controls; vco = p .vco; lfo = p .lfo; supersaw = t .supersaw; formant = p .formant } }
 soundOf (Formant c) p =
-    let t = formantTickOf (p .formant) c in
-    record { answer = t .answer; player = record { controls = p .controls; vco = p .vco; lfo = p .lfo; supersaw = p .supersaw; formant = t .formant } }
+    let t = formantOscTickOf (p .formant) c in
+    record { answer = t .answer; player = record { controls = p .controls; vco = p .vco; lfo = p .lfo; supersaw = p .supersaw; formant = t .«formant_osc» } }
 
 abbrev pub answerBy : Controls → Player → Answer
 answerBy c p = soundOf c p .answer

@@ -6,7 +6,7 @@ use mathlib.Core.Path.{_≡_}
 use lib.Ieee.{Float}
 use lib.ListN.{length}
 use Rattle.laws.specs.Machine.{Settles}
-use Rattle.answer.specs.Answer.{markNumber, accepted}
+use Rattle.answer.specs.Answer.{markNumber, accepted, clean}
 use Rattle.answer.specs.Block.{Block, block}
 use Rattle.answer.specs.Promises.{CountsAll}
 use Rattle.answer.specs.Tally.{tallyAfter}
@@ -56,7 +56,7 @@ Frames-accepted = (s : Score) → rateOk (rateOf (s .head .hz)) ≡ true → Eve
 
 -- ---- a render is claimed exactly when every frame is clean
 abbrev pub Clean : Answer → Type 0
-Clean a = markNumber a ≡ 4
+Clean a = markNumber a ≡ clean
 
 abbrev pub claims : Score → Bool
 claims s = claimedOf (s .head .frames) (tallyAfter (heardOf s))

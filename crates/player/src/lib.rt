@@ -1,13 +1,9 @@
 // A score is played in blocks of frames, as many at a time as there are marks: samples and marks, and no text.
 use answer::Tally;
-use common::EdgeDetector;
 use common::Hertz;
-use common::Memo1;
-use common::Memo3;
-use common::Turns;
 use common::VoltsPerOctave;
-use formant_osc::FormantControls;
 use formant_osc::FormantOsc;
+use formant_osc::FormantOscControls;
 use lfo::Lfo;
 use lfo::LfoControls;
 use score::FormantInputs;
@@ -34,7 +30,7 @@ pub enum Controls {
     Vco(VcoControls),
     Lfo(LfoControls),
     Supersaw(SupersawControls),
-    Formant(FormantControls),
+    Formant(FormantOscControls),
 }
 
 // One oscillator of each kind, for an enum can't hold the arrays of some; only the one that the controls are for moves.
@@ -55,6 +51,7 @@ pub struct Played {
 
 // All outputs wanted.
 const VCO_ALL: u32 = 15;
+
 const LFO_ALL: u32 = 31;
 
 // ---- a score's player
@@ -108,14 +105,14 @@ fn supersaw_controls(i: SupersawInputs) -> SupersawControls
     }
 }
 
-fn formant_controls(i: FormantInputs) -> FormantControls
+fn formant_controls(i: FormantInputs) -> FormantOscControls
     ensures { λ r. ⌜ r ≡ formantControls i ⌝ }
 {
     let v_oct = i.v_oct;
     let vowel = i.vowel;
     let formant_shift = i.formant_shift;
     let vibrato = i.vibrato;
-    FormantControls {
+    FormantOscControls {
         v_oct: VoltsPerOctave(score::volts(v_oct)),
         vowel: score::volts(vowel),
         formant_shift: score::volts(formant_shift),
@@ -138,23 +135,15 @@ fn controls_of(inputs: Inputs) -> Controls
 fn vco_at(sample_rate: Hertz) -> Vco
     ensures { λ r. ⌜ r ≡ newVco «sample_rate» ⌝ }
 {
-    Vco {
-        phase: Turns(0.0),
-        sample_rate,
-        sync_edge: EdgeDetector::new(),
-        freq_memo: Memo3::new(),
-    }
+    let made = Vco::new(sample_rate);
+    made.vco
 }
 
 fn lfo_at(sample_rate: Hertz) -> Lfo
     ensures { λ r. ⌜ r ≡ newLfo «sample_rate» ⌝ }
 {
-    Lfo {
-        phase: Turns(0.0),
-        sample_rate,
-        reset_edge: EdgeDetector::new(),
-        freq_memo: Memo1::new(),
-    }
+    let made = Lfo::new(sample_rate);
+    made.lfo
 }
 
 fn supersaw_at(sample_rate: Hertz) -> Supersaw
@@ -168,7 +157,7 @@ fn formant_at(sample_rate: Hertz) -> FormantOsc
     ensures { λ r. ⌜ r ≡ newFormantOsc «sample_rate» ⌝ }
 {
     let made = FormantOsc::new(sample_rate);
-    made.formant
+    made.formant_osc
 }
 
 impl Player {
@@ -234,7 +223,7 @@ impl Player {
             Controls::Formant(c) => {
                 let formant = self.formant;
                 let b = formant.block(c, tally, samples, marks);
-                let played = b.formant;
+                let played = b.formant_osc;
                 let counts = b.tally;
                 self.formant = played;
                 Played {

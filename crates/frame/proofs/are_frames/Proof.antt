@@ -9,17 +9,11 @@ use Rattle.frame.proofs.Played.{some-ports}
 use Rattle.frame.proofs.are_frames.Statement.{statement}
 use Rattle.frame.proofs.are_frames.Tie as tie
 
-ports-of-requires : tie.Need-ports-of-requires
-ports-of-requires c κs = search needs
-
 rem-if1 : tie.Need-rem-if1
 rem-if1 c = some-ports _ _ (c .ports-of .ensures)
 
 div-if2 : tie.Need-div-if2
 div-if2 c = some-ports _ _ (c .before .ports-of .ensures)
-
-sub-result : tie.Need-sub-result
-sub-result c = search needs
 
 returns : tie.Need-returns
 unfolding areFrames
@@ -43,4 +37,4 @@ unfolding areFrames
 returns-3 c = simp (← c .before .ports-of .ensures, sym (part-frames _ _ (c .before .before .args .n) (c .if1 .left)))
 
 pub are-frames-spec : {M : Type 1} → statement M
-are-frames-spec = tie.close (tie.spec ports-of-requires rem-if1 div-if2 sub-result returns returns-2 returns-3)
+are-frames-spec = tie.close (tie.spec (λ c κs. search needs) rem-if1 div-if2 (λ c. search needs) returns returns-2 returns-3)

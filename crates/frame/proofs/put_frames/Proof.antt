@@ -7,23 +7,11 @@ use Rattle.frame.proofs.Played.{frames-say}
 use Rattle.frame.proofs.put_frames.Statement.{statement}
 use Rattle.frame.proofs.put_frames.Tie as tie
 
-slice-aggregate-put-text : tie.Need-slice-aggregate-put-text
-slice-aggregate-put-text c = search needs
-
-put-text-requires : tie.Need-put-text-requires
-put-text-requires c κs = search needs
-
-are-frames-requires : tie.Need-are-frames-requires
-are-frames-requires c κs = search needs
-
 put-each-requires : tie.Need-put-each-requires
 put-each-requires c κs =
     let told = c .before .before in
     let z = frames-say _ _ _ _ _ (told .are-frames .ensures) (c .before .if1 .taken) in
     (within _ _ _ (told .before .before .before .put-text .ensures) .0, z .0, z .1)
-
-same-length : tie.Need-same-length
-same-length c = search needs
 
 returns : tie.Need-returns
 unfolding playedText
@@ -33,9 +21,6 @@ returns c =
     rw (sym (told .are-frames .ensures) ∙ put .before .before .if1 .taken)
     (after _ _ _ _ (told .before .before .before .put-text .ensures) (put .put-each .ensures))
 
-same-length-2 : tie.Need-same-length-2
-same-length-2 c = search needs
-
 returns-2 : tie.Need-returns-2
 unfolding playedText
 returns-2 c = rw (sym (c .before .are-frames .ensures) ∙ c .if1 .left) (c .before .before .before .before .put-text .ensures)
@@ -44,11 +29,11 @@ pub put-frames-spec : {M : Type 1} → statement M
 put-frames-spec =
     tie.close
     (tie.spec
-    slice-aggregate-put-text
-    put-text-requires
-    are-frames-requires
+    (λ c. search needs)
+    (λ c κs. search needs)
+    (λ c κs. search needs)
     put-each-requires
-    same-length
+    (λ c. search needs)
     returns
-    same-length-2
+    (λ c. search needs)
     returns-2)

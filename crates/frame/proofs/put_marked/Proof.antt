@@ -5,36 +5,22 @@ use borrow.Author.Needs.{needs}
 use Rattle.frame.proofs.put_marked.Statement.{statement}
 use Rattle.frame.proofs.put_marked.Tie as tie
 
-slice-aggregate-put-count : tie.Need-slice-aggregate-put-count
-slice-aggregate-put-count c = search needs
-
-put-count-requires : tie.Need-put-count-requires
-put-count-requires c κs = search needs
-
-slice-aggregate-put-word : tie.Need-slice-aggregate-put-word
-slice-aggregate-put-word c = search needs
-
-put-word-requires : tie.Need-put-word-requires
-put-word-requires c κs = search needs
-
-put-outputs-requires : tie.Need-put-outputs-requires
-put-outputs-requires c κs = search needs
-
-same-length : tie.Need-same-length
-same-length c = search needs
-
 returns : tie.Need-returns
 unfolding markedText
-returns c = after _ _ _ _ (after _ _ _ _ (c .before .before .before .before .before .before .before .before .before .before .before .put-count .ensures) (c .before .before .before .before .before .before .put-word .ensures)) (c .before .before .put-outputs .ensures)
+returns c =
+    let put-outputs = c .before .before in
+    let put-word = put-outputs .before .before .before .before in
+    let put = put-word .before .before .before .before .before in
+    after _ _ _ _ (after _ _ _ _ (put .put-count .ensures) (put-word .put-word .ensures)) (put-outputs .put-outputs .ensures)
 
 pub put-marked-spec : {M : Type 1} → statement M
 put-marked-spec =
     tie.close
     (tie.spec
-    slice-aggregate-put-count
-    put-count-requires
-    slice-aggregate-put-word
-    put-word-requires
-    put-outputs-requires
-    same-length
+    (λ c. search needs)
+    (λ c κs. search needs)
+    (λ c. search needs)
+    (λ c κs. search needs)
+    (λ c κs. search needs)
+    (λ c. search needs)
     returns)

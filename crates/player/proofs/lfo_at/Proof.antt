@@ -1,18 +1,13 @@
--- `player::lfo_at`: the fields of a new one.
-use Rattle.lfo.specs.Lfo.{newLfo}
+-- `player::lfo_at`: what `new` hands out.
+use mathlib.Core.Path.{ap, _∙_}
 use borrow.Author.Needs.{needs}
+use Rattle.lfo.specs.declared.LfoMade.{LfoMade}
+use Rattle.player.proofs.New.{lfo-new}
 use Rattle.player.proofs.lfo_at.Statement.{statement}
 use Rattle.player.proofs.lfo_at.Tie as tie
 
-new-requires : tie.Need-new-requires
-new-requires c κs = search needs
-
-new-requires-2 : tie.Need-new-requires-2
-new-requires-2 c κs = search needs
-
 returns : tie.Need-returns
-unfolding newLfo
-returns c = simp (c .before .new .ensures, c .new2 .ensures)
+returns c = ap (λ (m : LfoMade). m .lfo) (c .before .new .ensures) ∙ lfo-new (c .before .before .args .sample-rate)
 
 pub lfo-at-spec : {M : Type 1} → statement M
-lfo-at-spec = tie.close (tie.spec new-requires new-requires-2 returns)
+lfo-at-spec = tie.close (tie.spec (λ c κs. search needs) returns)

@@ -5,12 +5,9 @@ use borrow.Author.Needs.{needs}
 use Rattle.player.proofs.rate_of.Statement.{statement}
 use Rattle.player.proofs.rate_of.Tie as tie
 
-int-to-float-t2 : tie.Need-int-to-float-t2
-int-to-float-t2 c = search needs
-
 returns : tie.Need-returns
 unfolding rateOf
 returns c = refl
 
 pub rate-of-spec : {M : Type 1} → statement M
-rate-of-spec = tie.close (tie.spec int-to-float-t2 returns)
+rate-of-spec = tie.close (tie.spec (λ c. search needs) returns)

@@ -1,18 +1,13 @@
--- `player::vco_at`: the fields of a new one.
-use Rattle.vco.specs.Vco.{newVco}
+-- `player::vco_at`: what `new` hands out.
+use mathlib.Core.Path.{ap, _∙_}
 use borrow.Author.Needs.{needs}
+use Rattle.vco.specs.declared.VcoMade.{VcoMade}
+use Rattle.player.proofs.New.{vco-new}
 use Rattle.player.proofs.vco_at.Statement.{statement}
 use Rattle.player.proofs.vco_at.Tie as tie
 
-new-requires : tie.Need-new-requires
-new-requires c κs = search needs
-
-new-requires-2 : tie.Need-new-requires-2
-new-requires-2 c κs = search needs
-
 returns : tie.Need-returns
-unfolding newVco
-returns c = simp (c .before .new .ensures, c .new2 .ensures)
+returns c = ap (λ (m : VcoMade). m .vco) (c .before .new .ensures) ∙ vco-new (c .before .before .args .sample-rate)
 
 pub vco-at-spec : {M : Type 1} → statement M
-vco-at-spec = tie.close (tie.spec new-requires new-requires-2 returns)
+vco-at-spec = tie.close (tie.spec (λ c κs. search needs) returns)

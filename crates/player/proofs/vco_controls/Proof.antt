@@ -4,32 +4,23 @@ use borrow.Author.Needs.{needs}
 use Rattle.player.proofs.vco_controls.Statement.{statement}
 use Rattle.player.proofs.vco_controls.Tie as tie
 
-volts-requires : tie.Need-volts-requires
-volts-requires c κs = search needs
-
-volts-requires-2 : tie.Need-volts-requires-2
-volts-requires-2 c κs = search needs
-
-volts-requires-3 : tie.Need-volts-requires-3
-volts-requires-3 c κs = search needs
-
-volts-requires-4 : tie.Need-volts-requires-4
-volts-requires-4 c κs = search needs
-
-volts-requires-5 : tie.Need-volts-requires-5
-volts-requires-5 c κs = search needs
-
 returns : tie.Need-returns
 unfolding vcoControls
-returns c = simp (c .before .before .before .before .volts .ensures, c .before .before .before .volts2 .ensures, c .before .before .volts3 .ensures, c .before .volts4 .ensures, c .volts5 .ensures)
+returns c = simp (
+  c .before .before .before .before .volts .ensures,
+  c .before .before .before .volts2 .ensures,
+  c .before .before .volts3 .ensures,
+  c .before .volts4 .ensures,
+  c .volts5 .ensures,
+)
 
 pub vco-controls-spec : {M : Type 1} → statement M
 vco-controls-spec =
     tie.close
     (tie.spec
-    volts-requires
-    volts-requires-2
-    volts-requires-3
-    volts-requires-4
-    volts-requires-5
+    (λ c κs. search needs)
+    (λ c κs. search needs)
+    (λ c κs. search needs)
+    (λ c κs. search needs)
+    (λ c κs. search needs)
     returns)

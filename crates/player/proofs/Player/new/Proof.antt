@@ -4,24 +4,6 @@ use borrow.Author.Needs.{needs}
 use Rattle.player.proofs.Player.new.Statement.{statement}
 use Rattle.player.proofs.Player.new.Tie as tie
 
-rate-of-requires : tie.Need-rate-of-requires
-rate-of-requires c κs = search needs
-
-controls-of-requires : tie.Need-controls-of-requires
-controls-of-requires c κs = search needs
-
-vco-at-requires : tie.Need-vco-at-requires
-vco-at-requires c κs = search needs
-
-lfo-at-requires : tie.Need-lfo-at-requires
-lfo-at-requires c κs = search needs
-
-supersaw-at-requires : tie.Need-supersaw-at-requires
-supersaw-at-requires c κs = search needs
-
-formant-at-requires : tie.Need-formant-at-requires
-formant-at-requires c κs = search needs
-
 returns : tie.Need-returns
 unfolding playerFrom
 returns c =
@@ -42,10 +24,10 @@ pub new-spec : {M : Type 1} → statement M
 new-spec =
     tie.close
     (tie.spec
-    rate-of-requires
-    controls-of-requires
-    vco-at-requires
-    lfo-at-requires
-    supersaw-at-requires
-    formant-at-requires
+    (λ c κs. search needs)
+    (λ c κs. search needs)
+    (λ c κs. search needs)
+    (λ c κs. search needs)
+    (λ c κs. search needs)
+    (λ c κs. search needs)
     returns)
