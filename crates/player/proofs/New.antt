@@ -1,6 +1,10 @@
 -- What `new` hands out is the new state, also where it refuses the rate.
 use mathlib.Core.Bool.{Bool, true, false, cond}
 use mathlib.Core.Path.{_≡_, refl}
+use Prim.Native.Nat.{ℕ}
+use lib.Dec.{eqb}
+use Rattle.answer.specs.declared.Outcome.the-variants as outcome
+use Rattle.common.specs.Tests.{rateOk}
 use Rattle.common.specs.declared.Hertz.{Hertz}
 use Rattle.formant_osc.specs.FormantOsc as formant
 use Rattle.formant_osc.specs.FormantOsc.{newFormantOsc, formantOscNewOf}
@@ -22,16 +26,28 @@ either of false x y s p q = q
 
 pub vco-new : (r : Hertz) → vcoNewOf r .vco ≡ newVco r
 unfolding vcoNewOf vco.madeUnless
-vco-new r = either (λ (m : VcoMade). m .vco) _ _ _ (newVco r) refl refl
+vco-new r =
+    let n : ℕ = cond (rateOk r) 0 1 in
+    either (λ (m : VcoMade). m .vco) (eqb n 0) (record { outcome = outcome.Done; vco = newVco r }) (record { outcome = outcome.Refused n; vco = newVco r })
+    (newVco r) refl refl
 
 pub lfo-new : (r : Hertz) → lfoNewOf r .lfo ≡ newLfo r
 unfolding lfoNewOf lfo.madeUnless
-lfo-new r = either (λ (m : LfoMade). m .lfo) _ _ _ (newLfo r) refl refl
+lfo-new r =
+    let n : ℕ = cond (rateOk r) 0 1 in
+    either (λ (m : LfoMade). m .lfo) (eqb n 0) (record { outcome = outcome.Done; lfo = newLfo r }) (record { outcome = outcome.Refused n; lfo = newLfo r })
+    (newLfo r) refl refl
 
 pub supersaw-new : (r : Hertz) → supersawNewOf r .supersaw ≡ newSupersaw r
 unfolding supersawNewOf supersaw.madeUnless
-supersaw-new r = either (λ (m : SupersawMade). m .supersaw) _ _ _ (newSupersaw r) refl refl
+supersaw-new r =
+    let n : ℕ = cond (rateOk r) 0 1 in
+    either (λ (m : SupersawMade). m .supersaw) (eqb n 0) (record { outcome = outcome.Done; supersaw = newSupersaw r }) (record { outcome = outcome.Refused n; supersaw = newSupersaw r })
+    (newSupersaw r) refl refl
 
 pub formant-new : (r : Hertz) → formantOscNewOf r .«formant_osc» ≡ newFormantOsc r
 unfolding formantOscNewOf formant.madeUnless
-formant-new r = either (λ (m : FormantOscMade). m .«formant_osc») _ _ _ (newFormantOsc r) refl refl
+formant-new r =
+    let n : ℕ = cond (rateOk r) 0 1 in
+    either (λ (m : FormantOscMade). m .«formant_osc») (eqb n 0) (record { outcome = outcome.Done; «formant_osc» = newFormantOsc r }) (record { outcome = outcome.Refused n; «formant_osc» = newFormantOsc r })
+    (newFormantOsc r) refl refl
