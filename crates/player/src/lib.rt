@@ -55,6 +55,7 @@ pub struct Played {
 
 // All outputs wanted.
 const VCO_ALL: u32 = 15;
+
 const LFO_ALL: u32 = 31;
 
 // ---- a score's player
