@@ -1,13 +1,14 @@
 -- What the program writes of a score, piece by piece.
-use Prim.Native.Nat.{ℕ, zero, suc, _*_, _<_}
+use Prim.Native.Nat.{ℕ, zero, suc, _-_, _*_, _<_, min}
 use mathlib.Core.List.{List, [], _++_}
 use mathlib.Core.Path.{_≡_}
 use Rattle.score.specs.declared.Score.{Score}
-use Rattle.player.specs.Player.{beginOf, textOf, afterOf, turnsOf, finishOf}
+use Rattle.frame.specs.End.{endText}
+use Rattle.player.specs.Frames.{tallyAt, textFrom}
 
 -- the piece that begins with the frame n: k frames, or as many as are left
 unfoldable pub pieceOf : Score → ℕ → ℕ → List ℕ
-pieceOf s n k = let p = afterOf n (beginOf s) in textOf (turnsOf p k) p
+pieceOf s n k = textFrom s n (min k (s .head .frames - n))
 
 -- a piece of 400 frames begins there: the frame is one of the score's, and a multiple of 400
 abbrev pub Begins : Score → ℕ → Type 0
@@ -20,4 +21,4 @@ piecesOf s k (suc m) = piecesOf s k m ++ pieceOf s (m * k) k
 
 -- the last one, after all frames
 unfoldable pub endOf : Score → List ℕ
-endOf s = finishOf (afterOf (s .head .frames) (beginOf s))
+endOf s = endText (s .head .frames) (tallyAt s (s .head .frames))

@@ -1,4 +1,5 @@
 // Reads a score from standard input and prints what it plays, or its refusal. A read or write that fails is told on standard error.
+use answer::Tally;
 use libc::STDERR_FILENO;
 use libc::STDIN_FILENO;
 use libc::STDOUT_FILENO;
@@ -7,7 +8,7 @@ use score::Reading;
 use score::Score;
 ghost use mathlib.Core.Bool.{true};
 ghost use mathlib.Core.Path.{_≡_};
-ghost use Prim.Native.Nat.{_+_, _≤_, _<_};
+ghost use Prim.Native.Nat.{_+_, _≤_, _<_, min};
 ghost use lib.ListN.{length};
 ghost use Rattle.frame.specs.End.{refusedText};
 ghost use Rattle.score.specs.declared.Reading.the-variants.{Values, Refused};
@@ -109,24 +110,46 @@ fn reading(input: &[u8], taken: Taken) -> Reading
 
 // ---- the program
 
+fn lesser(a: u32, b: u32) -> u32
+    ensures { λ r. ⌜ r ≡ min a b ⌝ }
+{
+    if a < b { a } else { b }
+}
+
 // The score that was read of the input, piece by piece, until nothing is left or a write fails. It answers whether all was written.
 fn play(out: &mut [u8], input: &[u8], taken: Taken, score: Score) -> bool
     requires { ⌜ (length (now out) ≡ 65536) × (takenOf taken (now input) ≡ Values score) ⌝ }
 {
+    // five samples a frame at most
+    let mut samples = [0.0; 2000];
+    let mut marks = [0u32; 400];
+    let head = score.head;
+    let inputs = score.inputs;
+    let frames = head.frames;
+    let osc = score::owner_of(inputs);
+    let ports = frame::ports_of(osc);
     let mut player = Player::new(score);
+    let mut tally = Tally::new();
+    let mut first = 0;
     let mut wrote = true;
-    while player.frame < player.frames {
-        // no run of a score that was read is refused
-        let played = player.run(&mut *out, AT_ONCE);
-        let to = played.to;
-        wrote = write_piece(&out[..to], input, taken, score, player.frame, wrote);
+    while first < frames {
+        let n = lesser(AT_ONCE, frames - first);
+        let size = n as usize;
+        let room = ports * size;
+        // nothing of a score that was read is refused
+        let played = player.play(tally, &mut samples[..room], &mut marks[..size]);
+        let next = played.player;
+        player = next;
+        let counts = played.tally;
+        tally = counts;
+        let to = frame::put_frames(&mut *out, 0, osc, first, &samples[..room], &marks[..size]);
+        wrote = write_piece(&out[..to], input, taken, score, first, wrote);
         if !wrote {
             return false;
         }
-        let next = played.player;
-        player = next;
+        first += n;
     }
-    let to = player.finish(&mut *out);
+    let to = frame::put_end(&mut *out, 0, frames, tally);
     write_end(&out[..to], input, taken, score, wrote)
 }
 
