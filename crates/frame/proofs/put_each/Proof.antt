@@ -35,7 +35,9 @@ add-put-frame : tie.Need-add-put-frame Inv-loop μ-loop
 add-put-frame c = let s = c .before .before .before .before .before .loop .inv in let t = c .before .before .before .before .loop-test .taken in omega arith
 
 loop-less : tie.Need-loop-less Inv-loop μ-loop
-loop-less c = let t = c .before .before .before .before .before .before .before .loop-test .taken in omega arith
+loop-less c =
+    let found-volts = c .before .before .before .before .before in
+    let t = found-volts .before .before .loop-test .taken in omega arith
 
 loop-again : tie.Need-loop-again Inv-loop μ-loop
 loop-again c =

@@ -18,18 +18,6 @@ Inv-loop out₀ input taken score samples₀ marks₀ frames osc ports player₀
 abbrev μ-loop : tie.MeasureT-loop
 μ-loop out₀ input taken score samples₀ marks₀ frames osc ports player₀ tally₀ first₀ wrote₀ out samples marks player tally first wrote = frames - first
 
-owner-of-requires : tie.Need-owner-of-requires Inv-loop μ-loop
-owner-of-requires c κs = search needs
-
-ports-of-requires : tie.Need-ports-of-requires Inv-loop μ-loop
-ports-of-requires c κs = search needs
-
-new-requires : tie.Need-new-requires Inv-loop μ-loop
-new-requires c κs = search needs
-
-new-requires-2 : tie.Need-new-requires-2 Inv-loop μ-loop
-new-requires-2 c κs = search needs
-
 loop-holds : tie.Need-loop-holds Inv-loop μ-loop
 loop-holds c =
     let made = c .before .before in
@@ -46,17 +34,10 @@ loop-holds c =
       so-far = refl;
     }
 
-sub-lesser : tie.Need-sub-lesser Inv-loop μ-loop
-sub-lesser c = search needs
-
-lesser-requires : tie.Need-lesser-requires Inv-loop μ-loop
-lesser-requires c κs = search needs
-
-cast-size : tie.Need-cast-size Inv-loop μ-loop
-cast-size c = search needs
-
 mul-room : tie.Need-mul-room Inv-loop μ-loop
-mul-room c = let most = room-samples (c .before .before .loop .inv) (c .before .loop-test .taken) _ (c .lesser .ensures) in omega (arith, most, c .before .before .loop .inv .samples-size)
+mul-room c =
+    let most = room-samples (c .before .before .loop .inv) (c .before .loop-test .taken) _ (c .lesser .ensures) in
+    omega (arith, most, c .before .before .loop .inv .samples-size)
 
 array-borrow-prefix-samples : tie.Need-array-borrow-prefix-samples Inv-loop μ-loop
 array-borrow-prefix-samples c = room-samples (c .before .before .loop .inv) (c .before .loop-test .taken) _ (c .lesser .ensures)
@@ -72,44 +53,42 @@ slice-aggregate-play-2 c =
     let cut = c .before .before in
     marks-cut (cut .before .before .loop .inv) (cut .before .loop-test .taken) _ (cut .lesser .ensures)
 
-play-requires : tie.Need-play-requires Inv-loop μ-loop
-play-requires c κs = search needs
-
 array-share-prefix-samples : tie.Need-array-share-prefix-samples Inv-loop μ-loop
 array-share-prefix-samples c =
     let heard = c .before .before .before .before .before in
     let cut = heard .before .before .before in
     let at = cut .before .before in
-    samples-room (at .loop .inv) (cut .before .loop-test .taken) _ (cut .lesser .ensures) (heard .play .ensures) (heard .play .kept .1 .1 .0) (heard .play .kept .1 .1 .1 .0)
+    samples-room (at .loop .inv) (cut .before .loop-test .taken) _ (cut .lesser .ensures) (heard .play .ensures) (heard .play .kept .1 .1 .0)
+    (heard .play .kept .1 .1 .1 .0)
 
 slice-aggregate-put-frames : tie.Need-slice-aggregate-put-frames Inv-loop μ-loop
 slice-aggregate-put-frames c =
-    let heard = c .before .before .before .before .before .before in
+    let ready = c .before in let heard = ready .before .before .before .before .before in
     let cut = heard .before .before .before in
     let at = cut .before .before in
-    samples-told (at .loop .inv) (cut .before .loop-test .taken) _ (cut .lesser .ensures) (heard .play .ensures) (heard .play .kept .1 .1 .0) (heard .play .kept .1 .1 .1 .0)
+    samples-told (at .loop .inv) (cut .before .loop-test .taken) _ (cut .lesser .ensures) (heard .play .ensures) (heard .play .kept .1 .1 .0)
+    (heard .play .kept .1 .1 .1 .0)
 
 array-share-prefix-marks : tie.Need-array-share-prefix-marks Inv-loop μ-loop
 array-share-prefix-marks c =
-    let heard = c .before .before .before .before .before .before in
+    let ready = c .before in let heard = ready .before .before .before .before .before in
     let cut = heard .before .before .before in
     let at = cut .before .before in
-    marks-room (at .loop .inv) (cut .before .loop-test .taken) _ (cut .lesser .ensures) (heard .play .ensures) (heard .play .kept .1 .1 .0) (heard .play .kept .1 .1 .1 .0)
+    marks-room (at .loop .inv) (cut .before .loop-test .taken) _ (cut .lesser .ensures) (heard .play .ensures) (heard .play .kept .1 .1 .0)
+    (heard .play .kept .1 .1 .1 .0)
 
 slice-aggregate-put-frames-2 : tie.Need-slice-aggregate-put-frames-2 Inv-loop μ-loop
 slice-aggregate-put-frames-2 c =
-    let heard = c .before .before .before .before .before .before .before in
+    let ready = c .before .before in let heard = ready .before .before .before .before .before in
     let cut = heard .before .before .before in
     let at = cut .before .before in
-    marks-told (at .loop .inv) (cut .before .loop-test .taken) _ (cut .lesser .ensures) (heard .play .ensures) (heard .play .kept .1 .1 .0) (heard .play .kept .1 .1 .1 .0)
-
-put-frames-requires : tie.Need-put-frames-requires Inv-loop μ-loop
-put-frames-requires c κs = search needs
+    marks-told (at .loop .inv) (cut .before .loop-test .taken) _ (cut .lesser .ensures) (heard .play .ensures) (heard .play .kept .1 .1 .0)
+    (heard .play .kept .1 .1 .1 .0)
 
 slice-reshare-prefix-write-piece : tie.Need-slice-reshare-prefix-write-piece Inv-loop μ-loop
 slice-reshare-prefix-write-piece c =
     let put = c .before .before in
-    let heard = put .before .before .before .before .before .before .before .before in
+    let ready = put .before .before .before in let heard = ready .before .before .before .before .before in
     let cut = heard .before .before .before in
     let at = cut .before .before in
     put-inside (at .loop .inv) (cut .before .loop-test .taken) _ (cut .lesser .ensures)
@@ -118,7 +97,7 @@ slice-reshare-prefix-write-piece c =
 slice-aggregate-write-piece : tie.Need-slice-aggregate-write-piece Inv-loop μ-loop
 slice-aggregate-write-piece c =
     let put = c .before .before .before in
-    let heard = put .before .before .before .before .before .before .before .before in
+    let ready = put .before .before .before in let heard = ready .before .before .before .before .before in
     let cut = heard .before .before .before in
     let at = cut .before .before in
     sym (length-take-le _ _ (put-inside (at .loop .inv) (cut .before .loop-test .taken) _ (cut .lesser .ensures)
@@ -127,10 +106,10 @@ slice-aggregate-write-piece c =
 write-piece-requires : tie.Need-write-piece-requires Inv-loop μ-loop
 write-piece-requires c κs =
     let put = c .before .before .before in
-    let heard = put .before .before .before .before .before .before .before .before in
+    let ready = put .before .before .before in let heard = ready .before .before .before .before .before in
     let cut = heard .before .before .before in
     let at = cut .before .before in
-    let begun = at .before .before .before .before .before .before .before .before in
+    let ported = at .before .before .before in let begun = ported .before .before .before .before .before in
     let w = piece-written (at .loop .inv) (cut .before .loop-test .taken) _ (cut .lesser .ensures)
     (heard .play .ensures) (heard .play .kept .1 .1 .0) (heard .play .kept .1 .1 .1 .0) (put .put-frames .ensures) in
     (begun .pre .1, w .0, w .1, w .2)
@@ -138,28 +117,26 @@ write-piece-requires c κs =
 same-length : tie.Need-same-length Inv-loop μ-loop
 same-length c =
     let put = c .before .before .before .before .before in
-    let heard = put .before .before .before .before .before .before .before .before in
+    let ready = put .before .before .before in let heard = ready .before .before .before .before .before in
     let cut = heard .before .before .before in
     let at = cut .before .before in
-    let begun = at .before .before .before .before .before .before .before .before in
+    let ported = at .before .before .before in let begun = ported .before .before .before .before .before in
     put-inside (at .loop .inv) (cut .before .loop-test .taken) _ (cut .lesser .ensures)
     (heard .play .ensures) (heard .play .kept .1 .1 .0) (heard .play .kept .1 .1 .1 .0) (put .put-frames .ensures) .1 ∙ sym (begun .pre .0)
 
-returns : tie.Need-returns Inv-loop μ-loop
-returns c = search needs
-
 add-first : tie.Need-add-first Inv-loop μ-loop
 add-first c =
-    let heard = c .before .before .before .before .before .before .before .before .before .before .before .before .before in
+    let put = c .before .before .before .before .before in let ready = put .before .before .before in
+    let heard = ready .before .before .before .before .before in
     let cut = heard .before .before .before in
     let most = next-most (cut .before .before .loop .inv) (cut .before .loop-test .taken) _ (cut .lesser .ensures) in
     omega (arith, most)
 
 loop-less : tie.Need-loop-less Inv-loop μ-loop
 loop-less c =
-    let heard = c .before .before .before .before .before .before .before .before .before .before .before .before .before in
+    let put = c .before .before .before .before .before in let ready = put .before .before .before in
+    let heard = ready .before .before .before .before .before in
     let cut = heard .before .before .before in
-    let at = cut .before .before in
     let left = cut .lesser .ensures in
     let some = cut .before .loop-test .taken in
     omega (arith, left, some)
@@ -167,14 +144,11 @@ loop-less c =
 loop-again : tie.Need-loop-again Inv-loop μ-loop
 loop-again c =
     let put = c .before .before .before .before .before in
-    let heard = put .before .before .before .before .before .before .before .before in
+    let ready = put .before .before .before in let heard = ready .before .before .before .before .before in
     let cut = heard .before .before .before in
     let at = cut .before .before in
     turn-next (at .loop .inv) (cut .before .loop-test .taken) _ (cut .lesser .ensures)
     (heard .play .ensures) (heard .play .kept .1 .1 .0) (heard .play .kept .1 .1 .1 .0) (put .put-frames .ensures) (not-false _ (c .if1 .left))
-
-put-end-requires : tie.Need-put-end-requires Inv-loop μ-loop
-put-end-requires c κs = search needs
 
 slice-reshare-prefix-write-end : tie.Need-slice-reshare-prefix-write-end Inv-loop μ-loop
 slice-reshare-prefix-write-end c = within _ _ _ (c .before .before .put-end .ensures) .0
@@ -186,19 +160,16 @@ write-end-requires : tie.Need-write-end-requires Inv-loop μ-loop
 write-end-requires c κs =
     let put = c .before .before .before in
     let at = put .before .before .before in
+    let ported = at .before .before .before in let begun = ported .before .before .before .before .before in
     let i = at .loop .inv in
-    let begun = at .before .before .before .before .before .before .before .before in
     (begun .pre .1, end-written i (put .before .before .loop-test .left) _ _ (put .put-end .ensures), i .so-far)
 
 same-length-2 : tie.Need-same-length-2 Inv-loop μ-loop
 same-length-2 c =
     let put = c .before .before .before .before in
     let at = put .before .before .before in
-    let begun = at .before .before .before .before .before .before .before .before in
+    let ported = at .before .before .before in let begun = ported .before .before .before .before .before in
     within _ _ _ (put .put-end .ensures) .1 ∙ at .loop .inv .out-size ∙ sym (begun .pre .0)
-
-returns-2 : tie.Need-returns-2 Inv-loop μ-loop
-returns-2 c = search needs
 
 pub play-spec : {M : Type 1} → statement M
 play-spec =
@@ -206,36 +177,36 @@ play-spec =
     (tie.spec
     Inv-loop
     μ-loop
-    owner-of-requires
-    ports-of-requires
-    new-requires
-    new-requires-2
+    (λ c κs. search needs)
+    (λ c κs. search needs)
+    (λ c κs. search needs)
+    (λ c κs. search needs)
     loop-holds
-    sub-lesser
-    lesser-requires
-    cast-size
+    (λ c. search needs)
+    (λ c κs. search needs)
+    (λ c. search needs)
     mul-room
     array-borrow-prefix-samples
     slice-aggregate-play
     array-borrow-prefix-marks
     slice-aggregate-play-2
-    play-requires
+    (λ c κs. search needs)
     array-share-prefix-samples
     slice-aggregate-put-frames
     array-share-prefix-marks
     slice-aggregate-put-frames-2
-    put-frames-requires
+    (λ c κs. search needs)
     slice-reshare-prefix-write-piece
     slice-aggregate-write-piece
     write-piece-requires
     same-length
-    returns
+    (λ c. search needs)
     add-first
     loop-less
     loop-again
-    put-end-requires
+    (λ c κs. search needs)
     slice-reshare-prefix-write-end
     slice-aggregate-write-end
     write-end-requires
     same-length-2
-    returns-2)
+    (λ c. search needs))

@@ -8,20 +8,10 @@ use Rattle.render.proofs.Written.{refused-written}
 use Rattle.render.proofs.print.Statement.{statement}
 use Rattle.render.proofs.print.Tie as tie
 
-reading-requires : tie.Need-reading-requires
-reading-requires c κs = search needs
-
-enum-known-s : tie.Need-enum-known-s
-enum-known-s c = search needs
-
 play-requires : tie.Need-play-requires
-play-requires c κs = (c .before .before .before .before .before .before .before .pre .0, sym (c .before .before .before .before .reading .ensures) ∙ c .before .before .s .given .1)
-
-enum-known-k : tie.Need-enum-known-k
-enum-known-k c = search needs
-
-put-refused-requires : tie.Need-put-refused-requires
-put-refused-requires c κs = search needs
+play-requires c κs =
+    let read = c .before .before .before .before in
+    (read .before .before .before .pre .0, sym (read .reading .ensures) ∙ c .before .before .s .given .1)
 
 slice-reshare-prefix-write-refused : tie.Need-slice-reshare-prefix-write-refused
 slice-reshare-prefix-write-refused c = within _ _ _ (c .before .before .put-refused .ensures) .0
@@ -30,36 +20,26 @@ slice-aggregate-write-refused : tie.Need-slice-aggregate-write-refused
 slice-aggregate-write-refused c = sym (length-take-le _ _ (within _ _ _ (c .before .before .before .put-refused .ensures) .0))
 
 write-refused-requires : tie.Need-write-refused-requires
-write-refused-requires c κs = (
-  sym (c .before .before .before .before .before .before .before .before .reading .ensures) ∙ c .before .before .before .before .before .before .k .given .1,
-  refused-written _ _ _ _ (omega arith) (c .before .before .before .before .before .before .before .before .before .before .before .pre .0) (c .before .before .before .put-refused .ensures),
-)
-
-same-length : tie.Need-same-length
-same-length c = search needs
-
-returns : tie.Need-returns
-returns c = search needs
-
-same-length-2 : tie.Need-same-length-2
-same-length-2 c = search needs
-
-returns-2 : tie.Need-returns-2
-returns-2 c = search needs
+write-refused-requires c κs =
+    let put = c .before .before .before in
+    let read = put .before .before .before .before .before in (
+      sym (read .reading .ensures) ∙ put .before .before .before .k .given .1,
+      refused-written _ _ _ _ (omega arith) (read .before .before .before .pre .0) (put .put-refused .ensures),
+    )
 
 pub print-spec : {M : Type 1} → statement M
 print-spec =
     tie.close
     (tie.spec
-    reading-requires
-    enum-known-s
+    (λ c κs. search needs)
+    (λ c. search needs)
     play-requires
-    enum-known-k
-    put-refused-requires
+    (λ c. search needs)
+    (λ c κs. search needs)
     slice-reshare-prefix-write-refused
     slice-aggregate-write-refused
     write-refused-requires
-    same-length
-    returns
-    same-length-2
-    returns-2)
+    (λ c. search needs)
+    (λ c. search needs)
+    (λ c. search needs)
+    (λ c. search needs))

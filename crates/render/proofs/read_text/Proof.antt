@@ -20,26 +20,27 @@ loop-holds c = (omega arith, refl)
 read-on-requires : tie.Need-read-on-requires Inv-loop μ-loop
 read-on-requires c κs = (c .before .before .loop .inv .0, omega arith)
 
-enum-known-more : tie.Need-enum-known-more Inv-loop μ-loop
-enum-known-more c = search needs
-
 loop-less : tie.Need-loop-less Inv-loop μ-loop
 loop-less c =
-    let g = on-reaches _ _ _ _ (c .before .before .before .before .before .read-on .ensures) (c .before .more .given .1) in
-    let l = c .before .before .before .before .before .read-on .kept in
+    let read-on = c .before .before .before .before .before in
+    let g = on-reaches _ _ _ _ (read-on .read-on .ensures) (c .before .more .given .1) in
+    let l = read-on .read-on .kept in
     omega arith
 
 loop-again : tie.Need-loop-again Inv-loop μ-loop
-loop-again c = (on-reaches _ _ _ _ (c .before .before .before .before .before .read-on .ensures) (c .before .more .given .1) .1, c .before .before .before .before .before .read-on .kept .0 ∙ c .before .before .before .before .before .before .before .before .loop .inv .1)
-
-enum-known-taken : tie.Need-enum-known-taken Inv-loop μ-loop
-enum-known-taken c = search needs
+loop-again c =
+    let read-on = c .before .before .before .before .before in
+    (on-reaches _ _ _ _ (read-on .read-on .ensures) (c .before .more .given .1) .1, read-on .read-on .kept .0 ∙ read-on .before .before .before .loop .inv .1)
 
 same-length : tie.Need-same-length Inv-loop μ-loop
-same-length c = c .before .before .before .before .before .read-on .kept .0 ∙ c .before .before .before .before .before .before .before .before .loop .inv .1
+same-length c =
+    let read-on = c .before .before .before .before .before in
+    read-on .read-on .kept .0 ∙ read-on .before .before .before .loop .inv .1
 
 returns : tie.Need-returns Inv-loop μ-loop
-returns c = stop-within _ _ _ _ (c .before .before .before .before .before .read-on .ensures) (c .before .taken .given .1)
+returns c =
+    let read-on = c .before .before .before .before .before in
+    stop-within _ _ _ _ (read-on .read-on .ensures) (c .before .taken .given .1)
 
 same-length-2 : tie.Need-same-length-2 Inv-loop μ-loop
 same-length-2 c = c .before .loop .inv .1
@@ -55,10 +56,10 @@ read-text-spec =
     μ-loop
     loop-holds
     read-on-requires
-    enum-known-more
+    (λ c. search needs)
     loop-less
     loop-again
-    enum-known-taken
+    (λ c. search needs)
     same-length
     returns
     same-length-2
