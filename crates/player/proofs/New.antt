@@ -42,12 +42,14 @@ pub supersaw-new : (r : Hertz) → supersawNewOf r .supersaw ≡ newSupersaw r
 unfolding supersawNewOf supersaw.madeUnless
 supersaw-new r =
     let n : ℕ = cond (rateOk r) 0 1 in
-    either (λ (m : SupersawMade). m .supersaw) (eqb n 0) (record { outcome = outcome.Done; supersaw = newSupersaw r }) (record { outcome = outcome.Refused n; supersaw = newSupersaw r })
+    either (λ (m : SupersawMade). m .supersaw) (eqb n 0) (record { outcome = outcome.Done; supersaw = newSupersaw r })
+    (record { outcome = outcome.Refused n; supersaw = newSupersaw r })
     (newSupersaw r) refl refl
 
 pub formant-new : (r : Hertz) → formantOscNewOf r .«formant_osc» ≡ newFormantOsc r
 unfolding formantOscNewOf formant.madeUnless
 formant-new r =
     let n : ℕ = cond (rateOk r) 0 1 in
-    either (λ (m : FormantOscMade). m .«formant_osc») (eqb n 0) (record { outcome = outcome.Done; «formant_osc» = newFormantOsc r }) (record { outcome = outcome.Refused n; «formant_osc» = newFormantOsc r })
+    either (λ (m : FormantOscMade). m .«formant_osc») (eqb n 0) (record { outcome = outcome.Done; «formant_osc» = newFormantOsc r })
+    (record { outcome = outcome.Refused n; «formant_osc» = newFormantOsc r })
     (newFormantOsc r) refl refl
