@@ -324,8 +324,8 @@ LIGHT = {"laws", "text", "line", "values", "exports", "exports_score", "examples
 WITHOUT_BOTH = {
     "laws": "it has no code",
     "examples": "it has no code",
-    "values": "it states nothing: a program that prints, held to its file stdout",
-    **dict.fromkeys(["exports", "exports_score", "replay"], "it states nothing but Settled, which any definition fulfils"),
+    **dict.fromkeys(["values", "replay"], "it states nothing: a program that prints, held to its file stdout"),
+    **dict.fromkeys(["exports", "exports_score"], "it states nothing but Settled, which any definition fulfils"),
 }
 
 
