@@ -235,7 +235,7 @@ pub fn blocks<const C: usize, W>(
 fn run<const C: usize, V>(controls: &[[f64; C]], tick: &mut impl FnMut(&[f64; C]) -> V) -> f64 {
     let start = Instant::now();
     for controls in black_box(controls) {
-        black_box(tick(black_box(controls)));
+        black_box(tick(controls));
     }
     start.elapsed().as_nanos() as f64 / controls.len() as f64
 }
