@@ -3,17 +3,17 @@ use mathlib.Core.Bool.{Bool, true, false, cond, _&&_, false≢true}
 use mathlib.Core.List.{List, [], _∷_, _++_}
 use mathlib.Core.Path.{_≡_, refl, sym, ap, _∙_}
 use Prim.Native.Nat.{ℕ, zero, suc, _+_, _-_, _*_, _/_, _%_, _≤_, _<_}
-use native.Mathlib.Nat.{zero-add, add-zero, mul-zero, div-add-mod', mul-comm, eq-of-mul-eq-mul-right, mul-mod-left, zero-lt-suc, mul-le-mul-left, mul-div-le}
+use native.Mathlib.Nat.{zero-add, add-zero, mul-zero, div-add-mod', mul-comm, eq-of-mul-eq-mul-right, mul-mod-left, mul-le-mul-left}
 use native.Mathlib.Numerals.{add-one}
 use native.Mathlib.Omega.{arith}
 use lib.Dec.{eqb, leb, ltb, lit≤}
-use lib.ListN.{length, length-append, length-take, length-drop, take-append-drop, set, take, drop}
+use lib.ListN.{length, length-append, length-take, length-drop, set, take, drop}
 use lib.Ieee.{Float}
 use lib.Seq.{sets, length-take-le}
 use borrow.Author.Tests.{eqb-true, eqb-false, eq-eqb, leb-true, leb-false, le-leb, lt-leb, lt-ltb, ne-eqb}
 use Rattle.laws.proofs.Tests.{eqb-iff}
 use Rattle.laws.specs.Lists.{tab, over}
-use Rattle.laws.proofs.Slices.{stored, sets-append, sets-within}
+use Rattle.laws.proofs.Slices.{stored, sets-append, sets-part}
 use Rattle.laws.proofs.Over.{getD-tab, length-tab, tab-ext, over-more, over-done}
 use Rattle.answer.specs.Answer.{markNumber, hostNumber, voltsOf, accepted, cleared, notfinite, lost, clean, told}
 use Rattle.answer.specs.Block.{manyTo, countedTo, cellsOf, roomFor, marksTaken, joined, afterTicks, answerAt, markAt, frameAt, portsOf, framed, block}
@@ -163,12 +163,11 @@ pub five-ports : (v : Volts) → length (portsOf 5 v) ≡ 5
 unfolding portsOf
 five-ports v = refl
 
--- the place of tick i, where there is one
-pub frame-place : (ports i n : ℕ) → i < n / ports → ports * i + ports ≤ n
-frame-place ports i n h =
+-- the place of tick i of n
+pub frame-place : (ports n i o : ℕ) → o ≡ ports * n → i < n → ports * i + ports ≤ o
+frame-place ports n i o e h =
     let a = mul-le-mul-left ports h in
-    let b = mul-div-le n ports in
-    let c : ports * suc i ≡ ports * i + ports = omega arith in
+    let b : ports * suc i ≡ ports * i + ports = omega arith in
     omega arith
 
 -- the part of the samples that its outputs are put to, of which they are all or the first
@@ -178,49 +177,33 @@ part-of ports i l = take (ports * i + ports - ports * i) (drop (ports * i) l)
 abbrev past-part : ℕ → ℕ → List Float → List Float
 past-part ports i l = drop (ports * i + ports - ports * i) (drop (ports * i) l)
 
-pub frame-put : (ports i : ℕ) (v : Volts) (l p : List Float) → i < length l / ports → p ≡ sets (part-of ports i l) 0 (portsOf (length (part-of ports i l)) v)
-    → take (ports * i) l ++ (p ++ past-part ports i l) ≡ framed ports i v l
-unfolding framed portsOf
-frame-put ports i v l p h e =
-    let room = frame-place ports i (length l) h in
+framed-whole : (ports n i : ℕ) (v : Volts) (l : List Float) → length l ≡ ports * n → i < n → framed ports n i v l ≡ sets l (ports * i) (portsOf ports v)
+unfolding framed
+framed-whole ports n i v l k h = simp (eq-eqb (length l) (ports * n) k, lt-ltb i n h)
+
+pub frame-put : (ports n i : ℕ) (v : Volts) (l p : List Float) → length l ≡ ports * n → i < n
+    → p ≡ sets (part-of ports i l) 0 (portsOf (length (part-of ports i l)) v)
+    → take (ports * i) l ++ (p ++ past-part ports i l) ≡ framed ports n i v l
+unfolding portsOf
+frame-put ports n i v l p k h e =
+    let room = frame-place ports n i (length l) k h in
     let rest = length-drop (ports * i) l in
-    let front : length (take (ports * i) l) ≡ ports * i = length-take-le (ports * i) l (omega arith) in
-    let size : length (part-of ports i l) ≡ ports = length-take-le (ports * i + ports - ports * i) (drop (ports * i) l) (omega arith) ∙ (omega arith) in
-    let q : p ≡ sets (part-of ports i l) 0 (portsOf ports v) = e ∙ ap (λ (k : ℕ). sets (part-of ports i l) 0 (portsOf k v)) size in
+    let part : ports * i + ports - ports * i ≡ ports = omega arith in
+    let size : length (part-of ports i l) ≡ ports = length-take-le (ports * i + ports - ports * i) (drop (ports * i) l) (omega arith) ∙ part in
     let few = length-take ports (v .p10 ∷ v .p11 ∷ v .p12 ∷ v .p13 ∷ v .p14 ∷ []) in
-    let whole : take (ports * i) l ++ (part-of ports i l ++ past-part ports i l) ≡ l =
-    ap (λ (r : List Float). take (ports * i) l ++ r) (take-append-drop (ports * i + ports - ports * i) (drop (ports * i) l)) ∙ take-append-drop (ports * i) l in
-    ap (λ (r : List Float). take (ports * i) l ++ (r ++ past-part ports i l)) q
-    ∙ sym (sets-within (take (ports * i) l) (part-of ports i l) (past-part ports i l) (portsOf ports v) 0 (omega arith))
-    ∙ ap (λ (r : List Float). sets r (length (take (ports * i) l) + 0) (portsOf ports v)) whole
-    ∙ ap (λ (k : ℕ). sets l k (portsOf ports v)) (add-zero (length (take (ports * i) l)) ∙ front)
-    ∙ sym (ap (λ (b : Bool). cond b (sets l (ports * i) (portsOf ports v)) l) (lt-ltb i (length l / ports) h))
-
-pub frame-none : (ports i : ℕ) (v : Volts) (l : List Float) → ports ≡ 0 → framed ports i v l ≡ l
-unfolding framed portsOf
-frame-none ports i v l e = rw e (go (ltb i (length l / 0)))
-  where
-    go : (b : Bool) → cond b l l ≡ l
-    go true = refl
-    go false = refl
-
--- samples of whole frames have a place for each
-framed-whole : (ports i n : ℕ) (v : Volts) (l : List Float) → i < n → length l ≡ ports * n → framed ports i v l ≡ sets l (ports * i) (portsOf ports v)
-unfolding framed portsOf
-framed-whole zero i n v l h e = frame-none 0 i v l refl
-framed-whole (suc k) i n v l h e =
-    let rest : length l % suc k ≡ 0 = ap (λ (x : ℕ). x % suc k) (e ∙ mul-comm (suc k) n) ∙ mul-mod-left n (suc k) in
-    let q : length l / suc k ≡ n = eqb-true (length l / suc k) n (whole-frames (suc k) (length l) n (zero-lt-suc k) rest ∙ eq-eqb (length l) (suc k * n) e) in
-    simp (q, lt-ltb i n h)
+    sets-part l p (portsOf ports v) (ports * i) (ports * i + ports - ports * i) (omega arith) (omega arith)
+    (e ∙ ap (λ (k : ℕ). sets (part-of ports i l) 0 (portsOf k v)) size)
+    ∙ sym (framed-whole ports n i v l k h)
 
 module _ {S : Type 0} (ports : ℕ) (whole : (v : Volts) → length (portsOf ports v) ≡ ports) (answer : S → Answer) (next : S → S) (s : S) where
   frames-length : (n : ℕ) → length (joined (frameAt ports answer next s) n) ≡ ports * n
   frames-length n = joined-length (frameAt ports answer next s) ports n (λ i. whole (voltsOf (answerAt answer next s i)))
 
-  pub frames-more : (i n : ℕ) (l m : List Float) (a : Answer) → i < n → length m ≡ ports * n → m ≡ sets l 0 (joined (frameAt ports answer next s) i)
-      → a ≡ answerAt answer next s i → framed ports i (voltsOf a) m ≡ sets l 0 (joined (frameAt ports answer next s) (i + 1))
-  frames-more i n l m a h k e q =
-      framed-whole ports i n (voltsOf a) m h k
+  pub frames-more : (i n c : ℕ) (l m : List Float) (a : Answer) → c ≡ n → i < n → length m ≡ ports * n → m ≡ sets l 0 (joined (frameAt ports answer next s) i)
+      → a ≡ answerAt answer next s i → framed ports c i (voltsOf a) m ≡ sets l 0 (joined (frameAt ports answer next s) (i + 1))
+  frames-more i n c l m a r h k e q =
+      ap (λ (j : ℕ). framed ports j i (voltsOf a) m) r
+      ∙ framed-whole ports n i (voltsOf a) m k h
       ∙ joined-more (frameAt ports answer next s) i (ports * i) l m (portsOf ports (voltsOf a)) (sym (frames-length i)) e
       (ap (λ (b : Answer). portsOf ports (voltsOf b)) q)
 

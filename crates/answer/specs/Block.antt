@@ -1,7 +1,7 @@
 -- A block: n ticks of one set of controls, one after another, and their tally. One text for every oscillator.
 use mathlib.Core.Bool.{Bool, cond, _&&_}
 use mathlib.Core.List.{List, [], _∷_, _++_}
-use Prim.Native.Nat.{ℕ, zero, suc, _+_, _*_, _/_}
+use Prim.Native.Nat.{ℕ, zero, suc, _+_, _*_}
 use lib.Dec.{eqb, leb, ltb}
 use lib.Ieee.{Float}
 use lib.ListN.{length, getD, take}
@@ -56,9 +56,9 @@ afterTicks next (suc n) s = next (afterTicks next n s)
 unfoldable pub portsOf : ℕ → Volts → List Float
 portsOf ports v = take ports (v .p10 ∷ v .p11 ∷ v .p12 ∷ v .p13 ∷ v .p14 ∷ [])
 
--- tick i's outputs at their place among samples of so many ports a tick; samples that have no such place are left
-unfoldable pub framed : ℕ → ℕ → Volts → List Float → List Float
-framed ports i v l = cond (ltb i (length l / ports)) (sets l (ports * i) (portsOf ports v)) l
+-- tick i's outputs at their place among the samples of n ticks with so many ports each; samples that aren't those are left
+unfoldable pub framed : ℕ → ℕ → ℕ → Volts → List Float → List Float
+framed ports n i v l = cond (eqb (length l) (ports * n) && ltb i n) (sets l (ports * i) (portsOf ports v)) l
 
 -- f 0, f 1, .., f (n - 1) joined
 unfoldable pub joined : {A : Type 0} → (ℕ → List A) → ℕ → List A

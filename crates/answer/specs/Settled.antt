@@ -5,7 +5,7 @@ use mathlib.Core.List.{List}
 use Prim.Native.Nat.{ℕ, _*_}
 use lib.Dec.{eqb}
 use lib.Ieee.{Float}
-use lib.ListN.{set}
+use lib.ListN.{length, set}
 use Rattle.laws.specs.Machine.{Settles}
 use Rattle.answer.specs.Answer.{volts1, volts2, volts4, volts5, markNumber, hostNumber, voltsOf, accepted, answerOf}
 use Rattle.answer.specs.Block.{roomFor, marksTaken, framed, blockRefusalOf}
@@ -36,4 +36,4 @@ pub record Settled : Type 0 where
   pub block-refusal : (ports samples number : ℕ) (t : Tally) (n : ℕ) → Settles (λ (r : ℕ). r ≡ blockRefusalOf (eqb samples (ports * n)) number t n)
   -- the samples and the marks that it leaves
   pub put : (a : Answer) (ports i : ℕ) (samples : List Float) (marks : List ℕ)
-      → Settles (λ (r : List Float × List ℕ). (r .0 ≡ framed ports i (voltsOf a) samples) × (r .1 ≡ set marks i (hostNumber a)))
+      → Settles (λ (r : List Float × List ℕ). (r .0 ≡ framed ports (length marks) i (voltsOf a) samples) × (r .1 ≡ set marks i (hostNumber a)))

@@ -398,17 +398,17 @@ fn put_volts(v: Volts, part: &mut [f64])
     part[4] = v.p14;
 }
 
-// The outputs of tick i among the samples of ticks with so many outputs each. Samples that have no such place are left.
-fn put_frame(v: Volts, ports: usize, i: usize, samples: &mut [f64])
-    ensures { λ _. ⌜ now (samples .exit) ≡ framed ports i v (now (samples .entry)) ⌝ }
+// The outputs of tick i among the samples of n ticks with so many outputs each. Samples that aren't those are left: a block has asked that
+// already, and in its loop no test is left of it.
+fn put_frame(v: Volts, ports: usize, n: usize, i: usize, samples: &mut [f64])
+    ensures { λ _. ⌜ now (samples .exit) ≡ framed ports n i v (now (samples .entry)) ⌝ }
 {
-    if ports == 0 {
-        return;
-    }
-    if i < samples.len() / ports {
-        let at = ports * i;
-        let end = at + ports;
-        put_volts(v, &mut samples[at..end]);
+    if fits(ports, samples.len(), n) {
+        if i < n {
+            let at = ports * i;
+            let end = at + ports;
+            put_volts(v, &mut samples[at..end]);
+        }
     }
 }
 
@@ -422,9 +422,9 @@ fn put_mark(number: u32, i: usize, marks: &mut [u32])
 
 // What tick i of a block answers, of an oscillator with so many outputs: its samples, and the number that a host is told of it.
 pub fn put(a: Answer, ports: usize, i: usize, samples: &mut [f64], marks: &mut [u32])
-    ensures { λ _. ⌜ now (samples .exit) ≡ framed ports i (voltsOf a) (now (samples .entry)) ⌝ }
+    ensures { λ _. ⌜ now (samples .exit) ≡ framed ports (length (now (marks .entry))) i (voltsOf a) (now (samples .entry)) ⌝ }
     ensures { λ _. ⌜ now (marks .exit) ≡ set (now (marks .entry)) i (hostNumber a) ⌝ }
 {
-    put_frame(crate::samples(a), ports, i, samples);
+    put_frame(crate::samples(a), ports, marks.len(), i, samples);
     put_mark(host_number(a), i, marks);
 }

@@ -4,13 +4,13 @@ use mathlib.Core.Bool.{Bool, true, false, not, _&&_}
 use mathlib.Core.List.{List, [], _∷_, _++_}
 use mathlib.Core.Path.{_≡_, refl, sym, ap, _∙_}
 use Prim.Native.Nat.{ℕ, zero, suc, _+_, _<_, _≤_}
-use native.Mathlib.Nat.{one-mul, div-one}
+use native.Mathlib.Nat.{one-mul}
 use native.Mathlib.Numerals.{add-one}
 use native.Mathlib.Omega.{arith}
 use lib.Ieee.{Float, nan, binary64, add, eq}
 use lib.Ieee.Fits.{add-fits}
 use lib.ListN.{length, getD, set}
-use borrow.Author.Tests.{lt-ltb}
+use borrow.Author.Tests.{eq-eqb, lt-ltb}
 use Rattle.laws.proofs.Tests.{both-true, and-true}
 use Rattle.answer.specs.Answer.{hostNumber, voltsOf, refusalOf}
 use Rattle.answer.specs.Block.{afterTicks, answerAt, markAt, frameAt, portsOf, framed, joined}
@@ -63,17 +63,11 @@ still-tuned v depth p q m n still f e g h r w t =
     let z : n ≡ m = w t in
     simp (z, b) (rw a at r)
 
--- so are the memo and its step
+-- so is the memo after a tick
 pub still-memo : (v : VoltsPerOctave) (depth : Float) (q : Turns) (m n k : Memo1) (still : Bool)
     → (still ≡ true → recall1 voctToHzAt n (pitchOf v depth (q .0) .0) ≡ n) → k ≡ recall1 voctToHzAt n (pitchOf v depth (q .0) .0)
     → (still ≡ true → n ≡ m) → still ≡ true → k ≡ m
 still-memo v depth q m n k still r e w t = e ∙ r t ∙ w t
-
-pub still-step : (v : VoltsPerOctave) (depth : Float) (rate : Hertz) (q step : Turns) (m n k : Memo1) (still : Bool)
-    → (still ≡ true → recall1 voctToHzAt n (pitchOf v depth (q .0) .0) ≡ n) → k ≡ recall1 voctToHzAt n (pitchOf v depth (q .0) .0)
-    → (still ≡ true → n ≡ m) → step ≡ incrementOf (m .val) rate → still ≡ true → step ≡ incrementOf (k .val) rate
-still-step v depth rate q step m n k still r e w z t =
-    z ∙ ap (λ (l : Memo1). incrementOf (l .val) rate) (sym (still-memo v depth q m n k still r e w t))
 
 pub swung : (v : VoltsPerOctave) (depth : Float) (rate : Hertz) (d : Driver) (i : ℕ) (q q' vibrato : Turns) (m m' : Memo1)
     → m' ≡ recall1 voctToHzAt m (pitchOf v depth (q .0) .0) → vibrato ≡ incrementOf vibratoRate rate → q' ≡ turns (wrapOf (add binary64 (q .0) (vibrato .0)))
@@ -111,9 +105,9 @@ voiced-turn c s xs ys ms ns f g i cells rung b a h k e q z r u w =
     (simp (w, u, r, z, x, m), rw add-one (simp (r, z, x)))
 
 -- a tick's one sample in its place
-pub one-put : (i : ℕ) (v : Volts) (l : List Float) → i < length l → framed nPorts i v l ≡ set l i (v .p10)
+pub one-put : (n i : ℕ) (v : Volts) (l : List Float) → length l ≡ n → i < n → framed nPorts n i v l ≡ set l i (v .p10)
 unfolding framed portsOf
-one-put i v l h = simp (div-one, lt-ltb i (length l) h, one-mul)
+one-put n i v l k h = simp (one-mul, eq-eqb (length l) n k, lt-ltb i n h)
 
 -- ---- the first and the second together
 flag-told : (b : Bool) → isFlagged (flag b) ≡ b

@@ -14,7 +14,7 @@ ghost use lib.Ieee.{nan};
 ghost use lib.ListN.{length, getD, set};
 ghost use Rattle.laws.specs.Lists.{tab};
 ghost use Rattle.common.specs.Memo.{recall1, voctToHzAt};
-ghost use Rattle.common.specs.Phase.{turns, incrementOf};
+ghost use Rattle.common.specs.Phase.{turns};
 ghost use Rattle.common.specs.Tests.{phaseOk};
 ghost use Rattle.answer.specs.Answer.{hostNumber, voltsOf};
 ghost use Rattle.answer.specs.Block.{afterTicks, joined, block, markAt, frameAt};
@@ -277,14 +277,6 @@ impl CoefMemo {
         }
     }
 
-    // A memo of coefficients that are worked out now.
-    fn made(vowel: f64, shift: f64, sample_rate: Hertz) -> Self
-        ensures { λ r. ⌜ r ≡ coefFilled vowel shift («sample_rate» .0) (resonatorCoefs vowel shift («sample_rate» .0)) ⌝ }
-    {
-        let val = resonator_coefs(vowel, shift, sample_rate);
-        CoefMemo::filled(vowel, shift, sample_rate.0, val)
-    }
-
     // The Rust's get_or_compute; its answer is the new memo's val.
     fn recall(self, vowel: f64, shift: f64, sample_rate: Hertz) -> Self
         ensures { λ r. ⌜ r ≡ coefRecall self vowel shift («sample_rate» .0) ⌝ }
@@ -292,7 +284,8 @@ impl CoefMemo {
         if self.hits(vowel, shift, sample_rate.0) {
             self
         } else {
-            CoefMemo::made(vowel, shift, sample_rate)
+            let val = resonator_coefs(vowel, shift, sample_rate);
+            CoefMemo::filled(vowel, shift, sample_rate.0, val)
         }
     }
 }
@@ -371,18 +364,6 @@ fn both(a: bool, b: bool) -> bool
     if a { b } else { false }
 }
 
-// What the phase grows by in a tick, known already where the pitch stands still.
-fn stride(still: bool, step: Turns, freq: Hertz, sample_rate: Hertz) -> Turns
-    requires { ⌜ (still ≡ true → step ≡ incrementOf freq «sample_rate») ⌝ }
-    ensures { λ r. ⌜ r ≡ incrementOf freq «sample_rate» ⌝ }
-{
-    if still {
-        step
-    } else {
-        common::increment(freq, sample_rate)
-    }
-}
-
 // Turns wait as a plain number in the place of tick i's sample, which a caller lends: these two put them there and fetch them.
 fn keep_turns(turns: Turns, i: usize, samples: &mut [f64])
     requires { ⌜ i < length (now samples) ⌝ }
@@ -448,7 +429,6 @@ fn sway(
 {
     let memo = start.freq_memo;
     let still = both(depth == 0.0, v_oct.0 != 0.0);
-    let step = common::increment(memo.val, sample_rate);
     let vibrato_step = common::increment(Hertz(VIBRATO_RATE), sample_rate);
     let mut vibrato_phase = start.vibrato_phase;
     let mut freq_memo = memo;
@@ -456,8 +436,11 @@ fn sway(
     while i < samples.len() {
         let next = Turns(vibrato_phase.0 + vibrato_step.0);
         freq_memo = tuned(still, freq_memo, v_oct, depth, vibrato_phase);
-        let turns = stride(still, step, freq_memo.val, sample_rate);
-        keep_turns(turns, i, &mut *samples);
+        keep_turns(
+            common::increment(freq_memo.val, sample_rate),
+            i,
+            &mut *samples,
+        );
         vibrato_phase = common::wrap_phase(next);
         i += 1;
     }
@@ -647,15 +630,8 @@ impl FormantOsc {
     }
 
     // The ticks of a block, whose coefficients are those of the first.
-    fn play(
-        self,
-        c: FormantOscControls,
-        coef_memo: CoefMemo,
-        samples: &mut [f64],
-        marks: &mut [u32],
-    ) -> Self
-        requires { ⌜ (formantOscRefusalOf self ≡ 0) × (0 < length (now marks)) × (length (now samples) ≡ length (now marks))
-            × («coef_memo» ≡ coefMemoOf self c) ⌝ }
+    fn run(self, c: FormantOscControls, samples: &mut [f64], marks: &mut [u32]) -> Self
+        requires { ⌜ (formantOscRefusalOf self ≡ 0) × (0 < length (now marks)) × (length (now samples) ≡ length (now marks)) ⌝ }
         ensures { λ r. ⌜ r ≡ afterTicks (formantOscNextOf c) (length (now (marks .entry))) self ⌝ }
         ensures { λ r. ⌜ now (samples .exit) ≡ joined (frameAt nPorts (formantOscToldOf c) (formantOscNextOf c) self) (length (now (marks .entry))) ⌝ }
         ensures { λ r. ⌜ now (marks .exit) ≡ tab (markAt (formantOscToldOf c) (formantOscNextOf c) self) (length (now (marks .entry))) ⌝ }
@@ -665,13 +641,16 @@ impl FormantOsc {
         let cells = self.resonator_state;
         let sample_rate = self.sample_rate;
         let freqs = self.freq_memo;
+        let coefs = self.coef_memo;
         let v_oct = c.v_oct;
+        let vowel = numeric::clamp(c.vowel, 0.0, 1.0);
         let depth = numeric::clamp(c.vibrato, 0.0, 1.0);
         let start = Driver {
             phase,
             vibrato_phase,
             freq_memo: freqs.voct_to_hz(pitch(v_oct, depth, vibrato_phase)),
         };
+        let coef_memo = coefs.recall(vowel, c.formant_shift, sample_rate);
         let val = coef_memo.val;
         let end = drive(start, v_oct, depth, sample_rate, &mut *samples, &mut *marks);
         let phase = end.phase;
@@ -684,25 +663,6 @@ impl FormantOsc {
             sample_rate,
             freq_memo,
             coef_memo,
-        }
-    }
-
-    // The same with the coefficients known already or made now. This isn't by `recall`, which stays a tick's alone: with
-    // two callers it would be compiled as a call, and a tick would copy its memo for it.
-    fn run(self, c: FormantOscControls, samples: &mut [f64], marks: &mut [u32]) -> Self
-        requires { ⌜ (formantOscRefusalOf self ≡ 0) × (0 < length (now marks)) × (length (now samples) ≡ length (now marks)) ⌝ }
-        ensures { λ r. ⌜ r ≡ afterTicks (formantOscNextOf c) (length (now (marks .entry))) self ⌝ }
-        ensures { λ r. ⌜ now (samples .exit) ≡ joined (frameAt nPorts (formantOscToldOf c) (formantOscNextOf c) self) (length (now (marks .entry))) ⌝ }
-        ensures { λ r. ⌜ now (marks .exit) ≡ tab (markAt (formantOscToldOf c) (formantOscNextOf c) self) (length (now (marks .entry))) ⌝ }
-    {
-        let sample_rate = self.sample_rate;
-        let coefs = self.coef_memo;
-        let vowel = numeric::clamp(c.vowel, 0.0, 1.0);
-        if coefs.hits(vowel, c.formant_shift, sample_rate.0) {
-            self.play(c, coefs, samples, marks)
-        } else {
-            let made = CoefMemo::made(vowel, c.formant_shift, sample_rate);
-            self.play(c, made, samples, marks)
         }
     }
 

@@ -13,7 +13,7 @@ use lib.Ieee.Fits.{cond-fits, div-fits, sub-fits}
 use lib.Ieee.Bits.{is-false}
 use borrow.Author.Tests.{le-leb, lt-ltb, leb-true, ltb-true, eqb-true, eqb-false, ne-eqb}
 use Rattle.laws.proofs.Number.{mul-number, le-numbers}
-use Rattle.laws.proofs.Order.{float-le-trans}
+use Rattle.laws.proofs.Order.{lt-of-not-ge, lt-false, float-le-trans}
 use Rattle.laws.proofs.Tests.{both-true, of-true, of-false}
 use Rattle.laws.proofs.Values.{float-mul-comm}
 use Rattle.laws.specs.Float.{zer, one, two, isFin, F64}
@@ -51,7 +51,7 @@ use Rattle.karplus_strong.specs.declared.KarplusStrong.{KarplusStrong}
 use Rattle.karplus_strong.specs.declared.KarplusStrongControls.{KarplusStrongControls}
 use Rattle.karplus_strong.specs.declared.KarplusStrongTicked.{KarplusStrongTicked}
 use Rattle.karplus_strong.specs.declared.Tuning.{Tuning}
-use Rattle.karplus_strong.proofs.Periods.{rate-cut, clamped-cut}
+use Rattle.karplus_strong.proofs.Periods.{rate-cut, high-period, clamped-cut}
 use Rattle.karplus_strong.proofs.Delays.{filter-unit, filter-delay, allpass-delay, left-below}
 
 -- ---- rates
@@ -77,6 +77,26 @@ held n h = le→leb n 9007199254740992 (le-trans h (lit≤ tt))
 -- ---- periods: whatever number the memo holds, a period is an index of the line
 quotient : (r f : Hertz) → rateOk r ≡ true → T (not (isNan (f .0))) → T (not (isNan (div binary64 (r .0) (f .0))))
 quotient r f e q = let l = rate-ends r e in rate-number (r .0) (f .0) (l .0) (l .1) q
+
+two-number : T (not (isNan two))
+unfolding isNan ofBits
+two-number = tt
+
+pub period-high : (r f : Hertz) → rateOk r ≡ true → le twenty (f .0) ≡ true → le two (div binary64 (r .0) (f .0)) ≡ true
+    → div binary64 (r .0) (f .0) ≡ periodOf r f
+unfolding periodOf clampOf maxLenOf
+period-high r f e h k =
+    let l = rate-ends r e in
+    simp (
+      lt-false (div binary64 (r .0) (f .0)) two (of-true (le two (div binary64 (r .0) (f .0))) k),
+      high-period (r .0) (f .0) (l .0) (l .1) (of-true (le twenty (f .0)) h),
+    )
+
+pub period-two : (r f : Hertz) → rateOk r ≡ true → le twenty (f .0) ≡ true → le two (div binary64 (r .0) (f .0)) ≡ false → two ≡ periodOf r f
+unfolding periodOf clampOf
+period-two r f e h k =
+    let q = le-numbers twenty (f .0) (of-true (le twenty (f .0)) h) .1 in
+    simp (lt-of-not-ge (div binary64 (r .0) (f .0)) two (quotient r f e q) two-number k)
 
 pub period-cut : (r f : Hertz) → rateOk r ≡ true → T (not (isNan (f .0))) → Cut (periodOf r f)
 unfolding periodOf maxLenOf

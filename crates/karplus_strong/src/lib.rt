@@ -271,13 +271,18 @@ fn tuned(period: f64, damping: f64, stretch: f64) -> Tuning
     }
 }
 
-// A period in samples, (sample_rate / freq).clamp(2.0, max_len as f64 - 1.0).
+// A period in samples, (sample_rate / freq).clamp(2.0, max_len as f64 - 1.0). From 20 Hz on it is below max_len - 1.
 fn period_of(sample_rate: Hertz, freq: Hertz) -> f64
     requires { ⌜ rateOk «sample_rate» ≡ true ⌝ }
     ensures { λ r. ⌜ r ≡ periodOf «sample_rate» freq ⌝ }
 {
-    let max_len = KarplusStrong::max_len_for(sample_rate);
-    numeric::clamp(sample_rate.0 / freq.0, 2.0, (max_len as f64) - 1.0)
+    let period = sample_rate.0 / freq.0;
+    if freq.0 >= 20.0 {
+        if period >= 2.0 { period } else { 2.0 }
+    } else {
+        let max_len = KarplusStrong::max_len_for(sample_rate);
+        numeric::clamp(period, 2.0, (max_len as f64) - 1.0)
+    }
 }
 
 // A string at rest, of so many cells.
@@ -642,14 +647,8 @@ impl KarplusStrong {
             trigger_edge: edge,
             freq_memo,
         };
-        let tuning = tuned(period, damping, stretch);
-        if risen.rising {
-            let brightness = within(c.brightness, 0.5, 0.0, 1.0);
-            let struck = heard.strike(period, brightness, draws, line);
-            struck.ring(tuning, line, samples, marks)
-        } else {
-            heard.ring(tuning, line, samples, marks)
-        }
+        let struck = heard.strike_if(risen.rising, period, c.brightness, draws, line);
+        struck.ring(tuned(period, damping, stretch), line, samples, marks)
     }
 
     // As many ticks with these controls as there are marks.

@@ -5,8 +5,8 @@ use mathlib.Core.Path.{_≡_, refl, sym, ap, _∙_}
 use Prim.Native.Nat.{ℕ, zero, suc, _+_, _≤_, _<_}
 use native.Mathlib.Nat.{add-zero, zero-add, add-suc, suc-add, le-of-suc-le-suc, not-suc-le-zero}
 use native.Mathlib.Omega.{arith}
-use lib.ListN.{length, length-set, drop-of-length-le, set}
-use lib.Seq.{sets, sets-eq}
+use lib.ListN.{length, length-set, length-drop, drop-of-length-le, set, take, drop, take-append-drop}
+use lib.Seq.{sets, sets-eq, length-take-le}
 use mir.Val.{boolByte}
 
 -- `sets l 0 vs` computes to the stores of vs at 0, 1, ..
@@ -42,6 +42,21 @@ sets-within {A} a q r (x ∷ vs) k h =
     ap (λ (l : List A). sets l (suc (length a + k)) vs) (set-within a q r k x (omega arith))
     ∙ ap (λ (n : ℕ). sets (a ++ (set q k x ++ r)) n vs) (sym (add-suc (length a) k))
     ∙ sets-within a (set q k x) r vs (suc k) (omega arith)
+
+-- what is stored in a part of a list is stored in the list
+pub sets-part : {A : Type 0} (l p vs : List A) (at n : ℕ) → at + n ≤ length l → length vs ≤ n → p ≡ sets (take n (drop at l)) 0 vs
+    → take at l ++ (p ++ drop n (drop at l)) ≡ sets l at vs
+sets-part {A} l p vs at n room few e =
+    let part = take n (drop at l) in
+    let past = drop n (drop at l) in
+    let rest = length-drop at l in
+    let front : length (take at l) ≡ at = length-take-le at l (omega arith) in
+    let size : length part ≡ n = length-take-le n (drop at l) (omega arith) in
+    let whole : take at l ++ (part ++ past) ≡ l = ap (λ (r : List A). take at l ++ r) (take-append-drop n (drop at l)) ∙ take-append-drop at l in
+    ap (λ (r : List A). take at l ++ (r ++ past)) e
+    ∙ sym (sets-within (take at l) part past vs 0 (omega arith))
+    ∙ ap (λ (r : List A). sets r (length (take at l) + 0) vs) whole
+    ∙ ap (λ (k : ℕ). sets l k vs) (add-zero (length (take at l)) ∙ front)
 
 pub byte : (b : Bool) → boolByte b ≡ cond b 1 0
 byte true = refl

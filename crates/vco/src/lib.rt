@@ -323,7 +323,7 @@ impl Vco {
     )
         requires { ⌜ (phaseOk phase ≡ true) × Width pw ⌝ }
         ensures { λ _. ⌜ now (samples .exit)
-            ≡ framed nPorts i (voltsOf (vcoAnswerOf at (phase .0) («p_old» .0) pw (dt .0) wanted)) (now (samples .entry)) ⌝ }
+            ≡ framed nPorts (length (now (marks .entry))) i (voltsOf (vcoAnswerOf at (phase .0) («p_old» .0) pw (dt .0) wanted)) (now (samples .entry)) ⌝ }
         ensures { λ _. ⌜ now (marks .exit)
             ≡ set (now (marks .entry)) i (hostNumber (vcoAnswerOf at (phase .0) («p_old» .0) pw (dt .0) wanted)) ⌝ }
     {

@@ -14,12 +14,12 @@ use Rattle.laws.specs.Lists.{over}
 use Rattle.laws.proofs.Over.{over-done, over-none, over-more}
 use Rattle.laws.proofs.Tests.{of-true}
 use Rattle.formant_osc.specs.Shortcuts.{driveNext, strideAt, swayed}
-use Rattle.formant_osc.proofs.Held.{still-tuned, still-memo, still-step, swung, stridden}
+use Rattle.formant_osc.proofs.Held.{still-tuned, still-memo, swung, stridden}
 use Rattle.formant_osc.proofs.sway.Statement.{statement}
 use Rattle.formant_osc.proofs.sway.Tie as tie
 
 abbrev Inv-loop : tie.InvT-loop
-Inv-loop start v-oct depth sample-rate samples₀ still step vibrato-step vibrato-phase₀ freq-memo₀ i₀ samples vibrato-phase freq-memo i =
+Inv-loop start v-oct depth sample-rate samples₀ still vibrato-step vibrato-phase₀ freq-memo₀ i₀ samples vibrato-phase freq-memo i =
     (i ≤ length samples₀)
     × (length samples ≡ length samples₀)
     × (samples ≡ over (λ k. strideAt v-oct depth sample-rate start k .0) i samples₀)
@@ -29,41 +29,30 @@ Inv-loop start v-oct depth sample-rate samples₀ still step vibrato-step vibrat
     × (still ≡ true → freq-memo ≡ start .«freq_memo»)
 
 abbrev μ-loop : tie.MeasureT-loop
-μ-loop start v-oct depth sample-rate samples₀ still step vibrato-step vibrato-phase₀ freq-memo₀ i₀ samples vibrato-phase freq-memo i = length samples₀ - i
+μ-loop start v-oct depth sample-rate samples₀ still vibrato-step vibrato-phase₀ freq-memo₀ i₀ samples vibrato-phase freq-memo i = length samples₀ - i
 
 loop-holds : tie.Need-loop-holds Inv-loop μ-loop
 unfolding afterTicks
 loop-holds c =
-    let weighed = c .before .before .before in
+    let weighed = c .before .before in
     (omega arith, refl, over-none _ _, refl, refl, weighed .before .before .before .before .pre .0, λ t. refl)
 
 tuned-requires : tie.Need-tuned-requires Inv-loop μ-loop
 unfolding eq ne
 tuned-requires c κs =
     let looped = c .before .before .before in
-    let weighed = looped .before .before .before .before in
+    let weighed = looped .before .before .before in
     let began = weighed .before .before .before .before in
     let s = looped .loop .inv in
     let f = of-true (fits binary64 (began .args .v-oct .0)) (began .good .1 .0 .1 .1 .0 .1) in
     still-tuned _ _ _ _ _ _ _ f (weighed .both .ensures) (began .pre .0) (s .5) (began .pre .1) (s .6)
-
-stride-requires : tie.Need-stride-requires Inv-loop μ-loop
-unfolding eq ne
-stride-requires c κs =
-    let looped = c .before .before .before .before in
-    let weighed = looped .before .before .before .before in
-    let began = weighed .before .before .before .before in
-    let s = looped .loop .inv in
-    let f = of-true (fits binary64 (began .args .v-oct .0)) (began .good .1 .0 .1 .1 .0 .1) in
-    let h = still-tuned _ _ _ _ _ _ _ f (weighed .both .ensures) (began .pre .0) (s .5) (began .pre .1) (s .6) in
-    still-step _ _ _ _ _ _ _ _ _ h (c .tuned .ensures) (s .6) (looped .before .before .before .increment .ensures)
 
 add-i : tie.Need-add-i Inv-loop μ-loop
 add-i c =
     let stridden = c .before .before .before .before .before in
     let going = stridden .before .before .before .before in
     let looped = going .before in
-    let weighed = looped .before .before .before .before in
+    let weighed = looped .before .before .before in
     let entered = weighed .before .before .before .before in
     omega (arith, going .loop-test .taken, looped .loop .inv .1, entered .good)
 
@@ -72,15 +61,15 @@ unfolding eq ne
 loop-again c =
     let grown = c .before .before .before .before .before in
     let looped = grown .before .before .before .before .before in
-    let weighed = looped .before .before .before .before in
+    let weighed = looped .before .before .before in
     let began = weighed .before .before .before .before in
     let s = looped .loop .inv in
     let p = began .pre in
     let f = of-true (fits binary64 (began .args .v-oct .0)) (began .good .1 .0 .1 .1 .0 .1) in
     let t = grown .before .tuned .ensures in
     let k = c .before .before .before .keep-turns .ensures in
-    let x = stridden _ _ _ _ _ _ _ _ _ t (grown .stride .ensures) (s .3) (s .4) in
-    let w = swung _ _ _ _ _ _ _ _ _ _ t (looped .before .before .increment2 .ensures) (c .wrap-phase .ensures) (s .3) (s .4) in (
+    let x = stridden _ _ _ _ _ _ _ _ _ t (grown .increment2 .ensures) (s .3) (s .4) in
+    let w = swung _ _ _ _ _ _ _ _ _ _ t (looped .before .before .increment .ensures) (c .wrap-phase .ensures) (s .3) (s .4) in (
       omega arith,
       simp (k, length-set) (s .1),
       rw k (over-more _ _ _ _ _ (omega arith) (s .2) (ap (λ (u : Turns). u .0) x)),
@@ -97,7 +86,7 @@ returns : tie.Need-returns Inv-loop μ-loop
 unfolding swayed
 returns c =
     let looped = c .before .before in
-    let weighed = looped .before .before .before .before in
+    let weighed = looped .before .before .before in
     let s = looped .loop .inv in
     let n : looped .loop .i ≡ length (weighed .before .before .before .before .args .samples .now) = le-antisymm (s .0) (omega arith) in
     (simp (s .3, s .4, n), over-done _ _ _ _ _ n refl (s .2))
@@ -110,10 +99,9 @@ sway-spec =
     μ-loop
     (λ c κs. tt)
     (λ c κs. tt)
-    (λ c κs. tt)
     loop-holds
     tuned-requires
-    stride-requires
+    (λ c κs. tt)
     (λ c κs. omega arith)
     (λ c κs. tt)
     add-i

@@ -52,14 +52,14 @@ loop-again c =
     let k = put .put .kept in
     let z = looped .before .before .before .pre in
     let i = rw (s .2) at (rung .before .before .loop-test .taken) in
-    let j : looped .loop .i < length (looped .loop .samples) = omega (arith, i, s .1, z) in
+    let fit : length (looped .loop .samples) ≡ length (looped .loop .marks) = omega (arith, s .1, s .2, z) in
     let h : looped .loop .i < length (looped .before .before .before .args .samples .now) = omega (arith, i, z) in
     let t = voiced-turn _ _ _ _ _ _ _ _ _ _ _ _ _ h i (s .3) (s .4) (s .5) (rung .ring .ensures) (voiced .before .is-flagged .ensures)
     (voiced .voiced .ensures) in (
       omega (arith, i),
       k .1 .1 .1 .0 ∙ s .1,
       k .1 .1 .1 .1 .0 ∙ s .2,
-      rw (p .0, one-put _ _ _ j) (over-more _ _ _ _ _ h (s .3) (ap (λ (a : Answer). voltsOf a .p10) (t .0))),
+      rw (p .0, one-put _ _ _ _ fit (rung .before .before .loop-test .taken)) (over-more _ _ _ _ _ h (s .3) (ap (λ (a : Answer). voltsOf a .p10) (t .0))),
       rw (p .1) (over-more _ _ _ _ _ i (s .4) (ap hostNumber (t .0))),
       t .1,
     )

@@ -9,7 +9,9 @@ returns c = simp (c .if1 .taken, ← c .before .hits .ensures)
 
 returns-2 : tie.Need-returns-2
 unfolding coefRecall
-returns-2 c = simp (c .made .ensures, c .before .if1 .left, ← c .before .before .hits .ensures)
+returns-2 c =
+    let worked = c .before in
+    simp (c .filled .ensures, worked .resonator-coefs .ensures, worked .before .if1 .left, ← worked .before .before .hits .ensures)
 
 pub recall-spec : {M : Type 1} → statement M
-recall-spec = tie.close (tie.spec (λ c κs. search needs) (λ c κs. search needs) returns returns-2)
+recall-spec = tie.close (tie.spec (λ c κs. search needs) (λ c κs. search needs) (λ c κs. search needs) returns returns-2)

@@ -51,7 +51,7 @@ loop-again c =
       omega arith,
       omega arith,
       omega arith,
-      rw (p .0) (frames-more nPorts one-port _ _ _ _ n _ _ _ (omega arith) (s .2 ∙ start .pre .3) (s .4) told),
+      rw (p .0) (frames-more nPorts one-port _ _ _ _ n _ _ _ _ (s .3) (omega arith) (s .2 ∙ start .pre .3) (s .4) told),
       rw (p .1) (marks-more nPorts one-port _ _ _ _ _ _ _ (omega arith) (s .5) told),
       moved _ _ _ _ _ _ _ (e .0) (e .1) (s .6),
       r .0,

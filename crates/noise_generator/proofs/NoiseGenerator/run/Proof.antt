@@ -104,7 +104,7 @@ loop-again c =
       omega arith,
       put .put .kept .1 .1 .1 .0 ∙ s .inv .1,
       put .put .kept .1 .1 .1 .1 .0 ∙ s .inv .2,
-      rw (p .0) (frames-more nPorts four-ports _ _ _ _ (length (a .marks .now)) _ _ _ (omega arith) (s .inv .1) (s .inv .3) told),
+      rw (p .0) (frames-more nPorts four-ports _ _ _ _ (length (a .marks .now)) _ _ _ _ (s .inv .2) (omega arith) (s .inv .1) (s .inv .3) told),
       rw (p .1) (marks-more nPorts four-ports _ _ _ _ _ _ _ (omega arith) (s .inv .4) told),
       moved (a .self) (a .c) (a .wanted) (a .draws .now) _ h (s .i) (omega arith) x (s .at) _ (s .inv .5) (s .inv .6) e,
       ap (λ k. s .at + k) (r .1) ∙ place,

@@ -44,7 +44,7 @@ loop-again c =
       omega arith,
       put .put .kept .1 .1 .1 .0 ∙ s .1,
       put .put .kept .1 .1 .1 .1 .0 ∙ s .2,
-      rw (p .0) (frames-more nPorts two-ports _ _ _ _ n _ _ _ (omega arith) (s .1) (s .3) a),
+      rw (p .0) (frames-more nPorts two-ports _ _ _ _ n _ _ _ _ (s .2) (omega arith) (s .1) (s .3) a),
       rw (p .1) (marks-more nPorts two-ports _ _ _ _ _ _ _ (omega arith) (s .4) a),
       moved _ _ _ _ _ _ e (s .5),
     )

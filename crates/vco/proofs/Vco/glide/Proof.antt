@@ -57,7 +57,7 @@ loop-again c =
       omega arith,
       k .1 .1 .1 .1 .1 .1 .1 .0 ∙ s .1,
       k .1 .1 .1 .1 .1 .1 .1 .1 .0 ∙ s .2,
-      rw (p .0) (frames-more nPorts four-ports _ _ _ _ _ _ _ _ (rw (s .2) at t) (s .1 ∙ looped .before .before .before .pre .2) (s .3) a),
+      rw (p .0) (frames-more nPorts four-ports _ _ _ _ _ _ _ _ _ (s .2) (rw (s .2) at t) (s .1 ∙ looped .before .before .before .pre .2) (s .3) a),
       rw (p .1) (marks-more nPorts four-ports _ _ _ _ _ _ _ (rw (s .2) at t) (s .4) a),
       moved _ _ _ _ _ _ _ (c .wrap-phase .ensures) r (s .5),
       rw (c .wrap-phase .ensures) (wrap-in _ (add-fits binary64 _ _)),
