@@ -1,8 +1,13 @@
--- A tally and an edge record are read back from what was put.
+-- A tally and an edge record are read back from what was put; a record read from a part of the floats, or put there, stands in the floats.
 use mathlib.Core.List.{List, [], _∷_, _++_}
-use mathlib.Core.Path.{_≡_, refl, ap}
+use mathlib.Core.Path.{_≡_, refl, ap, _∙_}
+use Prim.Native.Nat.{ℕ, zero, suc, _+_, _≤_}
+use lib.Dec.{lit≤}
 use lib.Ieee.{Float, nan}
-use lib.ListN.{length, getD}
+use lib.ListN.{length, getD, take, drop}
+use lib.Seq.{sets, length-sets}
+use Rattle.laws.proofs.Slices.{sets-append, sets-part}
+use Rattle.boundary.specs.Edge.{nEdge, edgeFloats, edgeAt}
 use Rattle.boundary.specs.Flat.{tallyFrom, countsOf}
 use Rattle.boundary.specs.Promises.{Counts-back, Edge-back, Edge-size}
 use Rattle.common.specs.declared.EdgeDetector.{EdgeDetector}
@@ -20,3 +25,19 @@ edge-back e before after = ap (λ (x : Float). record { prev = x }) (first befor
     first : (l : List Float) → getD (l ++ (e .prev ∷ after)) (length l) nan ≡ e .prev
     first [] = refl
     first (x ∷ l) = first l
+
+pub edge-part : (f : List Float) (i : ℕ) → edgeAt (take nEdge (drop i f)) 0 ≡ edgeAt f i
+edge-part f i = ap (λ (x : Float). record { prev = x }) (first f i)
+  where
+    first : (l : List Float) (i : ℕ) → getD (take 1 (drop i l)) 0 nan ≡ getD l i nan
+    first [] zero = refl
+    first [] (suc i) = refl
+    first (x ∷ l) zero = refl
+    first (x ∷ l) (suc i) = first l i
+
+-- put after other floats it is stored in one run with them
+pub edge-put : (f p : List Float) (at : ℕ) (vs : List Float) (e : EdgeDetector) → at + length vs + nEdge ≤ length f
+    → p ≡ sets (take nEdge (drop (at + length vs) (sets f at vs))) 0 (edgeFloats e)
+    → take (at + length vs) (sets f at vs) ++ (p ++ drop nEdge (drop (at + length vs) (sets f at vs))) ≡ sets f at (vs ++ edgeFloats e)
+edge-put f p at vs e room q =
+    sets-part (sets f at vs) p (edgeFloats e) (at + length vs) nEdge (rw (length-sets f at vs) room) (lit≤ tt) q ∙ sets-append f at vs (edgeFloats e)

@@ -9,6 +9,6 @@ settled =
       tick-sizes = λ nf nw ns f w o. laws.settled _;
       tally-of = λ counts. laws.settled _;
       put-counts = λ t counts. laws.both _ _;
-      edge-at = λ f i. laws.settled _;
-      put-edge = λ e f i. laws.settled _;
+      edge-of = λ part. laws.settled _;
+      put-edge = λ e part. laws.settled _;
     }

@@ -21,5 +21,5 @@ pub record Settled : Type 0 where
   -- what it says, and the slice that it leaves
   pub put-counts : (t : Tally) (counts : List ℕ)
       → Settles (λ (a : Outcome × List ℕ). (a .0 ≡ countsOutcome counts) × (a .1 ≡ countsPut t counts))
-  pub edge-at : (f : List Float) (i : ℕ) → Settles (λ (r : EdgeDetector). r ≡ edgeAt f i)
-  pub put-edge : (e : EdgeDetector) (f : List Float) (i : ℕ) → Settles (λ (r : List Float). r ≡ sets f i (edgeFloats e))
+  pub edge-of : (part : List Float) → Settles (λ (r : EdgeDetector). r ≡ edgeAt part 0)
+  pub put-edge : (e : EdgeDetector) (part : List Float) → Settles (λ (r : List Float). r ≡ sets part 0 (edgeFloats e))

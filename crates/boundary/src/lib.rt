@@ -80,22 +80,23 @@ pub fn put_counts(tally: Tally, counts: &mut [u32]) -> Outcome
 // How many floats of a state an edge record is.
 pub const EDGE_FLOATS: usize = 1;
 
-// The edge record that a state has from float `at` on; a float that isn't there is a NaN.
-pub fn edge_at(floats: &[f64], at: usize) -> EdgeDetector
-    ensures { λ r. ⌜ r ≡ edgeAt (now (floats .entry)) at ⌝ }
+// The edge record that a part of a state's floats is; a float that isn't there is a NaN. The part has as many by its ends, so no test is left.
+pub fn edge_of(part: &[f64]) -> EdgeDetector
+    ensures { λ r. ⌜ r ≡ edgeAt (now (part .entry)) 0 ⌝ }
 {
-    if at < floats.len() {
-        EdgeDetector { prev: floats[at] }
-    } else {
+    if part.len() < EDGE_FLOATS {
         EdgeDetector { prev: 0.0 / 0.0 }
+    } else {
+        EdgeDetector { prev: part[0] }
     }
 }
 
-// And back. What has no place in the floats is left out.
-pub fn put_edge(e: EdgeDetector, floats: &mut [f64], at: usize)
-    ensures { λ _. ⌜ now (floats .exit) ≡ sets (now (floats .entry)) at (edgeFloats e) ⌝ }
+// And back. What has no place in the part is left out.
+pub fn put_edge(e: EdgeDetector, part: &mut [f64])
+    ensures { λ _. ⌜ now (part .exit) ≡ sets (now (part .entry)) 0 (edgeFloats e) ⌝ }
 {
-    if at < floats.len() {
-        floats[at] = e.prev;
+    if part.len() < EDGE_FLOATS {
+        return;
     }
+    part[0] = e.prev;
 }

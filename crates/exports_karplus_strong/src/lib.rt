@@ -43,7 +43,7 @@ fn state(floats: &[f64], wholes: &[u64]) -> KarplusStrong
     ensures { λ r. ⌜ r ≡ stateOf (now (floats .entry)) (now (wholes .entry)) ⌝ }
 {
     let sample_rate = Hertz(floats[0]);
-    let trigger_edge = boundary::edge_at(floats, EDGE);
+    let trigger_edge = boundary::edge_of(&floats[EDGE..VAL]);
     let freq_memo = Memo1 {
         key: wholes[2],
         val: Hertz(floats[VAL]),
@@ -73,7 +73,7 @@ fn store_kept(s: KarplusStrong, floats: &mut [f64], wholes: &mut [u64])
     floats[1] = s.lp_state;
     floats[2] = s.ap_x1;
     floats[3] = s.ap_y1;
-    boundary::put_edge(trigger_edge, &mut *floats, EDGE);
+    boundary::put_edge(trigger_edge, &mut floats[EDGE..VAL]);
     floats[VAL] = val.0;
     wholes[0] = s.len as u64;
     wholes[1] = s.write_pos as u64;

@@ -42,7 +42,7 @@ fn state(floats: &[f64], wholes: &[u64]) -> Vco
 {
     let phase = Turns(floats[0]);
     let sample_rate = Hertz(floats[1]);
-    let sync_edge = boundary::edge_at(floats, EDGE);
+    let sync_edge = boundary::edge_of(&floats[EDGE..VAL]);
     let freq_memo = Memo3 {
         key0: wholes[0],
         key1: wholes[1],
@@ -69,7 +69,7 @@ fn store(s: Vco, floats: &mut [f64], wholes: &mut [u64])
     let val = memo.val;
     floats[0] = phase.0;
     floats[1] = sample_rate.0;
-    boundary::put_edge(sync_edge, &mut *floats, EDGE);
+    boundary::put_edge(sync_edge, &mut floats[EDGE..VAL]);
     floats[VAL] = val.0;
     wholes[0] = memo.key0;
     wholes[1] = memo.key1;
