@@ -319,7 +319,7 @@ def counted(files):
 
 
 # every edit of these is tried from nothing; of any other crate one is
-LIGHT = {"laws", "text", "line", "values", "exports", "exports_score", "examples"}
+LIGHT = {"laws", "text", "values", "examples"}
 # no edit of these changes definition and code together
 WITHOUT_BOTH = {
     "laws": "it has no code",

@@ -6,7 +6,7 @@ use Prim.Native.Nat.{ℕ, zero, suc, _+_, _-_, _*_, _/_, _%_, _≤_, _<_}
 use native.Mathlib.Nat.{zero-add, add-zero, mul-zero, div-add-mod', mul-comm, eq-of-mul-eq-mul-right, mul-mod-left, mul-le-mul-left}
 use native.Mathlib.Numerals.{add-one}
 use native.Mathlib.Omega.{arith}
-use lib.Dec.{eqb, leb, ltb, lit≤}
+use lib.Dec.{eqb, leb, lit≤}
 use lib.ListN.{length, length-append, length-take, length-drop, set, take, drop}
 use lib.Ieee.{Float}
 use lib.Seq.{sets, length-take-le}

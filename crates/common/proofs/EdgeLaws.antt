@@ -2,7 +2,7 @@
 use mathlib.Core.Bool.{Bool, _&&_, true, false}
 use mathlib.Core.Path.{_≡_, refl}
 use lib.Dec.{T}
-use lib.Ieee.{Float, lt, le, ofBits, eq}
+use lib.Ieee.{lt, le, ofBits, eq}
 use lib.Ieee.Bits.{is-true}
 use Rattle.laws.specs.Float.{zer}
 use Rattle.laws.proofs.Order.{le-false, lt-false}

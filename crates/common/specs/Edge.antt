@@ -7,7 +7,6 @@ use Rattle.common.specs.Consts.{gateThreshold}
 use Rattle.common.specs.declared.EdgeDetector.{EdgeDetector}
 use Rattle.common.specs.declared.Risen.{Risen}
 use Rattle.common.specs.declared.Crossed.{Crossed}
-use Rattle.common.specs.declared.Crossing.{Crossing}
 use Rattle.common.specs.declared.Crossing.the-variants.{Nowhere, At}
 
 -- EdgeDetector::new

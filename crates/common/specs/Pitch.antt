@@ -1,5 +1,5 @@
 -- voct_to_hz, written from common.rs.
-use lib.Ieee.{Float, binary64, mul, neg}
+use lib.Ieee.{binary64, mul, neg}
 use Rattle.numeric.specs.Basic.{clampOf}
 use Rattle.numeric.specs.Power.{exp2Of}
 use Rattle.common.specs.Consts.{c4, maxVoct}

@@ -22,7 +22,7 @@ ghost use Rattle.formant_osc.specs.Consts.{nPorts};
 ghost use Rattle.formant_osc.specs.Coefs.{spotOf, formantOf, getFormants, bandwidthOf, coefOf, resonatorCoefs};
 ghost use Rattle.formant_osc.specs.Memo.{newCoefMemo, coefHits, coefFilled, coefRecall};
 ghost use Rattle.formant_osc.specs.Sound.{glottalPulse, pitchOf, resonateOf, rungOf};
-ghost use Rattle.formant_osc.specs.FormantOsc.{formantOscRefusalOf, formantOscRateRefusalOf, formantOscNewOf, coefMemoOf, formantOscSoundOf};
+ghost use Rattle.formant_osc.specs.FormantOsc.{formantOscRefusalOf, formantOscRateRefusalOf, formantOscNewOf, formantOscSoundOf};
 ghost use Rattle.formant_osc.specs.FormantOsc.{formantOscTickOf, formantOscToldOf, formantOscNextOf, formantOscBlockOf, formantOscResetOf};
 ghost use Rattle.formant_osc.specs.FormantOsc.{formantOscSetSampleRateOf};
 ghost use Rattle.formant_osc.specs.Shortcuts.{driveNext, pulseAt, flag, isFlagged, flagAt, strideAt, swayed, phaseAt, phaseFlagAt};

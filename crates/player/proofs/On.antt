@@ -29,7 +29,7 @@ use Rattle.score.specs.declared.Score.{Score}
 use Rattle.frame.specs.Frames.{portsIn}
 use Rattle.frame.proofs.Played.{told-prints}
 use Rattle.player.specs.Frames.{heardAt, playerAt, tallyAt, samplesFrom, marksFrom, textFrom}
-use Rattle.player.specs.Player.{controlsOf, playerFrom, playerOf, kindOf, soundOf, answerBy, nextBy, playBy, playedOf}
+use Rattle.player.specs.Player.{controlsOf, playerFrom, playerOf, kindOf, soundOf, answerBy, nextBy, playBy}
 use Rattle.player.specs.Promises.{Plays-on, Prints-on}
 use Rattle.player.specs.declared.Controls.{Controls}
 use Rattle.player.specs.declared.Controls.the-variants as controls

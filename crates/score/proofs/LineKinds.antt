@@ -10,7 +10,7 @@ use lib.ListN.{length}
 use lib.Dec.{ltb, lit≤}
 use lib.IntN.{pos, negsuc}
 use borrow.Author.Tests.{ltb-false, le-ltb}
-use Rattle.line.specs.Bytes.{ascii, sameOf, hasOf}
+use Rattle.line.specs.Bytes.{sameOf, hasOf}
 use Rattle.line.specs.Number.{numberOf, numberText}
 use Rattle.line.specs.declared.Number.{Number}
 use Rattle.line.specs.declared.Number.the-variants.{Whole, Nan, Malformed}

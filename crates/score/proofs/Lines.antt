@@ -18,8 +18,8 @@ use Rattle.score.specs.Lines.{oscLine, wholeLine, controlLine}
 use Rattle.score.specs.Score.{osc, whole, control, endOf}
 use Rattle.score.specs.Text.{controlText, wholeText, lineText, nameOf}
 use Rattle.score.specs.Promises.{ValidInput}
-use Rattle.score.proofs.LineKinds.{Kind, ByLine, Seen, value, none, Lawful, tested, osc-kind}
-use Rattle.score.proofs.LineKinds.{osc-laws, whole-kind, whole-laws, control-kind, control-laws}
+use Rattle.score.proofs.LineKinds.{Kind, ByLine, Seen, value, none, Lawful, tested}
+use Rattle.score.proofs.LineKinds.{osc-laws, whole-laws, control-laws}
 use Rattle.score.specs.declared.Control.{Control}
 use Rattle.score.specs.declared.Osc.{Osc}
 use Rattle.score.specs.declared.Score.{Score}

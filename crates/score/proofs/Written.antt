@@ -22,7 +22,7 @@ use Rattle.score.specs.declared.LfoInputs.{LfoInputs}
 use Rattle.score.specs.declared.SupersawInputs.{SupersawInputs}
 use Rattle.score.specs.declared.FormantInputs.{FormantInputs}
 use Rattle.score.specs.declared.Reading.{Reading}
-use Rattle.score.specs.declared.Reading.the-variants.{Values, Refused}
+use Rattle.score.specs.declared.Reading.the-variants.{Refused}
 
 abbrev key : {name : String} → hasOf 61 (ascii name) ≡ false → hasOf 10 (ascii name) ≡ false → length (ascii name) ≤ 13 → ShortKey name
 key p f h = record { plain = (p, f); few = h }

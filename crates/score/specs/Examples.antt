@@ -5,7 +5,7 @@ use mathlib.Core.Path.{_≡_}
 use mathlib.Core.List.{List, [], _∷_, map, replicate}
 use lib.IntN.{pos, negsuc}
 use lib.Ieee as Ieee
-use lib.Ieee.{nan, binary64}
+use lib.Ieee.{binary64}
 use Rattle.line.specs.Bytes.{ascii}
 use Rattle.score.specs.Control.{voltsOf}
 use Rattle.score.specs.Score.{scoreOf}

@@ -17,7 +17,6 @@ use Rattle.score.specs.declared.WholeLine.{WholeLine}
 use Rattle.score.specs.declared.WholeLine.the-variants as WL
 use Rattle.score.specs.declared.ControlLine.{ControlLine}
 use Rattle.score.specs.declared.ControlLine.the-variants as CL
-use Rattle.score.specs.declared.Inputs.{Inputs}
 use Rattle.score.specs.declared.Inputs.the-variants as I
 use Rattle.score.specs.declared.Head.{Head}
 use Rattle.score.specs.declared.Score.{Score}

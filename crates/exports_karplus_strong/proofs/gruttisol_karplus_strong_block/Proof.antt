@@ -12,7 +12,7 @@ state-requires c κs =
 
 put-block-requires : tie.Need-put-block-requires
 put-block-requires c κs =
-    let known-8 = c .before .before .before .before .before in let played = known-8 .before .before .before .before in
+    let known = c .before .before .before .before .before in let played = known .before .before .before .before in
     let loaded = played .before .before .before .before in let taken = loaded .before .before .before .before in
     let tested = taken .before .before .before .before in
     let z = sized _ _ _ _ _ (tested .before .sizes .ensures) (tested .if1 .taken) in
@@ -21,7 +21,7 @@ put-block-requires c κs =
 returns : tie.Need-returns
 unfolding karplusStrongBlockAt
 returns c =
-    let known-11 = c .before .before in let put = known-11 .before .before .before .before in
+    let known = c .before .before in let put = known .before .before .before .before in
     let ready = put .before .before .before .before .before in let played = ready .before .before .before .before .before in
     let loaded = played .before .before .before .before in
     let taken = loaded .before .before .before .before in

@@ -21,8 +21,8 @@ put-ticked-requires c κs =
 returns : tie.Need-returns
 unfolding karplusStrongTickAt
 returns c =
-    let ready = c .before .before .before .before .before in let known-5 = ready .before .before .before .before .before in
-    let ticked = known-5 .before .before in
+    let ready = c .before .before .before .before .before in let known = ready .before .before .before .before .before in
+    let ticked = known .before .before in
     let tested = ticked .before .before .before .before .before in
     sounded-done _ _ _ _ _ (tested .before .tick-sizes .ensures) (tested .if1 .taken) _ _ _
     (ready .before .put-ticked .ensures ∙ simp (ticked .tick .ensures .0, ticked .before .before .state .ensures))

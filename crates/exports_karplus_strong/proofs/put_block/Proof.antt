@@ -7,7 +7,7 @@ use Rattle.exports_karplus_strong.proofs.put_block.Tie as tie
 returns : tie.Need-returns
 unfolding playedOf countsPut
 returns c =
-    let known-5 = c .before .before .before .before in let stored = known-5 .before .before .before .before in
+    let known = c .before .before .before .before in let stored = known .before .before .before .before in
     let tested = stored .before .before .before .before .before in
     let began = tested .before .before .before .before in
     λ l o m. simp (

@@ -17,7 +17,7 @@ put-ticked-requires c κs =
 returns : tie.Need-returns
 unfolding lfoTickAt
 returns c =
-    let known-5 = c .before .before in let stored = known-5 .before .before .before .before in
+    let known = c .before .before in let stored = known .before .before .before .before in
     let ticked = stored .before .before .before .before in
     let loaded = ticked .before in
     let tested = loaded .before .before .before in

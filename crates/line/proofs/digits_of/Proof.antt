@@ -28,14 +28,14 @@ returns-2 c = simp (ne-eqb _ _ (c .before .if1 .left), lt-ltb _ _ (c .if2 .taken
 returns-3 : tie.Need-returns-3 Inv-loop μ-loop
 unfolding digitsOf
 returns-3 c =
-    let passed-2 = c .before .before .before in
-    simp (ne-eqb _ _ (passed-2 .before .if1 .left), le-ltb _ _ (passed-2 .if2 .left), eq-eqb _ _ (c .before .if3 .taken), eq-eqb _ _ (c .if4 .taken))
+    let passed = c .before .before .before in
+    simp (ne-eqb _ _ (passed .before .if1 .left), le-ltb _ _ (passed .if2 .left), eq-eqb _ _ (c .before .if3 .taken), eq-eqb _ _ (c .if4 .taken))
 
 returns-4 : tie.Need-returns-4 Inv-loop μ-loop
 unfolding digitsOf
 returns-4 c =
-    let passed-2 = c .before .before .before in
-    simp (ne-eqb _ _ (passed-2 .before .if1 .left), le-ltb _ _ (passed-2 .if2 .left), eq-eqb _ _ (c .before .if3 .taken), ne-eqb _ _ (c .if4 .left))
+    let passed = c .before .before .before in
+    simp (ne-eqb _ _ (passed .before .if1 .left), le-ltb _ _ (passed .if2 .left), eq-eqb _ _ (c .before .if3 .taken), ne-eqb _ _ (c .if4 .left))
 
 loop-holds : tie.Need-loop-holds Inv-loop μ-loop
 unfolding digitsOf

@@ -18,16 +18,16 @@ returns-2 c =
 returns-3 : tie.Need-returns-3
 unfolding quadrant
 returns-3 c =
-    let passed-2 = c .before .before in
-    let q = passed-2 .before .before .args .q in
-    simp (eqb-no q 0 (passed-2 .before .if1 .left), eqb-no q 1 (passed-2 .if2 .left), eqb-yes q 2 (c .before .if3 .taken), c .kernel-sin2 .ensures)
+    let passed = c .before .before in
+    let q = passed .before .before .args .q in
+    simp (eqb-no q 0 (passed .before .if1 .left), eqb-no q 1 (passed .if2 .left), eqb-yes q 2 (c .before .if3 .taken), c .kernel-sin2 .ensures)
 
 returns-4 : tie.Need-returns-4
 unfolding quadrant
 returns-4 c =
-    let passed-2 = c .before .before in
-    let q = passed-2 .before .before .args .q in
-    simp (eqb-no q 0 (passed-2 .before .if1 .left), eqb-no q 1 (passed-2 .if2 .left), eqb-no q 2 (c .before .if3 .left), c .kernel-cos2 .ensures)
+    let passed = c .before .before in
+    let q = passed .before .before .args .q in
+    simp (eqb-no q 0 (passed .before .if1 .left), eqb-no q 1 (passed .if2 .left), eqb-no q 2 (c .before .if3 .left), c .kernel-cos2 .ensures)
 
 pub quadrant-of-spec : {M : Type 1} → statement M
 quadrant-of-spec =

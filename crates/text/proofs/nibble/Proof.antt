@@ -20,14 +20,14 @@ returns-3 c = simp (le-ltb _ _ (c .before .before .if1 .left), le-ltb _ _ (c .be
 returns-4 : tie.Need-returns-4
 unfolding nibbleOf
 returns-4 c =
-    let passed-2 = c .before .before in
-    simp (le-ltb _ _ (passed-2 .before .if1 .left), le-ltb _ _ (passed-2 .if2 .left), le-ltb _ _ (c .before .if3 .left), lt-ltb _ _ (c .if4 .taken))
+    let passed = c .before .before in
+    simp (le-ltb _ _ (passed .before .if1 .left), le-ltb _ _ (passed .if2 .left), le-ltb _ _ (c .before .if3 .left), lt-ltb _ _ (c .if4 .taken))
 
 returns-5 : tie.Need-returns-5
 unfolding nibbleOf
 returns-5 c =
-    let passed-2 = c .before .before in
-    simp (le-ltb _ _ (passed-2 .before .if1 .left), le-ltb _ _ (passed-2 .if2 .left), le-ltb _ _ (c .before .if3 .left), le-ltb _ _ (c .if4 .left))
+    let passed = c .before .before in
+    simp (le-ltb _ _ (passed .before .if1 .left), le-ltb _ _ (passed .if2 .left), le-ltb _ _ (c .before .if3 .left), le-ltb _ _ (c .if4 .left))
 
 pub nibble-spec : {M : Type 1} → statement M
 nibble-spec =

@@ -31,14 +31,14 @@ returns-2 c =
 returns-3 : tie.Need-returns-3
 unfolding tallyOf
 returns-3 c =
-    let passed-2 = c .before .before .before in
+    let passed = c .before .before .before in
     simp (
       c .count .ensures,
       ne-eqb _ _ (c .before .if3 .left),
-      ne-eqb _ _ (passed-2 .if2 .left),
-      ← passed-2 .before .mark-number .ensures,
-      passed-2 .before .before .if1 .taken,
-      ← passed-2 .before .before .before .adds-up .ensures,
+      ne-eqb _ _ (passed .if2 .left),
+      ← passed .before .mark-number .ensures,
+      passed .before .before .if1 .taken,
+      ← passed .before .before .before .adds-up .ensures,
     )
 
 returns-4 : tie.Need-returns-4

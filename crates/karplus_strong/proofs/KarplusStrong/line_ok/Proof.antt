@@ -20,8 +20,8 @@ returns-3 c = simp (le-leb _ _ (c .before .before .before .before .if1 .left), l
 returns-4 : tie.Need-returns-4
 unfolding lineOk
 returns-4 c =
-    let passed-2 = c .before .before .before in
-    simp (le-leb _ _ (passed-2 .before .before .if1 .left), le-leb _ _ (passed-2 .if2 .left), lt-ltb _ _ (c .before .if3 .left), number-test)
+    let passed = c .before .before .before in
+    simp (le-leb _ _ (passed .before .before .if1 .left), le-leb _ _ (passed .if2 .left), lt-ltb _ _ (c .before .if3 .left), number-test)
 
 pub line-ok-spec : {M : Type 1} → statement M
 line-ok-spec = tie.close (tie.spec (λ c. search needs) returns returns-2 returns-3 returns-4)

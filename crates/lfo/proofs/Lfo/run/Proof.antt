@@ -13,8 +13,8 @@ glide-requires : tie.Need-glide-requires
 glide-requires c κs =
     let restarted = c .before .before .before .before in
     let recalled = restarted .before .before .before .before in
-    let known-2 = recalled .before .before .before .before .before in
-    let p = known-2 .before .before .pre in
+    let known = recalled .before .before .before .before .before in
+    let p = known .before .before .pre in
     (rw (restarted .restart .ensures) (restart-in _ _ (accepts _ (p .0) .1)), p .2)
 
 returns : tie.Need-returns
@@ -23,7 +23,7 @@ returns c =
     let stepped = glided .before .before .before .before in
     let risen = stepped .before .before .before in
     let recalled = risen .before .before in
-    let known-2 = recalled .before .before .before .before .before in let start = known-2 .before .before in
+    let known = recalled .before .before .before .before .before in let start = known .before .before in
     let a = start .args in
     let g = glided .glide .ensures in
     let w = holds (a .self) (a .c) (a .wanted) (start .pre .0) in

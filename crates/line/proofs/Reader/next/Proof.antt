@@ -41,7 +41,7 @@ use denote.Triple.Table.{entered, cited}
 use denote.Triple.Walked.{says, Stays, stay-none, walkOf, goes-none, Walks, ends-at, walked, walk-meets}
 use denote.Exit.{yes}
 use denote.Triple.Clauses.{ensured, lasts}
-use Rattle.line.specs.Line.{nextOf, movedOn}
+use Rattle.line.specs.Line.{nextOf}
 use Rattle.line.specs.declared.Reader.{Reader}
 use Rattle.line.proofs.Held.{B, D, L, slice, Own, twice, apart}
 use Rattle.line.proofs.Reader.Laws as T′

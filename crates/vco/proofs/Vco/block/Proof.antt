@@ -30,7 +30,7 @@ returns-2 : tie.Need-returns-2
 unfolding vcoBlockOf
 returns-2 c =
     let took-marks = c .before in
-    let known-4 = took-marks .before .before in let ran = known-4 .before .before .before .before in
+    let known = took-marks .before .before in let ran = known .before .before .before .before in
     let tested = ran .before .before .before .before in
     let asked = tested .before in
     let a = asked .before .before .before .before .args in
