@@ -19,7 +19,8 @@ slice-write-floats-4 c =
     let put = c .before .before in
     let ready = put .before .before .before .before in let start = ready .before .before .before in
     let a = start .args in
-    let e = edge-put (a .floats .now) _ 1 (a .s .«lp_state» ∷ a .s .«ap_x1» ∷ a .s .«ap_y1» ∷ []) (a .s .«trigger_edge») (omega arith) (put .put-edge .ensures) in
+    let e = edge-put (a .floats .now) _ 1 (a .s .«lp_state» ∷ a .s .«ap_x1» ∷ a .s .«ap_y1» ∷ []) (a .s .«trigger_edge») (omega arith)
+    (put .put-edge .ensures) in
     rw e (simp length-set (omega arith))
 
 slice-write-wholes-2 : tie.Need-slice-write-wholes-2
@@ -37,7 +38,8 @@ same-length c =
     let put = c .before .before .before in
     let ready = put .before .before .before .before in let start = ready .before .before .before in
     let a = start .args in
-    let e = edge-put (a .floats .now) _ 1 (a .s .«lp_state» ∷ a .s .«ap_x1» ∷ a .s .«ap_y1» ∷ []) (a .s .«trigger_edge») (omega arith) (put .put-edge .ensures) in
+    let e = edge-put (a .floats .now) _ 1 (a .s .«lp_state» ∷ a .s .«ap_x1» ∷ a .s .«ap_y1» ∷ []) (a .s .«trigger_edge») (omega arith)
+    (put .put-edge .ensures) in
     rw e (length-sets (a .floats .now) 1 (a .s .«lp_state» ∷ a .s .«ap_x1» ∷ a .s .«ap_y1» ∷ a .s .«trigger_edge» .prev ∷ a .s .«freq_memo» .val .0 ∷ []))
 
 returns : tie.Need-returns
@@ -46,7 +48,8 @@ returns c =
     let put = c .before .before .before in
     let ready = put .before .before .before .before in let start = ready .before .before .before in
     let a = start .args in
-    let e = edge-put (a .floats .now) _ 1 (a .s .«lp_state» ∷ a .s .«ap_x1» ∷ a .s .«ap_y1» ∷ []) (a .s .«trigger_edge») (omega arith) (put .put-edge .ensures) in
+    let e = edge-put (a .floats .now) _ 1 (a .s .«lp_state» ∷ a .s .«ap_x1» ∷ a .s .«ap_y1» ∷ []) (a .s .«trigger_edge») (omega arith)
+    (put .put-edge .ensures) in
     (rw e (stored-rest nan (a .floats .now) _ _ (start .pre .0) (start .pre .2)), simp byte (stored (a .wholes .now) (wholesOf (a .s)) (start .pre .1)))
 
 pub store-kept-spec : {M : Type 1} → statement M

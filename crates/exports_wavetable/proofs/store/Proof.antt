@@ -17,7 +17,8 @@ slice-write-floats-3 c =
     let put = c .before .before in
     let ready = put .before .before .before .before in let start = ready .before .before .before .before in
     let a = start .args in
-    let e = edge-put (a .floats .now) _ 0 (a .s .phase .0 ∷ a .s .«sample_rate» .0 ∷ []) (record { prev = a .s .«prev_sync» }) (omega arith) (put .put-edge .ensures) in
+    let e = edge-put (a .floats .now) _ 0 (a .s .phase .0 ∷ a .s .«sample_rate» .0 ∷ []) (record { prev = a .s .«prev_sync» }) (omega arith)
+    (put .put-edge .ensures) in
     rw e (simp length-set (omega arith))
 
 slice-write-wholes-2 : tie.Need-slice-write-wholes-2
@@ -29,7 +30,8 @@ same-length c =
     let put = c .before .before .before in
     let ready = put .before .before .before .before in let start = ready .before .before .before .before in
     let a = start .args in
-    let e = edge-put (a .floats .now) _ 0 (a .s .phase .0 ∷ a .s .«sample_rate» .0 ∷ []) (record { prev = a .s .«prev_sync» }) (omega arith) (put .put-edge .ensures) in
+    let e = edge-put (a .floats .now) _ 0 (a .s .phase .0 ∷ a .s .«sample_rate» .0 ∷ []) (record { prev = a .s .«prev_sync» }) (omega arith)
+    (put .put-edge .ensures) in
     rw e (length-sets (a .floats .now) 0 (floatsOf (a .s)))
 
 returns : tie.Need-returns
@@ -38,7 +40,8 @@ returns c =
     let put = c .before .before .before in
     let ready = put .before .before .before .before in let start = ready .before .before .before .before in
     let a = start .args in
-    let e = edge-put (a .floats .now) _ 0 (a .s .phase .0 ∷ a .s .«sample_rate» .0 ∷ []) (record { prev = a .s .«prev_sync» }) (omega arith) (put .put-edge .ensures) in
+    let e = edge-put (a .floats .now) _ 0 (a .s .phase .0 ∷ a .s .«sample_rate» .0 ∷ []) (record { prev = a .s .«prev_sync» }) (omega arith)
+    (put .put-edge .ensures) in
     (rw e (stored (a .floats .now) (floatsOf (a .s)) (start .pre .0)), simp byte (stored (a .wholes .now) (wholesOf (a .s)) (start .pre .1)))
 
 pub store-spec : {M : Type 1} → statement M
