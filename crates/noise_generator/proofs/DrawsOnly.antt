@@ -14,7 +14,7 @@ use Rattle.common.proofs.DrawLaws.{refusal-draws}
 use Rattle.common.specs.Tests.{drawsRefusalOf}
 use Rattle.answer.proofs.Blocks.{many-ext, block-fits}
 use Rattle.answer.specs.Block.{afterTicks, answerAt, markAt, frameAt, portsOf, joined, countedTo, manyTo, ticksOf, Block, block, blockOf, blockRefusalOf}
-use Rattle.answer.specs.Answer.{hostNumber, voltsOf}
+use Rattle.answer.specs.Answer.{hostNumber, voltsOf, cleared, notfinite, lost, clean, told}
 use Rattle.answer.specs.declared.Answer.{Answer}
 use Rattle.answer.specs.declared.Tally.{Tally}
 use Rattle.laws.proofs.Over.{tab-ext}
@@ -80,11 +80,11 @@ module _ (answer : Drawing → Answer) (next : Drawing → Drawing) (x y : Drawi
   marks-same i l = ap hostNumber (same i l)
 
   frames-same : (i : ℕ) → i < n → frameAt nPorts answer next x i ≡ frameAt nPorts answer next y i
-  frames-same i l = ap (λ (a : Answer). portsOf 4 (voltsOf a)) (same i l)
+  frames-same i l = ap (λ (a : Answer). portsOf nPorts (voltsOf a)) (same i l)
 
   tally-same : (t : Tally) → countedTo t (markAt answer next x) n ≡ countedTo t (markAt answer next y) n
   unfolding countedTo
-  tally-same t = rw (many 14, many 11, many 12, many 13)
+  tally-same t = rw (many (told clean), many (told cleared), many (told notfinite), many (told lost))
     where
       many : (k : ℕ) → manyTo k (markAt answer next x) n ≡ manyTo k (markAt answer next y) n
       many k = many-ext k (markAt answer next x) (markAt answer next y) n marks-same
