@@ -319,7 +319,7 @@ def counted(files):
 
 
 # every edit of these is tried from nothing; of any other crate one is, and of the oscillators' exports, which have one shape, that of exports_lfo
-LIGHT = {"laws", "text", "values", "examples"}
+LIGHT = {"laws", "values", "examples"}
 ALIKE = {f"exports_{name}" for name in ("vco", "supersaw", "wavetable", "formant_osc", "karplus_strong", "noise_generator")}
 # no edit of these changes definition and code together
 WITHOUT_BOTH = {

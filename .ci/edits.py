@@ -216,9 +216,9 @@ def judge_tried(name, path):
     return not wrong, f"{name}/{path.stem}: {f'NO REFUSAL: {wrong}' if wrong else f'refused from nothing ({first(log.read_text())})'}"
 
 
-def try_script():
-    """Whether the script tells: a comment that is edited, a name that isn't there; and a line about it."""
-    folder, wrong = seed(TRIED)
+def try_script(seeded):
+    """Whether the script tells, over the seed of TRIED: a comment that is edited, a name that isn't there; and a line about it."""
+    folder, wrong = seeded.result()
     if wrong:
         return False, f"{TRIED}: {wrong}"
     source = (ROOT / "crates" / TRIED / "src" / "lib.rt").read_text()
@@ -248,7 +248,8 @@ def main(names):
     listed = lambda part: {name: sorted((ROOT / "crates" / name / part).glob("*.edit")) for name in names or DEPENDENCIES}
     with concurrent.futures.ThreadPoolExecutor(JOBS) as pool:
         seeds = {name: pool.submit(seed, name) for name, paths in listed("wrong").items() if paths}
-        script = pool.submit(try_script)
+        tried = seeds.get(TRIED) or pool.submit(seed, TRIED)
+        script = pool.submit(try_script, tried)
         tries = []
         for name, asked in seeds.items():
             folder, wrong = asked.result()
