@@ -318,9 +318,8 @@ def counted(files):
         yield f"{counts.PAGE}: its counts are others than today's, which `python3 .ci/counts.py --write` puts there"
 
 
-# every edit of these is tried from nothing; of any other crate one is, and of the oscillators' exports, which have one shape, that of exports_lfo
+# every edit of these is tried from nothing; of any other crate one is
 LIGHT = {"laws", "values", "examples"}
-ALIKE = {f"exports_{name}" for name in ("vco", "supersaw", "wavetable", "formant_osc", "karplus_strong", "noise_generator")}
 # no edit of these changes definition and code together
 WITHOUT_BOTH = {
     "laws": "it has no code",
@@ -331,7 +330,7 @@ WITHOUT_BOTH = {
 
 
 def edits_stand(files):
-    """Each crate has three to sixteen edits, in must-fail/ all of a light crate and one of another but for exports, and what one takes out stands once."""
+    """Each crate has three to sixteen edits, in must-fail/ all of a light crate and one of another, and what an edit takes out stands once."""
     found = {path.split("/")[1]: [] for path in files if re.match("crates/[^/]+/(src|specs)/", path)}
     for path, crate, text in of_crates(files, {"must-fail", "wrong"}, ".edit"):
         found.setdefault(crate, []).append(path)
@@ -345,7 +344,7 @@ def edits_stand(files):
         if crate not in WITHOUT_BOTH and not any(edits.both(files[path]) for path in paths):
             yield f"crates/{crate}/must-fail/: no edit changes definition and code together"
         inside = sum("/must-fail/" in path for path in paths)
-        if inside != (len(paths) if crate in LIGHT else 0 if crate in ALIKE else 1):
+        if inside != (len(paths) if crate in LIGHT else 1):
             yield f"crates/{crate}/must-fail/: {inside} edits of {len(paths)}"
 
 
