@@ -9,7 +9,7 @@ use lib.Ieee.{Float}
 use lib.ListN.{length}
 use borrow.Author.Tests.{eqb-true, ne-eqb}
 use Rattle.laws.proofs.Tests.{eqb-yes}
-use Rattle.boundary.specs.Flat.{sizesOf, tickSizesOf, tallyFrom, nCounts}
+use Rattle.boundary.specs.Flat.{sizesOf, tickSizesOf, tallyFrom, tallySized, nCounts}
 use Rattle.boundary.specs.Flat.{Kept, kept, keptSized, Heard, heard, heardSized, Played, played, playedFrom, playedSized}
 use Rattle.answer.specs.Tally.{talliedNumber}
 use Rattle.answer.specs.declared.Tally.{Tally}
@@ -50,6 +50,19 @@ all-counts l x t e g = go _ (eqb (length l) nCounts) refl (ap talliedNumber (sym
     go u true p h = eqb-true (length l) nCounts p
     go u false p h = absurd (omega arith)
 
+-- and lengths that are right before them
+pub block-sized : (nf nw : ℕ) (f : List Float) (w k : List ℕ) (x : Tallied) (t : Tally) → x ≡ tallySized nf nw f w k → x ≡ tallied.Taken t
+    → (length f ≡ nf) × (length w ≡ nw) × (length k ≡ nCounts)
+unfolding tallySized talliedNumber
+block-sized nf nw f w k x t e g = go (eqb n 0) refl (sym e ∙ g)
+  where
+    n : ℕ
+    n = sizesOf nf nw (length f) (length w)
+
+    go : (b : Bool) → eqb n 0 ≡ b → cond b (tallyFrom k) (tallied.Refused n) ≡ tallied.Taken t → (length f ≡ nf) × (length w ≡ nw) × (length k ≡ nCounts)
+    go true p h = let s = sized nf nw (length f) (length w) n refl (eqb-true n 0 p) in (s .0, s .1, all-counts k _ t refl h)
+    go false p h = absurd (true≢false (sym (eqb-yes n 0 (ap talliedNumber h)) ∙ p))
+
 -- a bool that is read back from a whole number
 pub flag : (b : Bool) → not (eqb (cond b 1 0) 0) ≡ b
 flag true = refl
@@ -66,20 +79,6 @@ module _ (nf nw : ℕ) (f : List Float) (w : List ℕ) (n : ℕ) (e : n ≡ size
   unfolding keptSized
   kept-refused z k = simp (← e, ne-eqb n 0 z)
 
-  -- a block: x is the tally that its counts are
-  module _ (p : Tally → Played) (k : List ℕ) (o : List Float) (m : List ℕ) where
-    pub played-done : n ≡ 0 → (x : Tallied) (t : Tally) (r : Played) → x ≡ tallyFrom k → x ≡ tallied.Taken t → r ≡ p t → r ≡ playedSized nf nw p f w k o m
-    unfolding playedSized playedFrom
-    played-done z x t r g h q = simp (← e, z, ← g, h) q
-
-    pub played-uncounted : n ≡ 0 → (x : Tallied) (j : ℕ) → x ≡ tallyFrom k → x ≡ tallied.Refused j → played j f w k o m ≡ playedSized nf nw p f w k o m
-    unfolding playedSized playedFrom
-    played-uncounted z x j g h = simp (← e, z, ← g, h)
-
-    pub played-refused : (n ≡ 0 → ⊥) → played n f w k o m ≡ playedSized nf nw p f w k o m
-    unfolding playedSized
-    played-refused z = simp (← e, ne-eqb n 0 z)
-
 -- a tick
 module _ (nf nw ns : ℕ) (f : List Float) (w : List ℕ) (o : List Float) (n : ℕ) (e : n ≡ tickSizesOf nf nw ns (length f) (length w) (length o)) where
   pub heard-done : n ≡ 0 → (r h : Heard) → r ≡ h → r ≡ heardSized nf nw ns h f w o
@@ -89,3 +88,13 @@ module _ (nf nw ns : ℕ) (f : List Float) (w : List ℕ) (o : List Float) (n : 
   pub heard-refused : (n ≡ 0 → ⊥) → (h : Heard) → heard n f w o ≡ heardSized nf nw ns h f w o
   unfolding heardSized
   heard-refused z h = simp (← e, ne-eqb n 0 z)
+
+-- a block: x is the tally of its counts, or what refuses
+module _ (nf nw : ℕ) (p : Tally → Played) (f : List Float) (w k : List ℕ) (o : List Float) (m : List ℕ) (x : Tallied) (e : x ≡ tallySized nf nw f w k) where
+  pub played-done : (t : Tally) (r : Played) → x ≡ tallied.Taken t → r ≡ p t → r ≡ playedSized nf nw p f w k o m
+  unfolding playedSized playedFrom
+  played-done t r h q = simp (← e, h) q
+
+  pub played-refused : (j : ℕ) → x ≡ tallied.Refused j → played j f w k o m ≡ playedSized nf nw p f w k o m
+  unfolding playedSized playedFrom
+  played-refused j h = simp (← e, h)

@@ -71,6 +71,10 @@ tallyFrom l =
     let t : Tally = record { begun = getD l 0 0; finished = getD l 1 0; cleared = getD l 2 0; notfinite = getD l 3 0; lost = getD l 4 0 } in
     cond (eqb (length l) nCounts) (tallied.Taken t) (tallied.Refused 53)
 
+-- after the lengths of floats and wholes
+unfoldable pub tallySized : ℕ → ℕ → List Float → List ℕ → List ℕ → Tallied
+tallySized nf nw f w k = let n = sizesOf nf nw (length f) (length w) in cond (eqb n 0) (tallyFrom k) (tallied.Refused n)
+
 unfoldable pub countsOf : Tally → List ℕ
 countsOf t = t .begun ∷ t .finished ∷ t .cleared ∷ t .notfinite ∷ t .lost ∷ []
 
@@ -100,13 +104,10 @@ playedOf floatsOf wholesOf b f w k =
     (played 0 (floatsOf (b .state)) (wholesOf (b .state)) (countsOf (b .tally)) (b .samples) (b .marks))
     (played (b .refused) f w k (b .samples) (b .marks))
 
--- p of the tally that the counts are, unless their number refuses
+-- p of the tally that the counts are, unless lengths or counts refuse
 unfoldable pub playedFrom : Tallied → (Tally → Played) → List Float → List ℕ → List ℕ → List Float → List ℕ → Played
 playedFrom (tallied.Taken t) p f w k o m = p t
 playedFrom (tallied.Refused n) p f w k o m = played n f w k o m
 
--- after the lengths of floats and wholes
 unfoldable pub playedSized : ℕ → ℕ → (Tally → Played) → List Float → List ℕ → List ℕ → List Float → List ℕ → Played
-playedSized nf nw p f w k o m =
-    let n = sizesOf nf nw (length f) (length w) in
-    cond (eqb n 0) (playedFrom (tallyFrom k) p f w k o m) (played n f w k o m)
+playedSized nf nw p f w k o m = playedFrom (tallySized nf nw f w k) p f w k o m

@@ -9,7 +9,7 @@ use Rattle.answer.specs.declared.Outcome.{Outcome}
 use Rattle.answer.specs.declared.Tally.{Tally}
 use Rattle.answer.specs.declared.Tallied.{Tallied}
 use Rattle.boundary.specs.Edge.{edgeAt, edgeFloats}
-use Rattle.boundary.specs.Flat.{sizesOf, tickSizesOf, tallyFrom, countsOutcome, countsPut}
+use Rattle.boundary.specs.Flat.{sizesOf, tickSizesOf, tallyFrom, tallySized, countsOutcome, countsPut}
 use Rattle.common.specs.declared.EdgeDetector.{EdgeDetector}
 use Rattle.laws.specs.Machine.{Settles}
 
@@ -18,6 +18,7 @@ pub record Settled : Type 0 where
   pub tick-sizes : (nf nw ns : ℕ) (f : List Float) (w : List ℕ) (o : List Float)
       → Settles (λ (r : ℕ). r ≡ tickSizesOf nf nw ns (length f) (length w) (length o))
   pub tally-of : (counts : List ℕ) → Settles (λ (r : Tallied). r ≡ tallyFrom counts)
+  pub block-tally : (nf nw : ℕ) (f : List Float) (w counts : List ℕ) → Settles (λ (r : Tallied). r ≡ tallySized nf nw f w counts)
   -- what it says, and the slice that it leaves
   pub put-counts : (t : Tally) (counts : List ℕ)
       → Settles (λ (a : Outcome × List ℕ). (a .0 ≡ countsOutcome counts) × (a .1 ≡ countsPut t counts))

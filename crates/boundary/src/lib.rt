@@ -7,7 +7,7 @@ use common::EdgeDetector;
 ghost use mathlib.Core.Path.{_≡_};
 ghost use lib.ListN.{length};
 ghost use lib.Seq.{sets};
-ghost use Rattle.boundary.specs.Flat.{sizesOf, tickSizesOf, tallyFrom, countsOutcome, countsPut};
+ghost use Rattle.boundary.specs.Flat.{sizesOf, tickSizesOf, tallyFrom, tallySized, countsOutcome, countsPut};
 ghost use Rattle.boundary.specs.Edge.{edgeAt, edgeFloats};
 
 // What a host lends for a state of nf floats and nw whole numbers: 0, or 50, 51 where floats, wholes have another length.
@@ -61,7 +61,19 @@ pub fn tally_of(counts: &[u32]) -> Tallied
     }
 }
 
-// Its counts into a slice for them; another is refused by 53, and left.
+// The tally that a block of a state of nf floats and nw whole numbers begins with: 50, 51 of other lengths, and after them 53.
+pub fn block_tally(nf: usize, nw: usize, floats: &[f64], wholes: &[u64], counts: &[u32]) -> Tallied
+    ensures { λ r. ⌜ r ≡ tallySized nf nw (now (floats .entry)) (now (wholes .entry)) (now (counts .entry)) ⌝ }
+{
+    let refused = sizes(nf, nw, floats, wholes);
+    if refused == 0 {
+        tally_of(counts)
+    } else {
+        Tallied::Refused(refused)
+    }
+}
+
+// A tally's counts into a slice for them; another is refused by 53, and left.
 pub fn put_counts(tally: Tally, counts: &mut [u32]) -> Outcome
     ensures { λ r. ⌜ (r ≡ countsOutcome (now (counts .entry))) × (now (counts .exit) ≡ countsPut tally (now (counts .entry))) ⌝ }
 {

@@ -9,8 +9,8 @@ use Rattle.answer.specs.Block.{Block}
 use Rattle.answer.specs.declared.Tally.{Tally}
 use Rattle.answer.specs.declared.Tallied.{Tallied}
 use Rattle.answer.specs.declared.Tallied.the-variants as tallied
-use Rattle.boundary.proofs.Flat.{kept-done, kept-refused, heard-done, heard-refused, played-done, played-uncounted, played-refused}
-use Rattle.boundary.specs.Flat.{sizesOf, tickSizesOf, Kept, kept, Heard, heard, heardOf, Played, played, playedOf, tallyFrom}
+use Rattle.boundary.proofs.Flat.{kept-done, kept-refused, heard-done, heard-refused, played-done, played-refused}
+use Rattle.boundary.specs.Flat.{sizesOf, tickSizesOf, Kept, kept, Heard, heard, heardOf, Played, played, playedOf, tallySized}
 use Rattle.common.specs.declared.Hertz.{Hertz}
 use Rattle.karplus_strong.proofs.Promised.{keeps-rate}
 use Rattle.karplus_strong.specs.Step.{Ticking}
@@ -41,28 +41,25 @@ module _ (f : List Float) (w : List ℕ) (l : List Float) (n : ℕ) (e : n ≡ s
   unfolding leftSized
   left-refused z m = (λ i. left (kept-refused nFloats nWholes f w n e z (keptOf (m .out) f w) i) (line-refused n _ e (m .line) l z i))
 
-  -- ---- a block: x is the tally that its counts are
-  module _ (b : Tally → Block Strung) (k : List ℕ) (o : List Float) (m : List ℕ) where
-    abbrev ps : Tally → Played
-    ps t = playedOf strungFloats strungWholes (b t) f w k
+-- ---- a block: x is the tally of its counts, or what refuses
+module _ (b : Tally → Block Strung) (f : List Float) (w : List ℕ) (l : List Float) (k : List ℕ) (o : List Float) (m : List ℕ) (x : Tallied)
+    (e : x ≡ tallySized nFloats nWholes f w k) where
+  abbrev ps : Tally → Played
+  ps t = playedOf strungFloats strungWholes (b t) f w k
 
-    pub rung-done : n ≡ 0 → (x : Tallied) (t : Tally) (d : Block Strung) (p : Played) → x ≡ tallyFrom k → x ≡ tallied.Taken t → d ≡ b t
-        → p ≡ playedOf strungFloats strungWholes d f w k → rung p (d .state .line) ≡ rungSized b f w l k o m
-    unfolding rungSized lineFrom
-    rung-done z x t d p ex et ed ep =
-        let q : p ≡ ps t = rw (← ed) ep in
-        let y : d .state .line ≡ lineFrom (tallyFrom k) b l = rw (← ex, et, ed) refl in
-        (λ i. rung (played-done nFloats nWholes f w n e ps k o m z x t p ex et q i) (line-done n _ e _ l z _ y i))
+  pub rung-done : (t : Tally) (d : Block Strung) (p : Played) → x ≡ tallied.Taken t → d ≡ b t → p ≡ playedOf strungFloats strungWholes d f w k
+      → rung p (d .state .line) ≡ rungSized b f w l k o m
+  unfolding rungSized lineFrom
+  rung-done t d p et ed ep =
+      let q : p ≡ ps t = rw (← ed) ep in
+      let y : d .state .line ≡ lineFrom (tallySized nFloats nWholes f w k) b l = rw (← e, et, ed) refl in
+      (λ i. rung (played-done nFloats nWholes ps f w k o m x e t p et q i) (y i))
 
-    pub rung-uncounted : n ≡ 0 → (x : Tallied) (j : ℕ) → x ≡ tallyFrom k → x ≡ tallied.Refused j → rung (played j f w k o m) l ≡ rungSized b f w l k o m
-    unfolding rungSized lineFrom
-    rung-uncounted z x j ex ej =
-        let y : l ≡ lineFrom (tallyFrom k) b l = rw (← ex, ej) refl in
-        (λ i. rung (played-uncounted nFloats nWholes f w n e ps k o m z x j ex ej i) (line-done n _ e _ l z _ y i))
-
-    pub rung-refused : (n ≡ 0 → ⊥) → rung (played n f w k o m) l ≡ rungSized b f w l k o m
-    unfolding rungSized
-    rung-refused z = (λ i. rung (played-refused nFloats nWholes f w n e ps k o m z i) (line-refused n _ e (lineFrom (tallyFrom k) b l) l z i))
+  pub rung-refused : (j : ℕ) → x ≡ tallied.Refused j → rung (played j f w k o m) l ≡ rungSized b f w l k o m
+  unfolding rungSized lineFrom
+  rung-refused j ej =
+      let y : l ≡ lineFrom (tallySized nFloats nWholes f w k) b l = rw (← e, ej) refl in
+      (λ i. rung (played-refused nFloats nWholes ps f w k o m x e j ej i) (y i))
 
 -- ---- a tick
 -- its state's rate still stands in floats

@@ -10,7 +10,7 @@ use Rattle.answer.specs.Block.{Block}
 use Rattle.answer.specs.declared.Tally.{Tally}
 use Rattle.answer.specs.declared.Tallied.{Tallied}
 use Rattle.answer.specs.declared.Tallied.the-variants as tallied
-use Rattle.boundary.specs.Flat.{sizesOf, tickSizesOf, Kept, keptBy, keptSized, Heard, heardOf, heardSized, Played, playedOf, tallyFrom, playedSized}
+use Rattle.boundary.specs.Flat.{sizesOf, tickSizesOf, Kept, keptBy, keptSized, Heard, heardOf, heardSized, Played, playedOf, tallySized, playedSized}
 use Rattle.karplus_strong.specs.Step.{Ticking}
 use Rattle.karplus_strong.specs.KarplusStrong.{Making, karplusStrongCellsOf, karplusStrongNewOf, karplusStrongTickOf, karplusStrongBlockOf}
 use Rattle.karplus_strong.specs.KarplusStrong.{karplusStrongResetOf, karplusStrongSetSampleRateOf, Strung, strung}
@@ -86,7 +86,7 @@ strungFloats x = floatsOf (x .string)
 abbrev pub strungWholes : Strung → List ℕ
 strungWholes x = wholesOf (x .string)
 
--- its line, of the tally that the counts are, unless their number refuses
+-- its line, of the tally that the counts are, unless lengths or counts refuse
 unfoldable pub lineFrom : Tallied → (Tally → Block Strung) → List Float → List Float
 lineFrom (tallied.Taken t) b l = b t .state .line
 lineFrom (tallied.Refused n) b l = l
@@ -94,7 +94,7 @@ lineFrom (tallied.Refused n) b l = l
 unfoldable pub rungSized : (Tally → Block Strung) → List Float → List ℕ → List Float → List ℕ → List Float → List ℕ → Rung
 rungSized b f w l k o m =
     rung (playedSized nFloats nWholes (λ t. playedOf strungFloats strungWholes (b t) f w k) f w k o m)
-    (lineSized (sizesOf nFloats nWholes (length f) (length w)) (lineFrom (tallyFrom k) b l) l)
+    (lineFrom (tallySized nFloats nWholes f w k) b l)
 
 unfoldable pub karplusStrongBlockAt : Float → Float → Float → Float → Float → List Float → List ℕ → List Float → List ℕ → List ℕ → List Float → List ℕ → Rung
 karplusStrongBlockAt voct trigger damping brightness stretch f w l draws k o m =

@@ -236,25 +236,23 @@ pub extern "C" fn gruttisol_karplus_strong_block(
         ≡ karplusStrongBlockAt voct trigger damping brightness stretch (now (floats .entry)) (now (wholes .entry)) (now (line .entry)) (now (draws .entry))
         (now (counts .entry)) (now (samples .entry)) (now (marks .entry)) ⌝ }
 {
-    let n = boundary::sizes(FLOATS, WHOLES, floats, wholes);
-    if n == 0 {
-        let given = boundary::tally_of(counts);
-        match given {
-            Tallied::Taken(tally) => {
-                let c = KarplusStrongControls {
-                    voct: VoltsPerOctave(voct),
-                    trigger,
-                    damping,
-                    brightness,
-                    stretch,
-                };
-                let b = state(floats, wholes).block(c, draws, tally, line, samples, marks);
-                put_block(b, floats, wholes, counts)
-            }
-            Tallied::Refused(refused) => refused,
+    match boundary::block_tally(FLOATS, WHOLES, floats, wholes, counts) {
+        Tallied::Taken(tally) => {
+            let c = KarplusStrongControls {
+                voct: VoltsPerOctave(voct),
+                trigger,
+                damping,
+                brightness,
+                stretch,
+            };
+            put_block(
+                state(floats, wholes).block(c, draws, tally, line, samples, marks),
+                floats,
+                wholes,
+                counts,
+            )
         }
-    } else {
-        n
+        Tallied::Refused(refused) => refused,
     }
 }
 

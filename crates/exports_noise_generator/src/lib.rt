@@ -270,19 +270,17 @@ pub extern "C" fn gruttisol_noise_generator_block(
         ≡ noiseGeneratorBlockAt given correlation wanted (now (floats .entry)) (now (wholes .entry))
         (now (draws .entry)) (now (counts .entry)) (now (samples .entry)) (now (marks .entry)) ⌝ }
 {
-    let n = boundary::sizes(FLOATS, WHOLES, floats, wholes);
-    if n == 0 {
-        let taken = boundary::tally_of(counts);
-        match taken {
-            Tallied::Taken(tally) => {
-                let c = controls(given, correlation);
-                let b = state(floats, wholes).block(c, wanted, draws, tally, samples, marks);
-                put_block(b, floats, wholes, counts)
-            }
-            Tallied::Refused(refused) => refused,
+    match boundary::block_tally(FLOATS, WHOLES, floats, wholes, counts) {
+        Tallied::Taken(tally) => {
+            let c = controls(given, correlation);
+            put_block(
+                state(floats, wholes).block(c, wanted, draws, tally, samples, marks),
+                floats,
+                wholes,
+                counts,
+            )
         }
-    } else {
-        n
+        Tallied::Refused(refused) => refused,
     }
 }
 

@@ -198,25 +198,23 @@ pub extern "C" fn gruttisol_vco_block(
         ≡ vcoBlockAt (controlsOf voct fm pw sync «fm_lin») wanted (now (floats .entry)) (now (wholes .entry)) (now (counts .entry))
         (now (samples .entry)) (now (marks .entry)) ⌝ }
 {
-    let n = boundary::sizes(FLOATS, WHOLES, floats, wholes);
-    if n == 0 {
-        let given = boundary::tally_of(counts);
-        match given {
-            Tallied::Taken(tally) => {
-                let c = VcoControls {
-                    voct: VoltsPerOctave(voct),
-                    fm: VoltsPerOctave(fm),
-                    pw,
-                    sync,
-                    fm_lin,
-                };
-                let b = state(floats, wholes).block(c, wanted, tally, samples, marks);
-                put_block(b, floats, wholes, counts)
-            }
-            Tallied::Refused(refused) => refused,
+    match boundary::block_tally(FLOATS, WHOLES, floats, wholes, counts) {
+        Tallied::Taken(tally) => {
+            let c = VcoControls {
+                voct: VoltsPerOctave(voct),
+                fm: VoltsPerOctave(fm),
+                pw,
+                sync,
+                fm_lin,
+            };
+            put_block(
+                state(floats, wholes).block(c, wanted, tally, samples, marks),
+                floats,
+                wholes,
+                counts,
+            )
         }
-    } else {
-        n
+        Tallied::Refused(refused) => refused,
     }
 }
 

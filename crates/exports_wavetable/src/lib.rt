@@ -194,24 +194,22 @@ pub extern "C" fn gruttisol_wavetable_block(
         ≡ wavetableBlockAt «v_oct» table morph sync (now (bank .entry)) (now (floats .entry)) (now (wholes .entry)) (now (counts .entry))
         (now (samples .entry)) (now (marks .entry)) ⌝ }
 {
-    let n = boundary::sizes(FLOATS, WHOLES, floats, wholes);
-    if n == 0 {
-        let given = boundary::tally_of(counts);
-        match given {
-            Tallied::Taken(tally) => {
-                let c = WavetableControls {
-                    v_oct: VoltsPerOctave(v_oct),
-                    table,
-                    morph,
-                    sync,
-                };
-                let b = state(floats, wholes).block(c, tally, bank, samples, marks);
-                put_block(b, floats, wholes, counts)
-            }
-            Tallied::Refused(refused) => refused,
+    match boundary::block_tally(FLOATS, WHOLES, floats, wholes, counts) {
+        Tallied::Taken(tally) => {
+            let c = WavetableControls {
+                v_oct: VoltsPerOctave(v_oct),
+                table,
+                morph,
+                sync,
+            };
+            put_block(
+                state(floats, wholes).block(c, tally, bank, samples, marks),
+                floats,
+                wholes,
+                counts,
+            )
         }
-    } else {
-        n
+        Tallied::Refused(refused) => refused,
     }
 }
 
