@@ -2,7 +2,7 @@
 use mathlib.Core.Bool.{Bool, true, false, cond}
 use mathlib.Core.Logic.{⊎-elim}
 use mathlib.Core.Path.{_≡_, subst}
-use Prim.Native.Nat.{ℕ, zero, suc, _+_, _/_, _^_, _<_, _≤_, max}
+use Prim.Native.Nat.{ℕ, zero, suc, _+_, _/_, _^_, _<_, _≤_}
 use native.Mathlib.Nat.{le-trans, mul-le-mul-left, le-refl, eq-or-lt-of-le, le-of-suc-le-suc}
 use native.Mathlib.Omega.{arith}
 use lib.Ieee.Nearest.{div-mono}
@@ -20,12 +20,6 @@ base-most (suc (suc (suc (suc (suc zero))))) = omega arith
 base-most (suc (suc (suc (suc (suc (suc zero)))))) = omega arith
 base-most (suc (suc (suc (suc (suc (suc (suc zero))))))) = omega arith
 base-most (suc (suc (suc (suc (suc (suc (suc (suc t)))))))) = omega arith
-
-pub one-or : (n : ℕ) → n < 1 → 1 ≡ max n 1
-one-or n h = omega arith
-
-pub more-or : (n : ℕ) → 1 ≤ n → n ≡ max n 1
-more-or n h = omega arith
 
 half-less : (n l : ℕ) → n / 2 ^ (suc l) ≤ n / 2 ^ l
 half-less n l = div-mono n (2 ^ suc l) n (2 ^ l) (pow-pos (suc l)) (pow-pos l) (mul-le-mul-left n (let p = pow-pos l in omega arith))

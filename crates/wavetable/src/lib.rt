@@ -82,8 +82,19 @@ const BANK_SIZE: usize = NUM_TABLES * PART_SIZE;
 // Outputs.
 const PORTS: usize = 1;
 
-// The largest harmonic in the first level of each table.
-const BASE_HARMONICS: [usize; 8] = [1, 31, 64, 63, 64, 64, 10, 10];
+// The largest harmonic in each level of each table: the designers' sheet, docs/HARMONICS.md. A row is a table, named as in the Rust's WavetableType, and a
+// column is a level. The numbers are short, since a call that reads one first writes the whole table to its stack.
+const MAX_HARMONICS: [[u16; 8]; 8] = [
+    // level 0, 1, 2, 3, 4, 5, 6, 7
+    [1, 1, 1, 1, 1, 1, 1, 1], // Sine
+    [31, 15, 7, 3, 1, 1, 1, 1], // Triangle
+    [64, 32, 16, 8, 4, 2, 1, 1], // Saw
+    [63, 31, 15, 7, 3, 1, 1, 1], // Square
+    [64, 32, 16, 8, 4, 2, 1, 1], // Pulse25
+    [64, 32, 16, 8, 4, 2, 1, 1], // Pulse12
+    [10, 5, 2, 1, 1, 1, 1, 1], // FormantA
+    [10, 5, 2, 1, 1, 1, 1, 1], // FormantO
+];
 
 // Rust's `as f64`.
 fn real(n: usize) -> f64
@@ -92,13 +103,12 @@ fn real(n: usize) -> f64
     numeric::of_u64(n as u64)
 }
 
-// The largest harmonic in a level of a table: halved from level to level, at least 1.
+// The largest harmonic in a level of a table. The Rust halves the first level's from level to level, to at least 1.
 fn max_harmonic(table: usize, level: usize) -> usize
     requires { ⌜ (table < numTables) × (level < numMips) ⌝ }
     ensures { λ r. ⌜ r ≡ maxHarmonic table level ⌝ }
 {
-    let n = BASE_HARMONICS[table] >> level;
-    if n < 1 { 1 } else { n }
+    MAX_HARMONICS[table][level] as usize
 }
 
 // The highest harmonic that stays below half the sample rate. The Rust works it out for each table.
