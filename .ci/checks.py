@@ -5,6 +5,7 @@ Each check is one test. It is given the files as {path: text} and says what is w
 that it must refuse, so a check that has gone blind fails. The last line printed is 'N passed, M failed'.
 """
 import hashlib
+import itertools
 import os
 import pathlib
 import re
@@ -318,6 +319,30 @@ def counted(files):
         yield f"{counts.PAGE}: its counts are others than today's, which `python3 .ci/counts.py --write` puts there"
 
 
+# ---- the designers' sheet
+
+TABLE = "crates/wavetable/src/lib.rt"
+SHEET = "docs/HARMONICS.md"
+
+
+def rows(text, part, row, between):
+    """The rows in a part of a text, each as its name and its numbers."""
+    found = re.search(part, text, re.M | re.S)
+    return [[m["name"], *m["numbers"].split(between)] for m in re.finditer(row, found[1] if found else "", re.M)]
+
+
+def sheet_is_table(files):
+    """The designers' sheet is the table that max_harmonic reads: the same eight waves by name, and of each the same number in each level."""
+    table = rows(files[TABLE], r"^const MAX_HARMONICS: .* = \[\n(.*?)^\];", r"^    \[(?P<numbers>.*)\], // (?P<name>\w+)$", ", ")
+    sheet = rows(files[SHEET], r"^## The sheet\n(.*?)^## ", r"^\| (?P<name>\w+) \| (?P<numbers>.*) \|$", " | ")
+    if len(table) != 8:
+        yield f"{TABLE}: MAX_HARMONICS has {len(table)} rows with a name"
+    for of_table, of_sheet in itertools.zip_longest([["wave", *"01234567"], *table], sheet, fillvalue=["nothing"]):
+        if of_table != of_sheet:
+            yield f"{TABLE}: {' '.join(of_table)}"
+            yield f"{SHEET}: {' '.join(of_sheet)}"
+
+
 # every edit of these is tried from nothing; of any other crate one is
 LIGHT = {"laws", "values", "examples"}
 # no edit of these changes definition and code together
@@ -547,6 +572,19 @@ CHECKS = {
         {"docs/SCOPE.md": "nothing\n"},
     ],
     counted: [{"docs/PROOFS.md": "nothing\n"}],
+    sheet_is_table: [
+        changed(SHEET, "| Square | 63 | 31 |", "| Square | 63 | 32 |"),
+        changed(SHEET, "| Saw |", "| Sow |"),
+        changed(SHEET, "| Pulse25 | 64 | 32 | 16 | 8 | 4 | 2 | 1 | 1 |\n", ""),
+        changed(SHEET, "| 7 |\n", "| 8 |\n"),
+        changed(SHEET, "| 5 | 2 | 1 | 1 | 1 | 1 | 1 |\n", "| 5 | 2 | 1 | 1 | 1 | 1 |\n"),
+        changed(SHEET, "## The sheet", "## A sheet"),
+        changed(TABLE, "[63, 31,", "[63, 32,"),
+        changed(TABLE, "// Saw", "// Sow"),
+        changed(TABLE, "    [64, 32, 16, 8, 4, 2, 1, 1], // Pulse25\n", ""),
+        changed(TABLE, "const MAX_HARMONICS", "const HARMONICS"),
+        {TABLE: "", SHEET: "## The sheet\n| wave | 0 | 1 | 2 | 3 | 4 | 5 | 6 | 7 |\n## \n"},
+    ],
     tests_counted: [
         {".ci/harness": HARNESS.replace("failed b", "ok b")},
         {".ci/harness": HARNESS.replace("exit 101", "exit 0")},

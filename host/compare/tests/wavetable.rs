@@ -1,4 +1,4 @@
-//! The Wavetable and its bank against the Rust's, to the last bit.
+//! The Wavetable and its bank against the Rust's, to the last bit; and the designers' sheet against the Rust's own numbers.
 
 #[test]
 #[cfg_attr(not(quiver), ignore = "skipped: QUIVER_SRC not found")]
@@ -28,5 +28,23 @@ fn the_bank() {
             assert!(same(&part, theirs), "table {table} differs");
         }
         println!("{} cells of the bank; no difference", theirs.len());
+    }
+}
+
+/// docs/HARMONICS.md has the Rust's tables by their names and in their order, and of each level the number that the Rust works out.
+#[test]
+#[cfg_attr(not(quiver), ignore = "skipped: QUIVER_SRC not found")]
+fn the_sheet() {
+    #[cfg(quiver)]
+    {
+        use quiver::modules::oscillators as rust;
+
+        let row = |table: usize| {
+            let numbers: Vec<String> = (0..8).map(|level| rust::Wavetable::largest(table, level).to_string()).collect();
+            format!("| {:?} | {} |\n", rust::WavetableType::from_index(table), numbers.join(" | "))
+        };
+        let sheet: String = (0..8).map(row).collect();
+        let page = include_str!("../../../docs/HARMONICS.md");
+        assert_eq!(page.matches(&sheet).count(), 1, "the Rust's sheet:\n{sheet}");
     }
 }

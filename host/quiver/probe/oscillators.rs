@@ -141,6 +141,11 @@ impl Wavetable {
     pub fn fill(bank: &mut Bank) {
         Self::generate_tables(bank);
     }
+
+    /// The largest harmonic in a level of a table.
+    pub fn largest(table: usize, level: usize) -> usize {
+        Self::max_harmonic(table, level)
+    }
 }
 
 impl Probe<4, 1, 29, 6> for FormantOsc {
