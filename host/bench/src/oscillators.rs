@@ -85,20 +85,23 @@ fn supersaw() {
 }
 
 fn wavetable() {
-    let mut state = wavetable::Wavetable::new(RATE).unwrap();
     let bank: Vec<f64> = (0..wavetable::Wavetable::BANK).map(|cell| (cell as f64).sin()).collect();
-    let ours = |&[v_oct, table, morph, sync]: &[f64; 4]| {
-        state.tick(&wavetable::Controls { v_oct, table, morph, sync }, &bank).unwrap().volts
-    };
-    let held = [0.25, 0.4, 0.3, 0.0];
-    row("wavetable", held, [true, true, true, false], ours, theirs::wavetable());
-    let [v_oct, table, morph, sync] = held;
-    let controls = wavetable::Controls { v_oct, table, morph, sync };
-    let mut state = wavetable::Wavetable::new(RATE).unwrap();
-    let ours = |tally: &mut Tally, samples: &mut [f64], marks: &mut [u32]| {
-        state.block(black_box(&controls), &bank, tally, samples, marks).unwrap()
-    };
-    blocks("wavetable", 1, held, ours, theirs::wavetable(), theirs::blocks::wavetable());
+    // the higher pitch asks four levels of each table, the lower one the first alone
+    for (name, v_oct) in [("wavetable", 0.25), ("wavetable, high", 3.25)] {
+        let mut state = wavetable::Wavetable::new(RATE).unwrap();
+        let ours = |&[v_oct, table, morph, sync]: &[f64; 4]| {
+            state.tick(&wavetable::Controls { v_oct, table, morph, sync }, &bank).unwrap().volts
+        };
+        let held = [v_oct, 0.4, 0.3, 0.0];
+        row(name, held, [true, true, true, false], ours, theirs::wavetable());
+        let [v_oct, table, morph, sync] = held;
+        let controls = wavetable::Controls { v_oct, table, morph, sync };
+        let mut state = wavetable::Wavetable::new(RATE).unwrap();
+        let ours = |tally: &mut Tally, samples: &mut [f64], marks: &mut [u32]| {
+            state.block(black_box(&controls), &bank, tally, samples, marks).unwrap()
+        };
+        blocks(name, 1, held, ours, theirs::wavetable(), theirs::blocks::wavetable());
+    }
 
     let mut bank = vec![0.0; wavetable::Wavetable::BANK];
     let (mut ours_best, mut theirs_best) = (f64::INFINITY, f64::INFINITY);
