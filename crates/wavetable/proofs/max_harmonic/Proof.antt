@@ -13,15 +13,18 @@ use Rattle.wavetable.proofs.max_harmonic.Statement.{statement}
 use Rattle.wavetable.proofs.max_harmonic.Tie as tie
 
 -- the rule's 64 numbers: a row for each table, in it a number for each level
+abbrev ruled : ℕ → List ℕ
+ruled table = tab (maxHarmonic table) numMips
+
 abbrev byRule : List (List ℕ)
-byRule = tab (λ (table : ℕ). tab (maxHarmonic table) numMips) numTables
+byRule = tab ruled numTables
 
 -- a table that has them has the rule's number at each entry
 entry : (rows : List (List ℕ)) → rows ≡ byRule → (table level : ℕ) → (table < numTables) × (level < numMips)
     → getD (getD rows table []) level 0 ≡ maxHarmonic table level
 entry rows same table level (t, l) =
-    ap (λ (r : List (List ℕ)). getD (getD r table []) level 0) same
-    ∙ ap (λ (row : List ℕ). getD row level 0) (getD-tab [] (λ (t : ℕ). tab (maxHarmonic t) numMips) numTables table t)
+    ap (λ (all : List (List ℕ)). getD (getD all table []) level 0) same
+    ∙ ap (λ (row : List ℕ). getD row level 0) (getD-tab [] ruled numTables table t)
     ∙ getD-tab 0 (maxHarmonic table) numMips level l
 
 -- the test is `refl`: the prover computes the 64 numbers of byRule, and they must be those of MAX_HARMONICS
@@ -30,11 +33,11 @@ unfolding tab maxHarmonic
 returns c = entry _ refl _ _ (c .before .pre)
 
 -- a number of the rule is a usize
-fits : (n table level : ℕ) → n ≡ maxHarmonic table level → n < 2 ^ 64
-fits n table level e = let h = harmonics-most table level in omega arith
+is-usize : (n table level : ℕ) → n ≡ maxHarmonic table level → n < 2 ^ 64
+is-usize n table level e = let h = harmonics-most table level in omega arith
 
 cast-result : tie.Need-cast-result
-cast-result c = record { fits = fits _ _ _ (returns c) }
+cast-result c = record { fits = is-usize _ _ _ (returns c) }
 
 pub max-harmonic-spec : {M : Type 1} → statement M
 max-harmonic-spec = tie.close (tie.spec (λ c. search needs) (λ c. search needs) (λ c. search needs) (λ c. search needs) cast-result returns)
