@@ -1,7 +1,7 @@
 -- Laws of blocks: room in a tally, marks counted one by one, samples joined frame by frame.
 use mathlib.Core.Bool.{Bool, true, false, cond, _&&_, false≢true}
 use mathlib.Core.List.{List, [], _∷_, _++_}
-use mathlib.Core.Path.{_≡_, refl, sym, ap, _∙_}
+use mathlib.Core.Path.{_≡_, refl, sym, ap, _∙_, subst}
 use Prim.Native.Nat.{ℕ, zero, suc, _+_, _-_, _*_, _/_, _%_, _≤_, _<_}
 use native.Mathlib.Nat.{zero-add, add-zero, mul-zero, div-add-mod', mul-comm, eq-of-mul-eq-mul-right, mul-mod-left, mul-le-mul-left}
 use native.Mathlib.Numerals.{add-one}
@@ -15,7 +15,7 @@ use Rattle.laws.proofs.Tests.{eqb-iff}
 use Rattle.laws.specs.Lists.{tab, over}
 use Rattle.laws.proofs.Slices.{stored, sets-append, sets-part}
 use Rattle.laws.proofs.Over.{getD-tab, length-tab, tab-ext, over-more, over-done}
-use Rattle.answer.specs.Answer.{markNumber, hostNumber, voltsOf, accepted, cleared, notfinite, lost, clean, told}
+use Rattle.answer.specs.Answer.{markNumber, hostNumber, voltsOf, accepted, cleared, notfinite, lost, steered, clean, told}
 use Rattle.answer.specs.Block.{manyTo, countedTo, cellsOf, roomFor, marksTaken, joined, afterTicks, answerAt, markAt, frameAt, portsOf, framed, block}
 use Rattle.answer.specs.Block.{blockRefusalOf, ticksOf, blockOf, grownBy}
 use Rattle.answer.specs.Tally.{addsUp, oneIf, sumOf, counted, tallyOf, tallyOr}
@@ -45,30 +45,43 @@ room-says t n h = go (eqb (t .begun) (sumOf t)) (leb (t .begun + n) 4294967295) 
     go false b e q z = absurd (false≢true z)
 
 -- ---- how many
-one-of : (n : ℕ) → oneIf n (told clean) + oneIf n (told cleared) + oneIf n (told notfinite) + oneIf n (told lost) ≤ 1
-unfolding oneIf
-one-of n = go (eqb n (told clean)) (eqb n (told cleared)) (eqb n (told notfinite)) (eqb n (told lost)) (eqb-true n (told clean)) (eqb-true n (told cleared))
-    (eqb-true n (told notfinite)) (eqb-true n (told lost))
-  where
-    go : (a b c d : Bool) → (a ≡ true → n ≡ (told clean)) → (b ≡ true → n ≡ (told cleared)) → (c ≡ true → n ≡ (told notfinite)) → (d ≡ true → n ≡ (told lost))
-        → cond a 1 0 + cond b 1 0 + cond c 1 0 + cond d 1 0 ≤ 1
-    go true true c d p q r s = let x = p refl in let y = q refl in absurd (omega arith)
-    go true false true d p q r s = let x = p refl in let y = r refl in absurd (omega arith)
-    go true false false true p q r s = let x = p refl in let y = s refl in absurd (omega arith)
-    go true false false false p q r s = lit≤ tt
-    go false true true d p q r s = let x = q refl in let y = r refl in absurd (omega arith)
-    go false true false true p q r s = let x = q refl in let y = s refl in absurd (omega arith)
-    go false true false false p q r s = lit≤ tt
-    go false false true true p q r s = let x = r refl in let y = s refl in absurd (omega arith)
-    go false false true false p q r s = lit≤ tt
-    go false false false true p q r s = lit≤ tt
-    go false false false false p q r s = lit≤ tt
+-- a number is one mark's at most
+abbrev marks-of : ℕ → ℕ
+marks-of n = oneIf n (told clean) + oneIf n (told cleared) + oneIf n (told notfinite) + oneIf n (told lost) + oneIf n (told steered)
 
--- the four counts of n marks together
-pub many-most : (f : ℕ → ℕ) (n : ℕ) → manyTo (told clean) f n + manyTo (told cleared) f n + manyTo (told notfinite) f n + manyTo (told lost) f n ≤ n
+one-of : (n : ℕ) → marks-of n ≤ 1
+unfolding oneIf
+one-of n = go (eqb n (told clean)) (eqb n (told cleared)) (eqb n (told notfinite)) (eqb n (told lost)) (eqb n (told steered)) refl refl refl refl refl
+  where
+    is : (k : ℕ) → marks-of k ≤ 1 → eqb n k ≡ true → marks-of n ≤ 1
+    is k h e = subst (λ (m : ℕ). marks-of m ≤ 1) (sym (eqb-true n k e)) h
+
+    go : (a b c d e : Bool) → eqb n (told clean) ≡ a → eqb n (told cleared) ≡ b → eqb n (told notfinite) ≡ c → eqb n (told lost) ≡ d
+        → eqb n (told steered) ≡ e → marks-of n ≤ 1
+    go true b c d e p q r s t = is (told clean) (lit≤ tt) p
+    go false true c d e p q r s t = is (told cleared) (lit≤ tt) q
+    go false false true d e p q r s t = is (told notfinite) (lit≤ tt) r
+    go false false false true e p q r s t = is (told lost) (lit≤ tt) s
+    go false false false false true p q r s t = is (told steered) (lit≤ tt) t
+    go false false false false false p q r s t = rw (p, q, r, s, t) (lit≤ tt)
+
+-- the five counts of n marks together
+pub many-most : (f : ℕ → ℕ) (n : ℕ)
+    → manyTo (told clean) f n + manyTo (told cleared) f n + manyTo (told notfinite) f n + manyTo (told lost) f n + manyTo (told steered) f n ≤ n
 unfolding manyTo
 many-most f zero = lit≤ tt
 many-most f (suc n) = let a = many-most f n in let b = one-of (f n) in omega arith
+
+-- where all n are clean, the other counts are 0
+pub all-clean : (t : Tally) (f : ℕ → ℕ) (n : ℕ) → manyTo (told clean) f n ≡ n → grownBy t (manyTo (told clean) f n) 0 0 0 0 ≡ countedTo t f n
+unfolding countedTo
+all-clean t f n h =
+    let most = many-most f n in
+    let b : 0 ≡ manyTo (told cleared) f n = omega arith in
+    let c : 0 ≡ manyTo (told notfinite) f n = omega arith in
+    let d : 0 ≡ manyTo (told lost) f n = omega arith in
+    let e : 0 ≡ manyTo (told steered) f n = omega arith in
+    λ i. grownBy t (manyTo (told clean) f n) (b i) (c i) (d i) (e i)
 
 -- a tally with room for n answers has room for j of them after k others
 pub room-left : (t : Tally) (n : ℕ) → roomFor t n ≡ true → (f : ℕ → ℕ) (k j : ℕ) → k + j ≤ n → roomFor (countedTo t f k) j ≡ true
@@ -109,7 +122,7 @@ counted-tab t f n h = go (length-tab f n)
     go : length (tab f n) ≡ n
         → tallyOr t (cond (roomFor t (length (tab f n))) (tallied.Taken (countedTo t (cellsOf (tab f n)) (length (tab f n)))) (tallied.Refused 7))
         ≡ countedTo t f n
-    go e = simp (e, h, same (told cleared), same (told notfinite), same (told lost), same (told clean))
+    go e = simp (e, h, same (told cleared), same (told notfinite), same (told lost), same (told steered), same (told clean))
 
 -- ---- frames
 pub joined-length : {A : Type 0} (f : ℕ → List A) (k n : ℕ) → ((i : ℕ) → length (f i) ≡ k) → length (joined f n) ≡ k * n
@@ -403,6 +416,7 @@ module _ {S : Type 0} (next : S → S) (s r : S) (e : next s ≡ next r) where
             same-many (told cleared),
             same-many (told notfinite),
             same-many (told lost),
+            same-many (told steered),
             same-many (told clean),
             frames,
             marks,
@@ -418,12 +432,12 @@ counted-by t n =
       cleared = t .cleared + oneIf n (told cleared);
       notfinite = t .notfinite + oneIf n (told notfinite);
       lost = t .lost + oneIf n (told lost);
+      steered = t .steered + oneIf n (told steered);
     }
 
--- one of the four counts grows, and it is the one that the tick's mark has
+-- one of the five counts grows, and it is the one that the tick's mark has
 record Marks-one (a : Answer) : Type 0 where
-  pub one : oneIf (hostNumber a) (told clean) + oneIf (hostNumber a) (told cleared) + oneIf (hostNumber a) (told notfinite) + oneIf (hostNumber a) (told lost)
-      ≡ 1
+  pub one : marks-of (hostNumber a) ≡ 1
   pub marked : eqb (markNumber a) 0 ≡ false
   pub same : (t : Tally) → counted t (markNumber a) ≡ counted-by t (hostNumber a)
 
@@ -433,14 +447,19 @@ mark-one (answer.Clean v) h = record { one = refl; marked = refl; same = λ t. r
 mark-one (answer.Cleared v) h = record { one = refl; marked = refl; same = λ t. refl }
 mark-one (answer.NotFinite v) h = record { one = refl; marked = refl; same = λ t. refl }
 mark-one (answer.Lost v) h = record { one = refl; marked = refl; same = λ t. refl }
+mark-one (answer.Steered v) h = record { one = refl; marked = refl; same = λ t. refl }
 mark-one (answer.Refused n) h = absurd (false≢true h)
 
 module _ (t : Tally) (a : ℕ → Answer) (n : ℕ) (h : (i : ℕ) → i < n → accepted (a i) ≡ true) where
   abbrev marks : ℕ → ℕ
   marks j = hostNumber (a j)
 
-  many-all : (i : ℕ) → i ≤ n → manyTo (told clean) marks i + manyTo (told cleared) marks i + manyTo (told notfinite) marks i + manyTo (told lost) marks i ≡ i
-  unfolding manyTo
+  all-marks : ℕ → ℕ
+  all-marks i = manyTo (told clean) marks i + manyTo (told cleared) marks i + manyTo (told notfinite) marks i + manyTo (told lost) marks i
+      + manyTo (told steered) marks i
+
+  many-all : (i : ℕ) → i ≤ n → all-marks i ≡ i
+  unfolding all-marks manyTo
   many-all zero l = refl
   many-all (suc i) l = let p = many-all i (omega arith) in let q = mark-one (a i) (h i l) .one in omega arith
 
@@ -449,28 +468,28 @@ module _ (t : Tally) (a : ℕ → Answer) (n : ℕ) (h : (i : ℕ) → i < n →
   sums i e = omega arith
 
   begun-at : (i : ℕ) → i ≤ n → countedTo t marks i .begun ≡ t .begun + i
-  unfolding countedTo grownBy
+  unfolding all-marks countedTo grownBy
   begun-at i l = ap (λ (k : ℕ). t .begun + k) (many-all i l)
 
+  -- a count and one more of its marks
+  more-of : (m k i : ℕ) → m + manyTo k marks i + oneIf (marks i) k ≡ m + manyTo k marks (suc i)
+  unfolding manyTo
+  more-of m k i = omega arith
+
   one-more : (i : ℕ) → i < n → counted-by (countedTo t marks i) (marks i) ≡ countedTo t marks (suc i)
-  unfolding countedTo grownBy manyTo
+  unfolding countedTo grownBy
   one-more i k =
-      let q = mark-one (a i) (h i k) .one in
-      let b : t .begun + (manyTo (told clean) marks i + manyTo (told cleared) marks i + manyTo (told notfinite) marks i + manyTo (told lost) marks i) + 1
-      ≡ t .begun
-      + (manyTo (told clean) marks i + oneIf (marks i)
-      (told clean) + (manyTo (told cleared) marks i + oneIf (marks i) (told cleared)) + (manyTo (told notfinite) marks i + oneIf (marks i)
-      (told notfinite)) + (manyTo (told lost) marks i + oneIf (marks i) (told lost))) =
-      omega arith in
-      let f : t .finished + manyTo (told clean) marks i + oneIf (marks i) (told clean)
-      ≡ t .finished + (manyTo (told clean) marks i + oneIf (marks i) (told clean)) = omega arith in
-      let c : t .cleared + manyTo (told cleared) marks i + oneIf (marks i) (told cleared)
-      ≡ t .cleared + (manyTo (told cleared) marks i + oneIf (marks i) (told cleared)) = omega arith in
-      let n : t .notfinite + manyTo (told notfinite) marks i + oneIf (marks i) (told notfinite)
-      ≡ t .notfinite + (manyTo (told notfinite) marks i + oneIf (marks i) (told notfinite)) = omega arith in
-      let l : t .lost + manyTo (told lost) marks i + oneIf (marks i) (told lost) ≡ t .lost + (manyTo (told lost) marks i + oneIf (marks i) (told lost)) =
-      omega arith in
-      (λ j. record { begun = b j; finished = f j; cleared = c j; notfinite = n j; lost = l j })
+      let before = begun-at i (omega arith) in
+      let after = begun-at (suc i) k in
+      let b : countedTo t marks i .begun + 1 ≡ countedTo t marks (suc i) .begun = omega arith in
+      λ j. record {
+        begun = b j;
+        finished = more-of (t .finished) (told clean) i j;
+        cleared = more-of (t .cleared) (told cleared) i j;
+        notfinite = more-of (t .notfinite) (told notfinite) i j;
+        lost = more-of (t .lost) (told lost) i j;
+        steered = more-of (t .steered) (told steered) i j;
+      }
 
   taken-at : (i : ℕ) → roomFor t n ≡ true → i < n → tallyOf (countedTo t marks i) (a i) ≡ tallied.Taken (countedTo t marks (suc i))
   unfolding tallyOf addsUp

@@ -1,4 +1,4 @@
--- A mark keeps its volts; and from new a tally counts what it took, which is all that it is given while there is room.
+-- A mark keeps its volts, and says of the controls whether one is NaN; and from new a tally counts what it took, which is all that it is given while there is room.
 use mathlib.Core.Bool.{Bool, _&&_, true, false, cond, not, true≢false}
 use mathlib.Core.List.{List, [], _∷_}
 use mathlib.Core.Path.{_≡_, refl, sym, ap, _∙_, subst}
@@ -8,11 +8,12 @@ use native.Mathlib.Numerals.{add-one}
 use native.Mathlib.Omega.{arith}
 use lib.Arith.{lt-of-le-ne}
 use lib.Dec.{eqb, lit≤}
+use lib.Ieee.{Float}
 use borrow.Author.Tests.{eqb-true, eq-eqb, eqb-false, ne-eqb}
 use Rattle.laws.specs.Machine.{begun}
-use Rattle.answer.specs.Answer.{markNumber, voltsOf, refusalOf, accepted, answerOf, cleared, notfinite, lost, clean}
-use Rattle.answer.specs.Mark.{allFinite, ruleOf, markedOf, markOf}
-use Rattle.answer.specs.Promises.{Mark-says, Counts, Tally-counts, Tally-takes-all, Takes, Refused-nowhere}
+use Rattle.answer.specs.Answer.{markNumber, voltsOf, refusalOf, accepted, answerOf, cleared, notfinite, lost, steered, clean}
+use Rattle.answer.specs.Mark.{allFinite, allNumbers, ruleOf, markedOf, markOf}
+use Rattle.answer.specs.Promises.{Mark-says, Marks-in-order, Clean-steered, Steers, Counts, Tally-counts, Tally-takes-all, Takes, Refused-nowhere}
 use Rattle.answer.specs.Tally.{sumOf, addsUp, oneIf, counted, talliedNumber, tallyOr, tallyOf, Run, settle, run, newRun, many, acceptedIn, tallyAfter}
 use Rattle.answer.specs.declared.Volts.{Volts}
 use Rattle.answer.specs.declared.Answer.{Answer}
@@ -36,24 +37,84 @@ pub at-most-one : (r n k : ℕ) → r ≡ oneIf n k → r ≤ 1
 at-most-one r n k e = subst (λ (z : ℕ). z ≤ 1) (sym e) (one-most n k)
 
 -- ---- marks
-rule-says : (v : Volts) (a b c : Bool)
-    → (accepted (markedOf v a b c) ≡ true) × (voltsOf (markedOf v a b c) ≡ v) × (markNumber (markedOf v a b c) ≡ ruleOf a b c)
+rule-says : (v : Volts) (a b c d : Bool)
+    → (accepted (markedOf v a b c d) ≡ true) × (voltsOf (markedOf v a b c d) ≡ v) × (markNumber (markedOf v a b c d) ≡ ruleOf a b c d)
 unfolding markedOf ruleOf answerOf accepted voltsOf markNumber
-rule-says v true b c = (refl, refl, refl)
-rule-says v false true true = (refl, refl, refl)
-rule-says v false true false = (refl, refl, refl)
-rule-says v false false c = (refl, refl, refl)
+rule-says v true b c d = (refl, refl, refl)
+rule-says v false true true true = (refl, refl, refl)
+rule-says v false true true false = (refl, refl, refl)
+rule-says v false true false d = (refl, refl, refl)
+rule-says v false false c d = (refl, refl, refl)
 
 pub mark-says : Mark-says
 unfolding markOf
-mark-says v zeroed sums phases =
-    let r = rule-says v zeroed (sums && allFinite v) phases in
+mark-says v zeroed sums phases numbers =
+    let r = rule-says v zeroed (sums && allFinite v) phases numbers in
     record { is-accepted = r .0; volts = r .1; number = r .2 }
 
+pub marks-in-order : Marks-in-order
+unfolding ruleOf
+marks-in-order v zeroed sums phases numbers =
+    let e = mark-says v zeroed sums phases numbers .number in
+    record {
+      cleared = λ z. e ∙ simp z;
+      notfinite = λ z f. e ∙ simp (z, f);
+      lost = λ z f p. e ∙ simp (z, f, p);
+      steered = λ z f p n. e ∙ simp (z, f, p, n);
+      clean = λ z f p n. e ∙ simp (z, f, p, n);
+    }
+
+pub clean-steered : Clean-steered
+unfolding ruleOf
+clean-steered v zeroed sums phases numbers h =
+    mark-says v zeroed sums phases false .number
+    ∙ go zeroed (sums && allFinite v) phases numbers (sym (mark-says v zeroed sums phases numbers .number) ∙ h)
+  where
+    go : (a b c d : Bool) → ruleOf a b c d ≡ clean → ruleOf a b c false ≡ steered
+    go true b c d e = absurd (omega arith)
+    go false true true d e = refl
+    go false true false d e = absurd (omega arith)
+    go false false c d e = absurd (omega arith)
+
 -- volts that are known to be finite needn't be tested
-pub mark-known : (v : Volts) (zeroed phases : Bool) → allFinite v ≡ true → markedOf v zeroed true phases ≡ markOf v zeroed true phases
+pub mark-known : (v : Volts) (zeroed phases numbers : Bool) → allFinite v ≡ true → markedOf v zeroed true phases numbers ≡ markOf v zeroed true phases numbers
 unfolding markOf
-mark-known v zeroed phases h = simp h
+mark-known v zeroed phases numbers h = simp h
+
+-- ---- controls
+-- the rule names clean where no control is NaN, and steered where one is
+rule-steers : (a b c d : Bool) → (ruleOf a b c d ≡ clean → d ≡ true) × (ruleOf a b c d ≡ steered → d ≡ false)
+unfolding ruleOf
+rule-steers true b c d = (λ e. absurd (omega arith), λ e. absurd (omega arith))
+rule-steers false true true true = (λ e. refl, λ e. absurd (omega arith))
+rule-steers false true true false = (λ e. absurd (omega arith), λ e. refl)
+rule-steers false true false d = (λ e. absurd (omega arith), λ e. absurd (omega arith))
+rule-steers false false c d = (λ e. absurd (omega arith), λ e. absurd (omega arith))
+
+steers : (controls : List Float) (a : Answer) → (markNumber a ≡ clean → allNumbers controls ≡ true)
+    → (markNumber a ≡ steered → allNumbers controls ≡ false) → Steers controls a
+steers controls a p q =
+    record { when-clean = p; when-steered = q; with-nan = λ h e. true≢false (sym (p e) ∙ h); without-nan = λ h e. true≢false (sym h ∙ q e) }
+
+-- so of a tick that is marked over its controls, and of one that is refused
+pub mark-steers : (v : Volts) (zeroed sums phases : Bool) (controls : List Float) → Steers controls (markOf v zeroed sums phases (allNumbers controls))
+mark-steers v zeroed sums phases controls =
+    let e = mark-says v zeroed sums phases (allNumbers controls) .number in
+    let r = rule-steers zeroed (sums && allFinite v) phases (allNumbers controls) in
+    steers controls _ (λ h. r .0 (sym e ∙ h)) (λ h. r .1 (sym e ∙ h))
+
+pub refused-steers : (n : ℕ) (controls : List Float) → Steers controls (answer.Refused n)
+unfolding markNumber
+refused-steers n controls = steers controls _ (λ h. absurd (omega arith)) (λ h. absurd (omega arith))
+
+-- of a tick that is x where n is 0, and else y, refused by n
+pub tick-steers : {T : Type 0} (told : T → Answer) (controls : List Float) (n : ℕ) (x y : T) → Steers controls (told x) → told y ≡ answer.Refused n
+    → Steers controls (told (cond (eqb n 0) x y))
+tick-steers told controls n x y h e = go (eqb n 0)
+  where
+    go : (b : Bool) → Steers controls (told (cond b x y))
+    go true = h
+    go false = subst (Steers controls) (sym e) (refused-steers n controls)
 
 -- a refused tick's mark has the number 0
 pub mark-accepted : (a : Answer) → not (eqb (markNumber a) 0) ≡ accepted a
@@ -62,6 +123,7 @@ mark-accepted (answer.Clean v) = refl
 mark-accepted (answer.Cleared v) = refl
 mark-accepted (answer.NotFinite v) = refl
 mark-accepted (answer.Lost v) = refl
+mark-accepted (answer.Steered v) = refl
 mark-accepted (answer.Refused n) = refl
 
 -- ---- refusals
@@ -71,6 +133,7 @@ accepted-unrefused (answer.Clean v) h = refl
 accepted-unrefused (answer.Cleared v) h = refl
 accepted-unrefused (answer.NotFinite v) h = refl
 accepted-unrefused (answer.Lost v) h = refl
+accepted-unrefused (answer.Steered v) h = refl
 accepted-unrefused (answer.Refused n) h = absurd (true≢false (sym h))
 
 -- a tick that is x where n is 0, and else y, refused by n: its refusal is n
@@ -84,14 +147,16 @@ refused-by {T} told n x y h e = go (eqb n 0) refl
     go false z = ap refusalOf e
 
 -- ---- the tally
--- the four marks of an accepted answer: one of the counts grows by one
+-- the five marks of an accepted answer: one of the counts grows by one
 mark-one : (a : Answer) → (markNumber a ≡ 0 → ⊥)
-    → oneIf (markNumber a) clean + oneIf (markNumber a) cleared + oneIf (markNumber a) notfinite + oneIf (markNumber a) lost ≡ 1
+    → oneIf (markNumber a) clean + oneIf (markNumber a) cleared + oneIf (markNumber a) notfinite + oneIf (markNumber a) lost + oneIf (markNumber a) steered
+    ≡ 1
 unfolding markNumber oneIf
 mark-one (answer.Clean v) h = refl
 mark-one (answer.Cleared v) h = refl
 mark-one (answer.NotFinite v) h = refl
 mark-one (answer.Lost v) h = refl
+mark-one (answer.Steered v) h = refl
 mark-one (answer.Refused n) h = absurd (h refl)
 
 counted-sum : (t : Tally) (a : Answer) → (markNumber a ≡ 0 → ⊥) → t .begun ≡ sumOf t → counted t (markNumber a) .begun ≡ sumOf (counted t (markNumber a))
@@ -105,6 +170,7 @@ ticked (answer.Clean v) xs n = refl
 ticked (answer.Cleared v) xs n = refl
 ticked (answer.NotFinite v) xs n = refl
 ticked (answer.Lost v) xs n = refl
+ticked (answer.Steered v) xs n = refl
 ticked (answer.Refused k) xs n = absurd (n refl)
 
 not-ticked : (a : Answer) (xs : List Answer) → markNumber a ≡ 0 → acceptedIn (a ∷ xs) ≡ acceptedIn xs
@@ -113,6 +179,7 @@ not-ticked (answer.Clean v) xs z = absurd (omega arith)
 not-ticked (answer.Cleared v) xs z = absurd (omega arith)
 not-ticked (answer.NotFinite v) xs z = absurd (omega arith)
 not-ticked (answer.Lost v) xs z = absurd (omega arith)
+not-ticked (answer.Steered v) xs z = absurd (omega arith)
 not-ticked (answer.Refused n) xs z = add-zero (acceptedIn xs)
 
 counts-refused : (r : Run) (a : Answer) → markNumber a ≡ 0 → Counts r → Counts (record { tally = r .tally; took = a ∷ r .took })
@@ -122,6 +189,7 @@ counts-refused r a z h =
       cleared = h .cleared ∙ plus (many cleared (r .took)) cleared refl;
       notfinite = h .notfinite ∙ plus (many notfinite (r .took)) notfinite refl;
       lost = h .lost ∙ plus (many lost (r .took)) lost refl;
+      steered = h .steered ∙ plus (many steered (r .took)) steered refl;
       finished = h .finished ∙ plus (many clean (r .took)) clean refl;
       begun = h .begun ∙ sym (not-ticked a (r .took) z);
       sum = h .sum;
@@ -139,6 +207,7 @@ counts-more r a n t h =
       cleared = ap (λ (m : ℕ). m + oneIf (markNumber a) cleared) (h .cleared);
       notfinite = ap (λ (m : ℕ). m + oneIf (markNumber a) notfinite) (h .notfinite);
       lost = ap (λ (m : ℕ). m + oneIf (markNumber a) lost) (h .lost);
+      steered = ap (λ (m : ℕ). m + oneIf (markNumber a) steered) (h .steered);
       finished = ap (λ (m : ℕ). m + oneIf (markNumber a) clean) (h .finished);
       begun = ap (λ (m : ℕ). m + 1) (h .begun) ∙ sym (ticked a (r .took) n);
       sum = unfold counted in counted-sum (r .tally) a n (h .sum);
@@ -169,7 +238,9 @@ counts-run r (a ∷ xs) h = counts-run (settle r a (tallyOf (r .tally) a)) xs (c
 
 pub tally-counts : Tally-counts
 unfolding many acceptedIn
-tally-counts xs = counts-run newRun xs (record { cleared = refl; notfinite = refl; lost = refl; finished = refl; begun = refl; sum = refl; top = lit≤ tt })
+tally-counts xs =
+    counts-run newRun xs
+    (record { cleared = refl; notfinite = refl; lost = refl; steered = refl; finished = refl; begun = refl; sum = refl; top = lit≤ tt })
 
 -- ---- while there is room it takes all
 -- how much an answer adds to begun
@@ -196,6 +267,7 @@ module _ (t : Tally) (s : t .begun ≡ sumOf t) where
   takes-one (answer.Cleared v) h = record { after = counted t cleared; taken = simp (adds-up, not-full h); sum = omega arith; begun = refl }
   takes-one (answer.NotFinite v) h = record { after = counted t notfinite; taken = simp (adds-up, not-full h); sum = omega arith; begun = refl }
   takes-one (answer.Lost v) h = record { after = counted t lost; taken = simp (adds-up, not-full h); sum = omega arith; begun = refl }
+  takes-one (answer.Steered v) h = record { after = counted t steered; taken = simp (adds-up, not-full h); sum = omega arith; begun = refl }
   takes-one (answer.Refused n) h = record { after = t; taken = simp adds-up; sum = s; begun = omega arith }
 
 settled : (r : Run) (a : Answer) (k : Taken (r .tally) a) → settle r a (tallyOf (r .tally) a) ≡ record { tally = k .after; took = a ∷ r .took }
@@ -230,6 +302,7 @@ tally-takes-all xs h =
       cleared = c .cleared ∙ many-took cleared xs h;
       notfinite = c .notfinite ∙ many-took notfinite xs h;
       lost = c .lost ∙ many-took lost xs h;
+      steered = c .steered ∙ many-took steered xs h;
       finished = c .finished ∙ many-took clean xs h;
       begun = c .begun ∙ accepted-took xs h;
       sum = c .sum;
@@ -245,4 +318,5 @@ refused-nowhere t (answer.Clean v) r h = absurd (true≢false r)
 refused-nowhere t (answer.Cleared v) r h = absurd (true≢false r)
 refused-nowhere t (answer.NotFinite v) r h = absurd (true≢false r)
 refused-nowhere t (answer.Lost v) r h = absurd (true≢false r)
+refused-nowhere t (answer.Steered v) r h = absurd (true≢false r)
 refused-nowhere t (answer.Refused n) r h = takes t (answer.Refused n) t (simp (eq-eqb (t .begun) (sumOf t) h))

@@ -23,7 +23,8 @@ volts2 a b = volts4 a b zer zer
 abbrev pub volts1 : Float → Volts
 volts1 a = volts2 a zer
 
--- ---- the marks, as the scope numbers its rules
+-- ---- the marks' numbers. A number keeps its meaning: the first four are those of the scope's rules, and steered, whose rule comes before
+-- clean's, came with a later request
 abbrev pub cleared : ℕ
 cleared = 1
 
@@ -36,6 +37,9 @@ lost = 3
 abbrev pub clean : ℕ
 clean = 4
 
+abbrev pub steered : ℕ
+steered = 5
+
 -- what a host is told of a mark, by a tick and in the marks of a block
 abbrev pub told : ℕ → ℕ
 told mark = 10 + mark
@@ -46,6 +50,7 @@ markNumber (answer.Clean v) = clean
 markNumber (answer.Cleared v) = cleared
 markNumber (answer.NotFinite v) = notfinite
 markNumber (answer.Lost v) = lost
+markNumber (answer.Steered v) = steered
 markNumber (answer.Refused n) = 0
 
 -- the sample volts; a refused tick has none
@@ -54,6 +59,7 @@ voltsOf (answer.Clean v) = v
 voltsOf (answer.Cleared v) = v
 voltsOf (answer.NotFinite v) = v
 voltsOf (answer.Lost v) = v
+voltsOf (answer.Steered v) = v
 voltsOf (answer.Refused n) = volts1 zer
 
 -- the scope's number of a refusal; 0 of an accepted tick
@@ -62,6 +68,7 @@ refusalOf (answer.Clean v) = 0
 refusalOf (answer.Cleared v) = 0
 refusalOf (answer.NotFinite v) = 0
 refusalOf (answer.Lost v) = 0
+refusalOf (answer.Steered v) = 0
 refusalOf (answer.Refused n) = n
 
 unfoldable pub accepted : Answer → Bool
@@ -69,6 +76,7 @@ accepted (answer.Clean v) = true
 accepted (answer.Cleared v) = true
 accepted (answer.NotFinite v) = true
 accepted (answer.Lost v) = true
+accepted (answer.Steered v) = true
 accepted (answer.Refused n) = false
 
 -- what a host is told of an answer: its mark, or what refused it
@@ -81,8 +89,9 @@ answerOf n v =
     cond (eqb n (told cleared)) (answer.Cleared v)
     (cond (eqb n (told notfinite)) (answer.NotFinite v)
     (cond (eqb n (told lost)) (answer.Lost v)
+    (cond (eqb n (told steered)) (answer.Steered v)
     (cond (eqb n (told clean)) (answer.Clean v)
-    (answer.Refused n))))
+    (answer.Refused n)))))
 
 -- of a call without samples: 0 where it is done, or what refused it
 unfoldable pub outcomeNumber : Outcome → ℕ

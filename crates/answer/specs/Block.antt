@@ -7,7 +7,7 @@ use lib.Ieee.{Float}
 use lib.ListN.{length, getD, take}
 use lib.Seq.{sets}
 use Rattle.laws.specs.Lists.{tab}
-use Rattle.answer.specs.Answer.{hostNumber, voltsOf, cleared, notfinite, lost, clean, told}
+use Rattle.answer.specs.Answer.{hostNumber, voltsOf, cleared, notfinite, lost, steered, clean, told}
 use Rattle.answer.specs.Tally.{addsUp, oneIf}
 use Rattle.answer.specs.declared.Volts.{Volts}
 use Rattle.answer.specs.declared.Answer.{Answer}
@@ -22,19 +22,21 @@ manyTo k f zero = 0
 manyTo k f (suc n) = manyTo k f n + oneIf (f n) k
 
 -- so many more answers of each mark
-unfoldable pub grownBy : Tally → ℕ → ℕ → ℕ → ℕ → Tally
-grownBy t cleans cleareds notfinites losts =
+unfoldable pub grownBy : Tally → ℕ → ℕ → ℕ → ℕ → ℕ → Tally
+grownBy t cleans cleareds notfinites losts steereds =
     record {
-      begun = t .begun + (cleans + cleareds + notfinites + losts);
+      begun = t .begun + (cleans + cleareds + notfinites + losts + steereds);
       finished = t .finished + cleans;
       cleared = t .cleared + cleareds;
       notfinite = t .notfinite + notfinites;
       lost = t .lost + losts;
+      steered = t .steered + steereds;
     }
 
 -- each count grows by the number of its marks among f 0, .., f (n - 1)
 unfoldable pub countedTo : Tally → (ℕ → ℕ) → ℕ → Tally
-countedTo t f n = grownBy t (manyTo (told clean) f n) (manyTo (told cleared) f n) (manyTo (told notfinite) f n) (manyTo (told lost) f n)
+countedTo t f n =
+    grownBy t (manyTo (told clean) f n) (manyTo (told cleared) f n) (manyTo (told notfinite) f n) (manyTo (told lost) f n) (manyTo (told steered) f n)
 
 -- n more answers can be taken: neither reason for 7 comes
 unfoldable pub roomFor : Tally → ℕ → Bool

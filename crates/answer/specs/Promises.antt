@@ -1,24 +1,53 @@
 -- Theorems about answers, marks and the tally: the statements. proofs/Laws.antt proves each under the same name in small letters.
 use mathlib.Core.Path.{_≡_}
+use mathlib.Core.Logic.{_≢_}
 use mathlib.Core.Bool.{Bool, true, false, _&&_}
 use mathlib.Core.List.{List}
 use Prim.Native.Nat.{ℕ, _+_, _≤_, _<_}
-use Rattle.answer.specs.Answer.{markNumber, hostNumber, voltsOf, accepted, cleared, notfinite, lost, clean}
+use lib.Ieee.{Float}
+use Rattle.answer.specs.Answer.{markNumber, hostNumber, voltsOf, accepted, cleared, notfinite, lost, steered, clean}
 use Rattle.answer.specs.Block.{roomFor, countedTo, answerAt, markAt}
-use Rattle.answer.specs.Mark.{allFinite, markOf, ruleOf}
+use Rattle.answer.specs.Mark.{allFinite, allNumbers, markOf, ruleOf}
 use Rattle.answer.specs.Tally.{Run, run, newRun, sumOf, many, acceptedIn, tallyAfter, talliedNumber, tallyOr, tallyOf}
 use Rattle.answer.specs.declared.Volts.{Volts}
 use Rattle.answer.specs.declared.Answer.{Answer}
 use Rattle.answer.specs.declared.Tally.{Tally}
 
 -- a marked tick is an accepted one, keeps its volts, and has the number of the first rule that applies
-pub record Marked (v : Volts) (zeroed sums phases : Bool) : Type 0 where
-  pub is-accepted : accepted (markOf v zeroed sums phases) ≡ true
-  pub volts : voltsOf (markOf v zeroed sums phases) ≡ v
-  pub number : markNumber (markOf v zeroed sums phases) ≡ ruleOf zeroed (sums && allFinite v) phases
+pub record Marked (v : Volts) (zeroed sums phases numbers : Bool) : Type 0 where
+  pub is-accepted : accepted (markOf v zeroed sums phases numbers) ≡ true
+  pub volts : voltsOf (markOf v zeroed sums phases numbers) ≡ v
+  pub number : markNumber (markOf v zeroed sums phases numbers) ≡ ruleOf zeroed (sums && allFinite v) phases numbers
 
 abbrev pub Mark-says : Type 0
-Mark-says = (v : Volts) (zeroed sums phases : Bool) → Marked v zeroed sums phases
+Mark-says = (v : Volts) (zeroed sums phases numbers : Bool) → Marked v zeroed sums phases numbers
+
+-- the rules in their order: each applies where none before it does
+pub record In-order (v : Volts) (zeroed sums phases numbers : Bool) : Type 0 where
+  pub cleared : zeroed ≡ true → markNumber (markOf v zeroed sums phases numbers) ≡ cleared
+  pub notfinite : zeroed ≡ false → (sums && allFinite v) ≡ false → markNumber (markOf v zeroed sums phases numbers) ≡ notfinite
+  pub lost : zeroed ≡ false → (sums && allFinite v) ≡ true → phases ≡ false → markNumber (markOf v zeroed sums phases numbers) ≡ lost
+  pub steered : zeroed ≡ false → (sums && allFinite v) ≡ true → phases ≡ true → numbers ≡ false
+      → markNumber (markOf v zeroed sums phases numbers) ≡ steered
+  pub clean : zeroed ≡ false → (sums && allFinite v) ≡ true → phases ≡ true → numbers ≡ true
+      → markNumber (markOf v zeroed sums phases numbers) ≡ clean
+
+abbrev pub Marks-in-order : Type 0
+Marks-in-order = (v : Volts) (zeroed sums phases numbers : Bool) → In-order v zeroed sums phases numbers
+
+-- so a tick that would be clean is steered once a control given to it is NaN
+abbrev pub Clean-steered : Type 0
+Clean-steered = (v : Volts) (zeroed sums phases numbers : Bool) → markNumber (markOf v zeroed sums phases numbers) ≡ clean
+    → markNumber (markOf v zeroed sums phases false) ≡ steered
+
+-- what a mark says of the controls given to the tick: none of a clean one's is NaN, and some of a steered one's is. Each oscillator
+-- promises this of every tick, under the name Nan-steers, of the list of its controls
+pub record Steers (controls : List Float) (a : Answer) : Type 0 where
+  pub when-clean : markNumber a ≡ clean → allNumbers controls ≡ true
+  pub when-steered : markNumber a ≡ steered → allNumbers controls ≡ false
+  -- so a tick with a NaN is never clean, and one without is never steered
+  pub with-nan : allNumbers controls ≡ false → markNumber a ≢ clean
+  pub without-nan : allNumbers controls ≡ true → markNumber a ≢ steered
 
 -- each count is the number of answers with that mark that the tally took; begun is the number of accepted ticks that it took, and the sum
 -- of the counts
@@ -26,6 +55,7 @@ pub record Counts (r : Run) : Type 0 where
   pub cleared : r .tally .cleared ≡ many cleared (r .took)
   pub notfinite : r .tally .notfinite ≡ many notfinite (r .took)
   pub lost : r .tally .lost ≡ many lost (r .took)
+  pub steered : r .tally .steered ≡ many steered (r .took)
   pub finished : r .tally .finished ≡ many clean (r .took)
   pub begun : r .tally .begun ≡ acceptedIn (r .took)
   pub sum : r .tally .begun ≡ sumOf (r .tally)
@@ -40,6 +70,7 @@ pub record CountsAll (xs : List Answer) : Type 0 where
   pub cleared : tallyAfter xs .cleared ≡ many cleared xs
   pub notfinite : tallyAfter xs .notfinite ≡ many notfinite xs
   pub lost : tallyAfter xs .lost ≡ many lost xs
+  pub steered : tallyAfter xs .steered ≡ many steered xs
   pub finished : tallyAfter xs .finished ≡ many clean xs
   pub begun : tallyAfter xs .begun ≡ acceptedIn xs
   pub sum : tallyAfter xs .begun ≡ sumOf (tallyAfter xs)

@@ -1,7 +1,7 @@
 -- For each public function: any two answers that its contract allows are equal. The contract is the equation under Settles.
 use mathlib.Core.Path.{_≡_}
 use mathlib.Core.Bool.{Bool}
-use mathlib.Core.List.{List}
+use mathlib.Core.List.{List, [], _∷_}
 use Prim.Native.Nat.{ℕ, _*_}
 use lib.Dec.{eqb}
 use lib.Ieee.{Float}
@@ -9,7 +9,7 @@ use lib.ListN.{length, set}
 use Rattle.laws.specs.Machine.{Settles}
 use Rattle.answer.specs.Answer.{volts1, volts2, volts4, volts5, markNumber, hostNumber, voltsOf, accepted, answerOf}
 use Rattle.answer.specs.Block.{roomFor, marksTaken, framed, blockRefusalOf}
-use Rattle.answer.specs.Mark.{markedOf, markOf}
+use Rattle.answer.specs.Mark.{allNumbers, markedOf, markOf}
 use Rattle.answer.specs.Tally.{newTally, tallyOf, tallyOr}
 use Rattle.answer.specs.declared.Volts.{Volts}
 use Rattle.answer.specs.declared.Answer.{Answer}
@@ -24,8 +24,12 @@ pub record Settled : Type 0 where
   pub mark-number : (a : Answer) → Settles (λ (r : ℕ). r ≡ markNumber a)
   pub is-accepted : (a : Answer) → Settles (λ (r : Bool). r ≡ accepted a)
   pub host-number : (a : Answer) → Settles (λ (r : ℕ). r ≡ hostNumber a)
-  pub marked : (v : Volts) (zeroed finite phases : Bool) → Settles (λ (r : Answer). r ≡ markedOf v zeroed finite phases)
-  pub mark : (v : Volts) (zeroed sums phases : Bool) → Settles (λ (r : Answer). r ≡ markOf v zeroed sums phases)
+  pub numbers1 : (a : Float) → Settles (λ (r : Bool). r ≡ allNumbers (a ∷ []))
+  pub numbers3 : (a b c : Float) → Settles (λ (r : Bool). r ≡ allNumbers (a ∷ b ∷ c ∷ []))
+  pub numbers4 : (a b c d : Float) → Settles (λ (r : Bool). r ≡ allNumbers (a ∷ b ∷ c ∷ d ∷ []))
+  pub numbers5 : (a b c d e : Float) → Settles (λ (r : Bool). r ≡ allNumbers (a ∷ b ∷ c ∷ d ∷ e ∷ []))
+  pub marked : (v : Volts) (zeroed finite phases numbers : Bool) → Settles (λ (r : Answer). r ≡ markedOf v zeroed finite phases numbers)
+  pub mark : (v : Volts) (zeroed sums phases numbers : Bool) → Settles (λ (r : Answer). r ≡ markOf v zeroed sums phases numbers)
   pub tally-new : Settles (λ (r : Tally). r ≡ newTally)
   pub tally-take : (t : Tally) (a : Answer) → Settles (λ (r : Tallied). r ≡ tallyOf t a)
   pub answer-of : (number : ℕ) (v : Volts) → Settles (λ (r : Answer). r ≡ answerOf number v)

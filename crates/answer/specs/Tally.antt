@@ -3,17 +3,17 @@ use mathlib.Core.Bool.{Bool, cond}
 use mathlib.Core.List.{List, [], _∷_}
 use Prim.Native.Nat.{ℕ, _+_}
 use lib.Dec.{eqb}
-use Rattle.answer.specs.Answer.{markNumber, accepted, cleared, notfinite, lost, clean}
+use Rattle.answer.specs.Answer.{markNumber, accepted, cleared, notfinite, lost, steered, clean}
 use Rattle.answer.specs.declared.Answer.{Answer}
 use Rattle.answer.specs.declared.Tally.{Tally}
 use Rattle.answer.specs.declared.Tallied.{Tallied}
 use Rattle.answer.specs.declared.Tallied.the-variants as tallied
 
 abbrev pub newTally : Tally
-newTally = record { begun = 0; finished = 0; cleared = 0; notfinite = 0; lost = 0 }
+newTally = record { begun = 0; finished = 0; cleared = 0; notfinite = 0; lost = 0; steered = 0 }
 
 abbrev pub sumOf : Tally → ℕ
-sumOf t = t .finished + t .cleared + t .notfinite + t .lost
+sumOf t = t .finished + t .cleared + t .notfinite + t .lost + t .steered
 
 -- as whole numbers: no wrap
 unfoldable pub addsUp : Tally → Bool
@@ -31,6 +31,7 @@ counted t n =
       cleared = t .cleared + oneIf n cleared;
       notfinite = t .notfinite + oneIf n notfinite;
       lost = t .lost + oneIf n lost;
+      steered = t .steered + oneIf n steered;
     }
 
 -- the scope's number of each case: 0 taken, or what refused; and its tally, of a refusal the one that stays

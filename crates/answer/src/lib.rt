@@ -1,11 +1,14 @@
 // Added by the scope: what a tick answers, how it is marked, and the tally of the answers. One text for all oscillators.
 ghost use mathlib.Core.Path.{_≡_};
+ghost use mathlib.Core.Bool.{not, _&&_};
+ghost use mathlib.Core.List.{[], _∷_};
 ghost use Prim.Native.Nat.{_<_, _≤_, _+_, _*_};
 ghost use lib.ListN.{length, set};
 ghost use lib.Dec.{eqb};
+ghost use lib.Ieee.{isNan};
 ghost use lib.Seq.{sets};
 ghost use Rattle.answer.specs.Answer.{volts1, volts2, volts4, volts5, markNumber, hostNumber, voltsOf, accepted, answerOf};
-ghost use Rattle.answer.specs.Mark.{allFinite, markedOf, markOf};
+ghost use Rattle.answer.specs.Mark.{allFinite, allNumbers, markedOf, markOf};
 ghost use Rattle.answer.specs.Tally.{newTally, sumOf, addsUp, oneIf, counted, tallyOr, tallyOf};
 ghost use Rattle.answer.specs.Block.{manyTo, cellsOf, roomFor, grownBy, marksTaken, portsOf, framed, blockRefusalOf};
 
@@ -50,7 +53,8 @@ pub fn volts1(p10: f64) -> Volts
     volts2(p10, 0.0)
 }
 
-// The marks, as the scope numbers its rules.
+// The marks' numbers. A number keeps its meaning: the first four are those of the scope's rules, and steered, whose rule comes before
+// clean's, came later.
 pub const CLEARED: u32 = 1;
 
 pub const NOTFINITE: u32 = 2;
@@ -58,6 +62,8 @@ pub const NOTFINITE: u32 = 2;
 pub const LOST: u32 = 3;
 
 pub const CLEAN: u32 = 4;
+
+pub const STEERED: u32 = 5;
 
 // What a host is told of each, by a tick and in the marks of a block.
 const TOLD_CLEARED: u32 = 10 + CLEARED;
@@ -68,12 +74,15 @@ const TOLD_LOST: u32 = 10 + LOST;
 
 const TOLD_CLEAN: u32 = 10 + CLEAN;
 
+const TOLD_STEERED: u32 = 10 + STEERED;
+
 // What a tick answers: its mark with its samples, or the number that refused it.
 pub enum Answer {
     Clean(Volts),
     Cleared(Volts),
     NotFinite(Volts),
     Lost(Volts),
+    Steered(Volts),
     Refused(u32),
 }
 
@@ -92,6 +101,7 @@ pub fn mark_number(a: Answer) -> u32
         Answer::Cleared(_) => CLEARED,
         Answer::NotFinite(_) => NOTFINITE,
         Answer::Lost(_) => LOST,
+        Answer::Steered(_) => STEERED,
         Answer::Refused(_) => 0,
     }
 }
@@ -111,6 +121,7 @@ pub fn host_number(a: Answer) -> u32
         Answer::Cleared(_) => TOLD_CLEARED,
         Answer::NotFinite(_) => TOLD_NOTFINITE,
         Answer::Lost(_) => TOLD_LOST,
+        Answer::Steered(_) => TOLD_STEERED,
         Answer::Refused(n) => n,
     }
 }
@@ -124,6 +135,7 @@ pub fn samples(a: Answer) -> Volts
         Answer::Cleared(v) => v,
         Answer::NotFinite(v) => v,
         Answer::Lost(v) => v,
+        Answer::Steered(v) => v,
         Answer::Refused(_) => volts1(0.0),
     }
 }
@@ -138,6 +150,8 @@ pub fn answer_of(number: u32, v: Volts) -> Answer
         Answer::NotFinite(v)
     } else if number == TOLD_LOST {
         Answer::Lost(v)
+    } else if number == TOLD_STEERED {
+        Answer::Steered(v)
     } else if number == TOLD_CLEAN {
         Answer::Clean(v)
     } else {
@@ -167,16 +181,53 @@ fn all_finite(v: Volts) -> bool
     }
 }
 
+// One control more: an infinity is a number, a NaN isn't.
+fn and_number(x: f64, rest: bool) -> bool
+    ensures { λ r. ⌜ r ≡ (not (isNan x) && rest) ⌝ }
+{
+    if x == x { rest } else { false }
+}
+
+// Whether no control is NaN, of one control and of more. Each is asked by itself: a sum of numbers can be NaN.
+pub fn numbers1(a: f64) -> bool
+    ensures { λ r. ⌜ r ≡ allNumbers (a ∷ []) ⌝ }
+{
+    and_number(a, true)
+}
+
+pub fn numbers3(a: f64, b: f64, c: f64) -> bool
+    ensures { λ r. ⌜ r ≡ allNumbers (a ∷ b ∷ c ∷ []) ⌝ }
+{
+    and_number(a, and_number(b, numbers1(c)))
+}
+
+pub fn numbers4(a: f64, b: f64, c: f64, d: f64) -> bool
+    ensures { λ r. ⌜ r ≡ allNumbers (a ∷ b ∷ c ∷ d ∷ []) ⌝ }
+{
+    and_number(a, numbers3(b, c, d))
+}
+
+pub fn numbers5(a: f64, b: f64, c: f64, d: f64, e: f64) -> bool
+    ensures { λ r. ⌜ r ≡ allNumbers (a ∷ b ∷ c ∷ d ∷ e ∷ []) ⌝ }
+{
+    and_number(a, numbers4(b, c, d, e))
+}
+
 // A tick's answer, by the first rule that applies: each mark is made here. `zeroed`: the string zeroed its line. `finite`: the
-// volts are, and what stands before an output's clamp. `phases`: each phase plus its increment is finite.
-pub fn marked(v: Volts, zeroed: bool, finite: bool, phases: bool) -> Answer
-    ensures { λ r. ⌜ r ≡ markedOf v zeroed finite phases ⌝ }
+// volts are, and what stands before an output's clamp. `phases`: each phase plus its increment is finite. `numbers`: no control
+// given to the tick is NaN.
+pub fn marked(v: Volts, zeroed: bool, finite: bool, phases: bool, numbers: bool) -> Answer
+    ensures { λ r. ⌜ r ≡ markedOf v zeroed finite phases numbers ⌝ }
 {
     if zeroed {
         Answer::Cleared(v)
     } else if finite {
         if phases {
-            Answer::Clean(v)
+            if numbers {
+                Answer::Clean(v)
+            } else {
+                Answer::Steered(v)
+            }
         } else {
             Answer::Lost(v)
         }
@@ -186,13 +237,13 @@ pub fn marked(v: Volts, zeroed: bool, finite: bool, phases: bool) -> Answer
 }
 
 // The same where the volts are still to be tested. `sums`: what stands before an output's clamp is finite.
-pub fn mark(v: Volts, zeroed: bool, sums: bool, phases: bool) -> Answer
-    ensures { λ r. ⌜ r ≡ markOf v zeroed sums phases ⌝ }
+pub fn mark(v: Volts, zeroed: bool, sums: bool, phases: bool, numbers: bool) -> Answer
+    ensures { λ r. ⌜ r ≡ markOf v zeroed sums phases numbers ⌝ }
 {
     if sums {
-        marked(v, zeroed, all_finite(v), phases)
+        marked(v, zeroed, all_finite(v), phases, numbers)
     } else {
-        marked(v, zeroed, false, phases)
+        marked(v, zeroed, false, phases, numbers)
     }
 }
 
@@ -203,6 +254,7 @@ pub struct Tally {
     pub cleared: u32,
     pub notfinite: u32,
     pub lost: u32,
+    pub steered: u32,
 }
 
 // The tally after what it was given, or the number that refused that.
@@ -253,6 +305,7 @@ impl Tally {
             cleared: 0,
             notfinite: 0,
             lost: 0,
+            steered: 0,
         }
     }
 
@@ -263,7 +316,8 @@ impl Tally {
         let sum = (self.finished as u64)
             + (self.cleared as u64)
             + (self.notfinite as u64)
-            + (self.lost as u64);
+            + (self.lost as u64)
+            + (self.steered as u64);
         self.begun as u64 == sum
     }
 
@@ -278,6 +332,7 @@ impl Tally {
             cleared: self.cleared + one_if(n, CLEARED),
             notfinite: self.notfinite + one_if(n, NOTFINITE),
             lost: self.lost + one_if(n, LOST),
+            steered: self.steered + one_if(n, STEERED),
         }
     }
 
@@ -311,31 +366,38 @@ impl Tally {
     }
 
     // So many more answers of each mark.
-    fn grown(self, clean: u32, cleared: u32, notfinite: u32, lost: u32) -> Self
-        requires { ⌜ (self .begun ≡ sumOf self) × (self .begun + (clean + cleared + notfinite + lost) ≤ 4294967295) ⌝ }
-        ensures { λ r. ⌜ r ≡ grownBy self clean cleared notfinite lost ⌝ }
+    fn grown(self, clean: u32, cleared: u32, notfinite: u32, lost: u32, steered: u32) -> Self
+        requires { ⌜ (self .begun ≡ sumOf self) × (self .begun + (clean + cleared + notfinite + lost + steered) ≤ 4294967295) ⌝ }
+        ensures { λ r. ⌜ r ≡ grownBy self clean cleared notfinite lost steered ⌝ }
     {
         Tally {
-            begun: self.begun + (clean + cleared + notfinite + lost),
+            begun: self.begun + (clean + cleared + notfinite + lost + steered),
             finished: self.finished + clean,
             cleared: self.cleared + cleared,
             notfinite: self.notfinite + notfinite,
             lost: self.lost + lost,
+            steered: self.steered + steered,
         }
     }
 
     // The tally given the marks of a block, by the numbers that a host is told; 7 without room for all of them. A number that is no
-    // mark's counts nowhere.
+    // mark's counts nowhere. Where all are clean, as in nearly every block, the others aren't counted.
     pub fn take_marks(self, marks: &[u32]) -> Tallied
         ensures { λ r. ⌜ r ≡ marksTaken self (now (marks .entry)) ⌝ }
     {
         if self.has_room(marks.len()) {
-            Tallied::Taken(self.grown(
-                count_of(marks, TOLD_CLEAN),
-                count_of(marks, TOLD_CLEARED),
-                count_of(marks, TOLD_NOTFINITE),
-                count_of(marks, TOLD_LOST),
-            ))
+            let clean = count_of(marks, TOLD_CLEAN);
+            if clean as usize == marks.len() {
+                Tallied::Taken(self.grown(clean, 0, 0, 0, 0))
+            } else {
+                Tallied::Taken(self.grown(
+                    clean,
+                    count_of(marks, TOLD_CLEARED),
+                    count_of(marks, TOLD_NOTFINITE),
+                    count_of(marks, TOLD_LOST),
+                    count_of(marks, TOLD_STEERED),
+                ))
+            }
         } else {
             Tallied::Refused(7)
         }

@@ -62,13 +62,14 @@ heardOf floatsOf wholesOf samplesOf a s f w o =
 unfoldable pub heardSized : ℕ → ℕ → ℕ → Heard → List Float → List ℕ → List Float → Heard
 heardSized nf nw ns h f w o = let n = tickSizesOf nf nw ns (length f) (length w) (length o) in cond (eqb n 0) h (heard n f w o)
 
--- ---- a tally as counts: begun, finished, cleared, notfinite, lost. Any other number of counts is refused by 53.
+-- ---- a tally as counts: begun, finished, cleared, notfinite, lost, steered. Any other number of counts is refused by 53.
 abbrev pub nCounts : ℕ
-nCounts = 5
+nCounts = 6
 
 unfoldable pub tallyFrom : List ℕ → Tallied
 tallyFrom l =
-    let t : Tally = record { begun = getD l 0 0; finished = getD l 1 0; cleared = getD l 2 0; notfinite = getD l 3 0; lost = getD l 4 0 } in
+    let t : Tally =
+    record { begun = getD l 0 0; finished = getD l 1 0; cleared = getD l 2 0; notfinite = getD l 3 0; lost = getD l 4 0; steered = getD l 5 0 } in
     cond (eqb (length l) nCounts) (tallied.Taken t) (tallied.Refused 53)
 
 -- after the lengths of floats and wholes
@@ -76,7 +77,7 @@ unfoldable pub tallySized : ℕ → ℕ → List Float → List ℕ → List ℕ
 tallySized nf nw f w k = let n = sizesOf nf nw (length f) (length w) in cond (eqb n 0) (tallyFrom k) (tallied.Refused n)
 
 unfoldable pub countsOf : Tally → List ℕ
-countsOf t = t .begun ∷ t .finished ∷ t .cleared ∷ t .notfinite ∷ t .lost ∷ []
+countsOf t = t .begun ∷ t .finished ∷ t .cleared ∷ t .notfinite ∷ t .lost ∷ t .steered ∷ []
 
 -- what putting them says of itself, and what it leaves
 unfoldable pub countsOutcome : List ℕ → Outcome

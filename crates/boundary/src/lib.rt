@@ -42,7 +42,7 @@ pub fn tick_sizes(
 }
 
 // How many counts a tally has.
-const COUNTS: usize = 5;
+const COUNTS: usize = 6;
 
 // The tally that so many counts stand for, in the order of its fields; 53 of another number.
 pub fn tally_of(counts: &[u32]) -> Tallied
@@ -55,6 +55,7 @@ pub fn tally_of(counts: &[u32]) -> Tallied
             cleared: counts[2],
             notfinite: counts[3],
             lost: counts[4],
+            steered: counts[5],
         })
     } else {
         Tallied::Refused(53)
@@ -83,6 +84,7 @@ pub fn put_counts(tally: Tally, counts: &mut [u32]) -> Outcome
         counts[2] = tally.cleared;
         counts[3] = tally.notfinite;
         counts[4] = tally.lost;
+        counts[5] = tally.steered;
         Outcome::Done
     } else {
         Outcome::Refused(53)

@@ -42,7 +42,7 @@ score = "osc=vco\nhz=48000\nframes=1\nvoct=0\nfm=0\npw=500000\nsync=0\nfm_lin=-5
 abbrev printed : String
 printed =
     "n=0\nmark=clean\nsin=0000000000000000\ntri=C014000000000000\nsaw=C014000000000000\nsqr=4014000000000000\n"
-    ++ "begun=1\nfinished=1\ncleared=0\nnotfinite=0\nlost=0\nclaimed=yes\n"
+    ++ "begun=1\nfinished=1\ncleared=0\nnotfinite=0\nlost=0\nsteered=0\nclaimed=yes\n"
 
 abbrev pub table : List Row
 table =

@@ -1,4 +1,4 @@
--- The tally over a lent slice of counts: begun, finished, cleared, notfinite, lost.
+-- The tally over a lent slice of counts: begun, finished, cleared, notfinite, lost, steered.
 use mathlib.Core.List.{List}
 use Prim.Native.Nat.{ℕ}
 use Rattle.laws.specs.Float.{zer}

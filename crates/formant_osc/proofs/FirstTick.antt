@@ -6,14 +6,14 @@ use Prim.Native.Nat.{ℕ, _-_, _*_, _≤_, _<_}
 use native.Mathlib.Nat.{le-trans, le-of-eq, mul-assoc, mul-le-mul, mul-pos, one-mul}
 use native.Mathlib.Omega.{arith}
 use lib.Dec.{T, leb, leb→le, lit<, lit≤}
-use lib.Ieee.{Float, nan, inf, fin, binary64, add, sub, mul, div, neg, lt, le, ofBits, ofInt, toUnsigned, up, down}
+use lib.Ieee.{Float, nan, inf, fin, binary64, add, sub, mul, div, neg, lt, le, isNan, ofBits, ofInt, toUnsigned, up, down}
 use lib.Ieee.Bits.{ofBits-fits}
 use lib.Ieee.Fits.{div-fits, down-pos}
 use lib.IntN.{pos}
 use lib.ListN.{getD}
 use Rattle.answer.proofs.Laws.{mark-says}
 use Rattle.answer.specs.Answer.{markNumber, volts1, clean}
-use Rattle.answer.specs.Mark.{allFinite, ruleOf}
+use Rattle.answer.specs.Mark.{allFinite, allNumbers, ruleOf}
 use Rattle.common.proofs.Bounds.{sin-within}
 use Rattle.common.specs.Consts.{c4, five, half}
 use Rattle.common.specs.Memo.{voctToHzAt, recall1, hits1, filled1}
@@ -167,8 +167,8 @@ unfolding freqMemoOf recall1 hits1 filled1 newFormantOsc
 hertz-first = ap (λ (x : Float). voctToHzAt x .0) tone-zero ∙ hertz-zero
 
 sound-clean : markNumber (formantOscSoundOf new noControls .answer) ≡ clean
-unfolding formantOscSoundOf incrementOf newFormantOsc ruleOf allFinite clampOf lt neg add mul div ofBits
-sound-clean = simp (sum-zero, hertz-first) (mark-says (volts1 (mul binary64 (clampOf zer (neg one) one) five)) false true true .number)
+unfolding formantOscSoundOf incrementOf newFormantOsc ruleOf allFinite allNumbers isNan clampOf lt neg add mul div ofBits
+sound-clean = simp (sum-zero, hertz-first) (mark-says (volts1 (mul binary64 (clampOf zer (neg one) one) five)) false true true true .number)
 
 pub first-clean : First-clean
 unfolding rateOk le lt ofBits

@@ -17,7 +17,8 @@ use Rattle.answer.specs.Block.{afterTicks, answerAt, markAt, frameAt, portsOf, 
 use Rattle.answer.specs.declared.Answer.{Answer}
 use Rattle.answer.specs.declared.Volts.{Volts}
 use Rattle.answer.proofs.Blocks.{Holds, held-after, held-marks, held-frames, held-accepted, all-taken}
-use Rattle.answer.proofs.Laws.{mark-says, refused-by}
+use Rattle.answer.proofs.Laws.{mark-says, refused-by, mark-steers, tick-steers}
+use Rattle.answer.specs.Mark.{allNumbers}
 use Rattle.common.specs.Memo.{recall1, voctToHzAt}
 use Rattle.common.specs.Phase.{turns, wrapOf, incrementOf}
 use Rattle.common.specs.Tests.{rateOk, phaseOk}
@@ -31,12 +32,12 @@ use Rattle.formant_osc.proofs.Coherent.{coefs-again}
 use Rattle.formant_osc.proofs.Still.{still-pitch}
 use Rattle.formant_osc.proofs.Vibrato.{vibrato-finite}
 use Rattle.formant_osc.specs.Consts.{nPorts, vibratoRate}
-use Rattle.formant_osc.specs.FormantOsc.{formantOscRefusalOf, freqMemoOf, coefMemoOf, formantOscRung}
+use Rattle.formant_osc.specs.FormantOsc.{controlsOf, formantOscRefusalOf, freqMemoOf, coefMemoOf, formantOscRung}
 use Rattle.formant_osc.specs.FormantOsc.{formantOscSoundOf, formantOscTickOf, formantOscToldOf, formantOscNextOf}
 use Rattle.formant_osc.specs.Shortcuts.{driveMemo, phaseSum, vibratoSum, driveNext, flag, isFlagged, pulseAt, flagAt, strideAt, swayed}
 use Rattle.formant_osc.specs.Shortcuts.{phaseAt, phaseFlagAt, voicedOf, cellsAt, voicedAt}
 use Rattle.formant_osc.specs.Sound.{glottalPulse, pitchOf, rungOf}
-use Rattle.formant_osc.specs.Promises.{Block-accepts, Block-tallies}
+use Rattle.formant_osc.specs.Promises.{Nan-steers, Block-accepts, Block-tallies}
 use Rattle.formant_osc.specs.declared.CoefMemo.{CoefMemo}
 use Rattle.formant_osc.specs.declared.Driver.{Driver}
 use Rattle.formant_osc.specs.declared.FormantOscControls.{FormantOscControls}
@@ -94,12 +95,13 @@ pulse-turn xs ys f i start p p' step a n h e z v r w t =
     (rw add-one (simp (r, z, v, x)), simp (t, w, z, v, x))
 
 -- ---- a turn of the third
-pub voiced-turn : (c s xs ys : List Float) (ms ns : List ℕ) (f : ℕ → Float) (g : ℕ → ℕ) (i : ℕ) (cells : List Float) (rung : Rung) (b : Bool) (a : Answer)
+pub voiced-turn : (c s xs ys : List Float) (ms ns : List ℕ) (f : ℕ → Float) (g : ℕ → ℕ) (i : ℕ) (cells : List Float) (rung : Rung) (b numbers : Bool)
+    (a : Answer)
     → i < length xs → i < length ms → ys ≡ over f i xs → ns ≡ over g i ms → cells ≡ cellsAt c xs s i
-    → rung ≡ rungOf c cells (getD ys i nan) → b ≡ isFlagged (getD ns i 0) → a ≡ voicedOf (rung .sum) b
-    → (a ≡ voicedAt c s xs ms i) × (rung .state ≡ cellsAt c xs s (i + 1))
+    → rung ≡ rungOf c cells (getD ys i nan) → b ≡ isFlagged (getD ns i 0) → a ≡ voicedOf (rung .sum) b numbers
+    → (a ≡ voicedAt numbers c s xs ms i) × (rung .state ≡ cellsAt c xs s (i + 1))
 unfolding voicedAt cellsAt
-voiced-turn c s xs ys ms ns f g i cells rung b a h k e q z r u w =
+voiced-turn c s xs ys ms ns f g i cells rung b numbers a h k e q z r u w =
     let x : getD ys i nan ≡ getD xs i nan = ap (λ (l : List Float). getD l i nan) e ∙ over-at nan f i xs h in
     let m : getD ns i 0 ≡ getD ms i 0 = ap (λ (l : List ℕ). getD l i 0) q ∙ over-at 0 g i ms k in
     (simp (w, u, r, z, x, m), rw add-one (simp (r, z, x)))
@@ -158,8 +160,8 @@ rungAt c h = rungOf c (h .cells) (glottalPulse (h .driver .phase .0))
 abbrev heldNext : VoltsPerOctave → Float → Hertz → List Float → Moving → Moving
 heldNext v depth rate c h = moving (driveNext v depth rate (h .driver)) (rungAt c h .state)
 
-abbrev heldAnswer : VoltsPerOctave → Float → Hertz → List Float → Moving → Answer
-heldAnswer v depth rate c h = voicedOf (rungAt c h .sum) (isFin (phaseSum v depth rate (h .driver)))
+abbrev heldAnswer : Bool → VoltsPerOctave → Float → Hertz → List Float → Moving → Answer
+heldAnswer numbers v depth rate c h = voicedOf (rungAt c h .sum) (isFin (phaseSum v depth rate (h .driver))) numbers
 
 module _ (v : VoltsPerOctave) (depth : Float) (rate : Hertz) (c : List Float) (d : Driver) (s : List Float) (n : ℕ) (xs : List Float) (ms : List ℕ)
     (ex : xs ≡ tab (pulseAt v depth rate d) n) (em : ms ≡ tab (flagAt v depth rate d) n) where
@@ -185,11 +187,12 @@ module _ (v : VoltsPerOctave) (depth : Float) (rate : Hertz) (c : List Float) (d
       ap (heldNext v depth rate c) (halves i (omega arith))
       ∙ ap (λ (x : Float). moving (driveNext v depth rate (driverAt i)) (rungOf c (cellsAt c xs s i) x .state)) (pulse-at i (omega arith))
 
-  answers-at : (i : ℕ) → i < n → answerAt (heldAnswer v depth rate c) (heldNext v depth rate c) (moving d s) i ≡ voicedAt c s xs ms i
+  answers-at : (numbers : Bool) (i : ℕ) → i < n
+      → answerAt (heldAnswer numbers v depth rate c) (heldNext v depth rate c) (moving d s) i ≡ voicedAt numbers c s xs ms i
   unfolding answerAt voicedAt
-  answers-at i h =
-      ap (heldAnswer v depth rate c) (halves i (omega arith))
-      ∙ (λ k. voicedOf (rungOf c (cellsAt c xs s i) (pulse-at i h k) .sum) (flag-at i h k))
+  answers-at numbers i h =
+      ap (heldAnswer numbers v depth rate c) (halves i (omega arith))
+      ∙ (λ k. voicedOf (rungOf c (cellsAt c xs s i) (pulse-at i h k) .sum) (flag-at i h k) numbers)
 
 -- one sample a tick
 joined-one : (f : ℕ → Volts) (n : ℕ) → joined (λ i. portsOf nPorts (f i)) n ≡ tab (λ i. f i .p10) n
@@ -200,6 +203,9 @@ joined-one f (suc n) = ap (λ (l : List Float). l ++ (f n .p10 ∷ [])) (joined-
 -- ---- the whole
 abbrev pub depthOf : FormantOscControls → Float
 depthOf c = clampOf (c .vibrato) zer one
+
+abbrev pub numbersOf : FormantOscControls → Bool
+numbersOf c = allNumbers (controlsOf c)
 
 -- before the first tick its pitch is in the memo already
 abbrev pub startOf : FormantOsc → FormantOscControls → Driver
@@ -240,7 +246,7 @@ tick-sounds s c h = simp h
 held-sound : (s : FormantOsc) (c : FormantOscControls) (h : Moving) → rateOk (s .«sample_rate») ≡ true → phaseOk (h .driver .«vibrato_phase») ≡ true
     → formantOscSoundOf (stateOf s c h) c
     ≡ record {
-      answer = heldAnswer (c .«v_oct») (depthOf c) (s .«sample_rate») (coefMemoOf s c .val) h;
+      answer = heldAnswer (numbersOf c) (c .«v_oct») (depthOf c) (s .«sample_rate») (coefMemoOf s c .val) h;
       «formant_osc» = stateOf s c (heldNext (c .«v_oct») (depthOf c) (s .«sample_rate») (coefMemoOf s c .val) h);
     }
 unfolding formantOscSoundOf freqMemoOf coefMemoOf formantOscRung driveNext phaseSum vibratoSum driveMemo voicedOf
@@ -254,7 +260,7 @@ held-sound s c h r g =
 -- in the first the pitch is looked up once more
 first-sound : (s : FormantOsc) (c : FormantOscControls) → rateOk (s .«sample_rate») ≡ true → phaseOk (s .«vibrato_phase») ≡ true → formantOscSoundOf s c
     ≡ record {
-      answer = heldAnswer (c .«v_oct») (depthOf c) (s .«sample_rate») (coefMemoOf s c .val) (moving (startOf s c) (s .«resonator_state»));
+      answer = heldAnswer (numbersOf c) (c .«v_oct») (depthOf c) (s .«sample_rate») (coefMemoOf s c .val) (moving (startOf s c) (s .«resonator_state»));
       «formant_osc» = stateOf s c (heldNext (c .«v_oct») (depthOf c) (s .«sample_rate») (coefMemoOf s c .val) (moving (startOf s c) (s .«resonator_state»)));
     }
 unfolding formantOscSoundOf freqMemoOf coefMemoOf formantOscRung driveNext phaseSum vibratoSum driveMemo voicedOf
@@ -267,7 +273,7 @@ first-sound s c r g =
 
 module _ (s : FormantOsc) (c : FormantOscControls) (e : formantOscRefusalOf s ≡ 0) where
   answerOf : Moving → Answer
-  answerOf = heldAnswer (c .«v_oct») (depthOf c) (s .«sample_rate») (coefMemoOf s c .val)
+  answerOf = heldAnswer (numbersOf c) (c .«v_oct») (depthOf c) (s .«sample_rate») (coefMemoOf s c .val)
 
   nextOf : Moving → Moving
   nextOf = heldNext (c .«v_oct») (depthOf c) (s .«sample_rate») (coefMemoOf s c .val)
@@ -291,11 +297,12 @@ module _ (s : FormantOsc) (c : FormantOscControls) (e : formantOscRefusalOf s �
   module _ (n : ℕ) (z : 0 < n) (xs : List Float) (ms : List ℕ) (ex : xs ≡ tab (pulseAt (c .«v_oct») (depthOf c) (s .«sample_rate») (startOf s c)) n)
       (em : ms ≡ tab (flagAt (c .«v_oct») (depthOf c) (s .«sample_rate») (startOf s c)) n) where
     voicedIn : ℕ → Answer
-    voicedIn = voicedAt (coefMemoOf s c .val) (s .«resonator_state») xs ms
+    voicedIn = voicedAt (numbersOf c) (coefMemoOf s c .val) (s .«resonator_state») xs ms
 
     same-answer : (i : ℕ) → i < n → answerAt answerOf nextOf (moving (startOf s c) (s .«resonator_state»)) i ≡ voicedIn i
     unfolding answerOf nextOf voicedIn
-    same-answer i h = answers-at (c .«v_oct») (depthOf c) (s .«sample_rate») (coefMemoOf s c .val) (startOf s c) (s .«resonator_state») n xs ms ex em i h
+    same-answer i h = answers-at (c .«v_oct») (depthOf c) (s .«sample_rate») (coefMemoOf s c .val) (startOf s c) (s .«resonator_state») n xs ms ex em
+        (numbersOf c) i h
 
     pub state-after : afterTicks (formantOscNextOf c) n s
         ≡ stateOf s c (moving (afterTicks (driveNext (c .«v_oct») (depthOf c) (s .«sample_rate»)) n (startOf s c))
@@ -307,7 +314,7 @@ module _ (s : FormantOsc) (c : FormantOscControls) (e : formantOscRefusalOf s �
         (halves (c .«v_oct») (depthOf c) (s .«sample_rate») (coefMemoOf s c .val) (startOf s c) (s .«resonator_state») n xs ms ex em n (omega arith))
 
     pub samples-after : joined (frameAt nPorts (formantOscToldOf c) (formantOscNextOf c) s) n
-        ≡ tab (λ i. voltsOf (voicedAt (coefMemoOf s c .val) (s .«resonator_state») xs ms i) .p10) n
+        ≡ tab (λ i. voltsOf (voicedAt (numbersOf c) (coefMemoOf s c .val) (s .«resonator_state») xs ms i) .p10) n
     unfolding voicedIn
     samples-after =
         held-frames _ _ _ _ _ _ _ _ holds nPorts n
@@ -315,7 +322,7 @@ module _ (s : FormantOsc) (c : FormantOscControls) (e : formantOscRefusalOf s �
         ∙ tab-ext _ _ n (λ i h. ap (λ (a : Answer). voltsOf a .p10) (same-answer i h))
 
     pub marks-after : tab (markAt (formantOscToldOf c) (formantOscNextOf c) s) n
-        ≡ tab (λ i. hostNumber (voicedAt (coefMemoOf s c .val) (s .«resonator_state») xs ms i)) n
+        ≡ tab (λ i. hostNumber (voicedAt (numbersOf c) (coefMemoOf s c .val) (s .«resonator_state») xs ms i)) n
     unfolding voicedIn
     marks-after = held-marks _ _ _ _ _ _ _ _ holds n ∙ tab-ext _ _ n (λ i h. ap hostNumber (same-answer i h))
 
@@ -328,16 +335,16 @@ recalled-again m r p q e h =
 
 -- each call's own law, one after another
 pub ran : (s : FormantOsc) (c : FormantOscControls) (n : ℕ) (depth : Float) (pitch : VoltsPerOctave) (memo : Memo1) (coefs : CoefMemo) (end : Driver)
-    (xs : List Float) (ms : List ℕ) (cells ys : List Float) (ns : List ℕ)
+    (xs : List Float) (ms : List ℕ) (cells ys : List Float) (ns : List ℕ) (numbers : Bool)
     → formantOscRefusalOf s ≡ 0 → 0 < n
-    → depth ≡ depthOf c → pitch ≡ pitchOf (c .«v_oct») depth (s .«vibrato_phase» .0)
+    → numbers ≡ numbersOf c → depth ≡ depthOf c → pitch ≡ pitchOf (c .«v_oct») depth (s .«vibrato_phase» .0)
     → memo ≡ recall1 voctToHzAt (s .«freq_memo») (pitch .0) → coefs ≡ coefMemoOf s c
     → end ≡ afterTicks (driveNext (c .«v_oct») depth (s .«sample_rate»)) n (driver (s .phase) (s .«vibrato_phase») memo)
     → xs ≡ tab (pulseAt (c .«v_oct») depth (s .«sample_rate») (driver (s .phase) (s .«vibrato_phase») memo)) n
     → ms ≡ tab (flagAt (c .«v_oct») depth (s .«sample_rate») (driver (s .phase) (s .«vibrato_phase») memo)) n
     → cells ≡ cellsAt (coefs .val) xs (s .«resonator_state») (length ms)
-    → ys ≡ tab (λ i. voltsOf (voicedAt (coefs .val) (s .«resonator_state») xs ms i) .p10) (length ms)
-    → ns ≡ tab (λ i. hostNumber (voicedAt (coefs .val) (s .«resonator_state») xs ms i)) (length ms)
+    → ys ≡ tab (λ i. voltsOf (voicedAt numbers (coefs .val) (s .«resonator_state») xs ms i) .p10) (length ms)
+    → ns ≡ tab (λ i. hostNumber (voicedAt numbers (coefs .val) (s .«resonator_state») xs ms i)) (length ms)
     → (record {
       phase = end .phase;
       «vibrato_phase» = end .«vibrato_phase»;
@@ -348,7 +355,7 @@ pub ran : (s : FormantOsc) (c : FormantOscControls) (n : ℕ) (depth : Float) (p
     }
     ≡ afterTicks (formantOscNextOf c) n s)
     × ((ys ≡ joined (frameAt nPorts (formantOscToldOf c) (formantOscNextOf c) s) n) × (ns ≡ tab (markAt (formantOscToldOf c) (formantOscNextOf c) s) n))
-ran s c n depth pitch memo coefs end xs ms cells ys ns e z ed ep em b ee ex ek el ey en =
+ran s c n depth pitch memo coefs end xs ms cells ys ns numbers e z eq ed ep em b ee ex ek el ey en =
     let a : memo ≡ freqMemoOf s c =
     unfold freqMemoOf in
     em ∙ ap (λ (p : VoltsPerOctave). recall1 voctToHzAt (s .«freq_memo») (p .0)) ep
@@ -372,14 +379,14 @@ ran s c n depth pitch memo coefs end xs ms cells ys ns e z ed ep em b ee ex ek e
           })
           ∙ sym (state-after s c e n z xs ms x m),
       (
-        ey ∙ (λ k. tab (λ i. voltsOf (voicedAt (b k .val) (s .«resonator_state») xs ms i) .p10) (w k)) ∙ sym (samples-after s c e n z xs ms x m),
-        en ∙ (λ k. tab (λ i. hostNumber (voicedAt (b k .val) (s .«resonator_state») xs ms i)) (w k)) ∙ sym (marks-after s c e n z xs ms x m),
+        ey ∙ (λ k. tab (λ i. voltsOf (voicedAt (eq k) (b k .val) (s .«resonator_state») xs ms i) .p10) (w k)) ∙ sym (samples-after s c e n z xs ms x m),
+        en ∙ (λ k. tab (λ i. hostNumber (voicedAt (eq k) (b k .val) (s .«resonator_state») xs ms i)) (w k)) ∙ sym (marks-after s c e n z xs ms x m),
       ),
     )
 
 -- ---- so no tick of a block is refused
 pub block-accepts : Block-accepts
-block-accepts s c h = held-accepted _ _ _ _ _ _ _ _ (holds s c h) (λ m. unfold answerOf voicedOf in mark-says _ _ _ _ .is-accepted)
+block-accepts s c h = held-accepted _ _ _ _ _ _ _ _ (holds s c h) (λ m. unfold answerOf voicedOf in mark-says _ _ _ _ _ .is-accepted)
 
 pub block-tallies : Block-tallies
 block-tallies s c h = all-taken _ _ s (block-accepts s c h)
@@ -387,4 +394,9 @@ block-tallies s c h = all-taken _ _ s (block-accepts s c h)
 -- ---- a tick is refused by what refuses its state
 pub tick-refusal : (s : FormantOsc) (c : FormantOscControls) → refusalOf (formantOscTickOf s c .answer) ≡ formantOscRefusalOf s
 unfolding formantOscTickOf formantOscSoundOf
-tick-refusal s c = refused-by (λ (t : FormantOscTicked). t .answer) (formantOscRefusalOf s) _ _ (mark-says _ _ _ _ .is-accepted) refl
+tick-refusal s c = refused-by (λ (t : FormantOscTicked). t .answer) (formantOscRefusalOf s) _ _ (mark-says _ _ _ _ _ .is-accepted) refl
+
+-- ---- and marked over its controls
+pub nan-steers : Nan-steers
+unfolding formantOscTickOf formantOscSoundOf
+nan-steers s c = tick-steers (λ (t : FormantOscTicked). t .answer) (controlsOf c) (formantOscRefusalOf s) _ _ (mark-steers _ _ _ _ (controlsOf c)) refl

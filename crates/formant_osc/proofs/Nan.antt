@@ -1,12 +1,10 @@
--- No tick is clean with a control that is NaN: a NaN pitch or vibrato makes the phase's increment NaN, a NaN vowel or shift kills a resonator.
+-- A control that is NaN is told by notfinite or lost: a NaN pitch or vibrato makes the phase's increment NaN, a NaN vowel or shift kills a resonator.
 use mathlib.Core.Bool.{Bool, true, false, _&&_, cond}
-use mathlib.Core.Logic.{_⊎_, inl, inr, _≢_}
+use mathlib.Core.Logic.{_⊎_, inl, inr}
 use mathlib.Core.Path.{_≡_, refl, sym, ap, _∙_, subst}
-use Prim.Native.Nat.{ℕ}
-use native.Mathlib.Omega.{arith}
 use lib.Ieee.{Float, nan, binary64, add, div, fits}
 use Rattle.answer.proofs.Laws.{mark-says}
-use Rattle.answer.specs.Answer.{markNumber, clean, notfinite, lost}
+use Rattle.answer.specs.Answer.{markNumber, notfinite, lost}
 use Rattle.answer.specs.Block.{answerAt}
 use Rattle.answer.specs.Mark.{allFinite, ruleOf, markOf}
 use Rattle.answer.specs.declared.Volts.{Volts}
@@ -21,7 +19,7 @@ use Rattle.formant_osc.proofs.Reached.{tick-sounds, good}
 use Rattle.formant_osc.proofs.Taken.{taken-mark}
 use Rattle.formant_osc.specs.Calls.{ReachedFormantOsc}
 use Rattle.formant_osc.specs.FormantOsc.{freqMemoOf, formantOscSoundOf, formantOscTickOf}
-use Rattle.formant_osc.specs.Promises.{shiftFactor, Nan-never-clean, Blocks-never-clean}
+use Rattle.formant_osc.specs.Promises.{shiftFactor, Dirty, Nan-dirties, Blocks-dirty}
 use Rattle.formant_osc.specs.Sound.{pitchOf}
 use Rattle.formant_osc.specs.declared.FormantOscControls.{FormantOscControls}
 use Rattle.formant_osc.specs.declared.FormantOsc.{FormantOsc}
@@ -52,41 +50,40 @@ memo-nan s c h e =
     ∙ hertz-nan
 
 -- ---- a phase that isn't finite is notfinite or lost
-unclean : (v : Volts) (sums phases : Bool) → phases ≡ false → markNumber (markOf v false sums phases) ≢ clean
+dirty : (v : Volts) (sums phases numbers : Bool) → phases ≡ false → Dirty (markNumber (markOf v false sums phases numbers))
 unfolding ruleOf
-unclean v sums phases e q = go (sums && allFinite v) (sym (mark-says v false sums phases .number ∙ ap (ruleOf false (sums && allFinite v)) e) ∙ q)
+dirty v sums phases numbers e =
+    subst Dirty (sym (mark-says v false sums phases numbers .number ∙ ap (λ (b : Bool). ruleOf false (sums && allFinite v) b numbers) e))
+    (go (sums && allFinite v))
   where
-    go : (b : Bool) → cond b lost notfinite ≡ clean → ⊥
-    go true h = omega arith
-    go false h = omega arith
+    go : (b : Bool) → Dirty (cond b lost notfinite)
+    go true = inr refl
+    go false = inl refl
 
 phases-lost : (phase freq rate : Float) (other : Bool) → freq ≡ nan → (isFin (add binary64 phase (div binary64 freq rate)) && other) ≡ false
 phases-lost phase freq rate other e = rw (e, div-nan-l, add-nan-r) refl
 
-sound-lost : (s : FormantOsc) (c : FormantOscControls) → freqMemoOf s c .val .0 ≡ nan → markNumber (formantOscSoundOf s c .answer) ≢ clean
+sound-lost : (s : FormantOsc) (c : FormantOscControls) → freqMemoOf s c .val .0 ≡ nan → Dirty (markNumber (formantOscSoundOf s c .answer))
 unfolding formantOscSoundOf incrementOf
-sound-lost s c e = unclean _ _ _ (phases-lost _ _ _ _ e)
+sound-lost s c e = dirty _ _ _ _ (phases-lost _ _ _ _ e)
 
 tick-lost : (s : FormantOsc) → ReachedFormantOsc s → (c : FormantOscControls) → (c .«v_oct» .0 ≡ nan) ⊎ (c .vibrato ≡ nan)
-    → markNumber (formantOscTickOf s c .answer) ≢ clean
+    → Dirty (markNumber (formantOscTickOf s c .answer))
 tick-lost s h c d =
     let g = good h in
-    subst (λ (t : FormantOscTicked). markNumber (t .answer) ≢ clean) (sym (tick-sounds s c g)) (sound-lost s c (memo-nan s c (g .pitch) (tone-nan s c d)))
+    subst (λ (t : FormantOscTicked). Dirty (markNumber (t .answer))) (sym (tick-sounds s c g)) (sound-lost s c (memo-nan s c (g .pitch) (tone-nan s c d)))
 
 -- ---- a shift that is NaN has that factor
 factor-nan : (c : FormantOscControls) → c .«formant_shift» ≡ nan → shiftFactor c ≡ nan
 factor-nan c e = rw (e, div-nan-l) exp2-nan
 
-unfinished-unclean : (n : ℕ) → n ≡ notfinite → n ≢ clean
-unfinished-unclean n e q = omega arith
-
-pub nan-never-clean : Nan-never-clean
-nan-never-clean s h c f (inl e) = tick-lost s h c (inl e)
-nan-never-clean s h c f (inr (inl e)) = unfinished-unclean _ (nan-vowel s h c f e .0)
-nan-never-clean s h c f (inr (inr (inl e))) = unfinished-unclean _ (dead-shift s h c f (inr (factor-nan c e)) .0)
-nan-never-clean s h c f (inr (inr (inr e))) = tick-lost s h c (inr e)
+pub nan-dirties : Nan-dirties
+nan-dirties s h c f (inl e) = tick-lost s h c (inl e)
+nan-dirties s h c f (inr (inl e)) = inl (nan-vowel s h c f e .0)
+nan-dirties s h c f (inr (inr (inl e))) = inl (dead-shift s h c f (inr (factor-nan c e)) .0)
+nan-dirties s h c f (inr (inr (inr e))) = tick-lost s h c (inr e)
 
 -- ---- the ticks of a block: each state in it is reached
-pub blocks-never-clean : Blocks-never-clean
+pub blocks-dirty : Blocks-dirty
 unfolding answerAt
-blocks-never-clean s h c f d t o m r i l q = nan-never-clean _ (reached-at s h c f i) c f d (let e = sym (taken-mark s c t o m r i l) ∙ q in omega arith)
+blocks-dirty s h c f d t o m r i l = (_, taken-mark s c t o m r i l, nan-dirties _ (reached-at s h c f i) c f d)

@@ -56,7 +56,7 @@ tick-sounds s c g = simp (unrefused s g)
 
 sound-accepted : (s : FormantOsc) (c : FormantOscControls) → accepted (formantOscSoundOf s c .answer) ≡ true
 unfolding formantOscSoundOf
-sound-accepted s c = mark-says _ _ _ _ .is-accepted
+sound-accepted s c = mark-says _ _ _ _ _ .is-accepted
 
 -- ---- it stays good
 rest-good : (s : FormantOsc) → Good s → Good (restarted s)

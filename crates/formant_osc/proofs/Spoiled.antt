@@ -32,14 +32,14 @@ use Rattle.laws.specs.Float.{isFin}
 use Rattle.laws.specs.Lists.{tab}
 
 -- ---- the mark
-unfinished : (v : Volts) (sums phases : Bool) → sums ≡ false → markNumber (markOf v false sums phases) ≡ notfinite
+unfinished : (v : Volts) (sums phases numbers : Bool) → sums ≡ false → markNumber (markOf v false sums phases numbers) ≡ notfinite
 unfolding ruleOf
-unfinished v sums phases e = mark-says v false sums phases .number ∙ ap (λ (b : Bool). ruleOf false (b && allFinite v) phases) e
+unfinished v sums phases numbers e = mark-says v false sums phases numbers .number ∙ ap (λ (b : Bool). ruleOf false (b && allFinite v) phases numbers) e
 
 pub sound-unfinished : (s : FormantOsc) (c : FormantOscControls) → isFin (formantOscRung s c .sum) ≡ false
     → markNumber (formantOscSoundOf s c .answer) ≡ notfinite
 unfolding formantOscSoundOf
-sound-unfinished s c e = unfinished _ _ _ e
+sound-unfinished s c e = unfinished _ _ _ _ e
 
 abbrev Unfinished : FormantOscTicked → Type 0
 Unfinished t = accepted (t .answer) ≡ true → markNumber (t .answer) ≡ notfinite

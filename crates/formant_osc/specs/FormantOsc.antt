@@ -14,7 +14,7 @@ use Rattle.common.specs.declared.Hertz.{Hertz}
 use Rattle.common.specs.declared.Memo1.{Memo1}
 use Rattle.answer.specs.Answer.{volts1}
 use Rattle.answer.specs.Block.{Block, blockOf}
-use Rattle.answer.specs.Mark.{markOf}
+use Rattle.answer.specs.Mark.{allNumbers, markOf}
 use Rattle.answer.specs.declared.Answer.{Answer}
 use Rattle.answer.specs.declared.Tally.{Tally}
 use Rattle.answer.specs.declared.Answer.the-variants as answer
@@ -65,6 +65,10 @@ coefMemoOf s c = coefRecall (s .«coef_memo») (clampOf (c .vowel) zer one) (c .
 unfoldable pub formantOscRung : FormantOsc → FormantOscControls → Rung
 formantOscRung s c = rungOf (coefMemoOf s c .val) (s .«resonator_state») (glottalPulse (s .phase .0))
 
+-- the controls given to a tick, in port order
+abbrev pub controlsOf : FormantOscControls → List Float
+controlsOf c = c .«v_oct» .0 ∷ c .vowel ∷ c .«formant_shift» ∷ c .vibrato ∷ []
+
 -- tick_generic, line by line
 unfoldable pub formantOscSoundOf : FormantOsc → FormantOscControls → FormantOscTicked
 formantOscSoundOf s c =
@@ -73,7 +77,9 @@ formantOscSoundOf s c =
     let next = add binary64 (s .phase .0) (incrementOf (freqs .val) (s .«sample_rate») .0) in
     let vibratoNext = add binary64 (s .«vibrato_phase» .0) (incrementOf vibratoRate (s .«sample_rate») .0) in
     record {
-      answer = markOf (volts1 (mul binary64 (clampOf (rung .sum) (neg one) one) five)) false (isFin (rung .sum)) (isFin next && isFin vibratoNext);
+      answer =
+          markOf (volts1 (mul binary64 (clampOf (rung .sum) (neg one) one) five)) false (isFin (rung .sum)) (isFin next && isFin vibratoNext)
+          (allNumbers (controlsOf c));
       «formant_osc» =
           record {
             phase = turns (wrapOf next);

@@ -1,15 +1,15 @@
 -- Theorems about the FormantOsc: the statements. proofs/ proves each under the same name in small letters.
 use mathlib.Core.Bool.{true, false, cond}
-use mathlib.Core.List.{List}
-use mathlib.Core.Logic.{_⊎_, _≢_}
+use mathlib.Core.List.{List, [], _∷_}
+use mathlib.Core.Logic.{_⊎_}
 use mathlib.Core.Path.{_≡_}
 use Prim.Native.Nat.{ℕ, suc, _<_, _*_}
 use lib.Dec.{eqb}
 use lib.Ieee.{Float, nan, binary64, div, ofBits}
 use lib.ListN.{length, getD}
-use Rattle.answer.specs.Answer.{notfinite, clean, told, markNumber, accepted, outcomeNumber}
+use Rattle.answer.specs.Answer.{notfinite, lost, clean, told, markNumber, accepted, outcomeNumber}
 use Rattle.answer.specs.Block.{Block, blockRefusalOf}
-use Rattle.answer.specs.Promises.{AllAccepted, AllTaken}
+use Rattle.answer.specs.Promises.{Steers, AllAccepted, AllTaken}
 use Rattle.answer.specs.declared.Tally.{Tally}
 use Rattle.common.specs.Consts.{five}
 use Rattle.common.specs.Tests.{rateOk, phaseOk}
@@ -141,19 +141,26 @@ Blocks-dead = (s : FormantOsc) → ReachedFormantOsc s → (c : FormantOscContro
 abbrev pub Dead-spoiled : Type 0
 Dead-spoiled = (s : FormantOsc) → Dead s → Spoiled s
 
--- ---- no tick is clean with a control that is NaN, whichever it is
+-- ---- no tick is clean with a control that is NaN, and none is steered without one
+abbrev pub Nan-steers : Type 0
+Nan-steers = (s : FormantOsc) (c : FormantOscControls) 
+    → Steers (c .«v_oct» .0 ∷ c .vowel ∷ c .«formant_shift» ∷ c .vibrato ∷ []) (formantOscTickOf s c .answer)
+
+-- ---- in a reached one a control that is NaN, whichever it is, is told by notfinite or lost: its tick is neither clean nor steered
 abbrev pub SomeNan : FormantOscControls → Type 0
 SomeNan c = (c .«v_oct» .0 ≡ nan) ⊎ ((c .vowel ≡ nan) ⊎ ((c .«formant_shift» ≡ nan) ⊎ (c .vibrato ≡ nan)))
 
-abbrev pub Nan-never-clean : Type 0
-Nan-never-clean = (s : FormantOsc) → ReachedFormantOsc s → (c : FormantOscControls) → Fit c → SomeNan c
-    → markNumber (formantOscTickOf s c .answer) ≢ clean
+abbrev pub Dirty : ℕ → Type 0
+Dirty n = (n ≡ notfinite) ⊎ (n ≡ lost)
 
--- so no mark of a block with such controls tells a clean tick
-abbrev pub Blocks-never-clean : Type 0
-Blocks-never-clean = (s : FormantOsc) → ReachedFormantOsc s → (c : FormantOscControls) → Fit c → SomeNan c
+abbrev pub Nan-dirties : Type 0
+Nan-dirties = (s : FormantOsc) → ReachedFormantOsc s → (c : FormantOscControls) → Fit c → SomeNan c → Dirty (markNumber (formantOscTickOf s c .answer))
+
+-- and so is every mark of a block with such controls
+abbrev pub Blocks-dirty : Type 0
+Blocks-dirty = (s : FormantOsc) → ReachedFormantOsc s → (c : FormantOscControls) → Fit c → SomeNan c
     → (t : Tally) (o : List Float) (m : List ℕ) → formantOscBlockOf s c t o m .refused ≡ 0
-    → (i : ℕ) → i < length m → getD (formantOscBlockOf s c t o m .marks) i 0 ≢ told clean
+    → (i : ℕ) → i < length m → (n : ℕ) × (getD (formantOscBlockOf s c t o m .marks) i 0 ≡ told n) × Dirty n
 
 -- ---- no tick of a block is refused whose first isn't, and a tally with room takes each of their answers
 abbrev pub Block-accepts : Type 0

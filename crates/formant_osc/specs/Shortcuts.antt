@@ -73,8 +73,8 @@ phaseFlagAt xs p i = flag (isFin (add binary64 (phaseAt xs p i .0) (getD xs i na
 
 -- ---- the resonators, over the pulses xs and those flags ms
 -- what a tick answers to their sum
-unfoldable pub voicedOf : Float → Bool → Answer
-voicedOf sum phases = markOf (volts1 (mul binary64 (clampOf sum (neg one) one) five)) false (isFin sum) phases
+unfoldable pub voicedOf : Float → Bool → Bool → Answer
+voicedOf sum phases numbers = markOf (volts1 (mul binary64 (clampOf sum (neg one) one) five)) false (isFin sum) phases numbers
 
 -- their cells before tick i
 unfoldable pub cellsAt : List Float → List Float → List Float → ℕ → List Float
@@ -82,5 +82,5 @@ cellsAt c xs s zero = s
 cellsAt c xs s (suc i) = rungOf c (cellsAt c xs s i) (getD xs i nan) .state
 
 -- what tick i answers
-unfoldable pub voicedAt : List Float → List Float → List Float → List ℕ → ℕ → Answer
-voicedAt c s xs ms i = voicedOf (rungOf c (cellsAt c xs s i) (getD xs i nan) .sum) (isFlagged (getD ms i 0))
+unfoldable pub voicedAt : Bool → List Float → List Float → List Float → List ℕ → ℕ → Answer
+voicedAt numbers c s xs ms i = voicedOf (rungOf c (cellsAt c xs s i) (getD xs i nan) .sum) (isFlagged (getD ms i 0)) numbers

@@ -17,12 +17,13 @@ ghost use Rattle.common.specs.Memo.{recall1, voctToHzAt};
 ghost use Rattle.common.specs.Phase.{turns};
 ghost use Rattle.common.specs.Tests.{phaseOk};
 ghost use Rattle.answer.specs.Answer.{hostNumber, voltsOf};
+ghost use Rattle.answer.specs.Mark.{allNumbers};
 ghost use Rattle.answer.specs.Block.{afterTicks, joined, block, markAt, frameAt};
 ghost use Rattle.formant_osc.specs.Consts.{nPorts};
 ghost use Rattle.formant_osc.specs.Coefs.{spotOf, formantOf, getFormants, bandwidthOf, coefOf, resonatorCoefs};
 ghost use Rattle.formant_osc.specs.Memo.{newCoefMemo, coefHits, coefFilled, coefRecall};
 ghost use Rattle.formant_osc.specs.Sound.{glottalPulse, pitchOf, resonateOf, rungOf};
-ghost use Rattle.formant_osc.specs.FormantOsc.{formantOscRefusalOf, formantOscRateRefusalOf, formantOscNewOf, formantOscSoundOf};
+ghost use Rattle.formant_osc.specs.FormantOsc.{controlsOf, formantOscRefusalOf, formantOscRateRefusalOf, formantOscNewOf, formantOscSoundOf};
 ghost use Rattle.formant_osc.specs.FormantOsc.{formantOscTickOf, formantOscToldOf, formantOscNextOf, formantOscBlockOf, formantOscResetOf};
 ghost use Rattle.formant_osc.specs.FormantOsc.{formantOscSetSampleRateOf};
 ghost use Rattle.formant_osc.specs.Shortcuts.{driveNext, pulseAt, flag, isFlagged, flagAt, strideAt, swayed, phaseAt, phaseFlagAt};
@@ -405,11 +406,11 @@ fn is_flagged(n: u32) -> bool
 }
 
 // What a tick answers to the resonators' sum.
-fn voiced(sum: f64, phases: bool) -> Answer
-    ensures { λ r. ⌜ r ≡ voicedOf sum phases ⌝ }
+fn voiced(sum: f64, phases: bool, numbers: bool) -> Answer
+    ensures { λ r. ⌜ r ≡ voicedOf sum phases numbers ⌝ }
 {
     let volts = answer::volts1(numeric::clamp(sum, -1.0, 1.0) * 5.0);
-    answer::mark(volts, false, numeric::is_finite(sum), phases)
+    answer::mark(volts, false, numeric::is_finite(sum), phases, numbers)
 }
 
 // A block goes over its ticks three times, each time with little to wait for, so that a processor works at several ticks at
@@ -499,24 +500,40 @@ fn drive(
 }
 
 // The third time: each pulse becomes the sample that the resonators make of it.
-fn voice(c: [f64; 15], start: [f64; 10], samples: &mut [f64], marks: &mut [u32]) -> [f64; 10]
+fn voice(
+    c: [f64; 15],
+    start: [f64; 10],
+    numbers: bool,
+    samples: &mut [f64],
+    marks: &mut [u32],
+) -> [f64; 10]
     requires { ⌜ length (now samples) ≡ length (now marks) ⌝ }
     ensures { λ r. ⌜ r ≡ cellsAt c (now (samples .entry)) start (length (now (marks .entry))) ⌝ }
     ensures { λ r. ⌜ now (samples .exit)
-        ≡ tab (λ i. voltsOf (voicedAt c start (now (samples .entry)) (now (marks .entry)) i) .p10) (length (now (marks .entry))) ⌝ }
+        ≡ tab (λ i. voltsOf (voicedAt numbers c start (now (samples .entry)) (now (marks .entry)) i) .p10) (length (now (marks .entry))) ⌝ }
     ensures { λ r. ⌜ now (marks .exit)
-        ≡ tab (λ i. hostNumber (voicedAt c start (now (samples .entry)) (now (marks .entry)) i)) (length (now (marks .entry))) ⌝ }
+        ≡ tab (λ i. hostNumber (voicedAt numbers c start (now (samples .entry)) (now (marks .entry)) i)) (length (now (marks .entry))) ⌝ }
 {
     let mut cells = start;
     let mut i = 0;
     while i < marks.len() {
         let rung = ring(c, cells, samples[i]);
-        let heard = voiced(rung.sum, is_flagged(marks[i]));
+        let heard = voiced(rung.sum, is_flagged(marks[i]), numbers);
         answer::put(heard, PORTS, i, &mut *samples, &mut *marks);
         cells = rung.state;
         i += 1;
     }
     cells
+}
+
+impl FormantOscControls {
+    // Whether no control is NaN.
+    fn are_numbers(self) -> bool
+        ensures { λ r. ⌜ r ≡ allNumbers (controlsOf self) ⌝ }
+    {
+        let v_oct = self.v_oct;
+        answer::numbers4(v_oct.0, self.vowel, self.formant_shift, self.vibrato)
+    }
 }
 
 impl FormantOsc {
@@ -575,6 +592,7 @@ impl FormantOsc {
     fn sound(self, c: FormantOscControls) -> FormantOscTicked
         ensures { λ r. ⌜ r ≡ formantOscSoundOf self c ⌝ }
     {
+        let numbers = c.are_numbers();
         let phase = self.phase;
         let vibrato_phase = self.vibrato_phase;
         let state = self.resonator_state;
@@ -603,7 +621,7 @@ impl FormantOsc {
             numeric::is_finite(vibrato_next.0),
         );
         FormantOscTicked {
-            answer: voiced(sum, phases),
+            answer: voiced(sum, phases, numbers),
             formant_osc: FormantOsc {
                 phase: common::wrap_phase(next),
                 vibrato_phase: vibrato_wrapped,
@@ -629,13 +647,14 @@ impl FormantOsc {
         }
     }
 
-    // The ticks of a block, whose coefficients are those of the first.
+    // The ticks of a block, whose coefficients are those of the first. The controls are asked once.
     fn run(self, c: FormantOscControls, samples: &mut [f64], marks: &mut [u32]) -> Self
         requires { ⌜ (formantOscRefusalOf self ≡ 0) × (0 < length (now marks)) × (length (now samples) ≡ length (now marks)) ⌝ }
         ensures { λ r. ⌜ r ≡ afterTicks (formantOscNextOf c) (length (now (marks .entry))) self ⌝ }
         ensures { λ r. ⌜ now (samples .exit) ≡ joined (frameAt nPorts (formantOscToldOf c) (formantOscNextOf c) self) (length (now (marks .entry))) ⌝ }
         ensures { λ r. ⌜ now (marks .exit) ≡ tab (markAt (formantOscToldOf c) (formantOscNextOf c) self) (length (now (marks .entry))) ⌝ }
     {
+        let numbers = c.are_numbers();
         let phase = self.phase;
         let vibrato_phase = self.vibrato_phase;
         let cells = self.resonator_state;
@@ -659,7 +678,7 @@ impl FormantOsc {
         FormantOsc {
             phase,
             vibrato_phase,
-            resonator_state: voice(val, cells, samples, marks),
+            resonator_state: voice(val, cells, numbers, samples, marks),
             sample_rate,
             freq_memo,
             coef_memo,

@@ -91,6 +91,7 @@ frame-length o n (answer.Clean v) h = marked-length o n (ascii "clean") v h (ome
 frame-length o n (answer.Cleared v) h = marked-length o n (ascii "cleared") v h (omega arith)
 frame-length o n (answer.NotFinite v) h = marked-length o n (ascii "notfinite") v h (omega arith)
 frame-length o n (answer.Lost v) h = marked-length o n (ascii "lost") v h (omega arith)
+frame-length o n (answer.Steered v) h = marked-length o n (ascii "steered") v h (omega arith)
 frame-length o n (answer.Refused r) h = omega arith
 
 -- ---- the end
@@ -106,7 +107,8 @@ end-length frames t h =
     let c = count-length (ascii "cleared=") (t .cleared) (h .cleared) in
     let d = count-length (ascii "notfinite=") (t .notfinite) (h .notfinite) in
     let e = count-length (ascii "lost=") (t .lost) (h .lost) in
-    let f = claim-length (claimedOf frames t) in
+    let f = count-length (ascii "steered=") (t .steered) (h .steered) in
+    let g = claim-length (claimedOf frames t) in
     simp length-append (omega arith)
 
 pub refused-length : Refused-length

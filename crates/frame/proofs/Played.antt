@@ -92,6 +92,7 @@ frame-same o k (answer.Clean v) w t h = ap (λ (t : List ℕ). countLine (ascii 
 frame-same o k (answer.Cleared v) w t h = ap (λ (t : List ℕ). countLine (ascii "n=") k ++ wordLine (ascii "mark=") (ascii "cleared") ++ t) h
 frame-same o k (answer.NotFinite v) w t h = ap (λ (t : List ℕ). countLine (ascii "n=") k ++ wordLine (ascii "mark=") (ascii "notfinite") ++ t) h
 frame-same o k (answer.Lost v) w t h = ap (λ (t : List ℕ). countLine (ascii "n=") k ++ wordLine (ascii "mark=") (ascii "lost") ++ t) h
+frame-same o k (answer.Steered v) w t h = ap (λ (t : List ℕ). countLine (ascii "n=") k ++ wordLine (ascii "mark=") (ascii "steered") ++ t) h
 frame-same o k (answer.Refused n) w t h = absurd (false≢true t)
 
 -- ---- so the frames print as the answers

@@ -14,6 +14,7 @@ countsText t =
     ++ countLine (ascii "cleared=") (t .cleared)
     ++ countLine (ascii "notfinite=") (t .notfinite)
     ++ countLine (ascii "lost=") (t .lost)
+    ++ countLine (ascii "steered=") (t .steered)
 
 -- finished = begun = frames
 unfoldable pub claimedOf : ℕ → Tally → Bool

@@ -37,12 +37,13 @@ pub record ShortTally (t : Tally) : Type 0 where
   pub cleared : Short (t .cleared)
   pub notfinite : Short (t .notfinite)
   pub lost : Short (t .lost)
+  pub steered : Short (t .steered)
 
 abbrev pub Frame-length : Type 0
 Frame-length = (o : Osc) (n : ℕ) (a : Answer) → Short n → length (frameText o n a) ≤ 137
 
 abbrev pub End-length : Type 0
-End-length = (frames : ℕ) (t : Tally) → ShortTally t → length (endText frames t) ≤ 105
+End-length = (frames : ℕ) (t : Tally) → ShortTally t → length (endText frames t) ≤ 124
 
 abbrev pub Refused-length : Type 0
 Refused-length = (n : ℕ) → Short n → length (refusedText n) ≤ 19

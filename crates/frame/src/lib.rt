@@ -92,6 +92,7 @@ pub fn put_frame(out: &mut [u8], at: usize, osc: Osc, n: u32, a: Answer) -> usiz
         Answer::Cleared(v) => put_marked(out, at, osc, n, b"cleared", v),
         Answer::NotFinite(v) => put_marked(out, at, osc, n, b"notfinite", v),
         Answer::Lost(v) => put_marked(out, at, osc, n, b"lost", v),
+        Answer::Steered(v) => put_marked(out, at, osc, n, b"steered", v),
         Answer::Refused(_) => text::put_text(out, at, b""),
     }
 }
@@ -205,7 +206,8 @@ fn put_counts(out: &mut [u8], at: usize, t: Tally) -> usize
     let b = put_count(&mut *out, a, b"finished=", t.finished);
     let c = put_count(&mut *out, b, b"cleared=", t.cleared);
     let d = put_count(&mut *out, c, b"notfinite=", t.notfinite);
-    put_count(out, d, b"lost=", t.lost)
+    let e = put_count(&mut *out, d, b"lost=", t.lost);
+    put_count(out, e, b"steered=", t.steered)
 }
 
 // Whether the render may be called finished: each of its frames began, and each was clean.

@@ -20,7 +20,8 @@ use Rattle.karplus_strong.specs.Line.{blankAt, blankOf, excitedAt, excit
 use Rattle.karplus_strong.specs.Step.{filterCoefOf, apCoefOf, targetDelayOf, offsetOne, offsetTwo, tapOf}
 use Rattle.karplus_strong.specs.Step.{filteredOf, stretchedOf, Ticking, restOf, wroteOf, clearedOf, stepOf}
 use Rattle.karplus_strong.specs.KarplusStrong.{maxLenOf, karplusStrongRefusalOf, struckLen, strikeOf, strikeIf, tickUnless, karplusStrongSoundOf}
-use Rattle.karplus_strong.specs.KarplusStrong.{karplusStrongTickOf, dampingOf, brightnessOf, stretchOf, periodAt, triggerRefusalOf}
+use Rattle.karplus_strong.specs.KarplusStrong.{karplusStrongTickOf, dampingOf, brightnessOf, stretchOf, controlsOf, periodAt, triggerRefusalOf}
+use Rattle.answer.specs.Mark.{allNumbers}
 use Rattle.karplus_strong.specs.Shortcuts.{tuningOf, turnOf}
 use Rattle.karplus_strong.specs.declared.Tuning.{Tuning}
 use Rattle.karplus_strong.specs.Promises.{Alike, SameTick, Only-its-cells}
@@ -78,8 +79,8 @@ turned s t l =
       size = λ h. length-blank 0 (s .len) l h;
     })
 
-pub stepped : (s : KarplusStrong) (p d t : Float) (l : List Float) → Turned s l (stepOf s p d t l)
-stepped s p d t l = subst (Turned s l) (turn-is s p d t l) (turned s (tuningOf p d t) l)
+pub stepped : (s : KarplusStrong) (p d t : Float) (numbers : Bool) (l : List Float) → Turned s l (stepOf s p d t numbers l)
+stepped s p d t numbers l = subst (Turned s l) (turn-is s p d t numbers l) (turned s (tuningOf p d t numbers) l)
 
 pub turned-sound : (s : KarplusStrong) (l : List Float) (u : Ticking) → Turned s l u → Sound s → Sound (u .out .«karplus_strong»)
 turned-sound s l u w a = record {
@@ -154,18 +155,19 @@ alike-set n i v l m h k = record {
     go j q (yes e) = rw e (getD-set-same l i v nan h ∙ sym (getD-set-same m i v nan (let z = k .size in omega arith)))
     go j q (no e) = getD-set-other l i j v nan e ∙ k .cells j q ∙ sym (getD-set-other m i j v nan e)
 
-pub alike-step : (s : KarplusStrong) (p d t : Float) (l m : List Float) → s .«write_pos» < s .len → s .len ≤ length l → Alike (s .len) l m
-    → SameTick (stepOf s p d t l) (stepOf s p d t m)
+pub alike-step : (s : KarplusStrong) (p d t : Float) (numbers : Bool) (l m : List Float) → s .«write_pos» < s .len → s .len ≤ length l → Alike (s .len) l m
+    → SameTick (stepOf s p d t numbers l) (stepOf s p d t numbers m)
 unfolding stepOf
-alike-step s p d t l m h k e = rw (tap-alike l m (s .«write_pos») (s .len) (targetDelayOf p (filterCoefOf d) (apCoefOf t)) h (e .cells))
+alike-step s p d t numbers l m h k e = rw (tap-alike l m (s .«write_pos») (s .len) (targetDelayOf p (filterCoefOf d) (apCoefOf t)) h (e .cells))
     (go (tapOf m (s .«write_pos») (s .len) (targetDelayOf p (filterCoefOf d) (apCoefOf t))))
   where
     go : (x : Float) → let y = filteredOf s x (filterCoefOf d) in let z = stretchedOf s y (apCoefOf t) in let v = mul binary64 z loopLeak in
-        SameTick (cond (isFin v) (wroteOf s y z v l) (clearedOf s l)) (cond (isFin v) (wroteOf s y z v m) (clearedOf s m))
+        SameTick (cond (isFin v) (wroteOf s y z v numbers l) (clearedOf s numbers l)) (cond (isFin v) (wroteOf s y z v numbers m) (clearedOf s numbers m))
     go x = pick (isFin (mul binary64 (stretchedOf s (filteredOf s x (filterCoefOf d)) (apCoefOf t)) loopLeak)) (filteredOf s x (filterCoefOf d))
         (stretchedOf s (filteredOf s x (filterCoefOf d)) (apCoefOf t)) (mul binary64 (stretchedOf s (filteredOf s x (filterCoefOf d)) (apCoefOf t)) loopLeak)
       where
-        pick : (b : Bool) (y z v : Float) → SameTick (cond b (wroteOf s y z v l) (clearedOf s l)) (cond b (wroteOf s y z v m) (clearedOf s m))
+        pick : (b : Bool) (y z v : Float)
+            → SameTick (cond b (wroteOf s y z v numbers l) (clearedOf s numbers l)) (cond b (wroteOf s y z v numbers m) (clearedOf s numbers m))
         pick true y z v = record { out = refl; line = alike-set (s .len) (s .«write_pos») v l m (omega arith) e }
         pick false y z v = record { out = refl; line = alike-blank 0 (s .len) l m k (e .size) (λ i q. absurd (not-suc-le-zero q)) }
 
@@ -175,21 +177,22 @@ pub same-refused : (k : ℕ) (s : KarplusStrong) (l m : List Float) (t u : Ticki
 unfolding tickUnless
 same-refused k s l m t u e = record { out = refl; line = e }
 
-alike-sounded : (rising : Bool) (k : ℕ) (s t : KarplusStrong) (p b d c : Float) (draws : List ℕ) (l m : List Float)
+alike-sounded : (rising : Bool) (k : ℕ) (s t : KarplusStrong) (p b d c : Float) (numbers : Bool) (draws : List ℕ) (l m : List Float)
     → Alike (s .len) l m → Alike (t .len) l m → t .«write_pos» < t .len → t .len ≤ length l → struckLen p ≤ length l
-    → SameTick (tickUnless k s l (stepOf (strikeIf rising t p b draws l .string) p d c (strikeIf rising t p b draws l .line)))
-    (tickUnless k s m (stepOf (strikeIf rising t p b draws m .string) p d c (strikeIf rising t p b draws m .line)))
-alike-sounded rising (suc k) s t p b d c draws l m e a h g r = same-refused k s l m _ _ e
-alike-sounded false zero s t p b d c draws l m e a h g r = unfold tickUnless strikeIf in alike-step t p d c l m h g a
-alike-sounded true zero s t p b d c draws l m e a h g r = unfold tickUnless strikeIf strikeOf in alike-struck-step t p b d c draws l m r (a .size)
+    → SameTick (tickUnless k s l (stepOf (strikeIf rising t p b draws l .string) p d c numbers (strikeIf rising t p b draws l .line)))
+    (tickUnless k s m (stepOf (strikeIf rising t p b draws m .string) p d c numbers (strikeIf rising t p b draws m .line)))
+alike-sounded rising (suc k) s t p b d c numbers draws l m e a h g r = same-refused k s l m _ _ e
+alike-sounded false zero s t p b d c numbers draws l m e a h g r = unfold tickUnless strikeIf in alike-step t p d c numbers l m h g a
+alike-sounded true zero s t p b d c numbers draws l m e a h g r = unfold tickUnless strikeIf strikeOf in alike-struck-step t p b d c numbers draws l m r (a .size)
   where
-    alike-struck-step : (t : KarplusStrong) (p b d c : Float) (draws : List ℕ) (l m : List Float) → struckLen p ≤ length l → length l ≡ length m
-        → SameTick (stepOf (restOf t (struckLen p) (t .«trigger_edge»)) p d c (struckOf (struckLen p) b draws l))
-        (stepOf (restOf t (struckLen p) (t .«trigger_edge»)) p d c (struckOf (struckLen p) b draws m))
-    alike-struck-step t p b d c draws l m r e =
+    alike-struck-step : (t : KarplusStrong) (p b d c : Float) (numbers : Bool) (draws : List ℕ) (l m : List Float) → struckLen p ≤ length l
+        → length l ≡ length m
+        → SameTick (stepOf (restOf t (struckLen p) (t .«trigger_edge»)) p d c numbers (struckOf (struckLen p) b draws l))
+        (stepOf (restOf t (struckLen p) (t .«trigger_edge»)) p d c numbers (struckOf (struckLen p) b draws m))
+    alike-struck-step t p b d c numbers draws l m r e =
         let q = length-struck (struckLen p) b draws l r in
         let z : 0 < struckLen p = unfold struckLen in omega arith in
-        alike-step (restOf t (struckLen p) (t .«trigger_edge»)) p d c (struckOf (struckLen p) b draws l) (struckOf (struckLen p) b draws m) z (omega arith)
+        alike-step (restOf t (struckLen p) (t .«trigger_edge»)) p d c numbers (struckOf (struckLen p) b draws l) (struckOf (struckLen p) b draws m) z (omega arith)
         (alike-struck (struckLen p) b draws l m r e)
 
 alike-sound : (s : KarplusStrong) (c : KarplusStrongControls) (draws : List ℕ) (l m : List Float) → Sound s → maxLenOf (s .«sample_rate») + 2 ≤ length l
@@ -197,7 +200,8 @@ alike-sound : (s : KarplusStrong) (c : KarplusStrongControls) (draws : List ℕ)
 unfolding karplusStrongSoundOf
 alike-sound s c draws l m a r e =
     let q = a .most in
-    alike-sounded _ (triggerRefusalOf s c draws) s _ (periodAt s c) (brightnessOf c) (dampingOf c) (stretchOf c) draws l m e e (a .place) (omega arith)
+    alike-sounded _ (triggerRefusalOf s c draws) s _ (periodAt s c) (brightnessOf c) (dampingOf c) (stretchOf c) (allNumbers (controlsOf c)) draws l m e e
+    (a .place) (omega arith)
     (struck-fits s c a (length l) r)
 
 pub only-its-cells : Only-its-cells

@@ -1,5 +1,5 @@
 -- A tick that takes the trigger's edge forgets: from it on, every call answers as it would a new string.
-use mathlib.Core.Bool.{true, true≢false}
+use mathlib.Core.Bool.{Bool, true, true≢false}
 use mathlib.Core.List.{List}
 use mathlib.Core.Path.{_≡_, refl, sym, ap, _∙_}
 use Prim.Native.Nat.{ℕ, zero, suc, _*_, _≤_, _<_}
@@ -21,7 +21,8 @@ use Rattle.karplus_strong.specs.Consts.{nPorts}
 use Rattle.karplus_strong.specs.Line.{struckOf}
 use Rattle.karplus_strong.specs.Step.{Ticking, restOf, stepOf}
 use Rattle.karplus_strong.specs.KarplusStrong.{triggerRefusalOf, firstRefusalOf, karplusStrongBlockOf, finiteOr, struckLen, strikeOf, strikeIf}
-use Rattle.karplus_strong.specs.KarplusStrong.{heardString, tickUnless, karplusStrongTickOf, Strung, dampingOf, brightnessOf, stretchOf, memoAt, periodAt}
+use Rattle.karplus_strong.specs.KarplusStrong.{heardString, tickUnless, karplusStrongTickOf, Strung, dampingOf, brightnessOf, stretchOf, controlsOf, memoAt, periodAt}
+use Rattle.answer.specs.Mark.{allNumbers}
 use Rattle.karplus_strong.specs.Calls.{Call, Tick, Play, Ticked, after, reply, Fit, ReachedKarplusStrong}
 use Rattle.karplus_strong.specs.Promises.{taken, Strikes, Fresh, Forgotten, Forgets, Block-forgets, SameTick}
 use Rattle.karplus_strong.specs.declared.KarplusStrong.{KarplusStrong}
@@ -64,17 +65,17 @@ module _ (s n : KarplusStrong) (c : KarplusStrongControls) (draws : List ℕ) (a
   struck-same l m h e =
       rw (a .edge, edge-y, ← (a .risen), ← (a .rate), ← (a .memo))
       (go (periodAt s c) (brightnessOf c) (dampingOf c)
-      (stretchOf c) h)
+      (stretchOf c) (allNumbers (controlsOf c)) h)
     where
       t : KarplusStrong
       t = heardString s (risingOf (s .«trigger_edge») (c .trigger) .edge) (memoAt s c)
 
-      go : (p b d x : Float) → struckLen p ≤ length l → let u = restOf t (struckLen p) (t .«trigger_edge») in
-          SameTick (stepOf u p d x (struckOf (struckLen p) b draws l)) (stepOf u p d x (struckOf (struckLen p) b draws m))
-      go p b d x r =
+      go : (p b d x : Float) (numbers : Bool) → struckLen p ≤ length l → let u = restOf t (struckLen p) (t .«trigger_edge») in
+          SameTick (stepOf u p d x numbers (struckOf (struckLen p) b draws l)) (stepOf u p d x numbers (struckOf (struckLen p) b draws m))
+      go p b d x numbers r =
           let q = length-struck (struckLen p) b draws l r in
           let z : 0 < struckLen p = positive p in
-          alike-step _ p d x _ _ z (omega arith) (alike-struck (struckLen p) b draws l m r e)
+          alike-step _ p d x numbers _ _ z (omega arith) (alike-struck (struckLen p) b draws l m r e)
 
 struck-tick : (s : KarplusStrong) (c : KarplusStrongControls) (draws : List ℕ) (l : List Float) → Good s (length l) → triggerRefusalOf s c draws ≡ 0
     → karplusStrongTickOf s c draws l ≡ struckStep s c draws l

@@ -25,7 +25,8 @@ use Rattle.karplus_strong.specs.Consts.{nPorts}
 use Rattle.karplus_strong.specs.Step.{Ticking}
 use Rattle.karplus_strong.specs.KarplusStrong.{maxLenOf, roomOf, karplusStrongRefusalOf, finiteOr, periodOf, struckLen, Strung, strikeIf}
 use Rattle.karplus_strong.specs.KarplusStrong.{heardString, tickUnless, karplusStrongTickOf, strung, triggerRefusalOf, firstRefusalOf}
-use Rattle.karplus_strong.specs.KarplusStrong.{karplusStrongToldOf, karplusStrongNextOf, dampingOf, brightnessOf, stretchOf, memoAt, periodAt}
+use Rattle.karplus_strong.specs.KarplusStrong.{karplusStrongToldOf, karplusStrongNextOf, dampingOf, brightnessOf, stretchOf, controlsOf, memoAt, periodAt}
+use Rattle.answer.specs.Mark.{allNumbers}
 use Rattle.karplus_strong.specs.Shortcuts.{tuningOf, turnOf, heldAnswer, heldNext}
 use Rattle.karplus_strong.specs.Promises.{taken}
 use Rattle.karplus_strong.specs.declared.KarplusStrong.{KarplusStrong}
@@ -56,7 +57,7 @@ turned-ready s t l r e h = let w = turned s t l in rw e (w .place h, w .len)
 
 -- ---- the whole
 abbrev pub tuneOf : KarplusStrong → KarplusStrongControls → Tuning
-tuneOf s c = tuningOf (periodAt s c) (dampingOf c) (stretchOf c)
+tuneOf s c = tuningOf (periodAt s c) (dampingOf c) (stretchOf c) (allNumbers (controlsOf c))
 
 -- what the first turn starts from
 abbrev pub struckBy : KarplusStrong → KarplusStrongControls → List ℕ → List Float → Strung
@@ -107,7 +108,7 @@ module _ (s : KarplusStrong) (c : KarplusStrongControls) (x : Strung) (h : Held 
   same-memo = rw (h .memo) (recall1-again voctToHzAt (s .«freq_memo») (finiteOr (c .voct .0) zer))
 
   same-tune : tuneOf (x .string) c ≡ tuneOf s c
-  same-tune = (λ i. tuningOf (periodOf (h .rate i) ((same-memo ∙ h .memo) i .val)) (dampingOf c) (stretchOf c))
+  same-tune = (λ i. tuningOf (periodOf (h .rate i) ((same-memo ∙ h .memo) i .val)) (dampingOf c) (stretchOf c) (allNumbers (controlsOf c)))
 
   not-struck : (draws : List ℕ) → struckBy (x .string) c draws (x .line) ≡ strung (x .string) (x .line)
   unfolding strikeIf
@@ -120,7 +121,7 @@ module _ (s : KarplusStrong) (c : KarplusStrongControls) (x : Strung) (h : Held 
 struck-turn : (s : KarplusStrong) (c : KarplusStrongControls) (draws : List ℕ) (l : List Float)
     → struckStep s c draws l ≡ turnOf (struckBy s c draws l .string) (tuneOf s c) (struckBy s c draws l .line)
 unfolding struckStep
-struck-turn s c draws l = sym (turn-is _ _ _ _ _)
+struck-turn s c draws l = sym (turn-is _ _ _ _ _ _)
 
 held-tick : (s : KarplusStrong) (c : KarplusStrongControls) (draws : List ℕ) (x : Strung) → Held s c x
     → karplusStrongTickOf (x .string) c draws (x .line) ≡ turnOf (x .string) (tuneOf s c) (x .line)
@@ -179,16 +180,16 @@ module _ (s : KarplusStrong) (c : KarplusStrongControls) (d : List ℕ) (l : Lis
   trigger-by = rw (er, ep, em, ev)
 
   -- the ring of a string that was struck, if its trigger was taken
-  pub run-by : karplusStrongRefusalOf s (length l) ≡ 0 → triggerRefusalOf s c d ≡ 0 → (damping stretch bright : Float) (u : KarplusStrong)
-      (x : List Float) (t : Tuning) → damping ≡ dampingOf c → stretch ≡ stretchOf c
+  pub run-by : karplusStrongRefusalOf s (length l) ≡ 0 → triggerRefusalOf s c d ≡ 0 → (damping stretch bright : Float) (numbers : Bool) (u : KarplusStrong)
+      (x : List Float) (t : Tuning) → damping ≡ dampingOf c → stretch ≡ stretchOf c → numbers ≡ allNumbers (controlsOf c)
       → bright ≡ brightnessOf c
-      → Parts-of (strikeIf (risen .rising) (heardString s (risen .edge) memo) period bright d l) u x → t ≡ tuningOf period damping stretch
+      → Parts-of (strikeIf (risen .rising) (heardString s (risen .edge) memo) period bright d l) u x → t ≡ tuningOf period damping stretch numbers
       → (n : ℕ) → 0 < n → (y : Strung) (o : List Float) (m : List ℕ) → Rings (heldAnswer t) (heldNext t) (strung u x) n y o m
       → Rings (karplusStrongToldOf c d) (karplusStrongNextOf c d) (strung s l) n y o m
-  run-by h k damping stretch bright u x t ed es eb et eu n z y o m r =
+  run-by h k damping stretch bright numbers u x t ed es en eb et eu n z y o m r =
       let w = holds s c d l h k in
       let a : strung u x ≡ struckBy s c d l = (λ i. strung (et .0 i) (et .1 i)) ∙ rw (eb, er, ep, em, ev) refl in
-      let b : t ≡ tuneOf s c = rw (eu, ed, es, ep, em, ev) refl in
+      let b : t ≡ tuneOf s c = rw (eu, ed, es, en, ep, em, ev) refl in
       let q : Rings (heldAnswer (tuneOf s c)) (heldNext (tuneOf s c)) (struckBy s c d l) n y o m =
       subst (λ (v : Tuning). Rings (heldAnswer v) (heldNext v) (struckBy s c d l) n y o m) b
       (subst (λ (v : Strung). Rings (heldAnswer t) (heldNext t) v n y o m) a r) in

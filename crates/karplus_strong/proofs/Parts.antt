@@ -32,7 +32,7 @@ use Rattle.common.specs.declared.Memo1.{Memo1}
 use Rattle.common.specs.declared.Risen.{Risen}
 use Rattle.answer.proofs.Laws.{mark-known}
 use Rattle.answer.specs.Answer.{volts1, outcomeNumber}
-use Rattle.answer.specs.Mark.{allFinite, markedOf}
+use Rattle.answer.specs.Mark.{allFinite, allNumbers, markedOf}
 use Rattle.answer.specs.declared.Volts.{Volts}
 use Rattle.answer.specs.declared.Answer.{Answer}
 use Rattle.answer.specs.declared.Outcome.the-variants as outcome
@@ -46,7 +46,7 @@ use Rattle.karplus_strong.specs.KarplusStrong.{maxLenOf, stringOf, noStr
 use Rattle.karplus_strong.specs.KarplusStrong.{karplusStrongRateRefusalOf, Making, making, madeUnless, karplusStrongNewOf}
 use Rattle.karplus_strong.specs.KarplusStrong.{karplusStrongResetOf, placeOf, karplusStrongSetSampleRateOf, finiteOr, periodOf}
 use Rattle.karplus_strong.specs.KarplusStrong.{struckLen, strikeOf, strikeIf, heardString, refusedTick, tickUnless, karplusStrongSoundOf}
-use Rattle.karplus_strong.specs.KarplusStrong.{karplusStrongTickOf, dampingOf, brightnessOf, stretchOf, memoAt, periodAt, triggerRefusalOf}
+use Rattle.karplus_strong.specs.KarplusStrong.{karplusStrongTickOf, dampingOf, brightnessOf, stretchOf, controlsOf, memoAt, periodAt, triggerRefusalOf}
 use Rattle.karplus_strong.specs.declared.KarplusStrong.{KarplusStrong}
 use Rattle.karplus_strong.specs.declared.KarplusStrongControls.{KarplusStrongControls}
 use Rattle.karplus_strong.specs.declared.KarplusStrongTicked.{KarplusStrongTicked}
@@ -486,9 +486,9 @@ turned s next filtered stretched =
     }
 
 -- what is heard is finite, or 0.0, so its mark needs no test
-pub heard-known : (v : Float) (zeroed : Bool) → isFin v ≡ true → markedOf (volts1 v) zeroed true true ≡ heardOf v zeroed
+pub heard-known : (v : Float) (zeroed numbers : Bool) → isFin v ≡ true → markedOf (volts1 v) zeroed true true numbers ≡ heardOf v zeroed numbers
 unfolding heardOf
-heard-known v zeroed e = mark-known (volts1 v) zeroed true (unfold allFinite ofBits in rw e refl)
+heard-known v zeroed numbers e = mark-known (volts1 v) zeroed true numbers (unfold allFinite ofBits in rw e refl)
 
 module _ (s : KarplusStrong) (t : Tuning) (l : List Float) (sample : Float)
     (es : sample ≡ tapAt l (s .«write_pos») (s .len) (t .delay) (t .fraction)) where
@@ -502,25 +502,25 @@ module _ (s : KarplusStrong) (t : Tuning) (l : List Float) (sample : Float)
   leaked = mul binary64 stretched-by loopLeak
 
   pub turn-clean : isFin leaked ≡ true → (next : ℕ) (v : Volts) (a : Answer) → next ≡ (s .«write_pos» + 1) % s .len → v ≡ volts1 leaked
-      → a ≡ markedOf v false true true
+      → a ≡ markedOf v false true true (t .numbers)
       → record { out = record { answer = a; «karplus_strong» = turned s next filtered stretched-by }; line = set l (s .«write_pos») leaked } ≡ turnOf s t l
   unfolding turnOf
-  turn-clean h next v a en ev ea = rw (← es, h, en, ea, ev, heard-known leaked false h)
+  turn-clean h next v a en ev ea = rw (← es, h, en, ea, ev, heard-known leaked false (t .numbers) h)
 
-  pub turn-cleared : isFin leaked ≡ false → (v : Volts) (a : Answer) (x : List Float) → v ≡ volts1 zer → a ≡ markedOf v true true true
+  pub turn-cleared : isFin leaked ≡ false → (v : Volts) (a : Answer) (x : List Float) → v ≡ volts1 zer → a ≡ markedOf v true true true (t .numbers)
       → x ≡ blankOf 0 (s .len) l
       → record { out = record { answer = a; «karplus_strong» = restOf s (s .len) (s .«trigger_edge») }; line = x } ≡ turnOf s t l
   unfolding turnOf
-  turn-cleared h v a x ev ea ex = rw (← es, h, ea, ev, ex, heard-known zer true zer-fin)
+  turn-cleared h v a x ev ea ex = rw (← es, h, ea, ev, ex, heard-known zer true (t .numbers) zer-fin)
 
 -- a step is the turn of its tuning
-pub turn-is : (s : KarplusStrong) (p d t : Float) (l : List Float) → turnOf s (tuningOf p d t) l ≡ stepOf s p d t l
+pub turn-is : (s : KarplusStrong) (p d t : Float) (numbers : Bool) (l : List Float) → turnOf s (tuningOf p d t numbers) l ≡ stepOf s p d t numbers l
 unfolding turnOf tuningOf tapAt stepOf tapOf
-turn-is s p d t l = refl
+turn-is s p d t numbers l = refl
 
 -- what holds of both ends of a turn holds of it
 pub turn-either : (P : Ticking → Type 0) (s : KarplusStrong) (t : Tuning) (l : List Float)
-    → ((y z v : Float) → isFin v ≡ true → P (wroteOf s y z v l)) → P (clearedOf s l) → P (turnOf s t l)
+    → ((y z v : Float) → isFin v ≡ true → P (wroteOf s y z v (t .numbers) l)) → P (clearedOf s (t .numbers) l) → P (turnOf s t l)
 unfolding turnOf
 turn-either P s t l h k = pick (isFin v) refl
   where
@@ -533,22 +533,24 @@ turn-either P s t l h k = pick (isFin v) refl
     v : Float
     v = mul binary64 z loopLeak
 
-    pick : (b : Bool) → isFin v ≡ b → P (cond b (wroteOf s y z v l) (clearedOf s l))
+    pick : (b : Bool) → isFin v ≡ b → P (cond b (wroteOf s y z v (t .numbers) l) (clearedOf s (t .numbers) l))
     pick true e = h y z v e
     pick false e = k
 
-pub step-either : (P : Ticking → Type 0) (s : KarplusStrong) (p d t : Float) (l : List Float)
-    → ((y z v : Float) → isFin v ≡ true → P (wroteOf s y z v l)) → P (clearedOf s l) → P (stepOf s p d t l)
-step-either P s p d t l h k = subst P (turn-is s p d t l) (turn-either P s (tuningOf p d t) l h k)
-
-pub tuning-by : (p d t c a x : Float) (w : ℕ) → c ≡ filterCoefOf d → a ≡ apCoefOf t → x ≡ targetDelayOf p c a → w ≡ wholeOf x
-    → record { «filter_coef» = c; «ap_coef» = a; delay = w; fraction = sub binary64 x (realOf w) } ≡ tuningOf p d t
+pub step-either : (P : Ticking → Type 0) (s : KarplusStrong) (p d t : Float) (numbers : Bool) (l : List Float)
+    → ((y z v : Float) → isFin v ≡ true → P (wroteOf s y z v numbers l)) → P (clearedOf s numbers l) → P (stepOf s p d t numbers l)
 unfolding tuningOf
-tuning-by p d t c a x w ec ea ex ew = rw (ew, ex, ec, ea)
+step-either P s p d t numbers l h k = subst P (turn-is s p d t numbers l) (turn-either P s (tuningOf p d t numbers) l h k)
 
-pub turn-by : (s : KarplusStrong) (p d t : Float) (l m : List Float) (u : Tuning) (r : KarplusStrongTicked) → u ≡ tuningOf p d t → r ≡ turnOf s u l .out
-    → m ≡ turnOf s u l .line → (r ≡ stepOf s p d t l .out) × (m ≡ stepOf s p d t l .line)
-turn-by s p d t l m u r e a b = let k = ticked-parts (ap (λ x. turnOf s x l) e ∙ turn-is s p d t l) in (a ∙ k .0, b ∙ k .1)
+pub tuning-by : (p d t : Float) (numbers : Bool) (c a x : Float) (w : ℕ) → c ≡ filterCoefOf d → a ≡ apCoefOf t → x ≡ targetDelayOf p c a → w ≡ wholeOf x
+    → record { «filter_coef» = c; «ap_coef» = a; delay = w; fraction = sub binary64 x (realOf w); numbers = numbers } ≡ tuningOf p d t numbers
+unfolding tuningOf
+tuning-by p d t numbers c a x w ec ea ex ew = rw (ew, ex, ec, ea)
+
+pub turn-by : (s : KarplusStrong) (p d t : Float) (numbers : Bool) (l m : List Float) (u : Tuning) (r : KarplusStrongTicked) → u ≡ tuningOf p d t numbers
+    → r ≡ turnOf s u l .out
+    → m ≡ turnOf s u l .line → (r ≡ stepOf s p d t numbers l .out) × (m ≡ stepOf s p d t numbers l .line)
+turn-by s p d t numbers l m u r e a b = let k = ticked-parts (ap (λ x. turnOf s x l) e ∙ turn-is s p d t numbers l) in (a ∙ k .0, b ∙ k .1)
 
 -- ---- the tick
 tick-no : (k : ℕ) (s : KarplusStrong) (l : List Float) (t : Ticking) → (k ≡ 0 → ⊥) → record { out = refusedTick s k; line = l } ≡ tickUnless k s l t
@@ -563,14 +565,15 @@ module _ (s : KarplusStrong) (c : KarplusStrongControls) (d : List ℕ) (l : Lis
   unfolding karplusStrongSoundOf triggerRefusalOf
   sound-no h = rw (← ev, ← em, ← ep, ← er, ← ek) (tick-no k s l _ h)
 
-  module _ (z : k ≡ 0) (damping stretch : Float) (u : KarplusStrong) (x : List Float) (ed : damping ≡ dampingOf c)
-      (es : stretch ≡ stretchOf c)
+  module _ (z : k ≡ 0) (damping stretch : Float) (numbers : Bool) (u : KarplusStrong) (x : List Float) (ed : damping ≡ dampingOf c)
+      (es : stretch ≡ stretchOf c) (en : numbers ≡ allNumbers (controlsOf c))
       (et : Parts-of (strikeIf (risen .rising) (heardString s (risen .edge) memo) period (brightnessOf c) d l) u x) where
-    sound-step : stepOf u period damping stretch x ≡ karplusStrongSoundOf s c d l
+    sound-step : stepOf u period damping stretch numbers x ≡ karplusStrongSoundOf s c d l
     unfolding karplusStrongSoundOf triggerRefusalOf tickUnless
-    sound-step = rw (← ev, ← em, ← ep, ← er, ← ek, z, et .0, et .1, ed, es)
+    sound-step = rw (← ev, ← em, ← ep, ← er, ← ek, z, et .0, et .1, ed, es, en)
 
-    pub sound-by : (r : KarplusStrongTicked) (y : List Float) → r ≡ stepOf u period damping stretch x .out → y ≡ stepOf u period damping stretch x .line
+    pub sound-by : (r : KarplusStrongTicked) (y : List Float) → r ≡ stepOf u period damping stretch numbers x .out
+        → y ≡ stepOf u period damping stretch numbers x .line
         → (r ≡ karplusStrongSoundOf s c d l .out) × (y ≡ karplusStrongSoundOf s c d l .line)
     sound-by r y h g = let e = ticked-parts sound-step in (h ∙ e .0, g ∙ e .1)
 

@@ -30,20 +30,20 @@ use Rattle.karplus_strong.specs.KarplusStrong.{karplusStrongCellsOf, kar
 use Rattle.karplus_strong.specs.KarplusStrong.{madeUnless, karplusStrongNewOf, karplusStrongResetOf, karplusStrongSetSampleRateOf}
 use Rattle.karplus_strong.specs.KarplusStrong.{struckLen, heardString, tickUnless, karplusStrongTickOf, Strung, newLike, memoAt, periodAt}
 use Rattle.karplus_strong.specs.Promises.{taken, Never-refused, New-accepts, New-there, Cells-enough, Edge-comes}
-use Rattle.karplus_strong.specs.Promises.{Clean-or-cleared, Refused-leaves, Keeps-rate, Block-accepts, Block-tallies}
+use Rattle.karplus_strong.specs.Promises.{Finite-or-cleared, Refused-leaves, Keeps-rate, Block-accepts, Block-tallies}
 use Rattle.karplus_strong.specs.Step.{Ticking}
 use Rattle.common.specs.declared.Hertz.{Hertz}
 use Rattle.karplus_strong.specs.declared.KarplusStrong.{KarplusStrong}
 use Rattle.karplus_strong.specs.declared.KarplusStrongControls.{KarplusStrongControls}
 
-pub clean-or-cleared : Clean-or-cleared
-clean-or-cleared s c draws l e = rw (tick-is s c draws l)
-    (twice-heard (karplusStrongRefusalOf s (length l)) (triggerRefusalOf s c draws) s l (struckStep s c draws l) (struck-heard s c draws l)
+pub finite-or-cleared : Finite-or-cleared
+finite-or-cleared s c draws l e = rw (tick-is s c draws l)
+    (twice-heard _ (karplusStrongRefusalOf s (length l)) (triggerRefusalOf s c draws) s l (struckStep s c draws l) (struck-heard s c draws l)
     (rw (tick-is s c draws l) at e))
 
 pub refused-leaves : Refused-leaves
 refused-leaves s c draws l e = rw (tick-is s c draws l)
-    (twice-left (karplusStrongRefusalOf s (length l)) (triggerRefusalOf s c draws) s l (struckStep s c draws l) (struck-heard s c draws l)
+    (twice-left _ (karplusStrongRefusalOf s (length l)) (triggerRefusalOf s c draws) s l (struckStep s c draws l) (struck-heard s c draws l)
     (rw (tick-is s c draws l) at e))
 
 -- ---- a reached string is ready
@@ -51,7 +51,7 @@ good-number : (s : KarplusStrong) (c : KarplusStrongControls) (draws : List ℕ)
     → refusalOf (karplusStrongTickOf s c draws l .out .answer) ≡ triggerRefusalOf s c draws
 good-number s c draws l g =
     ap (λ (t : Ticking). refusalOf (t .out .answer)) (good-tick s c draws l g)
-    ∙ unless-number (triggerRefusalOf s c draws) s l (struckStep s c draws l) (heard-none (struckStep s c draws l .out .answer) (struck-heard s c draws l))
+    ∙ unless-number (triggerRefusalOf s c draws) s l (struckStep s c draws l) (heard-none _ (struckStep s c draws l .out .answer) (struck-heard s c draws l))
 
 good-block : (x : Strung) (c : KarplusStrongControls) (draws : List ℕ) (t : Tally) (o : List Float) (m : List ℕ) → Good (x .string) (length (x .line))
     → karplusStrongBlockOf x c draws t o m .refused
@@ -115,14 +115,14 @@ good-accepted : (s : KarplusStrong) (c : KarplusStrongControls) (draws : List �
 unfolding tickUnless
 good-accepted s c draws l g e = ap (λ (t : Ticking). accepted (t .out .answer))
     (good-tick s c draws l g ∙ ap (λ (k : ℕ). tickUnless k s l (struckStep s c draws l)) e)
-    ∙ heard-accepted (struckStep s c draws l .out .answer) (struck-heard s c draws l)
+    ∙ heard-accepted _ (struckStep s c draws l .out .answer) (struck-heard s c draws l)
 
 -- the step leaves the rate, and the edge record of the tick's trigger
 struck-step-keeps : (s : KarplusStrong) (c : KarplusStrongControls) (draws : List ℕ) (l : List Float)
     → Keeps (heardString s (risingOf (s .«trigger_edge») (c .trigger) .edge) (memoAt s c)) (struckStep s c draws l .out .«karplus_strong»)
 unfolding struckStep
 struck-step-keeps s c draws l =
-    let a = stepped _ _ _ _ _ .keeps in
+    let a = stepped _ _ _ _ _ _ .keeps in
     let b = strike-keeps _ _ _ draws l _ in
     record { rate = a .rate ∙ b .rate; edge = a .edge ∙ b .edge; memo = a .memo ∙ b .memo }
 
@@ -187,7 +187,7 @@ edge-comes x h low high none draws f el eh n ok = (
 -- ---- and no tick of a block is refused whose first isn't
 turn-accepted : (s : KarplusStrong) (c : KarplusStrongControls) (x : Strung) → accepted (heldAnswer (tuneOf s c) x) ≡ true
 unfolding heldAnswer
-turn-accepted s c x = ap (λ (t : Ticking). accepted (t .out .answer)) (turn-is _ _ _ _ _) ∙ heard-accepted _ (step-heard _ _ _ _ _)
+turn-accepted s c x = ap (λ (t : Ticking). accepted (t .out .answer)) (turn-is _ _ _ _ _ _) ∙ heard-accepted _ _ (step-heard _ _ _ _ _ _)
 
 pub block-accepts : Block-accepts
 block-accepts x c draws n z h =

@@ -12,6 +12,7 @@ use borrow.Author.Tests.{eqb-true, ltb-true}
 use Rattle.laws.proofs.Always.{always}
 use Rattle.laws.proofs.Over.{length-over}
 use Rattle.laws.specs.Float.{zer, F64}
+use Rattle.answer.specs.Mark.{allNumbers}
 use Rattle.answer.proofs.Blocks.{block-keeps}
 use Rattle.answer.specs.Answer.{outcomeNumber}
 use Rattle.common.proofs.MemoLaws.{recalled1}
@@ -27,7 +28,7 @@ use Rattle.karplus_strong.specs.KarplusStrong.{maxLenOf, newKarplusStron
 use Rattle.karplus_strong.specs.KarplusStrong.{madeUnless, karplusStrongNewOf, restarted, karplusStrongResetOf, placeOf, rated}
 use Rattle.karplus_strong.specs.KarplusStrong.{ratedLine, karplusStrongSetSampleRateOf, finiteOr, strikeIf, heardString}
 use Rattle.karplus_strong.specs.KarplusStrong.{tickUnless, karplusStrongSoundOf, karplusStrongTickOf, karplusStrongBlockOf}
-use Rattle.karplus_strong.specs.KarplusStrong.{Strung, dampingOf, brightnessOf, stretchOf, memoAt, periodAt, triggerRefusalOf}
+use Rattle.karplus_strong.specs.KarplusStrong.{Strung, dampingOf, brightnessOf, stretchOf, controlsOf, memoAt, periodAt, triggerRefusalOf}
 use Rattle.karplus_strong.specs.Calls.{Call, Tick, Play, Reset, SetSampleRate, Lend, strungAfter, lentOf}
 use Rattle.karplus_strong.specs.Calls.{takenLine, after, Fit, FitCall, First, ReachedKarplusStrong}
 use Rattle.karplus_strong.specs.Promises.{taken}
@@ -46,9 +47,9 @@ pub record GoodTick (t : Ticking) (n : ℕ) : Type 0 where
   pub state : Good (t .out .«karplus_strong») n
   pub line : length (t .line) ≡ n
 
-step-good : (s : KarplusStrong) (p d t : Float) (l : List Float) → Good s (length l) → GoodTick (stepOf s p d t l) (length l)
-step-good s p d t l g =
-    let w = stepped s p d t l in
+step-good : (s : KarplusStrong) (p d t : Float) (numbers : Bool) (l : List Float) → Good s (length l) → GoodTick (stepOf s p d t numbers l) (length l)
+step-good s p d t numbers l g =
+    let w = stepped s p d t numbers l in
     let k = w .keeps in
     let q = g .sound .most in
     let r = g .room in
@@ -87,8 +88,11 @@ sound-good s c draws l g f = go (triggerRefusalOf s c draws)
       memo = rw (kept .memo) (recalled1 voctToHzAt (s .«freq_memo») (g .memo) (finiteOr (c .voct .0) zer) (fits-or (c .voct .0) f));
     }
 
-    go : (k : ℕ) → GoodTick (tickUnless k s l (stepOf (x .string) (periodAt s c) (dampingOf c) (stretchOf c) (x .line))) (length l)
-    go zero = unfold tickUnless in subst (GoodTick _) size (step-good (x .string) (periodAt s c) (dampingOf c) (stretchOf c) (x .line) struck)
+    numbers : Bool
+    numbers = allNumbers (controlsOf c)
+
+    go : (k : ℕ) → GoodTick (tickUnless k s l (stepOf (x .string) (periodAt s c) (dampingOf c) (stretchOf c) numbers (x .line))) (length l)
+    go zero = unfold tickUnless in subst (GoodTick _) size (step-good (x .string) (periodAt s c) (dampingOf c) (stretchOf c) numbers (x .line) struck)
     go (suc k) = unfold tickUnless in record { state = g; line = refl }
 
 pub tick-good : (s : KarplusStrong) (c : KarplusStrongControls) (draws : List ℕ) (l : List Float) → Good s (length l) → Fit c

@@ -35,8 +35,8 @@ use Rattle.common.specs.Tests.{rateOk, drawsOk, drawsRefusalOf}
 use Rattle.common.specs.declared.Hertz.{Hertz}
 use Rattle.answer.proofs.Blocks.{ticks-keep, block-keeps, block-refusal, block-fits}
 use Rattle.answer.specs.Block.{afterTicks, answerAt}
-use Rattle.answer.specs.Answer.{answerOf, clean, markNumber, accepted}
-use Rattle.answer.specs.Mark.{markedOf, ruleOf}
+use Rattle.answer.specs.Answer.{volts1, steered, clean, markNumber, accepted}
+use Rattle.answer.specs.Mark.{allNumbers}
 use Rattle.answer.specs.declared.Answer.{Answer}
 use Rattle.karplus_strong.specs.Consts.{nPorts, loopLeak}
 use Rattle.karplus_strong.specs.Line.{blankAt, blankOf, impulseOf, pulseOf, excitedAt, excitedOf, sumTo, meanOf, levelAt, levelOf, struckOf}
@@ -44,7 +44,8 @@ use Rattle.karplus_strong.specs.Step.{filterCoefOf, apCoefOf, filterDela
 use Rattle.karplus_strong.specs.Step.{offsetTwo, tapOf, filteredOf, stretchedOf, Ticking, restOf, stepOf}
 use Rattle.karplus_strong.specs.KarplusStrong.{triggerRefusalOf, firstRefusalOf, karplusStrongNextOf, karplusStrongBlockOf, maxLenOf, roomOf, madeUnless}
 use Rattle.karplus_strong.specs.KarplusStrong.{karplusStrongResetOf, karplusStrongSetSampleRateOf, finiteOr, periodOf, struckLen, strikeOf, strikeIf}
-use Rattle.karplus_strong.specs.KarplusStrong.{tickUnless, karplusStrongTickOf, Strung, strung, dampingOf, brightnessOf, stretchOf, memoAt, periodAt}
+use Rattle.karplus_strong.specs.KarplusStrong.{tickUnless, karplusStrongTickOf, Strung, strung, dampingOf, brightnessOf, stretchOf, controlsOf}
+use Rattle.karplus_strong.specs.KarplusStrong.{memoAt, periodAt}
 use Rattle.karplus_strong.specs.Calls.{Call, Tick, Play, Reset, SetSampleRate, Lend, strungAfter, lentOf, after, FitCall, First}
 use Rattle.karplus_strong.specs.Promises.{taken, NoStretch, Unstretched, Never-cleared, Block-never-cleared}
 use Rattle.karplus_strong.specs.declared.KarplusStrong.{KarplusStrong}
@@ -53,7 +54,7 @@ use Rattle.karplus_strong.proofs.Alike.{getD-over, length-struck}
 use Rattle.karplus_strong.proofs.Parts.{Sound, damped, delay-range, made-either, heard-known, heard-number, struck-fits}
 use Rattle.karplus_strong.proofs.Promised.{struck-short, block-accepts}
 use Rattle.karplus_strong.proofs.Reached.{Good, tick-good, first-is, first-good, after-good}
-use Rattle.karplus_strong.proofs.Ticks.{struckStep, good-tick}
+use Rattle.karplus_strong.proofs.Ticks.{steady-mark, struckStep, good-tick}
 use Rattle.karplus_strong.proofs.Weights.{tap-weights, filter-weights, exact-upto}
 
 -- ---- sizes
@@ -144,9 +145,9 @@ record Calm (s : KarplusStrong) (l : List Float) : Type 0 where
   x1 : Within 3 (s .«ap_x1»)
   y1 : Within 3 (s .«ap_y1»)
 
-record CalmTick (t : Ticking) : Type 0 where
+record CalmTick (numbers : Bool) (t : Ticking) : Type 0 where
   calm : Calm (t .out .«karplus_strong») (t .line)
-  mark : accepted (t .out .answer) ≡ true → markNumber (t .out .answer) ≡ clean
+  mark : accepted (t .out .answer) ≡ true → markNumber (t .out .answer) ≡ cond numbers clean steered
 
 -- a delay that both taps can be read at
 record Delay (x : Float) : Type 0 where
@@ -210,14 +211,15 @@ stretched-within s y x e w x1 y1 =
 leaked-within : (x : Float) → Within 3 x → Within 3 (mul binary64 x loopLeak)
 leaked-within x h = (h .0, sized-mul (h .0) 3 x loopLeak (lit≤ tt) (h .1) (part-of 0 loopLeak (unfold ofBits in tt)))
 
-step-calm : (s : KarplusStrong) (p d bend : Float) (l : List Float) → eq bend zer ≡ true → s .«write_pos» < s .len → s .len ≤ length l
-    → T (le zer d) → T (le d one) → Delay (targetDelayOf p (filterCoefOf d) (apCoefOf bend)) → Calm s l → CalmTick (stepOf s p d bend l)
+step-calm : (s : KarplusStrong) (p d bend : Float) (numbers : Bool) (l : List Float) → eq bend zer ≡ true → s .«write_pos» < s .len → s .len ≤ length l
+    → T (le zer d) → T (le d one) → Delay (targetDelayOf p (filterCoefOf d) (apCoefOf bend)) → Calm s l
+    → CalmTick numbers (stepOf s p d bend numbers l)
 unfolding stepOf
-step-calm s p d bend l flat h k lo hi g c =
+step-calm s p d bend numbers l flat h k lo hi g c =
     rw settled
     (record {
       calm = record { cells = λ i q. cell i q (ℕ-discrete i (s .«write_pos»)); lp = filtered; x1 = filtered; y1 = bent };
-      mark = λ e. subst (λ (a : Answer). markNumber a ≡ clean) (heard-known v false settled) (unfold markedOf ruleOf answerOf markNumber in refl);
+      mark = λ e. subst (λ (a : Answer). markNumber a ≡ cond numbers clean steered) (heard-known v false numbers settled) (steady-mark (volts1 v) numbers);
     })
   where
     x : Float
@@ -291,17 +293,17 @@ delay-fine r f d t e q = record { fits = max-fits; sign = finite-positive x (abo
         go true h = le-of-lt-true one y (of-true (lt one y) h)
         go false h = unfold isNan le lt eq ofBits in tt
 
-struck-calm : (rising : Bool) (t : KarplusStrong) (p b d bend : Float) (draws : List ℕ) (l : List Float)
+struck-calm : (rising : Bool) (t : KarplusStrong) (p b d bend : Float) (numbers : Bool) (draws : List ℕ) (l : List Float)
     → eq bend zer ≡ true → _≡_ {A = ℕ} (cond rising (drawsRefusalOf (struckLen p) draws) 0) 0 → struckLen p ≤ length l → struckLen p ≤ 9611
     → t .«write_pos» < t .len → t .len ≤ length l → T (le zer b) → T (le b one) → T (le zer d) → T (le d one)
     → Delay (targetDelayOf p (filterCoefOf d) (apCoefOf bend)) → Calm t l
-    → CalmTick (stepOf (strikeIf rising t p b draws l .string) p d bend (strikeIf rising t p b draws l .line))
-struck-calm false t p b d bend draws l flat e r n h k bl bh dl dh g c = unfold strikeIf in step-calm t p d bend l flat h k dl dh g c
-struck-calm true t p b d bend draws l flat e r n h k bl bh dl dh g c =
+    → CalmTick numbers (stepOf (strikeIf rising t p b draws l .string) p d bend numbers (strikeIf rising t p b draws l .line))
+struck-calm false t p b d bend numbers draws l flat e r n h k bl bh dl dh g c = unfold strikeIf in step-calm t p d bend numbers l flat h k dl dh g c
+struck-calm true t p b d bend numbers draws l flat e r n h k bl bh dl dh g c =
     unfold strikeIf strikeOf in
     (let q = length-struck (struckLen p) b draws l r in
     let z : 0 < struckLen p = unfold struckLen in omega arith in
-    step-calm (restOf t (struckLen p) (t .«trigger_edge»)) p d bend (struckOf (struckLen p) b draws l) flat z (omega arith) dl dh g
+    step-calm (restOf t (struckLen p) (t .«trigger_edge»)) p d bend numbers (struckOf (struckLen p) b draws l) flat z (omega arith) dl dh g
     (record {
       cells = struck-within (struckLen p) b draws l z n (draws-fine (struckLen p) draws e) bl bh;
       lp = zero-within;
@@ -310,10 +312,10 @@ struck-calm true t p b d bend draws l flat e r n h k bl bh dl dh g c =
     }))
 
 sound-calm : (s : KarplusStrong) (c : KarplusStrongControls) (draws : List ℕ) (l : List Float) → Good s (length l) → NoStretch c
-    → triggerRefusalOf s c draws ≡ 0 → Calm s l → CalmTick (struckStep s c draws l)
+    → triggerRefusalOf s c draws ≡ 0 → Calm s l → CalmTick (allNumbers (controlsOf c)) (struckStep s c draws l)
 unfolding struckStep triggerRefusalOf
 sound-calm s c draws l g z e k =
-    struck-calm (taken s c) _ (periodAt s c) (brightnessOf c) (dampingOf c) (stretchOf c) draws l z e
+    struck-calm (taken s c) _ (periodAt s c) (brightnessOf c) (dampingOf c) (stretchOf c) (allNumbers (controlsOf c)) draws l z e
     (struck-fits s c a (length l) (g .room)) (struck-short s c a) (a .place)
     (let q = a .most in let r = g .room in omega arith)
     (damped (c .brightness) .0) (damped (c .brightness) .1) (damped (c .damping) .0) (damped (c .damping) .1)
@@ -324,10 +326,10 @@ sound-calm s c draws l g z e k =
     a = g .sound
 
 tick-calm : (s : KarplusStrong) (c : KarplusStrongControls) (draws : List ℕ) (l : List Float) → Good s (length l) → NoStretch c → Calm s l
-    → CalmTick (karplusStrongTickOf s c draws l)
+    → CalmTick (allNumbers (controlsOf c)) (karplusStrongTickOf s c draws l)
 tick-calm s c draws l g z k = rw (good-tick s c draws l g) (pick (triggerRefusalOf s c draws) refl)
   where
-    pick : (n : ℕ) → triggerRefusalOf s c draws ≡ n → CalmTick (tickUnless n s l (struckStep s c draws l))
+    pick : (n : ℕ) → triggerRefusalOf s c draws ≡ n → CalmTick (allNumbers (controlsOf c)) (tickUnless n s l (struckStep s c draws l))
     pick zero e = unfold tickUnless in sound-calm s c draws l g z e k
     pick (suc n) e = unfold tickUnless accepted in record { calm = k; mark = λ h. absurd (true≢false (sym h)) }
 

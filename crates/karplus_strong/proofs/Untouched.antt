@@ -22,7 +22,8 @@ use Rattle.karplus_strong.specs.Shortcuts.{tuningOf, turnOf, heldNext}
 use Rattle.karplus_strong.specs.KarplusStrong.{triggerRefusalOf, firstRefusalOf, karplusStrongToldOf, karplusStrongNextOf, karplusStrongBlockOf}
 use Rattle.karplus_strong.specs.KarplusStrong.{maxLenOf, karplusStrongRefusalOf, madeUnless, karplusStrongNewOf, karplusStrongResetOf}
 use Rattle.karplus_strong.specs.KarplusStrong.{karplusStrongSetSampleRateOf, struckLen, strikeOf, strikeIf, tickUnless, karplusStrongSoundOf}
-use Rattle.karplus_strong.specs.KarplusStrong.{karplusStrongTickOf, Strung, strung, noString, dampingOf, brightnessOf, stretchOf, periodAt}
+use Rattle.karplus_strong.specs.KarplusStrong.{karplusStrongTickOf, Strung, strung, noString, dampingOf, brightnessOf, stretchOf, controlsOf, periodAt}
+use Rattle.answer.specs.Mark.{allNumbers}
 use Rattle.karplus_strong.specs.Promises.{taken, SamePast, Past-untouched, Only-its-draws}
 use Rattle.karplus_strong.specs.declared.KarplusStrong.{KarplusStrong}
 use Rattle.karplus_strong.specs.declared.KarplusStrongControls.{KarplusStrongControls}
@@ -66,9 +67,10 @@ past-struck n b d l h =
 abbrev PastTick : List Float → Ticking → Type 0
 PastTick l t = SamePast (t .out .«karplus_strong» .len) l (t .line)
 
-past-step : (s : KarplusStrong) (p d t : Float) (l : List Float) → s .«write_pos» < s .len → s .len ≤ length l → PastTick l (stepOf s p d t l)
-past-step s p d t l h k =
-    step-either (PastTick l) s p d t l
+past-step : (s : KarplusStrong) (p d t : Float) (numbers : Bool) (l : List Float) → s .«write_pos» < s .len → s .len ≤ length l
+    → PastTick l (stepOf s p d t numbers l)
+past-step s p d t numbers l h k =
+    step-either (PastTick l) s p d t numbers l
     (λ y z v e. record {
       size = length-set l (s .«write_pos») v;
       cells = λ i q. getD-set-other l (s .«write_pos») i v nan (behind i (s .«write_pos») (s .len) h q);
@@ -78,34 +80,36 @@ past-step s p d t l h k =
     behind : (i j n : ℕ) → j < n → n ≤ i → i ≡ j → ⊥
     behind i j n h k e = omega arith
 
-past-struck-step : (t : KarplusStrong) (p b d c : Float) (draws : List ℕ) (l : List Float) → struckLen p ≤ length l
-    → PastTick l (stepOf (restOf t (struckLen p) (t .«trigger_edge»)) p d c (struckOf (struckLen p) b draws l))
-past-struck-step t p b d c draws l h =
+past-struck-step : (t : KarplusStrong) (p b d c : Float) (numbers : Bool) (draws : List ℕ) (l : List Float) → struckLen p ≤ length l
+    → PastTick l (stepOf (restOf t (struckLen p) (t .«trigger_edge»)) p d c numbers (struckOf (struckLen p) b draws l))
+past-struck-step t p b d c numbers draws l h =
     let u = restOf t (struckLen p) (t .«trigger_edge») in
     let m = struckOf (struckLen p) b draws l in
     let a : SamePast (struckLen p) l m = past-struck (struckLen p) b draws l h in
     let e = a .size in
     let z : 0 < struckLen p = unfold struckLen in omega arith in
-    let w : PastTick m (stepOf u p d c m) = past-step u p d c m z (omega arith) in
-    past-both (stepOf u p d c m .out .«karplus_strong» .len) l m (stepOf u p d c m .line)
-    (wider (stepOf u p d c m .out .«karplus_strong» .len) (stepped u p d c m .len) a) w
+    let w : PastTick m (stepOf u p d c numbers m) = past-step u p d c numbers m z (omega arith) in
+    past-both (stepOf u p d c numbers m .out .«karplus_strong» .len) l m (stepOf u p d c numbers m .line)
+    (wider (stepOf u p d c numbers m .out .«karplus_strong» .len) (stepped u p d c numbers m .len) a) w
   where
     wider : {l m : List Float} {n : ℕ} (k : ℕ) → k ≡ n → SamePast n l m → SamePast k l m
     wider k e a = rw e a
 
-past-sounded : (rising : Bool) (k : ℕ) (s t : KarplusStrong) (p b d c : Float) (draws : List ℕ) (l : List Float) → t .«write_pos» < t .len → t .len ≤ length l
+past-sounded : (rising : Bool) (k : ℕ) (s t : KarplusStrong) (p b d c : Float) (numbers : Bool) (draws : List ℕ) (l : List Float)
+    → t .«write_pos» < t .len → t .len ≤ length l
     → struckLen p ≤ length l
-    → PastTick l (tickUnless k s l (stepOf (strikeIf rising t p b draws l .string) p d c (strikeIf rising t p b draws l .line)))
-past-sounded rising (suc k) s t p b d c draws l h g r = unfold tickUnless in past-none (s .len) l
-past-sounded false zero s t p b d c draws l h g r = unfold tickUnless strikeIf in past-step t p d c l h g
-past-sounded true zero s t p b d c draws l h g r = unfold tickUnless strikeIf strikeOf in past-struck-step t p b d c draws l r
+    → PastTick l (tickUnless k s l (stepOf (strikeIf rising t p b draws l .string) p d c numbers (strikeIf rising t p b draws l .line)))
+past-sounded rising (suc k) s t p b d c numbers draws l h g r = unfold tickUnless in past-none (s .len) l
+past-sounded false zero s t p b d c numbers draws l h g r = unfold tickUnless strikeIf in past-step t p d c numbers l h g
+past-sounded true zero s t p b d c numbers draws l h g r = unfold tickUnless strikeIf strikeOf in past-struck-step t p b d c numbers draws l r
 
 past-sound : (s : KarplusStrong) (c : KarplusStrongControls) (draws : List ℕ) (l : List Float) → Sound s → maxLenOf (s .«sample_rate») + 2 ≤ length l
     → PastTick l (karplusStrongSoundOf s c draws l)
 unfolding karplusStrongSoundOf
 past-sound s c draws l a r =
     let q = a .most in
-    past-sounded _ (triggerRefusalOf s c draws) s _ (periodAt s c) (brightnessOf c) (dampingOf c) (stretchOf c) draws l (a .place) (omega arith)
+    past-sounded _ (triggerRefusalOf s c draws) s _ (periodAt s c) (brightnessOf c) (dampingOf c) (stretchOf c) (allNumbers (controlsOf c)) draws l (a .place)
+    (omega arith)
     (struck-fits s c a (length l) r)
 
 past-tick : (s : KarplusStrong) (c : KarplusStrongControls) (draws : List ℕ) (l : List Float) → PastTick l (karplusStrongTickOf s c draws l)
@@ -123,8 +127,9 @@ unfolding strikeIf strikeOf
 past-strike true t p b draws l h = past-struck (struckLen p) b draws l h
 past-strike false t p b draws l h = past-none (t .len) l
 
-turn-past : (s : KarplusStrong) (p d t : Float) (l : List Float) → s .«write_pos» < s .len → s .len ≤ length l → PastTick l (turnOf s (tuningOf p d t) l)
-turn-past s p d t l h k = subst (PastTick l) (sym (turn-is s p d t l)) (past-step s p d t l h k)
+turn-past : (s : KarplusStrong) (p d t : Float) (numbers : Bool) (l : List Float) → s .«write_pos» < s .len → s .len ≤ length l
+    → PastTick l (turnOf s (tuningOf p d t numbers) l)
+turn-past s p d t numbers l h k = subst (PastTick l) (sym (turn-is s p d t numbers l)) (past-step s p d t numbers l h k)
 
 module _ (s : KarplusStrong) (c : KarplusStrongControls) (draws : List ℕ) (l : List Float)
     (h : karplusStrongRefusalOf s (length l) ≡ 0) (k : triggerRefusalOf s c draws ≡ 0) where
@@ -161,7 +166,7 @@ module _ (s : KarplusStrong) (c : KarplusStrongControls) (draws : List ℕ) (l :
       same = turned-ready (y .string) (tuneOf s c) (y .line) _ refl (r .held .sound .place) .1
 
       turned : PastTick (y .line) t
-      turned = turn-past (y .string) _ _ _ (y .line) (r .held .sound .place) (omega (arith, r .held .sound .most, r .held .room))
+      turned = turn-past (y .string) _ _ _ _ (y .line) (r .held .sound .place) (omega (arith, r .held .sound .most, r .held .room))
 
   past-ringing : (n : ℕ) → 0 < n → let y = afterTicks (karplusStrongNextOf c draws) n (strung s l) in SamePast (y .string .len) l (y .line)
   past-ringing n z =

@@ -1,6 +1,6 @@
 -- KarplusStrong, written from oscillators.rs. The line is lent, so each call says what it holds afterwards.
 use mathlib.Core.Bool.{Bool, cond, not, _&&_}
-use mathlib.Core.List.{List}
+use mathlib.Core.List.{List, [], _∷_}
 use Prim.Native.Nat.{ℕ, zero, suc, _+_, min}
 use lib.Dec.{eqb, leb, ltb}
 use lib.ListN.{length}
@@ -15,6 +15,7 @@ use Rattle.common.specs.declared.EdgeDetector.{EdgeDetector}
 use Rattle.common.specs.declared.Hertz.{Hertz}
 use Rattle.common.specs.declared.Memo1.{Memo1}
 use Rattle.answer.specs.Block.{Block, blockOf}
+use Rattle.answer.specs.Mark.{allNumbers}
 use Rattle.answer.specs.declared.Answer.{Answer}
 use Rattle.answer.specs.declared.Answer.the-variants as answer
 use Rattle.answer.specs.declared.Outcome.the-variants as outcome
@@ -160,6 +161,10 @@ brightnessOf c = clampOf (finiteOr (c .brightness) half) zer one
 abbrev pub stretchOf : KarplusStrongControls → Float
 stretchOf c = clampOf (finiteOr (c .stretch) zer) (neg one) one
 
+-- those given to a tick, in port order
+abbrev pub controlsOf : KarplusStrongControls → List Float
+controlsOf c = c .voct .0 ∷ c .trigger ∷ c .damping ∷ c .brightness ∷ c .stretch ∷ []
+
 -- the pitch, and its period in samples
 abbrev pub memoAt : KarplusStrong → KarplusStrongControls → Memo1
 memoAt s c = recall1 voctToHzAt (s .«freq_memo») (finiteOr (c .voct .0) zer)
@@ -176,7 +181,8 @@ unfoldable pub karplusStrongSoundOf : KarplusStrong → KarplusStrongControls �
 karplusStrongSoundOf s c draws l =
     let risen = risingOf (s .«trigger_edge») (c .trigger) in
     let struck = strikeIf (risen .rising) (heardString s (risen .edge) (memoAt s c)) (periodAt s c) (brightnessOf c) draws l in
-    tickUnless (triggerRefusalOf s c draws) s l (stepOf (struck .string) (periodAt s c) (dampingOf c) (stretchOf c) (struck .line))
+    tickUnless (triggerRefusalOf s c draws) s l
+    (stepOf (struck .string) (periodAt s c) (dampingOf c) (stretchOf c) (allNumbers (controlsOf c)) (struck .line))
 
 unfoldable pub karplusStrongTickOf : KarplusStrong → KarplusStrongControls → List ℕ → List Float → Ticking
 karplusStrongTickOf s c draws l = tickUnless (karplusStrongRefusalOf s (length l)) s l (karplusStrongSoundOf s c draws l)

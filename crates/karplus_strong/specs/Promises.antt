@@ -1,6 +1,6 @@
 -- What the string promises: the statements. The proofs of the same names in small letters stand in proofs/.
 use mathlib.Core.Bool.{Bool, true, false, cond}
-use mathlib.Core.List.{List}
+use mathlib.Core.List.{List, [], _∷_}
 use mathlib.Core.Logic.{_⊎_}
 use mathlib.Core.Path.{_≡_}
 use Prim.Native.Nat.{ℕ, _*_, _≤_, _<_, min}
@@ -13,14 +13,15 @@ use Rattle.common.specs.Consts.{five}
 use Rattle.common.specs.Edge.{thresholdOf, risingOf}
 use Rattle.common.specs.Tests.{rateOk, drawsOk}
 use Rattle.common.specs.declared.Hertz.{Hertz}
-use Rattle.answer.specs.Answer.{volts1, cleared, clean, markNumber, voltsOf, refusalOf, accepted, outcomeNumber}
+use Rattle.answer.specs.Answer.{volts1, cleared, steered, clean, markNumber, voltsOf, refusalOf, accepted, outcomeNumber}
 use Rattle.answer.specs.Block.{Block, blockRefusalOf, answerAt}
-use Rattle.answer.specs.Promises.{AllAccepted, AllTaken}
+use Rattle.answer.specs.Promises.{Steers, AllAccepted, AllTaken}
+use Rattle.answer.specs.Mark.{allNumbers}
 use Rattle.answer.specs.declared.Tally.{Tally}
 use Rattle.karplus_strong.specs.Consts.{nPorts}
 use Rattle.karplus_strong.specs.Step.{Ticking}
 use Rattle.karplus_strong.specs.KarplusStrong.{maxLenOf, Strung, strung, newStrung, newLike, roomOf, karplusStrongRefusalOf, karplusStrongCellsOf}
-use Rattle.karplus_strong.specs.KarplusStrong.{Making, karplusStrongNewOf, struckLen, stretchOf, periodAt, karplusStrongTickOf, karplusStrongToldOf}
+use Rattle.karplus_strong.specs.KarplusStrong.{Making, karplusStrongNewOf, struckLen, stretchOf, controlsOf, periodAt, karplusStrongTickOf, karplusStrongToldOf}
 use Rattle.karplus_strong.specs.KarplusStrong.{karplusStrongNextOf, triggerRefusalOf, firstRefusalOf, karplusStrongBlockOf, karplusStrongResetOf}
 use Rattle.karplus_strong.specs.KarplusStrong.{karplusStrongSetSampleRateOf}
 use Rattle.karplus_strong.specs.Calls.{Call, Tick, Play, Reset, SetSampleRate, Lend, Told, strungAfter, after, reply, Fit, First, ReachedKarplusStrong}
@@ -152,11 +153,19 @@ pub record Only-its-draws : Type 0 where
   pub unstruck : (s : KarplusStrong) (c : KarplusStrongControls) (d e : List ℕ) (l : List Float) → taken s c ≡ false
       → karplusStrongTickOf s c d l ≡ karplusStrongTickOf s c e l
 
--- ---- marks, for every state: clean with a finite sample, or cleared with 0.0
-abbrev pub Clean-or-cleared : Type 0
-Clean-or-cleared =
+-- ---- no tick is clean with a control that is NaN, and none is steered without one
+abbrev pub Nan-steers : Type 0
+Nan-steers = (s : KarplusStrong) (c : KarplusStrongControls) (draws : List ℕ) (l : List Float)
+    → Steers (c .voct .0 ∷ c .trigger ∷ c .damping ∷ c .brightness ∷ c .stretch ∷ []) (karplusStrongTickOf s c draws l .out .answer)
+
+-- ---- marks, for every state: with a finite sample clean, or steered where a control is NaN; or cleared with 0.0
+abbrev pub steadyMark : KarplusStrongControls → ℕ
+steadyMark c = cond (allNumbers (controlsOf c)) clean steered
+
+abbrev pub Finite-or-cleared : Type 0
+Finite-or-cleared =
     (s : KarplusStrong) (c : KarplusStrongControls) (draws : List ℕ) (l : List Float) → accepted (karplusStrongTickOf s c draws l .out .answer) ≡ true
-    → ((markNumber (karplusStrongTickOf s c draws l .out .answer) ≡ clean) × (isFin (voltsOf (karplusStrongTickOf s c draws l .out .answer) .p10) ≡ true))
+    → ((markNumber (karplusStrongTickOf s c draws l .out .answer) ≡ steadyMark c) × (isFin (voltsOf (karplusStrongTickOf s c draws l .out .answer) .p10) ≡ true))
     ⊎ ((markNumber (karplusStrongTickOf s c draws l .out .answer) ≡ cleared) × (voltsOf (karplusStrongTickOf s c draws l .out .answer) ≡ volts1 zer))
 
 -- and while its stretch counts as 0.0 or -0.0 a string is never cleared, whatever its other controls do. With another it may be: at
@@ -173,13 +182,13 @@ Unstretched (Lend l) = Unit
 
 abbrev pub Never-cleared : Type 0
 Never-cleared = (x : Strung) → Reached First Unstretched after x → (c : KarplusStrongControls) (draws : List ℕ)
-    → Unstretched (Tick c draws) → accepted (karplusStrongToldOf c draws x) ≡ true → markNumber (karplusStrongToldOf c draws x) ≡ clean
+    → Unstretched (Tick c draws) → accepted (karplusStrongToldOf c draws x) ≡ true → markNumber (karplusStrongToldOf c draws x) ≡ steadyMark c
 
 -- nor in any tick of a block that isn't refused
 abbrev pub Block-never-cleared : Type 0
 Block-never-cleared = (x : Strung) → Reached First Unstretched after x → (c : KarplusStrongControls) (draws : List ℕ) (t : Tally) (o : List Float) (m : List ℕ)
     → Unstretched (Play c draws t o m) → karplusStrongBlockOf x c draws t o m .refused ≡ 0
-    → (i : ℕ) → i < length m → markNumber (answerAt (karplusStrongToldOf c draws) (karplusStrongNextOf c draws) x i) ≡ clean
+    → (i : ℕ) → i < length m → markNumber (answerAt (karplusStrongToldOf c draws) (karplusStrongNextOf c draws) x i) ≡ steadyMark c
 
 -- a refused tick leaves string and line as they stood
 abbrev pub Refused-leaves : Type 0

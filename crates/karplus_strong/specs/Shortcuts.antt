@@ -1,6 +1,6 @@
 -- Shortcuts of the code: no public contract and no promise cites them, so nobody need believe them; proofs/Held.antt, Parts.antt and
 -- Cuts.antt show that they are what the definitions say.
-use mathlib.Core.Bool.{cond}
+use mathlib.Core.Bool.{Bool, cond}
 use mathlib.Core.List.{List}
 use Prim.Native.Nat.{ℕ, _+_, _%_}
 use lib.Dec.{T}
@@ -20,13 +20,13 @@ abbrev pub Cut : Float → Type 0
 Cut x = T (le one x) × T (lt x (ofBits binary64 0x4330000000000000))
 
 -- ---- a step whose controls stand still: what they make of the loop is worked out once, and then only the loop turns
--- the filters, and the delay in whole samples and a fraction
-unfoldable pub tuningOf : Float → Float → Float → Tuning
-tuningOf period damping stretch =
+-- the filters, the delay in whole samples and a fraction, and whether no control is NaN
+unfoldable pub tuningOf : Float → Float → Float → Bool → Tuning
+tuningOf period damping stretch numbers =
     let c = filterCoefOf damping in
     let a = apCoefOf stretch in
     let delay = targetDelayOf period c a in
-    record { «filter_coef» = c; «ap_coef» = a; delay = wholeOf delay; fraction = sub binary64 delay (realOf (wholeOf delay)) }
+    record { «filter_coef» = c; «ap_coef» = a; delay = wholeOf delay; fraction = sub binary64 delay (realOf (wholeOf delay)); numbers = numbers }
 
 -- tapOf at such a delay
 unfoldable pub tapAt : List Float → ℕ → ℕ → ℕ → Float → Float
@@ -42,7 +42,7 @@ turnOf s t l =
     let filtered = filteredOf s sample (t .«filter_coef») in
     let stretched = stretchedOf s filtered (t .«ap_coef») in
     let leaked = mul binary64 stretched loopLeak in
-    cond (isFin leaked) (wroteOf s filtered stretched leaked l) (clearedOf s l)
+    cond (isFin leaked) (wroteOf s filtered stretched leaked (t .numbers) l) (clearedOf s (t .numbers) l)
 
 unfoldable pub heldAnswer : Tuning → Strung → Answer
 heldAnswer t x = turnOf (x .string) t (x .line) .out .answer

@@ -65,9 +65,9 @@ pub record Ticking : Type 0 where
   pub out : KarplusStrongTicked
   pub line : List Float
 
--- the one output, port 10. The string is cleared or clean: nothing stands before a clamp, and it has no phase
-unfoldable pub heardOf : Float → Bool → Answer
-heardOf v zeroed = markOf (volts1 v) zeroed true true
+-- the one output, port 10. The string is cleared, steered or clean: nothing stands before a clamp, and it has no phase
+unfoldable pub heardOf : Float → Bool → Bool → Answer
+heardOf v zeroed numbers = markOf (volts1 v) zeroed true true numbers
 
 -- a loop at rest, of n cells: what clear_loop_state and excite leave beside the line
 abbrev pub restOf : KarplusStrong → ℕ → EdgeDetector → KarplusStrong
@@ -84,10 +84,10 @@ restOf s n edge =
     }
 
 -- a finite value goes into the line, at the write position
-abbrev pub wroteOf : KarplusStrong → Float → Float → Float → List Float → Ticking
-wroteOf s filtered stretched leaked l = record {
+abbrev pub wroteOf : KarplusStrong → Float → Float → Float → Bool → List Float → Ticking
+wroteOf s filtered stretched leaked numbers l = record {
   out = record {
-    answer = heardOf leaked false;
+    answer = heardOf leaked false numbers;
     «karplus_strong» = record {
       len = s .len;
       «write_pos» = (s .«write_pos» + 1) % s .len;
@@ -103,18 +103,19 @@ wroteOf s filtered stretched leaked l = record {
 }
 
 -- another one clears the loop: clear_loop_state, and 0.0
-abbrev pub clearedOf : KarplusStrong → List Float → Ticking
-clearedOf s l = record {
-  out = record { answer = heardOf zer true; «karplus_strong» = restOf s (s .len) (s .«trigger_edge») };
+abbrev pub clearedOf : KarplusStrong → Bool → List Float → Ticking
+clearedOf s numbers l = record {
+  out = record { answer = heardOf zer true numbers; «karplus_strong» = restOf s (s .len) (s .«trigger_edge») };
   line = blankOf 0 (s .len) l;
 }
 
-unfoldable pub stepOf : KarplusStrong → Float → Float → Float → List Float → Ticking
-stepOf s period damping stretch l =
+-- `numbers` says that no control given to the tick is NaN
+unfoldable pub stepOf : KarplusStrong → Float → Float → Float → Bool → List Float → Ticking
+stepOf s period damping stretch numbers l =
     let c = filterCoefOf damping in
     let a = apCoefOf stretch in
     let sample = tapOf l (s .«write_pos») (s .len) (targetDelayOf period c a) in
     let filtered = filteredOf s sample c in
     let stretched = stretchedOf s filtered a in
     let leaked = mul binary64 stretched loopLeak in
-    cond (isFin leaked) (wroteOf s filtered stretched leaked l) (clearedOf s l)
+    cond (isFin leaked) (wroteOf s filtered stretched leaked numbers l) (clearedOf s numbers l)

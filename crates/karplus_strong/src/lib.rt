@@ -15,12 +15,13 @@ ghost use Rattle.laws.specs.Lists.{tab};
 ghost use Rattle.numeric.specs.Basic.{clampOf, wholeOf};
 ghost use Rattle.common.specs.Consts.{half};
 ghost use Rattle.common.specs.Tests.{rateOk, drawsRefusalOf};
+ghost use Rattle.answer.specs.Mark.{allNumbers};
 ghost use Rattle.answer.specs.Block.{afterTicks, joined, block, markAt, frameAt};
 ghost use Rattle.karplus_strong.specs.Consts.{nPorts};
 ghost use Rattle.karplus_strong.specs.Line.{blankOf, pulseOf, excitedOf, sumTo, levelOf, struckOf};
 ghost use Rattle.karplus_strong.specs.Step.{filterCoefOf, apCoefOf, targetDelayOf, stepOf};
 ghost use Rattle.karplus_strong.specs.KarplusStrong.{maxLenOf, stringOf, lineOk, roomOf, karplusStrongRefusalOf, karplusStrongRateRefusalOf};
-ghost use Rattle.karplus_strong.specs.KarplusStrong.{karplusStrongCellsOf, karplusStrongNewOf, finiteOr, periodOf, struckLen, strikeOf};
+ghost use Rattle.karplus_strong.specs.KarplusStrong.{karplusStrongCellsOf, karplusStrongNewOf, finiteOr, controlsOf, periodOf, struckLen, strikeOf};
 ghost use Rattle.karplus_strong.specs.KarplusStrong.{strikeIf, karplusStrongSoundOf, karplusStrongTickOf, karplusStrongToldOf};
 ghost use Rattle.karplus_strong.specs.KarplusStrong.{karplusStrongNextOf, triggerRefusalOf, firstRefusalOf, karplusStrongBlockOf};
 ghost use Rattle.karplus_strong.specs.KarplusStrong.{karplusStrongResetOf, placeOf, karplusStrongSetSampleRateOf, strung};
@@ -69,12 +70,14 @@ pub struct KarplusStrongMade {
     pub karplus_strong: KarplusStrong,
 }
 
-// What period, damping and stretch make of the loop: its filters, and the delay of its line in whole samples and a fraction.
+// What period, damping and stretch make of the loop: its filters, and the delay of its line in whole samples and a fraction. Beside
+// them, whether no control of the tick is NaN.
 struct Tuning {
     filter_coef: f64,
     ap_coef: f64,
     delay: usize,
     fraction: f64,
+    numbers: bool,
 }
 
 // ---- numbers
@@ -255,9 +258,9 @@ fn target_delay(period: f64, filter_coef: f64, ap_coef: f64) -> f64
     numeric::max(period - filter_gd - ap_gd, 1.0)
 }
 
-fn tuned(period: f64, damping: f64, stretch: f64) -> Tuning
+fn tuned(period: f64, damping: f64, stretch: f64, numbers: bool) -> Tuning
     requires { ⌜ wholeOf (targetDelayOf period (filterCoefOf damping) (apCoefOf stretch)) ≤ 9610 ⌝ }
-    ensures { λ r. ⌜ r ≡ tuningOf period damping stretch ⌝ }
+    ensures { λ r. ⌜ r ≡ tuningOf period damping stretch numbers ⌝ }
 {
     let filter_coef = 0.5 + damping * 0.49;
     let ap_coef = -0.5 * stretch;
@@ -268,6 +271,7 @@ fn tuned(period: f64, damping: f64, stretch: f64) -> Tuning
         ap_coef,
         delay,
         fraction: target - (delay as f64),
+        numbers,
     }
 }
 
@@ -300,6 +304,22 @@ fn string_of(sample_rate: Hertz, len: usize) -> KarplusStrong
         ap_y1: 0.0,
         trigger_edge,
         freq_memo,
+    }
+}
+
+impl KarplusStrongControls {
+    // Whether no control is NaN.
+    fn are_numbers(self) -> bool
+        ensures { λ r. ⌜ r ≡ allNumbers (controlsOf self) ⌝ }
+    {
+        let voct = self.voct;
+        answer::numbers5(
+            voct.0,
+            self.trigger,
+            self.damping,
+            self.brightness,
+            self.stretch,
+        )
     }
 }
 
@@ -463,7 +483,7 @@ impl KarplusStrong {
             line[pos] = leaked;
             let next = after(pos, len);
             KarplusStrongTicked {
-                answer: answer::marked(answer::volts1(leaked), false, true, true),
+                answer: answer::marked(answer::volts1(leaked), false, true, true, t.numbers),
                 karplus_strong: KarplusStrong {
                     len,
                     write_pos: next,
@@ -478,7 +498,7 @@ impl KarplusStrong {
         } else {
             blank(line, 0, len);
             KarplusStrongTicked {
-                answer: answer::marked(answer::volts1(0.0), true, true, true),
+                answer: answer::marked(answer::volts1(0.0), true, true, true, t.numbers),
                 karplus_strong: KarplusStrong {
                     len,
                     write_pos: 0,
@@ -494,13 +514,20 @@ impl KarplusStrong {
     }
 
     // The turn of a tick.
-    fn step(self, period: f64, damping: f64, stretch: f64, line: &mut [f64]) -> KarplusStrongTicked
+    fn step(
+        self,
+        period: f64,
+        damping: f64,
+        stretch: f64,
+        numbers: bool,
+        line: &mut [f64],
+    ) -> KarplusStrongTicked
         requires { ⌜ (self .«write_pos» < self .len) × (self .len ≤ length (now line))
             × (wholeOf (targetDelayOf period (filterCoefOf damping) (apCoefOf stretch)) ≤ 9610) ⌝ }
-        ensures { λ r. ⌜ (r ≡ stepOf self period damping stretch (now (line .entry)) .out)
-            × (now (line .exit) ≡ stepOf self period damping stretch (now (line .entry)) .line) ⌝ }
+        ensures { λ r. ⌜ (r ≡ stepOf self period damping stretch numbers (now (line .entry)) .out)
+            × (now (line .exit) ≡ stepOf self period damping stretch numbers (now (line .entry)) .line) ⌝ }
     {
-        self.turn(tuned(period, damping, stretch), line)
+        self.turn(tuned(period, damping, stretch, numbers), line)
     }
 
     // The tick of a state and a line that refusals 1 to 3 let pass: edge, strike if it is taken, step.
@@ -509,6 +536,7 @@ impl KarplusStrong {
         ensures { λ r. ⌜ (r ≡ karplusStrongSoundOf self c (now (draws .entry)) (now (line .entry)) .out)
             × (now (line .exit) ≡ karplusStrongSoundOf self c (now (draws .entry)) (now (line .entry)) .line) ⌝ }
     {
+        let numbers = c.are_numbers();
         let voct = c.voct;
         let memo = self.freq_memo;
         let sample_rate = self.sample_rate;
@@ -533,7 +561,7 @@ impl KarplusStrong {
                 freq_memo,
             };
             let struck = heard.strike_if(risen.rising, period, c.brightness, draws, line);
-            struck.step(period, damping, stretch, line)
+            struck.step(period, damping, stretch, numbers, line)
         } else {
             KarplusStrongTicked {
                 answer: Answer::Refused(refused),
@@ -562,7 +590,7 @@ impl KarplusStrong {
         }
     }
 
-    // Turns one after another, as many as there are marks: neither trigger nor controls are looked at.
+    // Turns one after another, as many as there are marks: neither trigger nor controls are looked at, but for what the tuning says of them.
     fn ring(self, t: Tuning, line: &mut [f64], samples: &mut [f64], marks: &mut [u32]) -> Self
         requires { ⌜ (self .«write_pos» < self .len) × (self .len ≤ length (now line)) × (t .delay ≤ 9610)
             × (length (now samples) ≡ nPorts * length (now marks)) ⌝ }
@@ -626,6 +654,7 @@ impl KarplusStrong {
         ensures { λ r. ⌜ (let d = now (draws .entry) in now (marks .exit)
             ≡ tab (markAt (karplusStrongToldOf c d) (karplusStrongNextOf c d) (strung self (now (line .entry)))) (length (now (marks .entry)))) ⌝ }
     {
+        let numbers = c.are_numbers();
         let voct = c.voct;
         let memo = self.freq_memo;
         let sample_rate = self.sample_rate;
@@ -648,7 +677,12 @@ impl KarplusStrong {
             freq_memo,
         };
         let struck = heard.strike_if(risen.rising, period, c.brightness, draws, line);
-        struck.ring(tuned(period, damping, stretch), line, samples, marks)
+        struck.ring(
+            tuned(period, damping, stretch, numbers),
+            line,
+            samples,
+            marks,
+        )
     }
 
     // As many ticks with these controls as there are marks.

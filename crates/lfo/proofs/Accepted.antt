@@ -45,7 +45,7 @@ sound-small : (s : Lfo) (c : LfoControls) (wanted : ℕ) → isSmall (div binary
 unfolding lfoSoundOf
 sound-small s c wanted k h =
     let edge = risingOf (s .«reset_edge») (c .reset) .rising in
-    ap allFinite (mark-says _ _ _ _ .volts)
+    ap allFinite (mark-says _ _ _ _ _ .volts)
     ∙ outputs-finite wanted (restartOf (s .phase) edge .0) (div binary64 (c .depth) ten) (restart-in (s .phase) edge (accepts s h .1)) k
 
 pub small-finite : Small-finite

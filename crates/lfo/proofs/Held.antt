@@ -8,8 +8,8 @@ use lib.Ieee.Fits.{add-fits}
 use Rattle.answer.specs.Answer.{refusalOf}
 use Rattle.answer.specs.Block.{afterTicks, answerAt}
 use Rattle.answer.proofs.Blocks.{Holds, held-accepted, all-taken}
-use Rattle.answer.proofs.Laws.{mark-says, refused-by}
-use Rattle.answer.specs.Mark.{markOf}
+use Rattle.answer.proofs.Laws.{mark-says, refused-by, mark-steers, tick-steers}
+use Rattle.answer.specs.Mark.{allNumbers, markOf}
 use Rattle.answer.specs.declared.Answer.{Answer}
 use Rattle.answer.specs.declared.Volts.{Volts}
 use Rattle.common.specs.Phase.{turns, wrapOf, incrementOf, restartOf}
@@ -24,20 +24,20 @@ use Rattle.laws.specs.Float.{isFin}
 use Rattle.lfo.specs.Shortcuts.{heldTold, heldNext}
 use Rattle.lfo.proofs.Accepted.{accepts, sounds}
 use Rattle.lfo.specs.Consts.{ten}
-use Rattle.lfo.specs.Lfo.{lfoRefusalOf, lfoOutputsOf, lfoSoundOf, lfoTickOf, lfoToldOf, lfoNextOf}
+use Rattle.lfo.specs.Lfo.{controlsOf, lfoRefusalOf, lfoOutputsOf, lfoSoundOf, lfoTickOf, lfoToldOf, lfoNextOf}
 use Rattle.lfo.specs.Waves.{rateToHz}
-use Rattle.lfo.specs.Promises.{Block-accepts, Block-tallies}
+use Rattle.lfo.specs.Promises.{Nan-steers, Block-accepts, Block-tallies}
 use Rattle.lfo.specs.declared.Lfo.{Lfo}
 use Rattle.lfo.specs.declared.LfoControls.{LfoControls}
 use Rattle.lfo.specs.declared.LfoTicked.{LfoTicked}
 use Rattle.common.specs.declared.Memo1.{Memo1}
 
 -- ---- a turn of the loop
-pub heard : (wanted : ℕ) (depth : Float) (step start : Turns) (i : ℕ) (p : Turns) (v : Volts) (f : Bool) (a : Answer) → a ≡ markOf v false true f
-    → v ≡ lfoOutputsOf wanted (p .0) depth → f ≡ isFin (add binary64 (p .0) (step .0)) → p ≡ afterTicks (heldNext step) i start
-    → a ≡ answerAt (heldTold wanted depth step) (heldNext step) start i
+pub heard : (wanted : ℕ) (depth : Float) (numbers : Bool) (step start : Turns) (i : ℕ) (p : Turns) (v : Volts) (f : Bool) (a : Answer)
+    → a ≡ markOf v false true f numbers → v ≡ lfoOutputsOf wanted (p .0) depth → f ≡ isFin (add binary64 (p .0) (step .0))
+    → p ≡ afterTicks (heldNext step) i start → a ≡ answerAt (heldTold wanted depth numbers step) (heldNext step) start i
 unfolding answerAt heldTold
-heard wanted depth step start i p v f a e q w z = simp (e, q, w, z)
+heard wanted depth numbers step start i p v f a e q w z = simp (e, q, w, z)
 
 pub moved : (step start : Turns) (i : ℕ) (p q : Turns) → q ≡ turns (wrapOf (add binary64 (p .0) (step .0))) → p ≡ afterTicks (heldNext step) i start
     → q ≡ afterTicks (heldNext step) (i + 1) start
@@ -54,7 +54,11 @@ startOf s c = restartOf (s .phase) (risingOf (s .«reset_edge») (c .reset) .ris
 abbrev pub stepOf : Lfo → LfoControls → Turns
 stepOf s c = incrementOf (heldMemo s c .val) (s .«sample_rate»)
 
--- the state in a block whose phase is p, from the second tick on
+-- what a tick of a block answers whose phase is p
+abbrev pub toldOf : Lfo → LfoControls → ℕ → Turns → Answer
+toldOf s c wanted = heldTold wanted (div binary64 (c .depth) ten) (allNumbers (controlsOf c)) (stepOf s c)
+
+-- and the state then, from the second tick on
 abbrev pub stateOf : Lfo → LfoControls → Turns → Lfo
 stateOf s c p = record { phase = p; «sample_rate» = s .«sample_rate»; «reset_edge» = risingOf (s .«reset_edge») (c .reset) .edge; «freq_memo» = heldMemo s c }
 
@@ -65,13 +69,12 @@ state-accepted s c p h k = simp (accepts s h .0, k)
 -- in such a state a tick takes no edge and finds its rate in the memo
 held-sound : (s : Lfo) (c : LfoControls) (wanted : ℕ) (p : Turns)
     → lfoSoundOf (stateOf s c p) c wanted
-    ≡ record { answer = heldTold wanted (div binary64 (c .depth) ten) (stepOf s c) p; lfo = stateOf s c (heldNext (stepOf s c) p) }
+    ≡ record { answer = toldOf s c wanted p; lfo = stateOf s c (heldNext (stepOf s c) p) }
 unfolding lfoSoundOf heldTold heldNext restartOf
 held-sound s c wanted p = simp (recall1-again rateToHz (s .«freq_memo») (c .rate), rising-once (s .«reset_edge») (c .reset))
 
 pub holds : (s : Lfo) (c : LfoControls) (wanted : ℕ) → lfoRefusalOf s ≡ 0
-    → Holds (lfoToldOf c wanted) (lfoNextOf c wanted) (heldTold wanted (div binary64 (c .depth) ten) (stepOf s c)) (heldNext (stepOf s c)) (stateOf s c)
-    (λ p. phaseOk p ≡ true) s (startOf s c)
+    → Holds (lfoToldOf c wanted) (lfoNextOf c wanted) (toldOf s c wanted) (heldNext (stepOf s c)) (stateOf s c) (λ p. phaseOk p ≡ true) s (startOf s c)
 holds s c wanted h =
     record {
       good = restart-in (s .phase) (risingOf (s .«reset_edge») (c .reset) .rising) (accepts s h .1);
@@ -84,7 +87,7 @@ holds s c wanted h =
 
 -- ---- so none of them is refused
 pub block-accepts : Block-accepts
-block-accepts s c wanted h = held-accepted _ _ _ _ _ _ _ _ (holds s c wanted h) (λ p. unfold heldTold in mark-says _ _ _ _ .is-accepted)
+block-accepts s c wanted h = held-accepted _ _ _ _ _ _ _ _ (holds s c wanted h) (λ p. unfold heldTold in mark-says _ _ _ _ _ .is-accepted)
 
 pub block-tallies : Block-tallies
 block-tallies s c wanted h = all-taken _ _ s (block-accepts s c wanted h)
@@ -92,4 +95,9 @@ block-tallies s c wanted h = all-taken _ _ s (block-accepts s c wanted h)
 -- ---- a tick is refused by what refuses its state
 pub tick-refusal : (s : Lfo) (c : LfoControls) (wanted : ℕ) → refusalOf (lfoTickOf s c wanted .answer) ≡ lfoRefusalOf s
 unfolding lfoTickOf lfoSoundOf
-tick-refusal s c wanted = refused-by (λ (t : LfoTicked). t .answer) (lfoRefusalOf s) _ _ (mark-says _ _ _ _ .is-accepted) refl
+tick-refusal s c wanted = refused-by (λ (t : LfoTicked). t .answer) (lfoRefusalOf s) _ _ (mark-says _ _ _ _ _ .is-accepted) refl
+
+-- ---- and marked over its controls
+pub nan-steers : Nan-steers
+unfolding lfoTickOf lfoSoundOf
+nan-steers s c wanted = tick-steers (λ (t : LfoTicked). t .answer) (controlsOf c) (lfoRefusalOf s) _ _ (mark-steers _ _ _ _ (controlsOf c)) refl

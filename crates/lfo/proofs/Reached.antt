@@ -66,7 +66,7 @@ tick-sounds s c w g = sounds s c w (unrefused s g)
 
 pub sound-accepted : (s : Lfo) (c : LfoControls) (w : ℕ) → accepted (lfoSoundOf s c w .answer) ≡ true
 unfolding lfoSoundOf
-sound-accepted s c w = mark-says _ _ _ _ .is-accepted
+sound-accepted s c w = mark-says _ _ _ _ _ .is-accepted
 
 -- ---- it stays good
 pub good-new : (r : Hertz) → rateOk r ≡ true → Good (newLfo r)

@@ -1,12 +1,12 @@
 -- The Lfo's calls, written from oscillators.rs, with the scope's refusals and marks.
 use mathlib.Core.Bool.{true, false, cond}
-use mathlib.Core.List.{List}
+use mathlib.Core.List.{List, [], _∷_}
 use Prim.Native.Nat.{ℕ}
 use lib.Dec.{eqb}
 use lib.Ieee.{Float, binary64, mul, div, add}
 use Rattle.answer.specs.Answer.{volts5}
 use Rattle.answer.specs.Block.{Block, blockOf}
-use Rattle.answer.specs.Mark.{markOf}
+use Rattle.answer.specs.Mark.{allNumbers, markOf}
 use Rattle.common.specs.Consts.{five}
 use Rattle.common.specs.Edge.{newEdge, resetOf, risingOf}
 use Rattle.common.specs.Memo.{newMemo1, recall1}
@@ -62,6 +62,10 @@ lfoOutputsOf wanted phase depth =
     (sqrWave (wants wanted 8) phase scale)
     (sinUniWave (wants wanted 16) (sineOf phase) depth)
 
+-- the controls given to a tick, in port order
+abbrev pub controlsOf : LfoControls → List Float
+controlsOf c = c .rate ∷ c .depth ∷ c .reset ∷ []
+
 -- tick_wanted, line by line
 unfoldable pub lfoSoundOf : Lfo → LfoControls → ℕ → LfoTicked
 lfoSoundOf s c wanted =
@@ -71,7 +75,7 @@ lfoSoundOf s c wanted =
     let phase = restartOf (s .phase) (risen .rising) .0 in
     let next = add binary64 phase (incrementOf (memo .val) (s .«sample_rate») .0) in
     record {
-      answer = markOf (lfoOutputsOf wanted phase depth) false true (isFin next);
+      answer = markOf (lfoOutputsOf wanted phase depth) false true (isFin next) (allNumbers (controlsOf c));
       lfo = record { phase = turns (wrapOf next); «sample_rate» = s .«sample_rate»; «reset_edge» = risen .edge; «freq_memo» = memo };
     }
 

@@ -1,6 +1,6 @@
 -- Theorems about the Lfo: the statements. proofs/ proves each under the same name in small letters.
 use mathlib.Core.Bool.{Bool, true, cond}
-use mathlib.Core.List.{List, _∷_}
+use mathlib.Core.List.{List, _∷_, []}
 use mathlib.Core.Path.{_≡_}
 use Prim.Native.Nat.{ℕ, _*_, _<_}
 use lib.Dec.{eqb}
@@ -8,7 +8,7 @@ use lib.Ieee.{Float, binary64, le, div}
 use lib.ListN.{length}
 use Rattle.answer.specs.Answer.{voltsOf, accepted, outcomeNumber}
 use Rattle.answer.specs.Block.{Block, blockRefusalOf}
-use Rattle.answer.specs.Promises.{AllAccepted, AllTaken}
+use Rattle.answer.specs.Promises.{Steers, AllAccepted, AllTaken}
 use Rattle.answer.specs.Mark.{allFinite}
 use Rattle.common.specs.Consts.{five}
 use Rattle.common.specs.Edge.{risingOf, thresholdOf}
@@ -68,6 +68,10 @@ Block-forgets = (s : Lfo) → ReachedLfo s → (c : LfoControls) (wanted : ℕ) 
 abbrev pub Edge-comes : Type 0
 Edge-comes = (s : Lfo) → ReachedLfo s → (c d : LfoControls) (v w : ℕ) → Fit c → le (c .reset) (thresholdOf (s .«reset_edge»)) ≡ true → d .reset ≡ five
     → (accepted (lfoTickOf (after s (Tick c v)) d w .answer) ≡ true) × (taken (after s (Tick c v)) d ≡ true)
+
+-- ---- no tick is clean with a control that is NaN, and none is steered without one
+abbrev pub Nan-steers : Type 0
+Nan-steers = (s : Lfo) (c : LfoControls) (wanted : ℕ) → Steers (c .rate ∷ c .depth ∷ c .reset ∷ []) (lfoTickOf s c wanted .answer)
 
 -- ---- a small depth sounds finite: in an accepted tick no output overflows, wanted or not
 abbrev pub Small-finite : Type 0

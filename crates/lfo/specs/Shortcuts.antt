@@ -1,6 +1,6 @@
 -- Shortcuts of the code: no public contract and no promise cites them, so nobody need believe them; proofs/Held.antt shows that they
 -- are what the definitions say.
-use mathlib.Core.Bool.{true, false}
+use mathlib.Core.Bool.{Bool, true, false}
 use Prim.Native.Nat.{ℕ}
 use lib.Ieee.{Float, binary64, add}
 use Rattle.answer.specs.Mark.{markOf}
@@ -11,8 +11,8 @@ use Rattle.laws.specs.Float.{isFin}
 use Rattle.lfo.specs.Lfo.{lfoOutputsOf}
 
 -- ---- a tick whose reset and rate stand still: no edge is taken and the memo holds, so only the phase moves
-unfoldable pub heldTold : ℕ → Float → Turns → Turns → Answer
-heldTold wanted depth step phase = markOf (lfoOutputsOf wanted (phase .0) depth) false true (isFin (add binary64 (phase .0) (step .0)))
+unfoldable pub heldTold : ℕ → Float → Bool → Turns → Turns → Answer
+heldTold wanted depth numbers step phase = markOf (lfoOutputsOf wanted (phase .0) depth) false true (isFin (add binary64 (phase .0) (step .0))) numbers
 
 unfoldable pub heldNext : Turns → Turns → Turns
 heldNext step phase = turns (wrapOf (add binary64 (phase .0) (step .0)))

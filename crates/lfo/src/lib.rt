@@ -15,14 +15,14 @@ ghost use lib.ListN.{length};
 ghost use Rattle.laws.specs.Lists.{tab};
 ghost use Rattle.common.specs.Memo.{recall1};
 ghost use Rattle.common.specs.Tests.{phaseOk};
-ghost use Rattle.answer.specs.Mark.{allFinite, markOf};
+ghost use Rattle.answer.specs.Mark.{allFinite, allNumbers, markOf};
 ghost use Rattle.answer.specs.Block.{afterTicks, joined, block, markAt, frameAt};
 ghost use Rattle.lfo.specs.Consts.{nPorts};
 ghost use Rattle.lfo.specs.Waves.{rateToHz, sharedSine, sinWave, triWave, sawWave, sqrWave, sinUniWave};
 ghost use Rattle.lfo.specs.Small.{isSmall};
 ghost use Rattle.lfo.specs.Shortcuts.{heldTold, heldNext};
-ghost use Rattle.lfo.specs.Lfo.{lfoRefusalOf, lfoRateRefusalOf, lfoNewOf, lfoOutputsOf, lfoSoundOf, lfoTickOf, lfoToldOf, lfoNextOf};
-ghost use Rattle.lfo.specs.Lfo.{lfoBlockOf, lfoResetOf, lfoSetSampleRateOf};
+ghost use Rattle.lfo.specs.Lfo.{controlsOf, lfoRefusalOf, lfoRateRefusalOf, lfoNewOf, lfoOutputsOf, lfoSoundOf, lfoTickOf, lfoToldOf};
+ghost use Rattle.lfo.specs.Lfo.{lfoNextOf, lfoBlockOf, lfoResetOf, lfoSetSampleRateOf};
 
 pub struct Lfo {
     pub phase: Turns,
@@ -138,14 +138,23 @@ fn is_small(depth: f64) -> bool
 }
 
 // The mark. A small depth makes no output that isn't finite, which spares the test of each.
-fn mark(v: Volts, small: bool, phases: bool) -> Answer
+fn mark(v: Volts, small: bool, phases: bool, numbers: bool) -> Answer
     requires { ⌜ (small ≡ true → allFinite v ≡ true) ⌝ }
-    ensures { λ r. ⌜ r ≡ markOf v false true phases ⌝ }
+    ensures { λ r. ⌜ r ≡ markOf v false true phases numbers ⌝ }
 {
     if small {
-        answer::marked(v, false, true, phases)
+        answer::marked(v, false, true, phases, numbers)
     } else {
-        answer::mark(v, false, true, phases)
+        answer::mark(v, false, true, phases, numbers)
+    }
+}
+
+impl LfoControls {
+    // Whether no control is NaN.
+    fn are_numbers(self) -> bool
+        ensures { λ r. ⌜ r ≡ allNumbers (controlsOf self) ⌝ }
+    {
+        answer::numbers3(self.rate, self.depth, self.reset)
     }
 }
 
@@ -230,6 +239,7 @@ impl Lfo {
         requires { ⌜ lfoRefusalOf self ≡ 0 ⌝ }
         ensures { λ r. ⌜ r ≡ lfoSoundOf self c wanted ⌝ }
     {
+        let numbers = c.are_numbers();
         let old = self.phase;
         let sample_rate = self.sample_rate;
         let edge = self.reset_edge;
@@ -244,7 +254,7 @@ impl Lfo {
         let volts = Self::outputs(wanted, phase, sine, depth);
         let next = Turns(phase.0 + common::increment(freq, sample_rate).0);
         LfoTicked {
-            answer: mark(volts, is_small(depth), numeric::is_finite(next.0)),
+            answer: mark(volts, is_small(depth), numeric::is_finite(next.0), numbers),
             lfo: Lfo {
                 phase: common::wrap_phase(next),
                 sample_rate,
@@ -273,6 +283,7 @@ impl Lfo {
         start: Turns,
         step: Turns,
         depth: f64,
+        numbers: bool,
         wanted: u32,
         samples: &mut [f64],
         marks: &mut [u32],
@@ -280,8 +291,9 @@ impl Lfo {
         requires { ⌜ (phaseOk start ≡ true) × (length (now samples) ≡ nPorts * length (now marks)) ⌝ }
         ensures { λ r. ⌜ r ≡ afterTicks (heldNext step) (length (now (marks .entry))) start ⌝ }
         ensures { λ r. ⌜ now (samples .exit)
-            ≡ joined (frameAt nPorts (heldTold wanted depth step) (heldNext step) start) (length (now (marks .entry))) ⌝ }
-        ensures { λ r. ⌜ now (marks .exit) ≡ tab (markAt (heldTold wanted depth step) (heldNext step) start) (length (now (marks .entry))) ⌝ }
+            ≡ joined (frameAt nPorts (heldTold wanted depth numbers step) (heldNext step) start) (length (now (marks .entry))) ⌝ }
+        ensures { λ r. ⌜ now (marks .exit)
+            ≡ tab (markAt (heldTold wanted depth numbers step) (heldNext step) start) (length (now (marks .entry))) ⌝ }
     {
         let small = is_small(depth);
         let mut phase = start;
@@ -290,7 +302,7 @@ impl Lfo {
             let next = Turns(phase.0 + step.0);
             let sine = Self::shared_sine(wanted, phase);
             let volts = Self::outputs(wanted, phase, sine, depth);
-            let heard = mark(volts, small, numeric::is_finite(next.0));
+            let heard = mark(volts, small, numeric::is_finite(next.0), numbers);
             answer::put(heard, PORTS, i, &mut *samples, &mut *marks);
             phase = common::wrap_phase(next);
             i += 1;
@@ -298,7 +310,7 @@ impl Lfo {
         phase
     }
 
-    // The ticks of a block. Only the first can take the edge, and the memo holds from then on.
+    // The ticks of a block. Only the first can take the edge, and the memo holds from then on. The controls are asked once.
     fn run(self, c: LfoControls, wanted: u32, samples: &mut [f64], marks: &mut [u32]) -> Self
         requires { ⌜ (lfoRefusalOf self ≡ 0) × (0 < length (now marks)) × (length (now samples) ≡ nPorts * length (now marks)) ⌝ }
         ensures { λ r. ⌜ r ≡ afterTicks (lfoNextOf c wanted) (length (now (marks .entry))) self ⌝ }
@@ -306,6 +318,7 @@ impl Lfo {
             ≡ joined (frameAt nPorts (lfoToldOf c wanted) (lfoNextOf c wanted) self) (length (now (marks .entry))) ⌝ }
         ensures { λ r. ⌜ now (marks .exit) ≡ tab (markAt (lfoToldOf c wanted) (lfoNextOf c wanted) self) (length (now (marks .entry))) ⌝ }
     {
+        let numbers = c.are_numbers();
         let old = self.phase;
         let sample_rate = self.sample_rate;
         let edge = self.reset_edge;
@@ -317,7 +330,7 @@ impl Lfo {
         let start = common::restart(old, risen.rising);
         let step = common::increment(freq, sample_rate);
         Lfo {
-            phase: Self::glide(start, step, c.depth / 10.0, wanted, samples, marks),
+            phase: Self::glide(start, step, c.depth / 10.0, numbers, wanted, samples, marks),
             sample_rate,
             reset_edge,
             freq_memo,

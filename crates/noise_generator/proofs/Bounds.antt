@@ -25,7 +25,7 @@ use Rattle.common.proofs.Bounds.{zer-within}
 use Rattle.common.proofs.DrawLaws.{draw-below, draws-fine}
 use Rattle.common.specs.Tests.{drawsOk}
 use Rattle.answer.proofs.Blocks.{block-keeps, ticks-keep}
-use Rattle.noise_generator.proofs.TickLaws.{drawingAt, tick-by}
+use Rattle.noise_generator.proofs.TickLaws.{numbersOf, drawingAt, tick-by}
 use Rattle.noise_generator.specs.Consts.{nPorts}
 use Rattle.noise_generator.specs.Calls.{Call, Tick, Play, Reset, SetSampleRate, after, First, ReachedNoiseGenerator}
 use Rattle.noise_generator.specs.NoiseGenerator.{newNoiseGenerator, withCorrelation, neededOf, turnOf, correlationOf, noiseGeneratorTickOf}
@@ -166,10 +166,10 @@ pub record CalmNoise (s : NoiseGenerator) : Type 0 where
   pub pink2 : Calm (s .pink2)
 
 -- an accepted tick: of the draws that it needs two are white's, and each pink has its own after them
-pub calm-turn : (correlation : Float) (s : NoiseGenerator) (wanted : ℕ) (draws : List ℕ) → drawsOk draws (neededOf s) ≡ true → CalmNoise s
-    → CalmNoise (turnOf correlation s wanted draws .«noise_generator»)
+pub calm-turn : (correlation : Float) (numbers : Bool) (s : NoiseGenerator) (wanted : ℕ) (draws : List ℕ) → drawsOk draws (neededOf s) ≡ true → CalmNoise s
+    → CalmNoise (turnOf correlation numbers s wanted draws .«noise_generator»)
 unfolding turnOf neededOf
-calm-turn correlation s wanted draws e c =
+calm-turn correlation numbers s wanted draws e c =
     let m = changedOf (nextIndex (s .pink .index)) in
     let n = changedOf (nextIndex (s .pink2 .index)) in
     record {
@@ -188,7 +188,7 @@ pub calm-tick : (s : NoiseGenerator) (c : NoiseGeneratorControls) (wanted : ℕ)
     → CalmNoise (noiseGeneratorTickOf s c wanted draws .«noise_generator»)
 calm-tick s c wanted draws h =
     tick-by s c wanted draws (λ (t : NoiseGeneratorTicked). CalmNoise (t .«noise_generator»))
-    (λ e. calm-turn (correlationOf s c) s wanted draws (draws-fine (neededOf s) draws e) h) (λ e. h)
+    (λ e. calm-turn (correlationOf s c) (numbersOf c) s wanted draws (draws-fine (neededOf s) draws e) h) (λ e. h)
 
 abbrev pub CalmDrawing : Drawing → Type 0
 CalmDrawing x = CalmNoise (x .noise)

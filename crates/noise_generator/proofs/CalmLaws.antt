@@ -19,7 +19,7 @@ use Rattle.noise_generator.specs.declared.NoiseGenerator.{NoiseGenerator
 use Rattle.noise_generator.specs.declared.NoiseGeneratorControls.{NoiseGeneratorControls}
 use Rattle.noise_generator.proofs.Bounds.{CalmNoise, calm-of, calm-at}
 use Rattle.noise_generator.proofs.Clean.{turn-finite}
-use Rattle.noise_generator.proofs.TickLaws.{At, drawingAt, ticks-at}
+use Rattle.noise_generator.proofs.TickLaws.{numbersOf, At, drawingAt, ticks-at}
 use Rattle.noise_generator.proofs.TurnLaws.{rest-draws}
 
 -- ---- the first i rows lie from -1 to 1
@@ -58,5 +58,5 @@ ahead-finite s c wanted draws n h e e2 calm i l k x at q z f =
     let first : CalmNoise s = record { pink = calm-of (s .pink) e (calm .pink); pink2 = calm-of (s .pink2) e2 (calm .pink2) } in
     let fine = draws-fine (neededOf (y .noise)) (y .draws) (a .taken l) in
     let unit = unit-within (correlationOf s c) (calm .correlation) in
-    let there = turn-finite (correlationOf s c) (y .noise) wanted (y .draws) fine unit (calm-at s c wanted draws first i) in
+    let there = turn-finite (correlationOf s c) (numbersOf c) (y .noise) wanted (y .draws) fine unit (calm-at s c wanted draws first i) in
     (λ j. allFinite (turnVolts (q j) (z j .pink) (z j .pink2) wanted (left j))) ∙ there

@@ -7,6 +7,7 @@ use native.Mathlib.Nat.{le-trans, mul-pos}
 use native.Mathlib.Omega.{arith}
 use lib.Dec.{T, lit<, lit≤}
 use lib.ListN.{getD}
+use lib.Ieee.Bits.{is-false}
 use lib.Ieee.{Float, nan, binary64, eq, isNan, le, lt, mul, neg, ofBits, sub}
 use Rattle.laws.proofs.Interval.{Within, round-sized, unit-within, within-add, within-minus, within-mul, within-to}
 use Rattle.laws.proofs.Number.{add-nan-l, mul-nan-l, mul-nan-r}
@@ -25,21 +26,23 @@ use Rattle.common.specs.Tests.{drawsOk}
 use Rattle.answer.proofs.Laws.{mark-says}
 use Rattle.answer.specs.Answer.{notfinite, markNumber, accepted}
 use Rattle.answer.specs.Block.{answerAt}
-use Rattle.answer.specs.Mark.{allFinite, markOf, ruleOf}
+use Rattle.answer.specs.Mark.{allFinite, allNumbers, markOf, ruleOf}
 use Rattle.answer.specs.declared.Volts.{Volts}
 use Rattle.noise_generator.specs.Shortcuts.{turnVolts}
 use Rattle.noise_generator.specs.Consts.{sixteen}
-use Rattle.noise_generator.specs.NoiseGenerator.{neededOf, givenOr, mixOf, noiseGeneratorVoltsOf, turnOf, correlationOf, noiseGeneratorTickOf}
+use Rattle.noise_generator.specs.NoiseGenerator.{neededOf, givenOr, givenIn, mixOf, noiseGeneratorVoltsOf, turnOf, correlationOf, noiseGeneratorTickOf}
 use Rattle.noise_generator.specs.NoiseGenerator.{drawing, noiseGeneratorToldOf, noiseGeneratorNextOf}
 use Rattle.noise_generator.specs.Pink.{nextIndex, changedOf, sampledOf, pinkOf}
 use Rattle.noise_generator.specs.Promises.{Nan-told, Clean, Number, Always-clean, Block-clean}
+use Rattle.noise_generator.specs.declared.Correlation.{Correlation}
+use Rattle.noise_generator.specs.declared.Correlation.the-variants as correlation
 use Rattle.noise_generator.specs.declared.NoiseGenerator.{NoiseGenerator}
 use Rattle.noise_generator.specs.declared.NoiseGeneratorControls.{NoiseGeneratorControls}
 use Rattle.noise_generator.specs.declared.NoiseGeneratorTicked.{NoiseGeneratorTicked}
 use Rattle.noise_generator.specs.declared.PinkNoiseState.{PinkNoiseState}
 use Rattle.noise_generator.proofs.Bounds.{Calm, CalmNoise, calm-turn, calm-at, calm-reached}
 use Rattle.noise_generator.proofs.Refusals.{accepted-taken, block-accepts}
-use Rattle.noise_generator.proofs.TickLaws.{drawingAt, tick-taken}
+use Rattle.noise_generator.proofs.TickLaws.{numbersOf, drawingAt, tick-taken}
 use Rattle.noise_generator.proofs.Stored.{stored-at}
 
 -- ---- sizes
@@ -90,11 +93,11 @@ volts-finite c white1 independent pink1 pink2 wanted C W I P Q = simp (white, pi
     both = out-finite (wants wanted 8) 52 (mixOf pink1 pink2 c) (lit≤ tt) (mix-within 50 pink1 pink2 c (lit≤ tt) P Q C)
 
 -- ---- so a tick of a calm state is clean
-pub turn-finite : (c : Float) (s : NoiseGenerator) (wanted : ℕ) (draws : List ℕ) → drawsOk draws (neededOf s) ≡ true → Within 0 c → CalmNoise s
+pub turn-finite : (c : Float) (numbers : Bool) (s : NoiseGenerator) (wanted : ℕ) (draws : List ℕ) → drawsOk draws (neededOf s) ≡ true → Within 0 c → CalmNoise s
     → allFinite (turnVolts c (s .pink) (s .pink2) wanted draws) ≡ true
 unfolding turnOf
-turn-finite c s wanted draws e h calm =
-    let after = calm-turn c s wanted draws e calm in
+turn-finite c numbers s wanted draws e h calm =
+    let after = calm-turn c numbers s wanted draws e calm in
     volts-finite c (bipolarOf (getD draws 0 0)) (bipolarOf (getD draws 1 0)) _ _ wanted h (white 0 (lit< tt)) (white 1 (lit< tt))
     (pink-within (sampledOf draws 2 (s .pink)) (after .pink))
     (pink-within (sampledOf draws (2 + changedOf (nextIndex (s .pink .index))) (s .pink2)) (after .pink2))
@@ -106,21 +109,31 @@ turn-finite c s wanted draws e h calm =
     white : (i : ℕ) → i < 2 → Within 0 (bipolarOf (getD draws i 0))
     white i l = bipolar-within (getD draws i 0) (draw-below draws (neededOf s) i e (le-trans l two-first))
 
-marked-clean : (v : Volts) → allFinite v ≡ true → Clean (markOf v false true true)
+marked-clean : (v : Volts) → allFinite v ≡ true → Clean (markOf v false true true true)
 unfolding ruleOf
-marked-clean v h = let said = mark-says v false true true in (said .number ∙ simp h, ap allFinite (said .volts) ∙ h)
+marked-clean v h = let said = mark-says v false true true true in (said .number ∙ simp h, ap allFinite (said .volts) ∙ h)
 
 pub turn-clean : (c : Float) (s : NoiseGenerator) (wanted : ℕ) (draws : List ℕ) → drawsOk draws (neededOf s) ≡ true → Within 0 c → CalmNoise s
-    → Clean (turnOf c s wanted draws .answer)
+    → Clean (turnOf c true s wanted draws .answer)
 unfolding turnOf
-turn-clean c s wanted draws e h calm = marked-clean (turnVolts c (s .pink) (s .pink2) wanted draws) (turn-finite c s wanted draws e h calm)
+turn-clean c s wanted draws e h calm = marked-clean (turnVolts c (s .pink) (s .pink2) wanted draws) (turn-finite c true s wanted draws e h calm)
+
+-- a number that is given is no NaN, and a stored one isn't given
+numbers-given : (s : NoiseGenerator) (c : NoiseGeneratorControls) → Number s c → numbersOf c ≡ true
+unfolding allNumbers givenOr givenIn
+numbers-given s c = go (c .correlation)
+  where
+    go : (x : Correlation) → T (not (isNan (givenOr x (s .correlation)))) → allNumbers (givenIn x) ≡ true
+    go (correlation.Given x) h = rw (is-false (isNan x) h) refl
+    go correlation.Stored h = refl
 
 pub tick-clean : (s : NoiseGenerator) (c : NoiseGeneratorControls) (wanted : ℕ) (draws : List ℕ) → CalmNoise s → Number s c
     → accepted (noiseGeneratorTickOf s c wanted draws .answer) ≡ true → Clean (noiseGeneratorTickOf s c wanted draws .answer)
 tick-clean s c wanted draws calm h a =
     let e = accepted-taken s c wanted draws a in
     let d = draws-fine (neededOf s) draws e in
-    subst (λ (t : NoiseGeneratorTicked). Clean (t .answer)) (sym (tick-taken s c wanted draws e))
+    let turn = tick-taken s c wanted draws e ∙ ap (λ (b : Bool). turnOf (correlationOf s c) b s wanted draws) (numbers-given s c h) in
+    subst (λ (t : NoiseGeneratorTicked). Clean (t .answer)) (sym turn)
     (turn-clean (correlationOf s c) s wanted draws d (correlation-within s c h) calm)
 
 pub always-clean : Always-clean
@@ -162,17 +175,17 @@ volts-nan white1 independent pink1 pink2 wanted h =
     one-not true true false true z h = refl
     one-not true true false false z h = absurd (false≢true h)
 
-marked-nan : (v : Volts) → allFinite v ≡ false → markNumber (markOf v false true true) ≡ notfinite
-marked-nan v h = mark-says v false true true .number ∙ (unfold ruleOf in simp h)
+marked-nan : (v : Volts) (numbers : Bool) → allFinite v ≡ false → markNumber (markOf v false true true numbers) ≡ notfinite
+marked-nan v numbers h = mark-says v false true true numbers .number ∙ (unfold ruleOf in simp h)
 
-turn-nan : (s : NoiseGenerator) (wanted : ℕ) (draws : List ℕ) → (wants wanted 4 || wants wanted 8) ≡ true
-    → markNumber (turnOf nan s wanted draws .answer) ≡ notfinite
+turn-nan : (numbers : Bool) (s : NoiseGenerator) (wanted : ℕ) (draws : List ℕ) → (wants wanted 4 || wants wanted 8) ≡ true
+    → markNumber (turnOf nan numbers s wanted draws .answer) ≡ notfinite
 unfolding turnOf
-turn-nan s wanted draws w = marked-nan _ (volts-nan _ _ _ _ wanted w)
+turn-nan numbers s wanted draws w = marked-nan _ numbers (volts-nan _ _ _ _ wanted w)
 
 pub nan-told : Nan-told
 nan-told s c wanted draws a e w =
     let q : correlationOf s c ≡ nan = unfold correlationOf in ap (λ (x : Float). clampOf x zer one) e ∙ clamp-nan zer one in
     ap (λ (t : NoiseGeneratorTicked). markNumber (t .answer)) (tick-taken s c wanted draws (accepted-taken s c wanted draws a))
-    ∙ ap (λ (x : Float). markNumber (turnOf x s wanted draws .answer)) q
-    ∙ turn-nan s wanted draws w
+    ∙ ap (λ (x : Float). markNumber (turnOf x (numbersOf c) s wanted draws .answer)) q
+    ∙ turn-nan (numbersOf c) s wanted draws w

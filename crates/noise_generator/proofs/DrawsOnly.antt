@@ -14,11 +14,11 @@ use Rattle.common.proofs.DrawLaws.{refusal-draws}
 use Rattle.common.specs.Tests.{drawsRefusalOf}
 use Rattle.answer.proofs.Blocks.{many-ext, block-fits}
 use Rattle.answer.specs.Block.{afterTicks, answerAt, markAt, frameAt, portsOf, joined, countedTo, manyTo, ticksOf, Block, block, blockOf, blockRefusalOf}
-use Rattle.answer.specs.Answer.{hostNumber, voltsOf, cleared, notfinite, lost, clean, told}
+use Rattle.answer.specs.Answer.{hostNumber, voltsOf, cleared, notfinite, lost, steered, clean, told}
 use Rattle.answer.specs.declared.Answer.{Answer}
 use Rattle.answer.specs.declared.Tally.{Tally}
 use Rattle.laws.proofs.Over.{tab-ext}
-use Rattle.noise_generator.proofs.TickLaws.{needed-less, drawingAt, ticks-at}
+use Rattle.noise_generator.proofs.TickLaws.{numbersOf, needed-less, drawingAt, ticks-at}
 use Rattle.noise_generator.specs.Consts.{nPorts}
 use Rattle.noise_generator.specs.NoiseGenerator.{neededOf, neededBy, correlationOf, turnOf, noiseGeneratorTickOf}
 use Rattle.noise_generator.specs.NoiseGenerator.{Drawing, drawing, noiseGeneratorToldOf, noiseGeneratorNextOf, undrawn, noiseGeneratorBlockOf}
@@ -44,10 +44,10 @@ sampled-same : (d e : List ℕ) (at : ℕ) (p : PinkNoiseState)
 unfolding sampledOf
 sampled-same d e at p h = rw (rows-same d e at (rowed (p .rows) (p .«running_sum»)) (changedOf (nextIndex (p .index))) h)
 
-turn-same : (k : Float) (s : NoiseGenerator) (wanted : ℕ) (d e : List ℕ) → ((i : ℕ) → i < neededOf s → getD d i 0 ≡ getD e i 0)
-    → turnOf k s wanted d ≡ turnOf k s wanted e
+turn-same : (k : Float) (numbers : Bool) (s : NoiseGenerator) (wanted : ℕ) (d e : List ℕ) → ((i : ℕ) → i < neededOf s → getD d i 0 ≡ getD e i 0)
+    → turnOf k numbers s wanted d ≡ turnOf k numbers s wanted e
 unfolding turnOf neededOf
-turn-same k s wanted d e h =
+turn-same k numbers s wanted d e h =
     let at = 2 + changedOf (nextIndex (s .pink .index)) in
     let white : getD d 0 0 ≡ getD e 0 0 = h 0 (omega arith) in
     let independent : getD d 1 0 ≡ getD e 1 0 = h 1 (omega arith) in
@@ -59,7 +59,7 @@ tick-same : (s : NoiseGenerator) (c : NoiseGeneratorControls) (wanted : ℕ) (d 
     → noiseGeneratorTickOf s c wanted d ≡ noiseGeneratorTickOf s c wanted e
 unfolding noiseGeneratorTickOf
 tick-same s c wanted d e h =
-    rw (refusal-draws (neededOf s) d e (h .0) (h .1) (h .2), turn-same (correlationOf s c) s wanted d e (h .2))
+    rw (refusal-draws (neededOf s) d e (h .0) (h .1) (h .2), turn-same (correlationOf s c) (numbersOf c) s wanted d e (h .2))
 
 -- ---- a block
 same-left : (d e : List ℕ) (a k n : ℕ) → a + k ≤ n → SameTo n d e → SameTo k (drop a d) (drop a e)
@@ -84,7 +84,7 @@ module _ (answer : Drawing → Answer) (next : Drawing → Drawing) (x y : Drawi
 
   tally-same : (t : Tally) → countedTo t (markAt answer next x) n ≡ countedTo t (markAt answer next y) n
   unfolding countedTo
-  tally-same t = rw (many (told clean), many (told cleared), many (told notfinite), many (told lost))
+  tally-same t = rw (many (told clean), many (told cleared), many (told notfinite), many (told lost), many (told steered))
     where
       many : (k : ℕ) → manyTo k (markAt answer next x) n ≡ manyTo k (markAt answer next y) n
       many k = many-ext k (markAt answer next x) (markAt answer next y) n marks-same

@@ -15,46 +15,52 @@ use borrow.Author.Tests.{eqb-true, eqb-false, lt-ltb}
 use Rattle.common.proofs.DrawLaws.{draws-enough, draws-fine, draws-taken, draw-below}
 use Rattle.common.specs.Tests.{drawsOk, drawsRefusalOf}
 use Rattle.answer.specs.Block.{afterTicks, answerAt}
+use Rattle.answer.specs.Mark.{allNumbers}
 use Rattle.answer.specs.declared.Answer.the-variants as answer
-use Rattle.noise_generator.specs.NoiseGenerator.{neededOf, changedBy, neededBy, correlationOf, turnOf, noiseGeneratorTickOf}
+use Rattle.noise_generator.specs.NoiseGenerator.{neededOf, changedBy, neededBy, controlsOf, correlationOf, turnOf, noiseGeneratorTickOf}
 use Rattle.noise_generator.specs.NoiseGenerator.{Drawing, drawing, noiseGeneratorToldOf, noiseGeneratorNextOf}
 use Rattle.noise_generator.specs.Pink.{nextIndex, changedOf, sampledOf}
 use Rattle.noise_generator.specs.declared.NoiseGenerator.{NoiseGenerator}
 use Rattle.noise_generator.specs.declared.NoiseGeneratorControls.{NoiseGeneratorControls}
 use Rattle.noise_generator.specs.declared.NoiseGeneratorTicked.{NoiseGeneratorTicked}
 
+-- no control given is NaN
+abbrev pub numbersOf : NoiseGeneratorControls → Bool
+numbersOf c = allNumbers (controlsOf c)
+
 -- ---- a tick
 abbrev pub refused : ℕ → NoiseGenerator → NoiseGeneratorTicked
 refused n s = record { answer = answer.Refused n; «noise_generator» = s }
 
 module _ (s : NoiseGenerator) (c : NoiseGeneratorControls) (wanted : ℕ) (draws : List ℕ) where
-  pub tick-taken : drawsRefusalOf (neededOf s) draws ≡ 0 → noiseGeneratorTickOf s c wanted draws ≡ turnOf (correlationOf s c) s wanted draws
+  pub tick-taken : drawsRefusalOf (neededOf s) draws ≡ 0
+      → noiseGeneratorTickOf s c wanted draws ≡ turnOf (correlationOf s c) (numbersOf c) s wanted draws
   unfolding noiseGeneratorTickOf
   tick-taken h = simp h
 
   -- its draws refuse it, or else it is that turn
   pub tick-by : (P : NoiseGeneratorTicked → Type 0)
-      → (drawsRefusalOf (neededOf s) draws ≡ 0 → P (turnOf (correlationOf s c) s wanted draws))
+      → (drawsRefusalOf (neededOf s) draws ≡ 0 → P (turnOf (correlationOf s c) (numbersOf c) s wanted draws))
       → ((drawsRefusalOf (neededOf s) draws ≡ 0 → ⊥) → P (refused (drawsRefusalOf (neededOf s) draws) s))
       → P (noiseGeneratorTickOf s c wanted draws)
   unfolding noiseGeneratorTickOf
   tick-by P f g = go (eqb (drawsRefusalOf (neededOf s) draws) 0) refl
     where
       go : (b : Bool) → eqb (drawsRefusalOf (neededOf s) draws) 0 ≡ b
-          → P (cond b (turnOf (correlationOf s c) s wanted draws) (refused (drawsRefusalOf (neededOf s) draws) s))
+          → P (cond b (turnOf (correlationOf s c) (numbersOf c) s wanted draws) (refused (drawsRefusalOf (neededOf s) draws) s))
       go true e = f (eqb-true (drawsRefusalOf (neededOf s) draws) 0 e)
       go false e = g (eqb-false (drawsRefusalOf (neededOf s) draws) 0 e)
 
-module _ (k : Float) (s : NoiseGenerator) (wanted : ℕ) (draws : List ℕ) where
-  turn-index : turnOf k s wanted draws .«noise_generator» .pink .index ≡ nextIndex (s .pink .index)
+module _ (k : Float) (numbers : Bool) (s : NoiseGenerator) (wanted : ℕ) (draws : List ℕ) where
+  turn-index : turnOf k numbers s wanted draws .«noise_generator» .pink .index ≡ nextIndex (s .pink .index)
   unfolding turnOf sampledOf
   turn-index = refl
 
-  turn-index2 : turnOf k s wanted draws .«noise_generator» .pink2 .index ≡ nextIndex (s .pink2 .index)
+  turn-index2 : turnOf k numbers s wanted draws .«noise_generator» .pink2 .index ≡ nextIndex (s .pink2 .index)
   unfolding turnOf sampledOf
   turn-index2 = refl
 
-  turn-correlation : turnOf k s wanted draws .«noise_generator» .correlation ≡ s .correlation
+  turn-correlation : turnOf k numbers s wanted draws .«noise_generator» .correlation ≡ s .correlation
   unfolding turnOf
   turn-correlation = refl
 
@@ -104,7 +110,7 @@ pub record At (s : NoiseGenerator) (c : NoiseGeneratorControls) (wanted : ℕ) (
   pub needs : neededBy s i + neededOf (x .noise) ≡ neededBy s (i + 1)
   -- tick i is taken, with the correlation of the first
   pub taken : i < n → drawsRefusalOf (neededOf (x .noise)) (x .draws) ≡ 0
-  pub turns : i < n → noiseGeneratorTickOf (x .noise) c wanted (x .draws) ≡ turnOf (correlationOf s c) (x .noise) wanted (x .draws)
+  pub turns : i < n → noiseGeneratorTickOf (x .noise) c wanted (x .draws) ≡ turnOf (correlationOf s c) (numbersOf c) (x .noise) wanted (x .draws)
 
 module _ (s : NoiseGenerator) (c : NoiseGeneratorControls) (wanted : ℕ) (draws : List ℕ) (n : ℕ) (h : drawsRefusalOf (neededBy s n) draws ≡ 0) where
   -- the first four facts give the others
@@ -120,7 +126,7 @@ module _ (s : NoiseGenerator) (c : NoiseGeneratorControls) (wanted : ℕ) (draws
         fits = let a = needed-less s i n l in let b = draws-enough (neededBy s n) draws h in omega arith;
         needs = rw add-one next;
         taken = taken;
-        turns = λ m. tick-taken (x .noise) c wanted (x .draws) (taken m) ∙ ap (λ (z : Float). turnOf z (x .noise) wanted (x .draws)) same;
+        turns = λ m. tick-taken (x .noise) c wanted (x .draws) (taken m) ∙ ap (λ (z : Float). turnOf z (numbersOf c) (x .noise) wanted (x .draws)) same;
       }
     where
       next : neededBy s i + neededOf (x .noise) ≡ neededBy s (suc i)
@@ -136,22 +142,22 @@ module _ (s : NoiseGenerator) (c : NoiseGeneratorControls) (wanted : ℕ) (draws
   unfolding afterTicks
   at-next i l x a = at-of (suc i) l (noiseGeneratorNextOf c wanted x) index index2 correlation left
     where
-      turn : noiseGeneratorTickOf (x .noise) c wanted (x .draws) ≡ turnOf (correlationOf s c) (x .noise) wanted (x .draws)
+      turn : noiseGeneratorTickOf (x .noise) c wanted (x .draws) ≡ turnOf (correlationOf s c) (numbersOf c) (x .noise) wanted (x .draws)
       turn = a .turns l
 
       index : noiseGeneratorNextOf c wanted x .noise .pink .index ≡ nextIndex (afterTicks nextIndex i (s .pink .index))
       index =
-          ap (λ (t : NoiseGeneratorTicked). t .«noise_generator» .pink .index) turn ∙ turn-index _ (x .noise) wanted (x .draws)
+          ap (λ (t : NoiseGeneratorTicked). t .«noise_generator» .pink .index) turn ∙ turn-index _ _ (x .noise) wanted (x .draws)
           ∙ ap nextIndex (a .index)
 
       index2 : noiseGeneratorNextOf c wanted x .noise .pink2 .index ≡ nextIndex (afterTicks nextIndex i (s .pink2 .index))
       index2 =
-          ap (λ (t : NoiseGeneratorTicked). t .«noise_generator» .pink2 .index) turn ∙ turn-index2 _ (x .noise) wanted (x .draws)
+          ap (λ (t : NoiseGeneratorTicked). t .«noise_generator» .pink2 .index) turn ∙ turn-index2 _ _ (x .noise) wanted (x .draws)
           ∙ ap nextIndex (a .index2)
 
       correlation : noiseGeneratorNextOf c wanted x .noise .correlation ≡ s .correlation
       correlation =
-          ap (λ (t : NoiseGeneratorTicked). t .«noise_generator» .correlation) turn ∙ turn-correlation _ (x .noise) wanted (x .draws)
+          ap (λ (t : NoiseGeneratorTicked). t .«noise_generator» .correlation) turn ∙ turn-correlation _ _ (x .noise) wanted (x .draws)
           ∙ a .correlation
 
       left : drop (neededOf (x .noise)) (x .draws) ≡ drop (neededBy s (suc i)) draws
@@ -166,12 +172,12 @@ module _ (s : NoiseGenerator) (c : NoiseGeneratorControls) (wanted : ℕ) (draws
 
   -- a turn of the block's loop, whose state is x and whose draws start at `at`
   module _ (i : ℕ) (l : i < n) (x : NoiseGenerator) (at : ℕ) (t : NoiseGeneratorTicked)
-      (z : x ≡ drawingAt s c wanted draws i .noise) (f : at ≡ neededBy s i) (e : t ≡ turnOf (correlationOf s c) x wanted (drop at draws)) where
+      (z : x ≡ drawingAt s c wanted draws i .noise) (f : at ≡ neededBy s i) (e : t ≡ turnOf (correlationOf s c) (numbersOf c) x wanted (drop at draws)) where
     ticked : t ≡ noiseGeneratorTickOf (drawingAt s c wanted draws i .noise) c wanted (drawingAt s c wanted draws i .draws)
     ticked =
         let a : At s c wanted draws n i (drawingAt s c wanted draws i) = ticks-at i (omega arith) in
         let left : drop at draws ≡ drawingAt s c wanted draws i .draws = ap (λ (k : ℕ). drop k draws) f ∙ sym (a .left) in
-        e ∙ ap₂ (λ (y : NoiseGenerator) (d : List ℕ). turnOf (correlationOf s c) y wanted d) z left ∙ sym (a .turns l)
+        e ∙ ap₂ (λ (y : NoiseGenerator) (d : List ℕ). turnOf (correlationOf s c) (numbersOf c) y wanted d) z left ∙ sym (a .turns l)
 
     pub heard : t .answer ≡ answerAt (noiseGeneratorToldOf c wanted) (noiseGeneratorNextOf c wanted) (drawing s draws) i
     unfolding answerAt

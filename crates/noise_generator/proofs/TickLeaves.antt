@@ -14,7 +14,7 @@ use Rattle.laws.proofs.Tests.{ltb-iff}
 use Rattle.numeric.specs.Draw.{bipolarOf}
 use Rattle.noise_generator.proofs.Refusals.{accepted-taken}
 use Rattle.noise_generator.proofs.RowLaws.{next-below, row-changes}
-use Rattle.noise_generator.proofs.TickLaws.{tick-taken}
+use Rattle.noise_generator.proofs.TickLaws.{numbersOf, tick-taken}
 use Rattle.noise_generator.specs.NoiseGenerator.{correlationOf, turnOf}
 use Rattle.noise_generator.specs.Pink.{nextIndex, changedOf, Rows, rowed, rowOf, rowsOf, sampledOf}
 use Rattle.noise_generator.specs.Promises.{Moved, Leaves, Tick-leaves}
@@ -62,10 +62,11 @@ sampled-moves draws at p e =
           ∙ ap (rowAfter draws at r k) (row-changes (nextIndex (p .index)) k (next-below (p .index)) h);
     }
 
-turn-leaves : (k : Float) (s : NoiseGenerator) (wanted : ℕ) (draws : List ℕ) → length (s .pink .rows) ≡ 16 → length (s .pink2 .rows) ≡ 16
-    → Leaves s (turnOf k s wanted draws .«noise_generator») draws
+turn-leaves : (k : Float) (numbers : Bool) (s : NoiseGenerator) (wanted : ℕ) (draws : List ℕ) → length (s .pink .rows) ≡ 16
+    → length (s .pink2 .rows) ≡ 16
+    → Leaves s (turnOf k numbers s wanted draws .«noise_generator») draws
 unfolding turnOf
-turn-leaves k s wanted draws e f =
+turn-leaves k numbers s wanted draws e f =
     record {
       pink = sampled-moves draws 2 (s .pink) e;
       pink2 = sampled-moves draws (2 + changedOf (nextIndex (s .pink .index))) (s .pink2) f;
@@ -76,4 +77,4 @@ turn-leaves k s wanted draws e f =
 pub tick-leaves : Tick-leaves
 tick-leaves s c wanted draws e f a =
     subst (λ (t : NoiseGeneratorTicked). Leaves s (t .«noise_generator») draws) (sym (tick-taken s c wanted draws (accepted-taken s c wanted draws a)))
-    (turn-leaves (correlationOf s c) s wanted draws e f)
+    (turn-leaves (correlationOf s c) (numbersOf c) s wanted draws e f)

@@ -1,5 +1,5 @@
 -- A turn from what its parts ensure.
-use mathlib.Core.Bool.{false, true}
+use mathlib.Core.Bool.{Bool, false, true}
 use mathlib.Core.List.{List}
 use mathlib.Core.Path.{_≡_, sym, ap, _∙_}
 use Prim.Native.Nat.{ℕ, _+_, _-_, _≤_, _<_}
@@ -63,20 +63,20 @@ module _ (r : Rowless) (index index2 n n2 : ℕ)
     unfolding sampledOf pinkOf
     outputs = simp (sampled, sampled2, ew, eu)
 
-    pub turned : (a : Answer)
-        → a ≡ markOf (noiseGeneratorVoltsOf correlation white independent (div binary64 sum sixteen) (div binary64 sum2 sixteen) wanted) false true true
+    pub turned : (numbers : Bool) (a : Answer)
+        → a ≡ markOf (noiseGeneratorVoltsOf correlation white independent (div binary64 sum sixteen) (div binary64 sum2 sixteen) wanted) false true true numbers
         → (stored last : Float) → ticked a (whole to to2 (record { sum = sum; index = index; sum2 = sum2; index2 = index2 }) stored white)
-        ≡ turnOf correlation (whole rows rows2 r stored last) wanted d
+        ≡ turnOf correlation numbers (whole rows rows2 r stored last) wanted d
     unfolding turnOf sampledOf pinkOf
-    turned a ea stored last = simp (sampled, sampled2, ea, ew, eu, ei, ei2)
+    turned numbers a ea stored last = simp (sampled, sampled2, ea, ew, eu, ei, ei2)
 
 -- ---- a turn over the draws from place `at` on, as the code cuts them off
 pub rest-draws : (d : List ℕ) (at : ℕ) → take (length d - at) (drop at d) ≡ drop at d
 rest-draws d at = take-all (length d - at) (drop at d) (le-of-eq (length-drop at d))
 
-pub turn-there : (k correlation : Float) (x : NoiseGenerator) (wanted at : ℕ) (d : List ℕ) (t : NoiseGeneratorTicked) → k ≡ correlation
-    → t ≡ turnOf k x wanted (take (length d - at) (drop at d)) → t ≡ turnOf correlation x wanted (drop at d)
-turn-there k correlation x wanted at d t e h = h ∙ (λ i. turnOf (e i) x wanted (rest-draws d at i))
+pub turn-there : (k correlation : Float) (n numbers : Bool) (x : NoiseGenerator) (wanted at : ℕ) (d : List ℕ) (t : NoiseGeneratorTicked) → k ≡ correlation
+    → n ≡ numbers → t ≡ turnOf k n x wanted (take (length d - at) (drop at d)) → t ≡ turnOf correlation numbers x wanted (drop at d)
+turn-there k correlation n numbers x wanted at d t e z h = h ∙ (λ i. turnOf (e i) (z i) x wanted (rest-draws d at i))
 
 -- ---- a block without the draws that it leaves
 pub undrawn-done : (x : Drawing) (s : NoiseGenerator) (t : Tally) (o : List Float) (m : List ℕ) (b : Block Drawing) → s ≡ x .noise

@@ -1,6 +1,6 @@
 -- The NoiseGenerator's calls, written from oscillators.rs, with the scope's marks and its refusals 5 and 6. The draws are lent.
-use mathlib.Core.Bool.{false, true, cond}
-use mathlib.Core.List.{List}
+use mathlib.Core.Bool.{Bool, false, true, cond}
+use mathlib.Core.List.{List, [], _∷_}
 use Prim.Native.Nat.{ℕ, zero, suc, _+_, _*_}
 use lib.Dec.{eqb}
 use lib.Ieee.{Float, binary64, add, sub, mul}
@@ -13,7 +13,7 @@ use Rattle.common.specs.Tests.{drawsRefusalOf}
 use Rattle.common.specs.declared.Hertz.{Hertz}
 use Rattle.answer.specs.Answer.{volts4}
 use Rattle.answer.specs.Block.{Block, block, blockOf, afterTicks}
-use Rattle.answer.specs.Mark.{markOf}
+use Rattle.answer.specs.Mark.{allNumbers, markOf}
 use Rattle.answer.specs.declared.Answer.{Answer}
 use Rattle.answer.specs.declared.Answer.the-variants as answer
 use Rattle.answer.specs.declared.Tally.{Tally}
@@ -58,6 +58,14 @@ unfoldable pub givenOr : Correlation → Float → Float
 givenOr (correlation.Given c) stored = c
 givenOr correlation.Stored stored = stored
 
+-- the controls given to a tick: none where the stored one is taken
+unfoldable pub givenIn : Correlation → List Float
+givenIn (correlation.Given c) = c ∷ []
+givenIn correlation.Stored = []
+
+abbrev pub controlsOf : NoiseGeneratorControls → List Float
+controlsOf c = givenIn (c .correlation)
+
 -- a * correlation + b * (1.0 - correlation)
 unfoldable pub mixOf : Float → Float → Float → Float
 mixOf a b c = add binary64 (mul binary64 a c) (mul binary64 b (sub binary64 one c))
@@ -68,15 +76,16 @@ noiseGeneratorVoltsOf correlation white1 independent pink1 pink2 wanted =
     volts4 (outOf (wants wanted 1) white1) (outOf (wants wanted 2) pink1) (outOf (wants wanted 4) (mixOf white1 independent correlation))
     (outOf (wants wanted 8) (mixOf pink1 pink2 correlation))
 
--- tick_wanted from its clamped correlation on, line by line: white's draw, independent's, pink's, pink2's. It has no phase and no clamp at its end
-unfoldable pub turnOf : Float → NoiseGenerator → ℕ → List ℕ → NoiseGeneratorTicked
-turnOf correlation s wanted draws =
+-- tick_wanted from its clamped correlation on, line by line: white's draw, independent's, pink's, pink2's. It has no phase and no clamp at its end;
+-- `numbers` says that no control given is NaN
+unfoldable pub turnOf : Float → Bool → NoiseGenerator → ℕ → List ℕ → NoiseGeneratorTicked
+turnOf correlation numbers s wanted draws =
     let white1 = bipolarOf (getD draws 0 0) in
     let independent = bipolarOf (getD draws 1 0) in
     let pink = sampledOf draws 2 (s .pink) in
     let pink2 = sampledOf draws (2 + changedOf (nextIndex (s .pink .index))) (s .pink2) in
     record {
-      answer = markOf (noiseGeneratorVoltsOf correlation white1 independent (pinkOf pink) (pinkOf pink2) wanted) false true true;
+      answer = markOf (noiseGeneratorVoltsOf correlation white1 independent (pinkOf pink) (pinkOf pink2) wanted) false true true numbers;
       «noise_generator» = generator pink pink2 (s .correlation) white1;
     }
 
@@ -86,7 +95,7 @@ correlationOf s c = clampOf (givenOr (c .correlation) (s .correlation)) zer one
 
 -- an accepted tick
 abbrev pub noiseGeneratorSoundOf : NoiseGenerator → NoiseGeneratorControls → ℕ → List ℕ → NoiseGeneratorTicked
-noiseGeneratorSoundOf s c wanted draws = turnOf (correlationOf s c) s wanted draws
+noiseGeneratorSoundOf s c wanted draws = turnOf (correlationOf s c) (allNumbers (controlsOf c)) s wanted draws
 
 -- 5 and 6 over the draws that it needs; a refused tick leaves the state
 unfoldable pub noiseGeneratorTickOf : NoiseGenerator → NoiseGeneratorControls → ℕ → List ℕ → NoiseGeneratorTicked

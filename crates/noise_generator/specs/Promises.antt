@@ -13,10 +13,10 @@ use Rattle.numeric.specs.Draw.{bipolarOf}
 use Rattle.common.specs.Ports.{wants}
 use Rattle.common.specs.Tests.{drawsOk, drawsRefusalOf}
 use Rattle.common.specs.declared.Hertz.{Hertz}
-use Rattle.answer.specs.Answer.{volts4, notfinite, clean, markNumber, refusalOf, voltsOf, accepted}
+use Rattle.answer.specs.Answer.{volts4, notfinite, steered, clean, markNumber, refusalOf, voltsOf, accepted}
 use Rattle.answer.specs.Block.{Block, afterTicks, answerAt, blockRefusalOf}
-use Rattle.answer.specs.Mark.{allFinite}
-use Rattle.answer.specs.Promises.{AcceptedTo, TakenTo}
+use Rattle.answer.specs.Mark.{allFinite, allNumbers}
+use Rattle.answer.specs.Promises.{Steers, AcceptedTo, TakenTo}
 use Rattle.answer.specs.declared.Answer.{Answer}
 use Rattle.answer.specs.declared.Answer.the-variants as answer
 use Rattle.answer.specs.declared.Tally.{Tally}
@@ -24,7 +24,7 @@ use Rattle.noise_generator.specs.Consts.{nPorts}
 use Rattle.noise_generator.specs.Pink.{nextIndex, changedOf}
 use Rattle.noise_generator.specs.NoiseGenerator.{newNoiseGenerator, withCorrelation, neededOf, neededBy, givenOr}
 use Rattle.noise_generator.specs.NoiseGenerator.{noiseGeneratorTickOf, drawing, noiseGeneratorToldOf, noiseGeneratorNextOf, noiseGeneratorBlockOf}
-use Rattle.noise_generator.specs.NoiseGenerator.{restarted, rated}
+use Rattle.noise_generator.specs.NoiseGenerator.{controlsOf, restarted, rated}
 use Rattle.noise_generator.specs.Calls.{First, ReachedNoiseGenerator}
 use Rattle.noise_generator.specs.declared.Correlation.the-variants as correlation
 use Rattle.noise_generator.specs.declared.NoiseGenerator.{NoiseGenerator}
@@ -114,10 +114,17 @@ pub record Only-its-draws : Type 0 where
   pub block : (s : NoiseGenerator) (c : NoiseGeneratorControls) (wanted : ℕ) (d e : List ℕ) (t : Tally) (o : List Float) (m : List ℕ)
       → SameTo (neededBy s (length m)) d e → noiseGeneratorBlockOf s c wanted d t o m ≡ noiseGeneratorBlockOf s c wanted e t o m
 
--- ---- marks, for every state: clean where the wanted outputs are finite, else notfinite
-abbrev pub Clean-or-notfinite : Type 0
-Clean-or-notfinite = (s : NoiseGenerator) (c : NoiseGeneratorControls) (wanted : ℕ) (draws : List ℕ)
-    → let a = noiseGeneratorTickOf s c wanted draws .answer in accepted a ≡ true → markNumber a ≡ cond (allFinite (voltsOf a)) clean notfinite
+-- ---- no tick is clean with a control that is NaN, and none is steered without one; a stored correlation isn't given
+abbrev pub Nan-steers : Type 0
+Nan-steers = (s : NoiseGenerator) (wanted : ℕ) (draws : List ℕ)
+    → ((x : Float) → Steers (x ∷ []) (noiseGeneratorTickOf s (record { correlation = correlation.Given x }) wanted draws .answer))
+    × Steers [] (noiseGeneratorTickOf s (record { correlation = correlation.Stored }) wanted draws .answer)
+
+-- ---- marks, for every state: notfinite where a wanted output isn't finite; else steered where a NaN was given, and clean
+abbrev pub Noise-marks : Type 0
+Noise-marks = (s : NoiseGenerator) (c : NoiseGeneratorControls) (wanted : ℕ) (draws : List ℕ)
+    → let a = noiseGeneratorTickOf s c wanted draws .answer in accepted a ≡ true
+    → markNumber a ≡ cond (allFinite (voltsOf a)) (cond (allNumbers (controlsOf c)) clean steered) notfinite
 
 -- a NaN correlation, given or stored, is told where an output that it goes into is wanted
 abbrev pub Nan-told : Type 0

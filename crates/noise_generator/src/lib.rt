@@ -14,13 +14,13 @@ ghost use Rattle.laws.specs.Lists.{tab};
 ghost use Rattle.numeric.specs.Draw.{bipolarOf};
 ghost use Rattle.common.specs.Tests.{drawsRefusalOf};
 ghost use Rattle.answer.specs.Block.{afterTicks, joined, block, markAt, frameAt};
-ghost use Rattle.answer.specs.Mark.{allFinite, markOf};
+ghost use Rattle.answer.specs.Mark.{allFinite, allNumbers, markOf};
 ghost use Rattle.noise_generator.specs.Consts.{nPorts};
 ghost use Rattle.noise_generator.specs.Pink.{newPink, nextIndex, trailingOnes, changedOf, rowed, rowsOf};
 ghost use Rattle.noise_generator.specs.NoiseGenerator.{newNoiseGenerator, withCorrelation, neededOf, changedBy, neededBy};
 ghost use Rattle.noise_generator.specs.NoiseGenerator.{mixOf, noiseGeneratorVoltsOf, turnOf, correlationOf, noiseGeneratorSoundOf, noiseGeneratorTickOf};
 ghost use Rattle.noise_generator.specs.NoiseGenerator.{noiseGeneratorToldOf, noiseGeneratorNextOf, noiseGeneratorBlockOf};
-ghost use Rattle.noise_generator.specs.NoiseGenerator.{drawing, restarted, rated};
+ghost use Rattle.noise_generator.specs.NoiseGenerator.{drawing, controlsOf, restarted, rated};
 ghost use Rattle.noise_generator.specs.Shortcuts.{pinkAt, whole, ticked, neededAt, turnVolts, Calm, climbedOf};
 ghost use Rattle.noise_generator.specs.Promises.{Bounded};
 
@@ -208,6 +208,19 @@ fn changed_by(index: u32, n: u64) -> u64
     climbed(first + n) - climbed(first)
 }
 
+impl NoiseGeneratorControls {
+    // Whether no control that is given is NaN.
+    fn are_numbers(self) -> bool
+        ensures { λ r. ⌜ r ≡ allNumbers (controlsOf self) ⌝ }
+    {
+        let input = self.correlation;
+        match input {
+            Correlation::Given(correlation) => answer::numbers1(correlation),
+            Correlation::Stored => true,
+        }
+    }
+}
+
 impl NoiseGenerator {
     // The bits of `wanted`, in port order.
     const WANT_WHITE: u32 = 1 << 0;
@@ -305,9 +318,11 @@ impl NoiseGenerator {
         pink2_independent: f64,
         wanted: u32,
         calm: bool,
+        numbers: bool,
     ) -> Answer
         requires { ⌜ (calm ≡ true → allFinite (noiseGeneratorVoltsOf correlation white1 independent pink1 «pink2_independent» wanted) ≡ true) ⌝ }
-        ensures { λ r. ⌜ r ≡ markOf (noiseGeneratorVoltsOf correlation white1 independent pink1 «pink2_independent» wanted) false true true ⌝ }
+        ensures { λ r. ⌜ r ≡ markOf (noiseGeneratorVoltsOf correlation white1 independent pink1 «pink2_independent» wanted)
+            false true true numbers ⌝ }
     {
         let white2 = mix(white1, independent, correlation);
         let pink2 = mix(pink1, pink2_independent, correlation);
@@ -318,9 +333,9 @@ impl NoiseGenerator {
             common::out(wanted & Self::WANT_PINK2 != 0, pink2),
         );
         if calm {
-            answer::marked(volts, false, true, true)
+            answer::marked(volts, false, true, true, numbers)
         } else {
-            answer::mark(volts, false, true, true)
+            answer::mark(volts, false, true, true, numbers)
         }
     }
 
@@ -333,12 +348,13 @@ impl NoiseGenerator {
         wanted: u32,
         draws: &[u64],
         calm: bool,
+        numbers: bool,
     ) -> Turned
         requires { ⌜ drawsRefusalOf (neededAt (rest .index) (rest .index2)) (now draws) ≡ 0 ⌝ }
         requires { ⌜ (calm ≡ true → allFinite (turnVolts correlation (pinkAt (now rows) (rest .sum) (rest .index))
             (pinkAt (now rows2) (rest .sum2) (rest .index2)) wanted (now draws)) ≡ true) ⌝ }
         ensures { λ r. ⌜ ((stored white : Float) → ticked (r .answer) (whole (now (rows .exit)) (now (rows2 .exit)) (r .rest) stored (r .«last_white»))
-            ≡ turnOf correlation (whole (now (rows .entry)) (now (rows2 .entry)) rest stored white) wanted (now (draws .entry))) ⌝ }
+            ≡ turnOf correlation numbers (whole (now (rows .entry)) (now (rows2 .entry)) rest stored white) wanted (now (draws .entry))) ⌝ }
         ensures { λ r. ⌜ r .taken ≡ neededAt (rest .index) (rest .index2) ⌝ }
     {
         let index = next_index(rest.index);
@@ -358,6 +374,7 @@ impl NoiseGenerator {
                 sum2 / 16.0,
                 wanted,
                 calm,
+                numbers,
             ),
             rest: Rowless {
                 sum,
@@ -386,6 +403,7 @@ impl NoiseGenerator {
             index2: pink2.index,
         };
         let correlation = self.clamped(c);
+        let numbers = c.are_numbers();
         let turned = Self::turn(
             &mut rows,
             &mut rows2,
@@ -394,6 +412,7 @@ impl NoiseGenerator {
             wanted,
             draws,
             false,
+            numbers,
         );
         let answer = turned.answer;
         let left = turned.rest;
@@ -441,7 +460,8 @@ impl NoiseGenerator {
         }
     }
 
-    // The ticks of a block, each with the draws that those before it left. Whether the state is calm is asked once: each tick leaves it so.
+    // The ticks of a block, each with the draws that those before it left. Whether the state is calm is asked once: each tick leaves it so. So are the
+    // controls.
     fn run(
         self,
         c: NoiseGeneratorControls,
@@ -471,6 +491,7 @@ impl NoiseGenerator {
         };
         let mut last_white = self.last_white;
         let calm = self.calm(c);
+        let numbers = c.are_numbers();
         let mut at = 0;
         let mut i = 0;
         while i < marks.len() {
@@ -483,6 +504,7 @@ impl NoiseGenerator {
                 wanted,
                 &draws[at..],
                 calm,
+                numbers,
             );
             let heard = turned.answer;
             answer::put(heard, PORTS, i, &mut *samples, &mut *marks);

@@ -7,7 +7,7 @@ use native.Mathlib.Omega.{arith}
 use lib.Dec.{eqb}
 use lib.ListN.{length}
 use borrow.Author.Tests.{eq-eqb, eqb-true}
-use Rattle.answer.specs.Answer.{markNumber, accepted, cleared, notfinite, lost, clean}
+use Rattle.answer.specs.Answer.{markNumber, accepted, cleared, notfinite, lost, steered, clean}
 use Rattle.answer.proofs.Laws.{tally-takes-all}
 use Rattle.answer.specs.Promises.{CountsAll}
 use Rattle.answer.specs.Tally.{oneIf, many, acceptedIn, tallyAfter}
@@ -47,13 +47,14 @@ one-is n k h = go (eqb n k) refl h
         none h = omega arith
 
 -- an answer has one mark at most
-marks-most : (xs : List Answer) → many clean xs + many cleared xs + many notfinite xs + many lost xs ≤ length xs
+marks-most : (xs : List Answer) → many clean xs + many cleared xs + many notfinite xs + many lost xs + many steered xs ≤ length xs
 unfolding many oneIf markNumber
 marks-most [] = omega arith
 marks-most (answer.Clean v ∷ xs) = omega (arith, marks-most xs)
 marks-most (answer.Cleared v ∷ xs) = omega (arith, marks-most xs)
 marks-most (answer.NotFinite v ∷ xs) = omega (arith, marks-most xs)
 marks-most (answer.Lost v ∷ xs) = omega (arith, marks-most xs)
+marks-most (answer.Steered v ∷ xs) = omega (arith, marks-most xs)
 marks-most (answer.Refused n ∷ xs) = omega (arith, marks-most xs)
 
 one-most : (a : Answer) → oneIf (markNumber a) clean ≤ 1
@@ -96,6 +97,6 @@ claimed-clean s h =
       always =
           λ e.
           let n = clean-all xs e in
-          w .always (omega (arith, c .finished, c .sum, c .cleared, c .notfinite, c .lost))
-          (omega (arith, c .finished, c .sum, c .cleared, c .notfinite, c .lost));
+          w .always (omega (arith, c .finished, c .sum, c .cleared, c .notfinite, c .lost, c .steered))
+          (omega (arith, c .finished, c .sum, c .cleared, c .notfinite, c .lost, c .steered));
     }

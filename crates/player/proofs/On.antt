@@ -11,7 +11,7 @@ use lib.Ieee.{Float}
 use lib.ListN.{length}
 use borrow.Author.Tests.{eq-eqb, le-leb}
 use Rattle.laws.specs.Lists.{tab}
-use Rattle.answer.specs.Answer.{hostNumber, voltsOf, refusalOf, accepted}
+use Rattle.answer.specs.Answer.{hostNumber, voltsOf, refusalOf, accepted, cleared, notfinite, lost, steered, clean, told}
 use Rattle.answer.specs.Block.{block, manyTo, grownBy, countedTo, roomFor, afterTicks, portsOf, joined, blockRefusalOf, answerAt, ticksOf, blockOf}
 use Rattle.answer.specs.Tally.{addsUp, newTally, tallyOf, tallyOr, talliedNumber, Run, newRun, settle, run, tallyAfter}
 use Rattle.answer.specs.declared.Answer.{Answer}
@@ -48,23 +48,28 @@ unfolding manyTo
 many-add v f k zero = ap (manyTo v f) (add-zero k) ∙ sym (add-zero (manyTo v f k))
 many-add v f k (suc n) = let before = many-add v f k n in rw (add-suc k n) (omega arith)
 
-grown-add : (t : Tally) (a b c d a′ b′ c′ d′ : ℕ) → grownBy (grownBy t a b c d) a′ b′ c′ d′ ≡ grownBy t (a + a′) (b + b′) (c + c′) (d + d′)
+grown-add : (t : Tally) (a b c d e a′ b′ c′ d′ e′ : ℕ)
+    → grownBy (grownBy t a b c d e) a′ b′ c′ d′ e′ ≡ grownBy t (a + a′) (b + b′) (c + c′) (d + d′) (e + e′)
 unfolding grownBy
-grown-add t a b c d a′ b′ c′ d′ =
-    let all : t .begun + (a + b + c + d) + (a′ + b′ + c′ + d′) ≡ t .begun + (a + a′ + (b + b′) + (c + c′) + (d + d′)) = omega arith in
+grown-add t a b c d e a′ b′ c′ d′ e′ =
+    let all : t .begun + (a + b + c + d + e) + (a′ + b′ + c′ + d′ + e′) ≡ t .begun + (a + a′ + (b + b′) + (c + c′) + (d + d′) + (e + e′)) = omega arith in
     λ i. record {
       begun = all i;
       finished = add-assoc (t .finished) a a′ i;
       cleared = add-assoc (t .cleared) b b′ i;
       notfinite = add-assoc (t .notfinite) c c′ i;
       lost = add-assoc (t .lost) d d′ i;
+      steered = add-assoc (t .steered) e e′ i;
     }
 
 counted-add : (t : Tally) (f : ℕ → ℕ) (k n : ℕ) → countedTo (countedTo t f k) (λ (i : ℕ). f (k + i)) n ≡ countedTo t f (k + n)
 unfolding countedTo
 counted-add t f k n =
-    grown-add t _ _ _ _ _ _ _ _
-    ∙ (λ i. grownBy t (sym (many-add 14 f k n) i) (sym (many-add 11 f k n) i) (sym (many-add 12 f k n) i) (sym (many-add 13 f k n) i))
+    grown-add t _ _ _ _ _ _ _ _ _ _
+    ∙ (λ i. grownBy t (more clean i) (more cleared i) (more notfinite i) (more lost i) (more steered i))
+  where
+    more : (mark : ℕ) → manyTo (told mark) f k + manyTo (told mark) (λ (i : ℕ). f (k + i)) n ≡ manyTo (told mark) f (k + n)
+    more mark = sym (many-add (told mark) f k n)
 
 -- ---- a tally that was given accepted answers one by one is the one that a block leaves
 run-last : (r : Run) (xs : List Answer) (a : Answer) → run r (xs ++ (a ∷ [])) ≡ settle (run r xs) a (tallyOf (run r xs .tally) a)

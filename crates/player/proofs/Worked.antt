@@ -81,7 +81,7 @@ is-printed = ap printed is-heard
 
 text : printed (answer.Clean volts ∷ [])
     ≡ ascii "n=0\nmark=clean\nsin=0000000000000000\ntri=C014000000000000\nsaw=C014000000000000\nsqr=4014000000000000\n"
-    ++ ascii "begun=1\nfinished=1\ncleared=0\nnotfinite=0\nlost=0\nclaimed=yes\n"
+    ++ ascii "begun=1\nfinished=1\ncleared=0\nnotfinite=0\nlost=0\nsteered=0\nclaimed=yes\n"
 unfolding printed volts framesText frameText markedText outputsText wavesText sampleLine wordLine countLine decimalText decimalFrom glyph
     hexText hexFrom toBits ofBits endText countsText claimedOf tallyAfter run settle talliedNumber tallyOr tallyOf addsUp counted oneIf markNumber
 text = refl

@@ -100,4 +100,4 @@ abbrev pub Worked : Type 0
 Worked =
     renderOf (ascii "osc=vco\nhz=48000\nframes=1\nvoct=0\nfm=0\npw=500000\nsync=0\nfm_lin=-5000000\n")
     ≡ ascii "n=0\nmark=clean\nsin=0000000000000000\ntri=C014000000000000\nsaw=C014000000000000\nsqr=4014000000000000\n"
-    ++ ascii "begun=1\nfinished=1\ncleared=0\nnotfinite=0\nlost=0\nclaimed=yes\n"
+    ++ ascii "begun=1\nfinished=1\ncleared=0\nnotfinite=0\nlost=0\nsteered=0\nclaimed=yes\n"

@@ -201,7 +201,14 @@ short-tally s read =
     let sum = r .counts .sum in
     let top = read-valid (read .0) s (read .1) .head .frames-most in
     rw (← heard-tab s)
-    (record { begun = omega arith; finished = omega arith; cleared = omega arith; notfinite = omega arith; lost = omega arith })
+    (record {
+      begun = omega arith;
+      finished = omega arith;
+      cleared = omega arith;
+      notfinite = omega arith;
+      lost = omega arith;
+      steered = omega arith;
+    })
 
 pub end-written : {s : Score} {frames : ℕ} {osc : Osc} {ports : ℕ} {out : List ℕ} {sm : List Float} {mk : List ℕ} {p : Player} {t : Tally} {k : ℕ}
     {wrote : Bool} → Turn s frames osc ports out sm mk p t k wrote → frames ≤ k → (q : List ℕ) (r : ℕ) → Put out 0 (endText frames t) r q

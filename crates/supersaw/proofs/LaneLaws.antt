@@ -1,5 +1,5 @@
 -- A block's lanes give what the Rust's loop gives: the loop's lines done for all at once, and a quiet tick's shortcut.
-use mathlib.Core.Bool.{true, _&&_}
+use mathlib.Core.Bool.{Bool, true, _&&_}
 use mathlib.Core.List.{List, [], _∷_, _++_}
 use mathlib.Core.Logic.{⊎-elim}
 use mathlib.Core.Path.{_≡_, refl, sym, ap, _∙_, subst}
@@ -30,7 +30,8 @@ use Rattle.supersaw.proofs.StepLaws.{Steady, steady-law}
 use Rattle.supersaw.specs.Consts.{detuneRatios, mixLevels}
 use Rattle.supersaw.specs.Shortcuts.{lanesOf, incsOf, sawsOf, sumsOf, wrapsOf, lanesFinite, mixTo, totalMix}
 use Rattle.supersaw.specs.Shortcuts.{blendOf, movedOf, steppedOf, steadyOf, lanesSteady, quietOf, rampsOf, rampedOf}
-use Rattle.supersaw.specs.Supersaw.{phasesOk, supersawRefusalOf, supersawSoundOf}
+use Rattle.answer.specs.Mark.{allNumbers}
+use Rattle.supersaw.specs.Supersaw.{phasesOk, controlsOf, supersawRefusalOf, supersawSoundOf}
 use Rattle.supersaw.specs.Voices.{at, freqOf, dtOf, sawOf, subDtOf, Voices, voiceOf, voicesOf}
 use Rattle.supersaw.specs.declared.Supersaw.{Supersaw}
 use Rattle.supersaw.specs.declared.SupersawControls.{SupersawControls}
@@ -86,7 +87,8 @@ tickedOf s r memo = record { answer = r .answer; supersaw = advancedOf s (r .pha
 
 pub sound-is : (s : Supersaw) (c : SupersawControls) → length (s .phases) ≡ 7
     → tickedOf s (steppedOf (lanesOf (s .phases) (s .«sub_phase»))
-    (incsOf (clampOf (c .detune) zer one) (recall1 voctToHzAt (s .«freq_memo») (c .voct .0) .val) (s .«sample_rate»)) (clampOf (c .mix) zer one))
+    (incsOf (clampOf (c .detune) zer one) (recall1 voctToHzAt (s .«freq_memo») (c .voct .0) .val) (s .«sample_rate»)) (clampOf (c .mix) zer one)
+    (allNumbers (controlsOf c)))
     (recall1 voctToHzAt (s .«freq_memo») (c .voct .0)) ≡ supersawSoundOf s c
 unfolding supersawSoundOf movedOf steppedOf blendOf lanesOf lanesFinite all wrapsOf sumsOf sawsOf incsOf tab
 sound-is s c h =
@@ -163,12 +165,12 @@ module _ (t dt : List Float) (lane : (i : ℕ) → i < 8 → Steady (at t i) (at
   unfolding lanesFinite
   sums-finite = sym (all-of (λ (i : ℕ). isFin (at (sumsOf t dt) i)) 8 (λ i l. ap isFin (sum-at i l) ∙ lane i l .finite))
 
-  ramped-is : (mix : Float) → rampedOf t dt mix ≡ steppedOf t dt mix
+  ramped-is : (mix : Float) (numbers : Bool) → rampedOf t dt mix numbers ≡ steppedOf t dt mix numbers
   unfolding rampedOf steppedOf
-  ramped-is mix = λ j. movedOf (blendOf (ramps-are j) mix) (at (ramps-are j) 7) (sums-finite j) (sums-are j)
+  ramped-is mix numbers = λ j. movedOf (blendOf (ramps-are j) mix) (at (ramps-are j) 7) (sums-finite j) numbers (sums-are j)
 
 pub quiet-ramped : (detune : Float) (base rate : Hertz) (t dt : List Float) → T (small detune) → rateOk rate ≡ true
-    → dt ≡ incsOf detune base rate → quietOf base t dt ≡ true → (mix : Float) → rampedOf t dt mix ≡ steppedOf t dt mix
+    → dt ≡ incsOf detune base rate → quietOf base t dt ≡ true → (mix : Float) (numbers : Bool) → rampedOf t dt mix numbers ≡ steppedOf t dt mix numbers
 quiet-ramped detune base rate t dt D R i q = ramped-is t dt lane
   where
     parts : (lt zer (base .0) ≡ true) × (lanesSteady t dt ≡ true)

@@ -132,7 +132,7 @@ good = always Good first-good (λ s c h f. good-after s c h)
 
 sound-accepted : (s : Supersaw) (c : SupersawControls) → accepted (supersawSoundOf s c .answer) ≡ true
 unfolding supersawSoundOf
-sound-accepted s c = mark-says _ _ _ _ .is-accepted
+sound-accepted s c = mark-says _ _ _ _ _ .is-accepted
 
 -- ---- the promises
 pub new-accepts : New-accepts

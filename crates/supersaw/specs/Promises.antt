@@ -1,7 +1,7 @@
 -- Theorems about the Supersaw: the statements. proofs/ proves each under the same name in small letters.
 use mathlib.Core.Path.{_≡_}
 use mathlib.Core.Bool.{true, cond}
-use mathlib.Core.List.{List}
+use mathlib.Core.List.{List, [], _∷_}
 use Prim.Native.Nat.{ℕ, _*_, _<_}
 use lib.Dec.{eqb}
 use lib.Ieee.{Float}
@@ -12,7 +12,7 @@ use Rattle.common.specs.Tests.{rateOk, phaseOk}
 use Rattle.common.specs.declared.Hertz.{Hertz}
 use Rattle.answer.specs.Answer.{accepted, outcomeNumber}
 use Rattle.answer.specs.Block.{Block, blockRefusalOf}
-use Rattle.answer.specs.Promises.{AllAccepted, AllTaken}
+use Rattle.answer.specs.Promises.{Steers, AllAccepted, AllTaken}
 use Rattle.answer.specs.declared.Tally.{Tally}
 use Rattle.supersaw.specs.Consts.{nPorts}
 use Rattle.supersaw.specs.Voices.{at}
@@ -41,6 +41,10 @@ pub record Accepts (s : Supersaw) : Type 0 where
 
 abbrev pub Never-refused : Type 0
 Never-refused = (s : Supersaw) → ReachedSupersaw s → Accepts s
+
+-- ---- no tick is clean with a control that is NaN, and none is steered without one
+abbrev pub Nan-steers : Type 0
+Nan-steers = (s : Supersaw) (c : SupersawControls) → Steers (c .voct .0 ∷ c .detune ∷ c .mix ∷ []) (supersawTickOf s c .answer)
 
 -- ---- no tick of a block is refused whose first isn't, and a tally with room takes each of their answers. Seven phases stand in
 -- the code's array

@@ -49,23 +49,24 @@ totalMix = ofBits binary64 0x4014cccccccccccd
 unfoldable pub blendOf : List Float → Float → Float
 blendOf s mix = add binary64 (mul binary64 (at s 3) (sub binary64 one mix)) (mul binary64 (div binary64 (mixTo s 7) totalMix) mix)
 
--- a tick's answer from both outputs and whether the phases were finite before their wrap, beside the phases after it
-unfoldable pub movedOf : Float → Float → Bool → List Float → Moved
-movedOf out low finite t = record { answer = markOf (volts2 out low) false true finite; phases = t }
+-- a tick's answer from both outputs, whether the phases were finite before their wrap and whether no control is NaN, beside the phases
+-- after it
+unfoldable pub movedOf : Float → Float → Bool → Bool → List Float → Moved
+movedOf out low finite numbers t = record { answer = markOf (volts2 out low) false true finite numbers; phases = t }
 
 -- an accepted tick
-unfoldable pub steppedOf : List Float → List Float → Float → Moved
-steppedOf t dt mix =
+unfoldable pub steppedOf : List Float → List Float → Float → Bool → Moved
+steppedOf t dt mix numbers =
     let saws = sawsOf t dt in
     let next = sumsOf t dt in
-    movedOf (blendOf saws mix) (at saws 7) (lanesFinite next) (wrapsOf next)
+    movedOf (blendOf saws mix) (at saws 7) (lanesFinite next) numbers (wrapsOf next)
 
 -- a tick whose controls stand still: the memo holds, so only the phases move
-abbrev pub heldTold : List Float → Float → List Float → Answer
-heldTold dt mix t = steppedOf t dt mix .answer
+abbrev pub heldTold : List Float → Float → Bool → List Float → Answer
+heldTold dt mix numbers t = steppedOf t dt mix numbers .answer
 
-abbrev pub heldNext : List Float → Float → List Float → List Float
-heldNext dt mix t = steppedOf t dt mix .phases
+abbrev pub heldNext : List Float → Float → Bool → List Float → List Float
+heldNext dt mix numbers t = steppedOf t dt mix numbers .phases
 
 -- ---- the tick in which no oscillator comes near its step
 -- more than an increment above its step, and more than one below the next; every f64 fits
@@ -82,5 +83,5 @@ unfoldable pub rampsOf : List Float → List Float
 rampsOf t = tab (λ i. sub binary64 (sub binary64 (mul binary64 two (at t i)) one) zer) 8
 
 -- it has no residual and no wrap
-unfoldable pub rampedOf : List Float → List Float → Float → Moved
-rampedOf t dt mix = let ramps = rampsOf t in movedOf (blendOf ramps mix) (at ramps 7) true (sumsOf t dt)
+unfoldable pub rampedOf : List Float → List Float → Float → Bool → Moved
+rampedOf t dt mix numbers = let ramps = rampsOf t in movedOf (blendOf ramps mix) (at ramps 7) true numbers (sumsOf t dt)

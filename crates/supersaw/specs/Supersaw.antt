@@ -1,6 +1,6 @@
 -- The Supersaw's calls, written from oscillators.rs, with the scope's refusals and marks.
 use mathlib.Core.Bool.{Bool, true, false, cond, _&&_}
-use mathlib.Core.List.{List}
+use mathlib.Core.List.{List, [], _∷_}
 use Prim.Native.Nat.{ℕ}
 use lib.Dec.{eqb}
 use lib.Ieee.{Float, binary64, add, sub, mul, div}
@@ -13,7 +13,7 @@ use Rattle.common.specs.Tests.{rateOk, phaseOk}
 use Rattle.common.specs.declared.Hertz.{Hertz}
 use Rattle.answer.specs.Answer.{volts2}
 use Rattle.answer.specs.Block.{Block, blockOf}
-use Rattle.answer.specs.Mark.{markOf}
+use Rattle.answer.specs.Mark.{allNumbers, markOf}
 use Rattle.answer.specs.declared.Answer.{Answer}
 use Rattle.answer.specs.declared.Answer.the-variants as answer
 use Rattle.answer.specs.declared.Outcome.the-variants as outcome
@@ -56,6 +56,10 @@ madeUnless n old new = cond (eqb n 0) (record { outcome = outcome.Done; supersaw
 unfoldable pub supersawNewOf : Hertz → SupersawMade
 supersawNewOf r = madeUnless (cond (rateOk r) 0 1) (newSupersaw r) (newSupersaw r)
 
+-- the controls given to a tick, in port order
+abbrev pub controlsOf : SupersawControls → List Float
+controlsOf c = c .voct .0 ∷ c .detune ∷ c .mix ∷ []
+
 -- tick_generic, line by line
 unfoldable pub supersawSoundOf : Supersaw → SupersawControls → SupersawTicked
 supersawSoundOf s c =
@@ -68,7 +72,7 @@ supersawSoundOf s c =
     let sub_dt = subDtOf (memo .val) (s .«sample_rate») .0 in
     let next = add binary64 (s .«sub_phase» .0) sub_dt in
     record {
-      answer = markOf (volts2 output (sawOf (s .«sub_phase» .0) sub_dt)) false true (v .finite && isFin next);
+      answer = markOf (volts2 output (sawOf (s .«sub_phase» .0) sub_dt)) false true (v .finite && isFin next) (allNumbers (controlsOf c));
       supersaw = record { phases = v .phases; «sub_phase» = turns (wrapOf next); «sample_rate» = s .«sample_rate»; «freq_memo» = memo };
     }
 

@@ -18,10 +18,11 @@ ghost use lib.Ieee.{Float};
 ghost use lib.ListN.{length};
 ghost use Rattle.laws.specs.Float.{isFin};
 ghost use Rattle.laws.specs.Lists.{tab};
+ghost use Rattle.answer.specs.Mark.{allNumbers};
 ghost use Rattle.answer.specs.Block.{afterTicks, joined, block, markAt, frameAt};
 ghost use Rattle.supersaw.specs.Consts.{nPorts};
 ghost use Rattle.supersaw.specs.Voices.{at, freqOf, sawOf, subDtOf};
-ghost use Rattle.supersaw.specs.Supersaw.{startPhases, phasesOk, supersawRefusalOf, supersawRateRefusalOf, supersawNewOf, supersawSoundOf};
+ghost use Rattle.supersaw.specs.Supersaw.{startPhases, phasesOk, controlsOf, supersawRefusalOf, supersawRateRefusalOf, supersawNewOf, supersawSoundOf};
 ghost use Rattle.supersaw.specs.Supersaw.{supersawTickOf, supersawToldOf, supersawNextOf, supersawBlockOf, supersawResetOf, supersawSetSampleRateOf};
 ghost use Rattle.supersaw.specs.Shortcuts.{lanesOf, incsOf, sawsOf, rampsOf, sumsOf, wrapsOf, lanesFinite, steadyOf};
 ghost use Rattle.supersaw.specs.Shortcuts.{lanesSteady, mixTo, blendOf, movedOf, steppedOf, rampedOf, quietOf, heldTold, heldNext};
@@ -212,13 +213,23 @@ fn all_steady(t: [f64; 8], dt: [f64; 8]) -> bool
     true
 }
 
-// A tick from its outputs, whether each phase plus its increment was finite, and the phases after it.
-fn answered(out: f64, sub: f64, finite: bool, phases: [f64; 8]) -> Moved
-    ensures { λ r. ⌜ r ≡ movedOf out sub finite phases ⌝ }
+// A tick from its outputs, whether each phase plus its increment was finite, whether no control is NaN, and the phases after it.
+fn answered(out: f64, sub: f64, finite: bool, numbers: bool, phases: [f64; 8]) -> Moved
+    ensures { λ r. ⌜ r ≡ movedOf out sub finite numbers phases ⌝ }
 {
     Moved {
-        answer: answer::mark(answer::volts2(out, sub), false, true, finite),
+        answer: answer::mark(answer::volts2(out, sub), false, true, finite, numbers),
         phases,
+    }
+}
+
+impl SupersawControls {
+    // Whether no control is NaN.
+    fn are_numbers(self) -> bool
+        ensures { λ r. ⌜ r ≡ allNumbers (controlsOf self) ⌝ }
+    {
+        let voct = self.voct;
+        answer::numbers3(voct.0, self.detune, self.mix)
     }
 }
 
@@ -313,6 +324,7 @@ impl Supersaw {
     fn sound(self, c: SupersawControls) -> SupersawTicked
         ensures { λ r. ⌜ r ≡ supersawSoundOf self c ⌝ }
     {
+        let numbers = c.are_numbers();
         let sub_phase = self.sub_phase;
         let sample_rate = self.sample_rate;
         let memo = self.freq_memo;
@@ -348,7 +360,7 @@ impl Supersaw {
         supersaw.freq_memo = freq_memo;
         let volts = answer::volts2(output, sub);
         SupersawTicked {
-            answer: answer::mark(volts, false, true, still_finite(finite, sub_next)),
+            answer: answer::mark(volts, false, true, still_finite(finite, sub_next), numbers),
             supersaw,
         }
     }
@@ -417,31 +429,31 @@ impl Supersaw {
     }
 
     // A quiet tick: no residual, and no wrap.
-    fn ramped(t: [f64; 8], dt: [f64; 8], mix: f64) -> Moved
-        ensures { λ r. ⌜ r ≡ rampedOf t dt mix ⌝ }
+    fn ramped(t: [f64; 8], dt: [f64; 8], mix: f64, numbers: bool) -> Moved
+        ensures { λ r. ⌜ r ≡ rampedOf t dt mix numbers ⌝ }
     {
         let s = ramps(t);
-        answered(Self::blend(s, mix), s[7], true, sums(t, dt))
+        answered(Self::blend(s, mix), s[7], true, numbers, sums(t, dt))
     }
 
     // Any accepted tick.
-    fn stepped(t: [f64; 8], dt: [f64; 8], mix: f64) -> Moved
-        ensures { λ r. ⌜ r ≡ steppedOf t dt mix ⌝ }
+    fn stepped(t: [f64; 8], dt: [f64; 8], mix: f64, numbers: bool) -> Moved
+        ensures { λ r. ⌜ r ≡ steppedOf t dt mix numbers ⌝ }
     {
         let s = saws(t, dt);
         let next = sums(t, dt);
-        answered(Self::blend(s, mix), s[7], all_finite(next), wraps(next))
+        answered(Self::blend(s, mix), s[7], all_finite(next), numbers, wraps(next))
     }
 
     // The same tick, by the shorter way where it is quiet.
-    fn turn(base_freq: Hertz, t: [f64; 8], dt: [f64; 8], mix: f64) -> Moved
-        requires { ⌜ (quietOf «base_freq» t dt ≡ true → rampedOf t dt mix ≡ steppedOf t dt mix) ⌝ }
-        ensures { λ r. ⌜ r ≡ steppedOf t dt mix ⌝ }
+    fn turn(base_freq: Hertz, t: [f64; 8], dt: [f64; 8], mix: f64, numbers: bool) -> Moved
+        requires { ⌜ (quietOf «base_freq» t dt ≡ true → rampedOf t dt mix numbers ≡ steppedOf t dt mix numbers) ⌝ }
+        ensures { λ r. ⌜ r ≡ steppedOf t dt mix numbers ⌝ }
     {
         if Self::quiet(base_freq, t, dt) {
-            Self::ramped(t, dt, mix)
+            Self::ramped(t, dt, mix, numbers)
         } else {
-            Self::stepped(t, dt, mix)
+            Self::stepped(t, dt, mix, numbers)
         }
     }
 
@@ -451,20 +463,21 @@ impl Supersaw {
         first: [f64; 8],
         dt: [f64; 8],
         mix: f64,
+        numbers: bool,
         samples: &mut [f64],
         marks: &mut [u32],
     ) -> [f64; 8]
-        requires { ⌜ ((t : List Float) → quietOf «base_freq» t dt ≡ true → rampedOf t dt mix ≡ steppedOf t dt mix) ⌝ }
+        requires { ⌜ ((t : List Float) → quietOf «base_freq» t dt ≡ true → rampedOf t dt mix numbers ≡ steppedOf t dt mix numbers) ⌝ }
         requires { ⌜ length (now samples) ≡ nPorts * length (now marks) ⌝ }
-        ensures { λ r. ⌜ r ≡ afterTicks (heldNext dt mix) (length (now (marks .entry))) first ⌝ }
+        ensures { λ r. ⌜ r ≡ afterTicks (heldNext dt mix numbers) (length (now (marks .entry))) first ⌝ }
         ensures { λ r. ⌜ now (samples .exit)
-            ≡ joined (frameAt nPorts (heldTold dt mix) (heldNext dt mix) first) (length (now (marks .entry))) ⌝ }
-        ensures { λ r. ⌜ now (marks .exit) ≡ tab (markAt (heldTold dt mix) (heldNext dt mix) first) (length (now (marks .entry))) ⌝ }
+            ≡ joined (frameAt nPorts (heldTold dt mix numbers) (heldNext dt mix numbers) first) (length (now (marks .entry))) ⌝ }
+        ensures { λ r. ⌜ now (marks .exit) ≡ tab (markAt (heldTold dt mix numbers) (heldNext dt mix numbers) first) (length (now (marks .entry))) ⌝ }
     {
         let mut t = first;
         let mut i = 0;
         while i < marks.len() {
-            let moved = Self::turn(base_freq, t, dt, mix);
+            let moved = Self::turn(base_freq, t, dt, mix, numbers);
             let heard = moved.answer;
             answer::put(heard, PORTS, i, &mut *samples, &mut *marks);
             t = moved.phases;
@@ -473,7 +486,7 @@ impl Supersaw {
         t
     }
 
-    // The ticks of a block: the memo holds from the first on.
+    // The ticks of a block: the memo holds from the first on. The controls are asked once.
     fn run(self, c: SupersawControls, samples: &mut [f64], marks: &mut [u32]) -> Self
         requires { ⌜ (supersawRefusalOf self ≡ 0) × (0 < length (now marks)) × (length (now samples) ≡ nPorts * length (now marks)) ⌝ }
         ensures { λ r. ⌜ r ≡ afterTicks (supersawNextOf c) (length (now (marks .entry))) self ⌝ }
@@ -481,6 +494,7 @@ impl Supersaw {
             ≡ joined (frameAt nPorts (supersawToldOf c) (supersawNextOf c) self) (length (now (marks .entry))) ⌝ }
         ensures { λ r. ⌜ now (marks .exit) ≡ tab (markAt (supersawToldOf c) (supersawNextOf c) self) (length (now (marks .entry))) ⌝ }
     {
+        let numbers = c.are_numbers();
         let phases = self.phases;
         let sub_phase = self.sub_phase;
         let sample_rate = self.sample_rate;
@@ -491,7 +505,7 @@ impl Supersaw {
         let base_freq = recalled.val;
         let first = lanes(phases, sub_phase);
         let dt = Self::increments(detune, base_freq, sample_rate);
-        let last = Self::glide(base_freq, first, dt, mix, samples, marks);
+        let last = Self::glide(base_freq, first, dt, mix, numbers, samples, marks);
         Supersaw {
             phases: voices(last),
             sub_phase: Turns(last[7]),

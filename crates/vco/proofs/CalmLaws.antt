@@ -136,11 +136,11 @@ plain-finite p pw wanted h =
       out-finite (wants wanted 8) 2 (sqrOf p pw zer zer) (lit≤ tt) (sqr-within p pw),
     ) (unfold ofBits in refl)
 
--- so a quiet tick is clean, with plain samples
-pub quiet-answer : (at : Crossing) (p old pw dt : Float) (wanted : ℕ) → phaseOk (turns p) ≡ true → Quiet at p (pwEdgeOf p pw) (fabsOf dt)
-    → markedOf (plainVolts p pw wanted) false true true ≡ vcoAnswerOf at p old pw dt wanted
+-- so a quiet tick is clean or steered, with plain samples
+pub quiet-answer : (at : Crossing) (p old pw dt : Float) (wanted : ℕ) (numbers : Bool) → phaseOk (turns p) ≡ true → Quiet at p (pwEdgeOf p pw) (fabsOf dt)
+    → markedOf (plainVolts p pw wanted) false true true numbers ≡ vcoAnswerOf at p old pw dt wanted numbers
 unfolding vcoAnswerOf markOf
-quiet-answer at p old pw dt wanted h q =
+quiet-answer at p old pw dt wanted numbers h q =
     let t = tick-value dt (q .small) in
     let w = phase-within p h in
     simp (

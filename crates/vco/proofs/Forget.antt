@@ -53,8 +53,8 @@ struck-after : (s : Vco) → Good s → Remembers s → (c : VcoControls) (wante
 struck-after s g h c wanted f e = after-tick s g c wanted ∙ struck s h c wanted f e ∙ sym (after-tick (newLike s) (good-like s g) c wanted)
 
 -- and its sine and triangle are a new one's
-volts-mark : (v : Volts) (zeroed sums phases : Bool) → voltsOf (markOf v zeroed sums phases) ≡ v
-volts-mark v zeroed sums phases = mark-says v zeroed sums phases .volts
+volts-mark : (v : Volts) (zeroed sums phases numbers : Bool) → voltsOf (markOf v zeroed sums phases numbers) ≡ v
+volts-mark v zeroed sums phases numbers = mark-says v zeroed sums phases numbers .volts
 
 struck-sin : (s : Vco) (c : VcoControls) (wanted : ℕ) → taken s c ≡ true
     → voltsOf (vcoSoundOf s c wanted .answer) .p10 ≡ voltsOf (vcoSoundOf (newLike s) c wanted .answer) .p10

@@ -3,7 +3,7 @@ use mathlib.Core.Bool.{true, false}
 use mathlib.Core.Path.{_≡_, refl, ap, _∙_}
 use lib.Dec.{lit≤}
 use lib.IntN.{pos}
-use lib.Ieee.{fin, binary64, add, sub, mul, div, neg, lt, le, eq, ofInt, ofBits}
+use lib.Ieee.{fin, binary64, add, sub, mul, div, neg, lt, le, eq, isNan, ofInt, ofBits}
 use Rattle.laws.specs.Float.{zer, one, isFin}
 use Rattle.numeric.specs.Basic.{fabsOf, clampOf, tau}
 use Rattle.numeric.specs.Floor.{floorOf}
@@ -21,12 +21,12 @@ use Rattle.common.specs.Tests.{rateOk}
 use Rattle.common.specs.declared.Crossing.the-variants.{Nowhere}
 use Rattle.common.specs.declared.Risen.{Risen}
 use Rattle.answer.specs.Answer.{volts4, answerOf}
-use Rattle.answer.specs.Mark.{allFinite, markOf, markedOf, ruleOf}
+use Rattle.answer.specs.Mark.{allFinite, allNumbers, markOf, markedOf, ruleOf}
 use Rattle.answer.specs.declared.Volts.{Volts}
 use Rattle.answer.specs.declared.Answer.the-variants as answer
 use Rattle.vco.specs.Consts.{pwLow, pwHigh}
 use Rattle.vco.specs.Waves.{sineOf, sawOf, levelOf, pwEdgeOf, sqrOf, cornerHalfOf, triOf, steppedOf}
-use Rattle.vco.specs.Vco.{newVco, frequencyOf, crossesOf, vcoVoltsOf, vcoAnswerOf, vcoSoundOf}
+use Rattle.vco.specs.Vco.{newVco, controlsOf, frequencyOf, crossesOf, vcoVoltsOf, vcoAnswerOf, vcoSoundOf}
 use Rattle.vco.specs.Promises.{frameRate, frameControls, First-frame}
 use Rattle.vco.proofs.Reached.{good-new, tick-sound}
 use Rattle.vco.specs.declared.VcoTicked.{VcoTicked}
@@ -56,10 +56,15 @@ no-edge : risingOf newEdge zer .rising ≡ false
 unfolding risingOf risingAboveOf
 no-edge = ap (λ (r : Risen). r .rising) (rising-once newEdge zer)
 
+-- no control is NaN
+numbers : allNumbers (controlsOf frameControls) ≡ true
+unfolding allNumbers isNan neg ofBits
+numbers = refl
+
 -- so the tick is one without an edge, from phase 0 by 0
-frame-answer : vcoSoundOf (newVco frameRate) frameControls 15 .answer ≡ vcoAnswerOf Nowhere zer zer (clampOf half pwLow pwHigh) zer 15
+frame-answer : vcoSoundOf (newVco frameRate) frameControls 15 .answer ≡ vcoAnswerOf Nowhere zer zer (clampOf half pwLow pwHigh) zer 15 true
 unfolding vcoSoundOf newVco crossesOf restartOf incrementOf recall3 hits3 filled3
-frame-answer = simp (crossed-is, no-edge, still, no-step)
+frame-answer = simp (crossed-is, no-edge, still, no-step, numbers)
 
 silent : sineOf true zer ≡ zer
 unfolding sineOf
@@ -100,8 +105,8 @@ first-frame = ap (λ (t : VcoTicked). t .answer) (tick-sound (newVco frameRate) 
     volts : frameVolts ≡ printed
     volts = λ i. record { p10 = frame-sin i; p11 = frame-tri i; p12 = frame-saw i; p13 = frame-sqr i; p14 = frame-last i }
 
-    marked : markOf printed false true (isFin (add binary64 zer zer)) ≡ answer.Clean printed
+    marked : markOf printed false true (isFin (add binary64 zer zer)) true ≡ answer.Clean printed
     marked = unfold markOf markedOf ruleOf answerOf allFinite add ofBits in refl
 
-    clean : vcoAnswerOf Nowhere zer zer (clampOf half pwLow pwHigh) zer 15 ≡ answer.Clean printed
+    clean : vcoAnswerOf Nowhere zer zer (clampOf half pwLow pwHigh) zer 15 true ≡ answer.Clean printed
     clean = unfold vcoAnswerOf in rw volts marked

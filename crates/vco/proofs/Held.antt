@@ -1,5 +1,5 @@
 -- A block's ticks are ticks of the phase alone, after a first that may take the edge: the controls stand still.
-use mathlib.Core.Bool.{true}
+use mathlib.Core.Bool.{Bool, true}
 use mathlib.Core.Path.{_≡_, refl, sym, ap, _∙_}
 use Prim.Native.Nat.{ℕ, zero, suc, _+_, _<_}
 use native.Mathlib.Numerals.{add-one}
@@ -9,7 +9,8 @@ use lib.Ieee.Fits.{add-fits}
 use Rattle.answer.specs.Answer.{refusalOf}
 use Rattle.answer.specs.Block.{afterTicks, answerAt}
 use Rattle.answer.proofs.Blocks.{Holds, held-after, held-accepted, all-taken}
-use Rattle.answer.proofs.Laws.{mark-says, refused-by}
+use Rattle.answer.proofs.Laws.{mark-says, refused-by, mark-steers, tick-steers}
+use Rattle.answer.specs.Mark.{allNumbers}
 use Rattle.answer.specs.declared.Answer.{Answer}
 use Rattle.common.specs.Phase.{turns, wrapOf, incrementOf}
 use Rattle.common.specs.Edge.{risingOf, crossedOf}
@@ -25,21 +26,21 @@ use Rattle.common.specs.declared.Crossing.{Crossing}
 use Rattle.common.specs.declared.Crossing.the-variants.{Nowhere, At}
 use Rattle.numeric.specs.Basic.{clampOf}
 use Rattle.vco.specs.Consts.{pwLow, pwHigh}
-use Rattle.vco.specs.Vco.{frequencyOf, syncedOf, vcoAnswerOf, vcoSoundOf, vcoRefusalOf, vcoTickOf, vcoToldOf, vcoNextOf}
+use Rattle.vco.specs.Vco.{controlsOf, frequencyOf, syncedOf, vcoAnswerOf, vcoSoundOf, vcoRefusalOf, vcoTickOf, vcoToldOf, vcoNextOf}
 use Rattle.vco.specs.Shortcuts.{Held, held, heldTold, heldNext}
 use Rattle.vco.proofs.StateLaws.{unrefused}
 use Rattle.vco.proofs.Reached.{tick-sound}
-use Rattle.vco.specs.Promises.{Block-accepts, Block-tallies}
+use Rattle.vco.specs.Promises.{Nan-steers, Block-accepts, Block-tallies}
 use Rattle.vco.specs.declared.Vco.{Vco}
 use Rattle.vco.specs.declared.VcoControls.{VcoControls}
 use Rattle.vco.specs.declared.VcoTicked.{VcoTicked}
 
 -- ---- a turn of the loop
-pub heard-now : (wanted : ℕ) (pw : Float) (dt : Turns) (start : Held) (i : ℕ) (p q : Turns) (at : Crossing) (a : Answer)
-    → a ≡ vcoAnswerOf at (q .0) (p .0) pw (dt .0) wanted
-    → q ≡ syncedOf p at → held p at ≡ afterTicks (heldNext dt) i start → a ≡ answerAt (heldTold wanted pw dt) (heldNext dt) start i
+pub heard-now : (wanted : ℕ) (numbers : Bool) (pw : Float) (dt : Turns) (start : Held) (i : ℕ) (p q : Turns) (at : Crossing) (a : Answer)
+    → a ≡ vcoAnswerOf at (q .0) (p .0) pw (dt .0) wanted numbers
+    → q ≡ syncedOf p at → held p at ≡ afterTicks (heldNext dt) i start → a ≡ answerAt (heldTold wanted numbers pw dt) (heldNext dt) start i
 unfolding answerAt heldTold
-heard-now wanted pw dt start i p q at a e r z = simp (e, r, ← z)
+heard-now wanted numbers pw dt start i p q at a e r z = simp (e, r, ← z)
 
 pub moved : (dt : Turns) (start : Held) (i : ℕ) (p q r : Turns) (at : Crossing) → r ≡ turns (wrapOf (add binary64 (q .0) (dt .0)))
     → q ≡ syncedOf p at → held p at ≡ afterTicks (heldNext dt) i start → held r Nowhere ≡ afterTicks (heldNext dt) (i + 1) start
@@ -56,6 +57,10 @@ module _ (s : Vco) (c : VcoControls) where
 
   abbrev pub startOf : Held
   startOf = held (s .phase) (crossedOf (s .«sync_edge») (c .sync) .at)
+
+  -- what a tick of a block answers
+  abbrev pub toldOf : ℕ → Held → Answer
+  toldOf wanted = heldTold wanted (allNumbers (controlsOf c)) (clampOf (c .pw) pwLow pwHigh) stepOf
 
   -- the detector that tells this crossing: the one before the block if it is an edge, the one after a tick if it is none
   unfoldable pub edgeOf : Crossing → EdgeDetector
@@ -91,17 +96,16 @@ module _ (s : Vco) (c : VcoControls) where
 
   -- in such a state a tick finds its frequency in the memo, and its edge is the one held
   held-sound : (wanted : ℕ) (h : Held) → Fair h
-      → vcoSoundOf (stateOf h) c wanted ≡ record { answer = heldTold wanted (clampOf (c .pw) pwLow pwHigh) stepOf h; vco = stateOf (heldNext stepOf h) }
+      → vcoSoundOf (stateOf h) c wanted ≡ record { answer = toldOf wanted h; vco = stateOf (heldNext stepOf h) }
   unfolding vcoSoundOf heldTold heldNext
   held-sound wanted h f = simp (recall3-again frequencyOf (s .«freq_memo») (c .voct .0) (c .fm .0) (c .«fm_lin»), f .at, edge-left (h .at))
 
-  first-sound : (wanted : ℕ)
-      → vcoSoundOf s c wanted ≡ record { answer = heldTold wanted (clampOf (c .pw) pwLow pwHigh) stepOf startOf; vco = stateOf (heldNext stepOf startOf) }
+  first-sound : (wanted : ℕ) → vcoSoundOf s c wanted ≡ record { answer = toldOf wanted startOf; vco = stateOf (heldNext stepOf startOf) }
   unfolding vcoSoundOf heldTold heldNext
   first-sound wanted = simp edge-first
 
   pub holds : (wanted : ℕ) → vcoRefusalOf s ≡ 0
-      → Holds (vcoToldOf c wanted) (vcoNextOf c wanted) (heldTold wanted (clampOf (c .pw) pwLow pwHigh) stepOf) (heldNext stepOf) stateOf Fair s startOf
+      → Holds (vcoToldOf c wanted) (vcoNextOf c wanted) (toldOf wanted) (heldNext stepOf) stateOf Fair s startOf
   holds wanted n =
       let a = unrefused s n in
       let first = tick-sound s (record { rate = a .0; phase = a .1 }) c wanted ∙ first-sound wanted in
@@ -131,7 +135,7 @@ module _ (s : Vco) (c : VcoControls) where
 
 -- ---- so none of them is refused
 pub block-accepts : Block-accepts
-block-accepts s c wanted h = held-accepted _ _ _ _ _ _ _ _ (holds s c wanted h) (λ p. unfold heldTold vcoAnswerOf in mark-says _ _ _ _ .is-accepted)
+block-accepts s c wanted h = held-accepted _ _ _ _ _ _ _ _ (holds s c wanted h) (λ p. unfold heldTold vcoAnswerOf in mark-says _ _ _ _ _ .is-accepted)
 
 pub block-tallies : Block-tallies
 block-tallies s c wanted h = all-taken _ _ s (block-accepts s c wanted h)
@@ -139,4 +143,9 @@ block-tallies s c wanted h = all-taken _ _ s (block-accepts s c wanted h)
 -- ---- a tick is refused by what refuses its state
 pub tick-refusal : (s : Vco) (c : VcoControls) (wanted : ℕ) → refusalOf (vcoTickOf s c wanted .answer) ≡ vcoRefusalOf s
 unfolding vcoTickOf vcoSoundOf vcoAnswerOf
-tick-refusal s c wanted = refused-by (λ (t : VcoTicked). t .answer) (vcoRefusalOf s) _ _ (mark-says _ _ _ _ .is-accepted) refl
+tick-refusal s c wanted = refused-by (λ (t : VcoTicked). t .answer) (vcoRefusalOf s) _ _ (mark-says _ _ _ _ _ .is-accepted) refl
+
+-- ---- and marked over its controls
+pub nan-steers : Nan-steers
+unfolding vcoTickOf vcoSoundOf vcoAnswerOf
+nan-steers s c wanted = tick-steers (λ (t : VcoTicked). t .answer) (controlsOf c) (vcoRefusalOf s) _ _ (mark-steers _ _ _ _ (controlsOf c)) refl

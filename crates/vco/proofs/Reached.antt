@@ -116,7 +116,7 @@ reached s h = always Both both-first both-after h
 
 pub accepted-sound : (s : Vco) (c : VcoControls) (wanted : ℕ) → accepted (vcoSoundOf s c wanted .answer) ≡ true
 unfolding vcoSoundOf vcoAnswerOf
-accepted-sound s c wanted = mark-says _ _ _ _ .is-accepted
+accepted-sound s c wanted = mark-says _ _ _ _ _ .is-accepted
 
 pub good-accepts : (s : Vco) → Good s → Accepts s
 unfolding reply vcoBlockOf vcoResetOf vcoSetSampleRateOf

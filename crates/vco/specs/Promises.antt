@@ -1,7 +1,7 @@
 -- Theorems about the Vco: the statements. The proofs of the same names in small letters stand in proofs/.
 use mathlib.Core.Path.{_≡_}
 use mathlib.Core.Bool.{Bool, true, cond}
-use mathlib.Core.List.{List}
+use mathlib.Core.List.{List, [], _∷_}
 use Prim.Native.Nat.{ℕ, _*_, _<_}
 use lib.Dec.{eqb}
 use lib.Ieee.{Float, binary64, le, neg, ofBits}
@@ -14,12 +14,13 @@ use Rattle.common.specs.Tests.{rateOk, phaseOk}
 use Rattle.common.specs.declared.Hertz.{Hertz}
 use Rattle.answer.specs.Answer.{accepted, voltsOf, outcomeNumber, volts4}
 use Rattle.answer.specs.Block.{Block, blockRefusalOf}
-use Rattle.answer.specs.Promises.{AllAccepted, AllTaken}
+use Rattle.answer.specs.Promises.{Steers, AllAccepted, AllTaken}
 use Rattle.answer.specs.declared.Answer.the-variants as answer
 use Rattle.answer.specs.declared.Outcome.the-variants as outcome
 use Rattle.answer.specs.declared.Tally.{Tally}
 use Rattle.vco.specs.Consts.{nPorts}
-use Rattle.vco.specs.Vco.{newVco, newLike, vcoRefusalOf, vcoNewOf, vcoTickOf, vcoToldOf, vcoNextOf, vcoBlockOf, vcoResetOf, vcoSetSampleRateOf}
+use Rattle.vco.specs.Vco.{newVco, newLike, vcoRefusalOf, vcoNewOf, vcoTickOf, vcoToldOf, vcoNextOf, vcoBlockOf, vcoResetOf}
+use Rattle.vco.specs.Vco.{vcoSetSampleRateOf}
 use Rattle.vco.specs.Calls.{Call, Tick, Reset, SetSampleRate, Told, Fit, after, reply, First, ReachedVco}
 use Rattle.vco.specs.declared.Vco.{Vco}
 use Rattle.vco.specs.declared.VcoControls.{VcoControls}
@@ -80,6 +81,11 @@ pub record Comes (s : Vco) (c d : VcoControls) (wanted : ℕ) : Type 0 where
 abbrev pub Edge-comes : Type 0
 Edge-comes = (s : Vco) → ReachedVco s → (c d : VcoControls) (wanted : ℕ) → le (c .sync) (thresholdOf (s .«sync_edge»)) ≡ true → d .sync ≡ five
     → Comes s c d wanted
+
+-- ---- no tick is clean with a control that is NaN, and none is steered without one
+abbrev pub Nan-steers : Type 0
+Nan-steers = (s : Vco) (c : VcoControls) (wanted : ℕ) 
+    → Steers (c .voct .0 ∷ c .fm .0 ∷ c .pw ∷ c .sync ∷ c .«fm_lin» ∷ []) (vcoTickOf s c wanted .answer)
 
 -- ---- no tick of a block is refused whose first isn't, and a tally with room takes each of their answers
 abbrev pub Block-accepts : Type 0

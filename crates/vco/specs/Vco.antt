@@ -1,6 +1,6 @@
 -- The Vco's calls, written from oscillators.rs line by line, with the scope's marks and refusals.
 use mathlib.Core.Bool.{Bool, true, false, cond}
-use mathlib.Core.List.{List}
+use mathlib.Core.List.{List, [], _∷_}
 use Prim.Native.Nat.{ℕ}
 use lib.Dec.{eqb}
 use lib.Ieee.{Float, binary64, add, sub, mul, div, neg}
@@ -16,7 +16,7 @@ use Rattle.common.specs.Ports.{wants, outOf}
 use Rattle.common.specs.Tests.{rateOk, phaseOk}
 use Rattle.answer.specs.Answer.{volts4}
 use Rattle.answer.specs.Block.{Block, blockOf}
-use Rattle.answer.specs.Mark.{markOf}
+use Rattle.answer.specs.Mark.{allNumbers, markOf}
 use Rattle.vco.specs.Consts.{nPorts, pwLow, pwHigh}
 use Rattle.vco.specs.Waves.{sineOf, sawOf, levelOf, pwEdgeOf, sqrOf, cornerHalfOf, triOf, steppedOf}
 use Rattle.common.specs.declared.Hertz.{Hertz}
@@ -86,9 +86,14 @@ vcoVoltsOf at p old pw dt wanted =
     (outOf (wants wanted 4) (steppedOf at (sawOf p wrap) sawStep dt))
     (outOf (wants wanted 8) (steppedOf at (sqrOf p pw wrap fall) sqrStep dt))
 
--- with their mark: no tick is cleared, no output has a clamp, and a tick is lost where phase + dt isn't finite
-unfoldable pub vcoAnswerOf : Crossing → Float → Float → Float → Float → ℕ → Answer
-vcoAnswerOf at p old pw dt wanted = markOf (vcoVoltsOf at p old pw (fabsOf dt) wanted) false true (isFin (add binary64 p dt))
+-- with their mark: no tick is cleared, no output has a clamp, and a tick is lost where phase + dt isn't finite; `numbers` says that no
+-- control given is NaN
+unfoldable pub vcoAnswerOf : Crossing → Float → Float → Float → Float → ℕ → Bool → Answer
+vcoAnswerOf at p old pw dt wanted numbers = markOf (vcoVoltsOf at p old pw (fabsOf dt) wanted) false true (isFin (add binary64 p dt)) numbers
+
+-- the controls given to a tick, in port order
+abbrev pub controlsOf : VcoControls → List Float
+controlsOf c = c .voct .0 ∷ c .fm .0 ∷ c .pw ∷ c .sync ∷ c .«fm_lin» ∷ []
 
 -- tick_wanted, line by line
 unfoldable pub vcoSoundOf : Vco → VcoControls → ℕ → VcoTicked
@@ -100,7 +105,7 @@ vcoSoundOf s c wanted =
     let phase = syncedOf (s .phase) (crossed .at) in
     let next = add binary64 (phase .0) (dt .0) in
     record {
-      answer = vcoAnswerOf (crossed .at) (phase .0) (s .phase .0) pw (dt .0) wanted;
+      answer = vcoAnswerOf (crossed .at) (phase .0) (s .phase .0) pw (dt .0) wanted (allNumbers (controlsOf c));
       vco = record { phase = turns (wrapOf next); «sample_rate» = s .«sample_rate»; «sync_edge» = crossed .edge; «freq_memo» = memo };
     }
 

@@ -25,7 +25,7 @@ ghost use Rattle.answer.specs.Block.{afterTicks, framed, joined, block, markAt,
 ghost use Rattle.vco.specs.Consts.{nPorts, pwLow, pwHigh};
 ghost use Rattle.vco.specs.Waves.{sineOf, sawOf, levelOf, pwEdgeOf, sqrOf, cornerHalfOf, triOf, steppedOf};
 ghost use Rattle.vco.specs.Shortcuts.{Width, Quiet, plainVolts, held, heldTold, heldNext};
-ghost use Rattle.vco.specs.Vco.{vcoRefusalOf, vcoRateRefusalOf, vcoNewOf, frequencyOf, crossesOf, vcoAnswerOf, vcoSoundOf};
+ghost use Rattle.vco.specs.Vco.{vcoRefusalOf, vcoRateRefusalOf, vcoNewOf, frequencyOf, crossesOf, vcoAnswerOf, controlsOf, vcoSoundOf};
 ghost use Rattle.vco.specs.Vco.{vcoTickOf, vcoToldOf, vcoNextOf, vcoBlockOf, vcoResetOf, vcoSetSampleRateOf};
 
 pub struct Vco {
@@ -200,6 +200,17 @@ fn calm(at: Crossing, phase: Turns, pw: f64, dt: Turns) -> bool
     quiet(at, phase, pw_edge(phase, pw), Turns(numeric::fabs(dt.0)))
 }
 
+impl VcoControls {
+    // Whether no control is NaN.
+    fn are_numbers(self) -> bool
+        ensures { λ r. ⌜ r ≡ allNumbers (controlsOf self) ⌝ }
+    {
+        let voct = self.voct;
+        let fm = self.fm;
+        answer::numbers5(voct.0, fm.0, self.pw, self.sync, self.fm_lin)
+    }
+}
+
 impl Vco {
     // The bits of `wanted`, in port order.
     const WANT_SIN: u32 = 1 << 0;
@@ -274,9 +285,10 @@ impl Vco {
         pw: f64,
         dt: Turns,
         wanted: u32,
+        numbers: bool,
     ) -> Answer
         requires { ⌜ (phaseOk phase ≡ true) × Width pw × (sin ≡ sineOf (wants wanted 1) (phase .0)) ⌝ }
-        ensures { λ r. ⌜ r ≡ vcoAnswerOf at (phase .0) («p_old» .0) pw (dt .0) wanted ⌝ }
+        ensures { λ r. ⌜ r ≡ vcoAnswerOf at (phase .0) («p_old» .0) pw (dt .0) wanted numbers ⌝ }
     {
         let dt_abs = Turns(numeric::fabs(dt.0));
         let wrap = common::polyblep(phase, dt_abs);
@@ -293,19 +305,27 @@ impl Vco {
             common::out(wanted & Self::WANT_SAW != 0, saw),
             common::out(wanted & Self::WANT_SQR != 0, sqr),
         );
-        answer::mark(volts, false, true, numeric::is_finite(phase.0 + dt.0))
+        answer::mark(volts, false, true, numeric::is_finite(phase.0 + dt.0), numbers)
     }
 
-    // The samples with their mark. A quiet tick is clean.
-    fn heard(at: Crossing, phase: Turns, p_old: Turns, pw: f64, dt: Turns, wanted: u32) -> Answer
+    // The samples with their mark. A quiet tick is clean, or steered.
+    fn heard(
+        at: Crossing,
+        phase: Turns,
+        p_old: Turns,
+        pw: f64,
+        dt: Turns,
+        wanted: u32,
+        numbers: bool,
+    ) -> Answer
         requires { ⌜ (phaseOk phase ≡ true) × Width pw ⌝ }
-        ensures { λ r. ⌜ r ≡ vcoAnswerOf at (phase .0) («p_old» .0) pw (dt .0) wanted ⌝ }
+        ensures { λ r. ⌜ r ≡ vcoAnswerOf at (phase .0) («p_old» .0) pw (dt .0) wanted numbers ⌝ }
     {
         let sin = Self::sin(wanted, phase);
         if calm(at, phase, pw, dt) {
-            answer::marked(Self::plain(sin, phase, pw, wanted), false, true, true)
+            answer::marked(Self::plain(sin, phase, pw, wanted), false, true, true, numbers)
         } else {
-            Self::smoothed(sin, at, phase, p_old, pw, dt, wanted)
+            Self::smoothed(sin, at, phase, p_old, pw, dt, wanted, numbers)
         }
     }
 
@@ -317,21 +337,23 @@ impl Vco {
         pw: f64,
         dt: Turns,
         wanted: u32,
+        numbers: bool,
         i: usize,
         samples: &mut [f64],
         marks: &mut [u32],
     )
         requires { ⌜ (phaseOk phase ≡ true) × Width pw ⌝ }
         ensures { λ _. ⌜ now (samples .exit)
-            ≡ framed nPorts (length (now (marks .entry))) i (voltsOf (vcoAnswerOf at (phase .0) («p_old» .0) pw (dt .0) wanted)) (now (samples .entry)) ⌝ }
+            ≡ framed nPorts (length (now (marks .entry))) i (voltsOf (vcoAnswerOf at (phase .0) («p_old» .0) pw (dt .0) wanted numbers))
+            (now (samples .entry)) ⌝ }
         ensures { λ _. ⌜ now (marks .exit)
-            ≡ set (now (marks .entry)) i (hostNumber (vcoAnswerOf at (phase .0) («p_old» .0) pw (dt .0) wanted)) ⌝ }
+            ≡ set (now (marks .entry)) i (hostNumber (vcoAnswerOf at (phase .0) («p_old» .0) pw (dt .0) wanted numbers)) ⌝ }
     {
         let sin = Self::sin(wanted, phase);
         if calm(at, phase, pw, dt) {
             let volts = Self::plain(sin, phase, pw, wanted);
             answer::put(
-                answer::marked(volts, false, true, true),
+                answer::marked(volts, false, true, true, numbers),
                 PORTS,
                 i,
                 samples,
@@ -339,7 +361,7 @@ impl Vco {
             );
         } else {
             answer::put(
-                Self::smoothed(sin, at, phase, p_old, pw, dt, wanted),
+                Self::smoothed(sin, at, phase, p_old, pw, dt, wanted, numbers),
                 PORTS,
                 i,
                 samples,
@@ -353,6 +375,7 @@ impl Vco {
         requires { ⌜ phaseOk (self .phase) ≡ true ⌝ }
         ensures { λ r. ⌜ r ≡ vcoSoundOf self c wanted ⌝ }
     {
+        let numbers = c.are_numbers();
         let p_old = self.phase;
         let sample_rate = self.sample_rate;
         let edge = self.sync_edge;
@@ -367,7 +390,7 @@ impl Vco {
         let sync_edge = crossed.edge;
         let phase = common::restart(p_old, crosses(at));
         VcoTicked {
-            answer: Self::heard(at, phase, p_old, width(c.pw), dt, wanted),
+            answer: Self::heard(at, phase, p_old, width(c.pw), dt, wanted, numbers),
             vco: Vco {
                 phase: common::wrap_phase(Turns(phase.0 + dt.0)),
                 sample_rate,
@@ -398,15 +421,16 @@ impl Vco {
         dt: Turns,
         pw: f64,
         wanted: u32,
+        numbers: bool,
         samples: &mut [f64],
         marks: &mut [u32],
     ) -> Turns
         requires { ⌜ (phaseOk start ≡ true) × Width pw × (length (now samples) ≡ nPorts * length (now marks)) ⌝ }
         ensures { λ r. ⌜ r ≡ afterTicks (heldNext dt) (length (now (marks .entry))) (held start edge) .phase ⌝ }
         ensures { λ r. ⌜ now (samples .exit)
-            ≡ joined (frameAt nPorts (heldTold wanted pw dt) (heldNext dt) (held start edge)) (length (now (marks .entry))) ⌝ }
+            ≡ joined (frameAt nPorts (heldTold wanted numbers pw dt) (heldNext dt) (held start edge)) (length (now (marks .entry))) ⌝ }
         ensures { λ r. ⌜ now (marks .exit)
-            ≡ tab (markAt (heldTold wanted pw dt) (heldNext dt) (held start edge)) (length (now (marks .entry))) ⌝ }
+            ≡ tab (markAt (heldTold wanted numbers pw dt) (heldNext dt) (held start edge)) (length (now (marks .entry))) ⌝ }
     {
         let mut p_old = start;
         let mut at = edge;
@@ -420,6 +444,7 @@ impl Vco {
                 pw,
                 dt,
                 wanted,
+                numbers,
                 i,
                 &mut *samples,
                 &mut *marks,
@@ -431,7 +456,7 @@ impl Vco {
         p_old
     }
 
-    // The ticks of a block: what memo, edge and controls say is worked out once.
+    // The ticks of a block: what memo, edge and controls say is worked out once, whether one is NaN too.
     fn run(self, c: VcoControls, wanted: u32, samples: &mut [f64], marks: &mut [u32]) -> Self
         requires { ⌜ (vcoRefusalOf self ≡ 0) × (0 < length (now marks)) × (length (now samples) ≡ nPorts * length (now marks)) ⌝ }
         ensures { λ r. ⌜ r ≡ afterTicks (vcoNextOf c wanted) (length (now (marks .entry))) self ⌝ }
@@ -439,6 +464,7 @@ impl Vco {
             ≡ joined (frameAt nPorts (vcoToldOf c wanted) (vcoNextOf c wanted) self) (length (now (marks .entry))) ⌝ }
         ensures { λ r. ⌜ now (marks .exit) ≡ tab (markAt (vcoToldOf c wanted) (vcoNextOf c wanted) self) (length (now (marks .entry))) ⌝ }
     {
+        let numbers = c.are_numbers();
         let p_old = self.phase;
         let sample_rate = self.sample_rate;
         let edge = self.sync_edge;
@@ -452,7 +478,7 @@ impl Vco {
         let at = crossed.at;
         let sync_edge = crossed.edge;
         Vco {
-            phase: Self::glide(p_old, at, dt, width(c.pw), wanted, samples, marks),
+            phase: Self::glide(p_old, at, dt, width(c.pw), wanted, numbers, samples, marks),
             sample_rate,
             sync_edge,
             freq_memo,

@@ -12,9 +12,8 @@ use Rattle.answer.proofs.Blocks.{Holds, held-accepted, all-taken}
 use Rattle.answer.proofs.Laws.{mark-says}
 use Rattle.answer.specs.Block.{afterTicks, answerAt}
 use Rattle.answer.specs.Answer.{volts1}
-use Rattle.answer.specs.Mark.{markOf}
+use Rattle.answer.specs.Mark.{allNumbers, markOf}
 use Rattle.answer.specs.declared.Answer.{Answer}
-use Rattle.answer.specs.declared.Volts.{Volts}
 use Rattle.common.proofs.EdgeLaws.{rising-once}
 use Rattle.common.proofs.MemoLaws.{recall1-again}
 use Rattle.common.proofs.PhaseLaws.{restart-in, wrap-in}
@@ -30,7 +29,7 @@ use Rattle.wavetable.proofs.Accepted.{accepts, bank-sized}
 use Rattle.wavetable.specs.Shortcuts.{pairOf, mixAt, heldAnswer, heldNext}
 use Rattle.wavetable.specs.Consts.{bankSize}
 use Rattle.wavetable.specs.Reads.{tablePosOf, tableIndexOf, blendOf, readTable, mixOf}
-use Rattle.wavetable.specs.Wavetable.{wavetableRefusalOf, wavetableTickRefusalOf, wavetableSoundOf, wavetableTickOf, wavetableToldOf, wavetableNextOf}
+use Rattle.wavetable.specs.Wavetable.{controlsOf, wavetableRefusalOf, wavetableTickRefusalOf, wavetableSoundOf, wavetableTickOf, wavetableToldOf, wavetableNextOf}
 use Rattle.wavetable.specs.Promises.{taken, Block-accepts, Block-tallies}
 use Rattle.wavetable.specs.declared.Pair.{Pair}
 use Rattle.wavetable.specs.declared.Wavetable.{Wavetable}
@@ -45,12 +44,12 @@ unfolding mixAt pairOf mixOf readTable
 mix-pair bank table morph inc phase = refl
 
 -- ---- a turn of the loop
-pub heard : (bank : List Float) (p : Pair) (step start : Turns) (i : ℕ) (t : Turns) (out : Float) (v : Volts) (f : Bool) (a : Answer)
-    → a ≡ markOf v false true f → v ≡ volts1 out → out ≡ mixAt bank p (t .0) → f ≡ isFin (add binary64 (t .0) (step .0))
+pub heard : (bank : List Float) (p : Pair) (numbers : Bool) (step start : Turns) (i : ℕ) (t : Turns) (out : Float) (f : Bool) (a : Answer)
+    → a ≡ markOf (volts1 out) false true f numbers → out ≡ mixAt bank p (t .0) → f ≡ isFin (add binary64 (t .0) (step .0))
     → t ≡ afterTicks (heldNext step) i start
-    → a ≡ answerAt (heldAnswer bank p step) (heldNext step) start i
+    → a ≡ answerAt (heldAnswer bank p numbers step) (heldNext step) start i
 unfolding answerAt heldAnswer
-heard bank p step start i t out v f a e u q w z = simp (e, u, q, w, z)
+heard bank p numbers step start i t out f a e q w z = simp (e, q, w, z)
 
 pub moved : (step start : Turns) (i : ℕ) (p q : Turns) → q ≡ turns (wrapOf (add binary64 (p .0) (step .0)))
     → p ≡ afterTicks (heldNext step) i start → q ≡ afterTicks (heldNext step) (i + 1) start
@@ -70,7 +69,11 @@ stepOf s c = incrementOf (heldMemo s c .val) (s .«sample_rate»)
 abbrev pub heldPair : Wavetable → WavetableControls → Pair
 heldPair s c = pairOf (c .table) (c .morph) (stepOf s c .0)
 
--- the state in a block whose phase is p, from the second tick on
+-- what a tick of a block answers whose phase is p
+abbrev pub toldOf : Wavetable → WavetableControls → List Float → Turns → Answer
+toldOf s c bank = heldAnswer bank (heldPair s c) (allNumbers (controlsOf c)) (stepOf s c)
+
+-- and the state then, from the second tick on
 abbrev pub stateOf : Wavetable → WavetableControls → Turns → Wavetable
 stateOf s c p = record { phase = p; «prev_sync» = c .sync; «sample_rate» = s .«sample_rate»; «freq_memo» = heldMemo s c }
 
@@ -87,7 +90,7 @@ tick-sounds s c bank h = simp h
 -- what a state answers whose sync and memo hold
 first-sound : (s : Wavetable) (c : WavetableControls) (bank : List Float)
     → wavetableSoundOf s c bank
-    ≡ record { answer = heldAnswer bank (heldPair s c) (stepOf s c) (firstOf s c); wavetable = stateOf s c (heldNext (stepOf s c) (firstOf s c)) }
+    ≡ record { answer = toldOf s c bank (firstOf s c); wavetable = stateOf s c (heldNext (stepOf s c) (firstOf s c)) }
 unfolding wavetableSoundOf heldAnswer heldNext
 first-sound s c bank = simp mix-pair
 
@@ -99,13 +102,12 @@ no-second v = ap (λ (r : Risen). r .rising) (rising-once (record { prev = v }) 
 -- in such a state a tick takes no edge and finds its frequency in the memo
 held-sound : (s : Wavetable) (c : WavetableControls) (bank : List Float) (p : Turns)
     → wavetableSoundOf (stateOf s c p) c bank
-    ≡ record { answer = heldAnswer bank (heldPair s c) (stepOf s c) p; wavetable = stateOf s c (heldNext (stepOf s c) p) }
+    ≡ record { answer = toldOf s c bank p; wavetable = stateOf s c (heldNext (stepOf s c) p) }
 unfolding wavetableSoundOf heldAnswer heldNext restartOf
 held-sound s c bank p = simp (recall1-again voctToHzAt (s .«freq_memo») (c .«v_oct» .0), no-second, mix-pair)
 
 pub holds : (s : Wavetable) (c : WavetableControls) (bank : List Float) → wavetableTickRefusalOf s (length bank) ≡ 0
-    → Holds (wavetableToldOf c bank) (wavetableNextOf c bank) (heldAnswer bank (heldPair s c) (stepOf s c)) (heldNext (stepOf s c)) (stateOf s c)
-    (λ p. phaseOk p ≡ true) s (firstOf s c)
+    → Holds (wavetableToldOf c bank) (wavetableNextOf c bank) (toldOf s c bank) (heldNext (stepOf s c)) (stateOf s c) (λ p. phaseOk p ≡ true) s (firstOf s c)
 holds s c bank h =
     record {
       good = restart-in (s .phase) (taken s c) (accepts s (length bank) h .1);
@@ -120,7 +122,7 @@ holds s c bank h =
 
 -- ---- so none of them is refused
 pub block-accepts : Block-accepts
-block-accepts s c bank h = held-accepted _ _ _ _ _ _ _ _ (holds s c bank h) (λ p. unfold heldAnswer in mark-says _ _ _ _ .is-accepted)
+block-accepts s c bank h = held-accepted _ _ _ _ _ _ _ _ (holds s c bank h) (λ p. unfold heldAnswer in mark-says _ _ _ _ _ .is-accepted)
 
 pub block-tallies : Block-tallies
 block-tallies s c bank h = all-taken _ _ s (block-accepts s c bank h)

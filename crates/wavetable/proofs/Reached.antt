@@ -68,7 +68,7 @@ tick-sounds s c bank g e = tick-sized s c bank g ∙ ap (λ (b : Bool). sized b 
 
 sound-accepted : (s : Wavetable) (c : WavetableControls) (bank : List Float) → accepted (wavetableSoundOf s c bank .answer) ≡ true
 unfolding wavetableSoundOf
-sound-accepted s c bank = mark-says _ _ _ _ .is-accepted
+sound-accepted s c bank = mark-says _ _ _ _ _ .is-accepted
 
 sized-accepted : (b : Bool) (s : Wavetable) (c : WavetableControls) (bank : List Float) → accepted (sized b s c bank .answer) ≡ b
 sized-accepted true s c bank = sound-accepted s c bank

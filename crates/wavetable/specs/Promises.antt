@@ -1,19 +1,20 @@
 -- Theorems about the Wavetable: the statements. proofs/ proves each under the same name in small letters.
 use mathlib.Core.Bool.{Bool, true, cond}
-use mathlib.Core.List.{List, _∷_}
+use mathlib.Core.List.{List, _∷_, []}
 use mathlib.Core.Path.{_≡_}
 use Prim.Native.Nat.{ℕ, _*_, _<_}
 use lib.Dec.{eqb}
-use lib.Ieee.{Float, le}
+use lib.Ieee.{Float, nan, le}
 use lib.ListN.{length}
-use Rattle.answer.specs.Answer.{accepted, outcomeNumber}
+use Rattle.answer.specs.Answer.{accepted, markNumber, voltsOf, steered, clean, outcomeNumber}
 use Rattle.answer.specs.Block.{Block, blockRefusalOf}
-use Rattle.answer.specs.Promises.{AllAccepted, AllTaken}
+use Rattle.answer.specs.Promises.{Steers, AllAccepted, AllTaken}
 use Rattle.answer.specs.declared.Outcome.the-variants as outcome
 use Rattle.answer.specs.declared.Tally.{Tally}
 use Rattle.common.specs.Consts.{five}
 use Rattle.common.specs.Edge.{thresholdOf, risingOf}
 use Rattle.common.specs.Tests.{rateOk, phaseOk}
+use Rattle.laws.specs.Float.{zer, one}
 use Rattle.laws.specs.Machine.{replies, Settles}
 use Rattle.wavetable.specs.Bank.{Filled, fillTableOf, fillBankOf}
 use Rattle.wavetable.specs.Calls.{Call, Fit, after, reply, First, ReachedWavetable, Tick, Reset, SetSampleRate, Told}
@@ -70,6 +71,24 @@ abbrev pub Edge-comes : Type 0
 Edge-comes = (s : Wavetable) → ReachedWavetable s → (c d : WavetableControls) (bank : List Float) → Fit c → length bank ≡ bankSize
     → le (c .sync) (thresholdOf (edgeOf s)) ≡ true → d .sync ≡ five
     → (accepted (wavetableTickOf (after s (Tick c bank)) d bank .answer) ≡ true) × (taken (after s (Tick c bank)) d ≡ true)
+
+-- ---- no tick is clean with a control that is NaN, and none is steered without one
+abbrev pub Nan-steers : Type 0
+Nan-steers = (s : Wavetable) (c : WavetableControls) (bank : List Float) 
+    → Steers (c .«v_oct» .0 ∷ c .table ∷ c .morph ∷ c .sync ∷ []) (wavetableTickOf s c bank .answer)
+
+-- ---- a NaN on the table input plays the second table alone, as table 0 with morph 1 does: the same volts, and the same state after it. Where that
+-- tick is clean, this one is steered: such a preset sounds steady, and isn't finished
+abbrev pub secondTable : WavetableControls → WavetableControls
+secondTable c = record { «v_oct» = c .«v_oct»; table = zer; morph = one; sync = c .sync }
+
+pub record Plays (t u : WavetableTicked) : Type 0 where
+  pub volts : voltsOf (t .answer) ≡ voltsOf (u .answer)
+  pub state : t .wavetable ≡ u .wavetable
+  pub mark : markNumber (u .answer) ≡ clean → markNumber (t .answer) ≡ steered
+
+abbrev pub Nan-table : Type 0
+Nan-table = (s : Wavetable) (c : WavetableControls) (bank : List Float) → c .table ≡ nan → Plays (wavetableTickOf s c bank) (wavetableTickOf s (secondTable c) bank)
 
 -- ---- no tick of a block is refused whose first isn't, and a tally with room takes each of their answers
 abbrev pub Block-accepts : Type 0

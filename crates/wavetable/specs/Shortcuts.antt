@@ -1,6 +1,6 @@
 -- Shortcuts of the code: no public contract and no promise cites them, so nobody need believe them; proofs/ shows that they are what the
 -- definitions say.
-use mathlib.Core.Bool.{true, false, cond}
+use mathlib.Core.Bool.{Bool, true, false, cond}
 use mathlib.Core.List.{List}
 use mathlib.Core.Path.{_≡_}
 use Prim.Native.Nat.{ℕ, _+_, _*_, _%_, _<_, _≤_}
@@ -60,8 +60,8 @@ mixAt bank p phase =
     (mul binary64 (between bank (p .first1) idx0 frac) (p .blend)))
     five
 
-unfoldable pub heldAnswer : List Float → Pair → Turns → Turns → Answer
-heldAnswer bank p step phase = markOf (volts1 (mixAt bank p (phase .0))) false true (isFin (add binary64 (phase .0) (step .0)))
+unfoldable pub heldAnswer : List Float → Pair → Bool → Turns → Turns → Answer
+heldAnswer bank p numbers step phase = markOf (volts1 (mixAt bank p (phase .0))) false true (isFin (add binary64 (phase .0) (step .0))) numbers
 
 unfoldable pub heldNext : Turns → Turns → Turns
 heldNext step phase = turns (wrapOf (add binary64 (phase .0) (step .0)))

@@ -1,13 +1,13 @@
 -- The Wavetable's calls, written from oscillators.rs, with the scope's refusals and marks.
 use mathlib.Core.Bool.{true, false, cond}
-use mathlib.Core.List.{List}
+use mathlib.Core.List.{List, [], _∷_}
 use Prim.Native.Nat.{ℕ}
 use lib.Dec.{eqb}
 use lib.Ieee.{Float, binary64, add}
 use lib.ListN.{length}
 use Rattle.answer.specs.Answer.{volts1}
 use Rattle.answer.specs.Block.{Block, blockOf}
-use Rattle.answer.specs.Mark.{markOf}
+use Rattle.answer.specs.Mark.{allNumbers, markOf}
 use Rattle.common.specs.Edge.{risingOf}
 use Rattle.common.specs.Memo.{newMemo1, recall1, voctToHzAt}
 use Rattle.common.specs.Phase.{turns, wrapOf, incrementOf, restartOf}
@@ -58,6 +58,10 @@ wavetableNewOf r = madeUnless (cond (rateOk r) 0 1) (newWavetable r) (newWavetab
 abbrev pub edgeOf : Wavetable → EdgeDetector
 edgeOf s = record { prev = s .«prev_sync» }
 
+-- the controls given to a tick, in port order
+abbrev pub controlsOf : WavetableControls → List Float
+controlsOf c = c .«v_oct» .0 ∷ c .table ∷ c .morph ∷ c .sync ∷ []
+
 -- tick_generic, line by line
 unfoldable pub wavetableSoundOf : Wavetable → WavetableControls → List Float → WavetableTicked
 wavetableSoundOf s c bank =
@@ -69,7 +73,7 @@ wavetableSoundOf s c bank =
     let out = mixOf bank index (blendOf pos index (c .morph)) inc phase in
     let next = add binary64 phase inc in
     record {
-      answer = markOf (volts1 out) false true (isFin next);
+      answer = markOf (volts1 out) false true (isFin next) (allNumbers (controlsOf c));
       wavetable = record { phase = turns (wrapOf next); «prev_sync» = c .sync; «sample_rate» = s .«sample_rate»; «freq_memo» = memo };
     }
 

@@ -15,6 +15,9 @@ ghost use Prim.Native.Nat.{_≤_, _<_, _+_, _*_};
 ghost use lib.Ieee.{binary64, sub};
 ghost use lib.ListN.{length};
 ghost use Rattle.laws.specs.Lists.{tab};
+ghost use mathlib.Core.Bool.{true, false};
+ghost use Rattle.answer.specs.Answer.{volts1};
+ghost use Rattle.answer.specs.Mark.{allNumbers, markOf};
 ghost use Rattle.answer.specs.Block.{afterTicks, joined, block, markAt, frameAt};
 ghost use Rattle.common.specs.Edge.{risingOf};
 ghost use Rattle.numeric.specs.Basic.{wholeOf, realOf};
@@ -23,7 +26,7 @@ ghost use Rattle.wavetable.specs.Consts.{nPorts, tableSize, numTables, n
 ghost use Rattle.wavetable.specs.Harmonics.{maxHarmonic};
 ghost use Rattle.wavetable.specs.Reads.{allowedOf, levelFrom, startOf, between, tablePosOf, tableIndexOf, blendOf};
 ghost use Rattle.wavetable.specs.Shortcuts.{PairFits, pairOf, mixAt, heldAnswer, heldNext};
-ghost use Rattle.wavetable.specs.Wavetable.{wavetableRefusalOf, wavetableTickRefusalOf, wavetableRateRefusalOf, wavetableSoundOf};
+ghost use Rattle.wavetable.specs.Wavetable.{controlsOf, wavetableRefusalOf, wavetableTickRefusalOf, wavetableRateRefusalOf, wavetableSoundOf};
 ghost use Rattle.wavetable.specs.Wavetable.{wavetableNewOf, wavetableTickOf, wavetableToldOf, wavetableNextOf, wavetableBlockOf};
 ghost use Rattle.wavetable.specs.Wavetable.{wavetableResetOf, wavetableSetSampleRateOf};
 
@@ -222,6 +225,23 @@ fn mix(bank: &[f64], pair: Pair, phase: Turns) -> f64
     (sample0 * (1.0 - blend) + sample1 * blend) * 5.0
 }
 
+// The sample with its mark.
+fn heard(out: f64, phases: bool, numbers: bool) -> Answer
+    ensures { λ r. ⌜ r ≡ markOf (volts1 out) false true phases numbers ⌝ }
+{
+    answer::mark(answer::volts1(out), false, true, phases, numbers)
+}
+
+impl WavetableControls {
+    // Whether no control is NaN.
+    fn are_numbers(self) -> bool
+        ensures { λ r. ⌜ r ≡ allNumbers (controlsOf self) ⌝ }
+    {
+        let v_oct = self.v_oct;
+        answer::numbers4(v_oct.0, self.table, self.morph, self.sync)
+    }
+}
+
 impl Wavetable {
     // A refused new hands out the state with the bad rate, which every later call refuses.
     pub fn new(sample_rate: Hertz) -> WavetableMade
@@ -287,6 +307,7 @@ impl Wavetable {
         requires { ⌜ length (now bank) ≡ bankSize ⌝ }
         ensures { λ r. ⌜ r ≡ wavetableSoundOf self c (now (bank .entry)) ⌝ }
     {
+        let numbers = c.are_numbers();
         let old = self.phase;
         let sample_rate = self.sample_rate;
         let memo = self.freq_memo;
@@ -298,7 +319,7 @@ impl Wavetable {
         let out = mix(bank, choose(c.table, c.morph, phase_inc), phase);
         let next = Turns(phase.0 + phase_inc.0);
         WavetableTicked {
-            answer: answer::mark(answer::volts1(out), false, true, numeric::is_finite(next.0)),
+            answer: heard(out, numeric::is_finite(next.0), numbers),
             wavetable: Wavetable {
                 phase: common::wrap_phase(next),
                 prev_sync: c.sync,
@@ -327,6 +348,7 @@ impl Wavetable {
         pair: Pair,
         first: Turns,
         step: Turns,
+        numbers: bool,
         bank: &[f64],
         samples: &mut [f64],
         marks: &mut [u32],
@@ -334,15 +356,16 @@ impl Wavetable {
         requires { ⌜ (length (now bank) ≡ bankSize) × PairFits pair × (length (now samples) ≡ nPorts * length (now marks)) ⌝ }
         ensures { λ r. ⌜ r ≡ afterTicks (heldNext step) (length (now (marks .entry))) first ⌝ }
         ensures { λ r. ⌜ now (samples .exit)
-            ≡ joined (frameAt nPorts (heldAnswer (now (bank .entry)) pair step) (heldNext step) first) (length (now (marks .entry))) ⌝ }
-        ensures { λ r. ⌜ now (marks .exit) ≡ tab (markAt (heldAnswer (now (bank .entry)) pair step) (heldNext step) first) (length (now (marks .entry))) ⌝ }
+            ≡ joined (frameAt nPorts (heldAnswer (now (bank .entry)) pair numbers step) (heldNext step) first) (length (now (marks .entry))) ⌝ }
+        ensures { λ r. ⌜ now (marks .exit)
+            ≡ tab (markAt (heldAnswer (now (bank .entry)) pair numbers step) (heldNext step) first) (length (now (marks .entry))) ⌝ }
     {
         let mut phase = first;
         let mut i = 0;
         while i < marks.len() {
             let next = Turns(phase.0 + step.0);
             let out = mix(bank, pair, phase);
-            let heard = answer::mark(answer::volts1(out), false, true, numeric::is_finite(next.0));
+            let heard = heard(out, numeric::is_finite(next.0), numbers);
             answer::put(heard, PORTS, i, &mut *samples, &mut *marks);
             phase = common::wrap_phase(next);
             i += 1;
@@ -350,7 +373,7 @@ impl Wavetable {
         phase
     }
 
-    // The ticks of a block. Only the first can take the edge, and the memo holds from then on.
+    // The ticks of a block. Only the first can take the edge, and the memo holds from then on. The controls are asked once.
     fn run(self, c: WavetableControls, bank: &[f64], samples: &mut [f64], marks: &mut [u32]) -> Self
         requires { ⌜ (wavetableTickRefusalOf self (length (now bank)) ≡ 0) × (0 < length (now marks)) × (length (now samples) ≡ nPorts * length (now marks)) ⌝ }
         ensures { λ r. ⌜ r ≡ afterTicks (wavetableNextOf c (now (bank .entry))) (length (now (marks .entry))) self ⌝ }
@@ -359,6 +382,7 @@ impl Wavetable {
         ensures { λ r. ⌜ now (marks .exit)
             ≡ tab (markAt (wavetableToldOf c (now (bank .entry))) (wavetableNextOf c (now (bank .entry))) self) (length (now (marks .entry))) ⌝ }
     {
+        let numbers = c.are_numbers();
         let old = self.phase;
         let sample_rate = self.sample_rate;
         let memo = self.freq_memo;
@@ -369,7 +393,7 @@ impl Wavetable {
         let step = common::increment(freq, sample_rate);
         let pair = choose(c.table, c.morph, step);
         Wavetable {
-            phase: Self::glide(pair, first, step, bank, samples, marks),
+            phase: Self::glide(pair, first, step, numbers, bank, samples, marks),
             prev_sync: c.sync,
             sample_rate,
             freq_memo,

@@ -25,9 +25,30 @@ returns-4 c =
 returns-5 : tie.Need-returns-5
 unfolding answerOf
 returns-5 c =
-    let third = c .before in
+    let fourth = c .before in
+    let third = fourth .before in
     let second = third .before in
-    simp (ne-eqb _ _ (c .if4 .left), ne-eqb _ _ (third .if3 .left), ne-eqb _ _ (second .if2 .left), ne-eqb _ _ (second .before .if1 .left))
+    simp (
+      eq-eqb _ _ (c .if5 .taken),
+      ne-eqb _ _ (fourth .if4 .left),
+      ne-eqb _ _ (third .if3 .left),
+      ne-eqb _ _ (second .if2 .left),
+      ne-eqb _ _ (second .before .if1 .left),
+    )
+
+returns-6 : tie.Need-returns-6
+unfolding answerOf
+returns-6 c =
+    let fourth = c .before in
+    let third = fourth .before in
+    let second = third .before in
+    simp (
+      ne-eqb _ _ (c .if5 .left),
+      ne-eqb _ _ (fourth .if4 .left),
+      ne-eqb _ _ (third .if3 .left),
+      ne-eqb _ _ (second .if2 .left),
+      ne-eqb _ _ (second .before .if1 .left),
+    )
 
 pub answer-of-spec : {M : Type 1} → statement M
-answer-of-spec = tie.close (tie.spec returns returns-2 returns-3 returns-4 returns-5)
+answer-of-spec = tie.close (tie.spec returns returns-2 returns-3 returns-4 returns-5 returns-6)

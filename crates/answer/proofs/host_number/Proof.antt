@@ -21,7 +21,11 @@ returns-4 c = simp (c .enum-told4 .given .1)
 
 returns-5 : tie.Need-returns-5
 unfolding hostNumber accepted markNumber refusalOf
-returns-5 c = simp (c .before .a .given .1)
+returns-5 c = simp (c .enum-told5 .given .1)
+
+returns-6 : tie.Need-returns-6
+unfolding hostNumber accepted markNumber refusalOf
+returns-6 c = simp (c .before .a .given .1)
 
 pub host-number-spec : {M : Type 1} → statement M
 host-number-spec =
@@ -32,8 +36,10 @@ host-number-spec =
     (λ c. search needs)
     (λ c. search needs)
     (λ c. search needs)
+    (λ c. search needs)
     returns
     returns-2
     returns-3
     returns-4
-    returns-5)
+    returns-5
+    returns-6)

@@ -23,6 +23,10 @@ returns-5 : tie.Need-returns-5
 unfolding markNumber
 returns-5 c = simp (c .enum-told5 .given .1)
 
+returns-6 : tie.Need-returns-6
+unfolding markNumber
+returns-6 c = simp (c .enum-told6 .given .1)
+
 pub mark-number-spec : {M : Type 1} → statement M
 mark-number-spec =
     tie.close
@@ -32,8 +36,10 @@ mark-number-spec =
     (λ c. search needs)
     (λ c. search needs)
     (λ c. search needs)
+    (λ c. search needs)
     returns
     returns-2
     returns-3
     returns-4
-    returns-5)
+    returns-5
+    returns-6)

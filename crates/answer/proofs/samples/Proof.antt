@@ -21,7 +21,11 @@ returns-4 c = simp (c .before .a4 .given .1)
 
 returns-5 : tie.Need-returns-5
 unfolding voltsOf
-returns-5 c = simp (c .volts1 .ensures, c .before .enum-told .given .1)
+returns-5 c = simp (c .before .a5 .given .1)
+
+returns-6 : tie.Need-returns-6
+unfolding voltsOf
+returns-6 c = simp (c .volts1 .ensures, c .before .enum-told .given .1)
 
 pub samples-spec : {M : Type 1} → statement M
 samples-spec =
@@ -32,9 +36,11 @@ samples-spec =
     (λ c. search needs)
     (λ c. search needs)
     (λ c. search needs)
+    (λ c. search needs)
     (λ c κs. search needs)
     returns
     returns-2
     returns-3
     returns-4
-    returns-5)
+    returns-5
+    returns-6)

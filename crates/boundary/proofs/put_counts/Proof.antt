@@ -10,6 +10,9 @@ use Rattle.boundary.proofs.put_counts.Tie as tie
 slice-write-counts-5 : tie.Need-slice-write-counts-5
 slice-write-counts-5 c = simp length-set (omega arith)
 
+slice-write-counts-6 : tie.Need-slice-write-counts-6
+slice-write-counts-6 c = simp length-set (omega arith)
+
 returns : tie.Need-returns
 unfolding countsOutcome countsPut countsOf
 returns c =
@@ -29,6 +32,7 @@ put-counts-spec =
     (λ c. search needs)
     (λ c. search needs)
     slice-write-counts-5
+    slice-write-counts-6
     (λ c. search needs)
     returns
     returns-2)

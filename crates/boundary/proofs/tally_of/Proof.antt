@@ -7,7 +7,7 @@ use Rattle.boundary.proofs.tally_of.Tie as tie
 returns : tie.Need-returns
 unfolding tallyFrom
 returns c =
-    let tested = c .before .before .before .before .before in
+    let tested = c .before .before .before .before .before .before in
     simp (eq-eqb _ _ (tested .if1 .taken))
 
 returns-2 : tie.Need-returns-2
@@ -18,6 +18,7 @@ pub tally-of-spec : {M : Type 1} → statement M
 tally-of-spec =
     tie.close
     (tie.spec
+    (λ c. search needs)
     (λ c. search needs)
     (λ c. search needs)
     (λ c. search needs)

@@ -13,16 +13,16 @@ use Rattle.formant_osc.proofs.voice.Statement.{statement}
 use Rattle.formant_osc.proofs.voice.Tie as tie
 
 abbrev Inv-loop : tie.InvT-loop
-Inv-loop c samples₀ marks₀ cells₀ i₀ samples marks cells i =
+Inv-loop c numbers samples₀ marks₀ cells₀ i₀ samples marks cells i =
     (i ≤ length marks₀)
     × (length samples ≡ length samples₀)
     × (length marks ≡ length marks₀)
-    × (samples ≡ over (λ k. voltsOf (voicedAt c cells₀ samples₀ marks₀ k) .p10) i samples₀)
-    × (marks ≡ over (λ k. hostNumber (voicedAt c cells₀ samples₀ marks₀ k)) i marks₀)
+    × (samples ≡ over (λ k. voltsOf (voicedAt numbers c cells₀ samples₀ marks₀ k) .p10) i samples₀)
+    × (marks ≡ over (λ k. hostNumber (voicedAt numbers c cells₀ samples₀ marks₀ k)) i marks₀)
     × (cells ≡ cellsAt c samples₀ cells₀ i)
 
 abbrev μ-loop : tie.MeasureT-loop
-μ-loop c samples₀ marks₀ cells₀ i₀ samples marks cells i = length marks₀ - i
+μ-loop c numbers samples₀ marks₀ cells₀ i₀ samples marks cells i = length marks₀ - i
 
 loop-holds : tie.Need-loop-holds Inv-loop μ-loop
 unfolding cellsAt
@@ -54,7 +54,7 @@ loop-again c =
     let i = rw (s .2) at (rung .before .before .loop-test .taken) in
     let fit : length (looped .loop .samples) ≡ length (looped .loop .marks) = omega (arith, s .1, s .2, z) in
     let h : looped .loop .i < length (looped .before .before .before .args .samples .now) = omega (arith, i, z) in
-    let t = voiced-turn _ _ _ _ _ _ _ _ _ _ _ _ _ h i (s .3) (s .4) (s .5) (rung .ring .ensures) (voiced .before .is-flagged .ensures)
+    let t = voiced-turn _ _ _ _ _ _ _ _ _ _ _ _ _ _ h i (s .3) (s .4) (s .5) (rung .ring .ensures) (voiced .before .is-flagged .ensures)
     (voiced .voiced .ensures) in (
       omega (arith, i),
       k .1 .1 .1 .0 ∙ s .1,

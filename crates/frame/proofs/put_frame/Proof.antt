@@ -35,6 +35,13 @@ returns-4 c =
 returns-5 : tie.Need-returns-5
 unfolding frameText
 returns-5 c =
+    let put-5 = c .before .before in
+    let told-5 = put-5 .before .before .before .before in
+    rw (told-5 .a5 .given .1) (put-5 .put-marked5 .ensures)
+
+returns-6 : tie.Need-returns-6
+unfolding frameText
+returns-6 c =
     let told = c .before .before .before .before .before in
     rw (told .enum-told .given .1) (c .before .before .put-text .ensures)
 
@@ -42,6 +49,9 @@ pub put-frame-spec : {M : Type 1} → statement M
 put-frame-spec =
     tie.close
     (tie.spec
+    (λ c. search needs)
+    (λ c. search needs)
+    (λ c κs. search needs)
     (λ c. search needs)
     (λ c. search needs)
     (λ c κs. search needs)
@@ -66,4 +76,6 @@ put-frame-spec =
     (λ c. search needs)
     returns-4
     (λ c. search needs)
-    returns-5)
+    returns-5
+    (λ c. search needs)
+    returns-6)

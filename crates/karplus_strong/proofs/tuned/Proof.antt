@@ -11,7 +11,7 @@ int-to-float-t8 c = held _ (rw (c .before .to-usize .ensures, c .before .before 
 
 returns : tie.Need-returns
 unfolding filterCoefOf apCoefOf
-returns c = tuning-by _ _ _ _ _ _ _ refl refl (c .before .before .target-delay .ensures) (c .before .to-usize .ensures)
+returns c = tuning-by _ _ _ _ _ _ _ _ refl refl (c .before .before .target-delay .ensures) (c .before .to-usize .ensures)
 
 pub tuned-spec : {M : Type 1} → statement M
 tuned-spec = tie.close (tie.spec (λ c κs. search needs) (λ c κs. search needs) int-to-float-t8 returns)

@@ -5,7 +5,7 @@ use Rattle.lfo.proofs.mark.Statement.{statement}
 use Rattle.lfo.proofs.mark.Tie as tie
 
 returns : tie.Need-returns
-returns c = c .marked .ensures ∙ mark-known _ _ _ (c .before .before .pre (c .before .if1 .taken))
+returns c = c .marked .ensures ∙ mark-known _ _ _ _ (c .before .before .pre (c .before .if1 .taken))
 
 returns-2 : tie.Need-returns-2
 returns-2 c = c .mark .ensures

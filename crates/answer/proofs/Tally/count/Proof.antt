@@ -17,11 +17,21 @@ add-t9 c = omega (arith, at-most-one _ _ _ (c .before .one-if3 .ensures))
 add-t11 : tie.Need-add-t11
 add-t11 c = omega (arith, at-most-one _ _ _ (c .before .one-if4 .ensures))
 
+add-t13 : tie.Need-add-t13
+add-t13 c = omega (arith, at-most-one _ _ _ (c .before .one-if5 .ensures))
+
 returns : tie.Need-returns
 unfolding counted
 returns c =
-    let flagged-2 = c .before .before .before .before .before in
-    simp (c .before .one-if4 .ensures, c .before .before .before .one-if3 .ensures, flagged-2 .one-if2 .ensures, flagged-2 .before .before .one-if .ensures)
+    let flagged-3 = c .before .before .before .before .before in
+    let flagged-1 = flagged-3 .before .before .before .before in
+    simp (
+      c .before .one-if5 .ensures,
+      c .before .before .before .one-if4 .ensures,
+      flagged-3 .one-if3 .ensures,
+      flagged-3 .before .before .one-if2 .ensures,
+      flagged-1 .one-if .ensures,
+    )
 
 pub count-spec : {M : Type 1} → statement M
 count-spec =
@@ -36,4 +46,6 @@ count-spec =
     add-t9
     (λ c κs. search needs)
     add-t11
+    (λ c κs. search needs)
+    add-t13
     returns)

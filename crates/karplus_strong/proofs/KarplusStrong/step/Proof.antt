@@ -10,7 +10,7 @@ turn-requires c κs = (c .before .before .before .pre .0, c .before .before .bef
 
 returns : tie.Need-returns
 returns c =
-    turn-by _ _ _ _ _ _ _ _ (c .before .before .before .before .tuned .ensures) (c .before .before .turn .ensures .0) (c .before .before .turn .ensures .1)
+    turn-by _ _ _ _ _ _ _ _ _ (c .before .before .before .before .tuned .ensures) (c .before .before .turn .ensures .0) (c .before .before .turn .ensures .1)
 
 pub step-spec : {M : Type 1} → statement M
 step-spec = tie.close (tie.spec (λ c κs. search needs) turn-requires (λ c. search needs) returns)

@@ -21,18 +21,18 @@ use Rattle.lfo.proofs.Lfo.glide.Statement.{statement}
 use Rattle.lfo.proofs.Lfo.glide.Tie as tie
 
 abbrev Inv-loop : tie.InvT-loop
-Inv-loop step depth wanted samples₀ marks₀ small phase₀ i₀ samples marks phase i =
+Inv-loop step depth numbers wanted samples₀ marks₀ small phase₀ i₀ samples marks phase i =
     (i ≤ length marks₀)
     × (length samples ≡ length samples₀)
     × (length marks ≡ length marks₀)
-    × (samples ≡ sets samples₀ 0 (joined (frameAt nPorts (heldTold wanted depth step) (heldNext step) phase₀) i))
-    × (marks ≡ over (markAt (heldTold wanted depth step) (heldNext step) phase₀) i marks₀)
+    × (samples ≡ sets samples₀ 0 (joined (frameAt nPorts (heldTold wanted depth numbers step) (heldNext step) phase₀) i))
+    × (marks ≡ over (markAt (heldTold wanted depth numbers step) (heldNext step) phase₀) i marks₀)
     × (phase ≡ afterTicks (heldNext step) i phase₀)
     × (phaseOk phase ≡ true)
     × (length marks₀ < 18446744073709551616)
 
 abbrev μ-loop : tie.MeasureT-loop
-μ-loop step depth wanted samples₀ marks₀ small phase₀ i₀ samples marks phase i = length marks₀ - i
+μ-loop step depth numbers wanted samples₀ marks₀ small phase₀ i₀ samples marks phase i = length marks₀ - i
 
 loop-holds : tie.Need-loop-holds Inv-loop μ-loop
 unfolding afterTicks
@@ -73,7 +73,7 @@ loop-again c =
     let began = looped .before .before .before .before in
     let s = looped .loop .inv in
     let t = turned .loop-test .taken in
-    let a = heard _ _ _ _ _ _ _ _ _ (marked .mark .ensures) (sounded .outputs .ensures) (marked .before .is-finite .ensures) (s .5) in
+    let a = heard _ _ _ _ _ _ _ _ _ _ (marked .mark .ensures) (sounded .outputs .ensures) (marked .before .is-finite .ensures) (s .5) in
     let p = put .put .ensures in
     let k = put .put .kept in (
       omega arith,

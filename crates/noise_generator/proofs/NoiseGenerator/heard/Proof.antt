@@ -22,7 +22,7 @@ returns c =
       mixes .mix2 .ensures,
       mixes .before .mix .ensures,
     )
-    (mark-known _ false true (mixes .before .before .pre (c .before .if1 .taken)))
+    (mark-known _ false true _ (mixes .before .before .pre (c .before .if1 .taken)))
 
 returns-2 : tie.Need-returns-2
 unfolding noiseGeneratorVoltsOf

@@ -18,7 +18,7 @@ returns c =
     let apart = clamped .before .before .before .before .before in
     let a = apart .before .args in
     c .before .turn .ensures .0 (a .self .correlation) (a .self .«last_white»)
-    ∙ ap (λ k. turnOf k (a .self) (a .wanted) (a .draws .now)) (clamped .clamped .ensures)
+    ∙ ap (λ k. turnOf k numbers (a .self) (a .wanted) (a .draws .now)) (clamped .clamped .ensures)
 
 pub sound-spec : {M : Type 1} → statement M
 sound-spec = tie.close (tie.spec (λ c κs. search needs) turn-requires returns)

@@ -16,13 +16,13 @@ use Rattle.supersaw.proofs.Supersaw.glide.Statement.{statement}
 use Rattle.supersaw.proofs.Supersaw.glide.Tie as tie
 
 abbrev Inv-loop : tie.InvT-loop
-Inv-loop base-freq dt mix samples₀ marks₀ t₀ i₀ samples marks t i =
+Inv-loop base-freq dt mix numbers samples₀ marks₀ t₀ i₀ samples marks t i =
     (i ≤ length marks₀) × (length samples ≡ nPorts * length marks₀) × (length marks ≡ length marks₀)
-    × (samples ≡ sets samples₀ 0 (joined (frameAt nPorts (heldTold dt mix) (heldNext dt mix) t₀) i))
-    × (marks ≡ over (markAt (heldTold dt mix) (heldNext dt mix) t₀) i marks₀) × (t ≡ afterTicks (heldNext dt mix) i t₀)
+    × (samples ≡ sets samples₀ 0 (joined (frameAt nPorts (heldTold dt mix numbers) (heldNext dt mix numbers) t₀) i))
+    × (marks ≡ over (markAt (heldTold dt mix numbers) (heldNext dt mix numbers) t₀) i marks₀) × (t ≡ afterTicks (heldNext dt mix numbers) i t₀)
 
 abbrev μ-loop : tie.MeasureT-loop
-μ-loop base-freq dt mix samples₀ marks₀ t₀ i₀ samples marks t i = length marks₀ - i
+μ-loop base-freq dt mix numbers samples₀ marks₀ t₀ i₀ samples marks t i = length marks₀ - i
 
 loop-holds : tie.Need-loop-holds Inv-loop μ-loop
 unfolding afterTicks
@@ -40,13 +40,13 @@ loop-again c =
     let s = begun .loop .inv in
     let p = put .put .ensures in
     let e = turned .turn .ensures in
-    let a = heard _ _ _ _ _ _ e (s .5) in (
+    let a = heard _ _ _ _ _ _ _ e (s .5) in (
       omega arith,
       put .put .kept .1 .1 .1 .0 ∙ s .1,
       put .put .kept .1 .1 .1 .1 .0 ∙ s .2,
       rw (p .0) (frames-more nPorts two-ports _ _ _ _ n _ _ _ _ (s .2) (omega arith) (s .1) (s .3) a),
       rw (p .1) (marks-more nPorts two-ports _ _ _ _ _ _ _ (omega arith) (s .4) a),
-      moved _ _ _ _ _ _ e (s .5),
+      moved _ _ _ _ _ _ _ e (s .5),
     )
 
 same-length : tie.Need-same-length Inv-loop μ-loop
@@ -61,7 +61,7 @@ returns c =
     let a = begun .args in
     let s = c .before .loop .inv in
     let n : c .before .loop .i ≡ length (a .marks .now) = le-antisymm (s .0) (omega arith) in (
-      s .5 ∙ ap (λ k. afterTicks (heldNext (a .dt) (a .mix)) k (a .first)) n,
+      s .5 ∙ ap (λ k. afterTicks (heldNext (a .dt) (a .mix) (a .numbers)) k (a .first)) n,
       (frames-done nPorts two-ports _ _ _ _ _ _ _ n (begun .pre .1) (s .3), marks-done nPorts two-ports _ _ _ _ _ _ _ n refl (s .4)),
     )
 

@@ -12,7 +12,7 @@ glide-requires c κs =
     let ready = c .before .before in
     let clamped = ready .before .before .before .before .before in
     let apart = clamped .before .before .before .before .before in let begun = apart .before .before in
-    (quiet-held (begun .args .self) (begun .args .c) _ _ _ _ (begun .pre .0) (clamped .clamp .ensures) (ready .increments .ensures), begun .pre .2)
+    (quiet-held (begun .args .self) (begun .args .c) _ _ _ _ _ (begun .pre .0) (clamped .clamp .ensures) (ready .increments .ensures), begun .pre .2)
 
 returns : tie.Need-returns
 returns c =

@@ -10,12 +10,12 @@ use Rattle.supersaw.proofs.Supersaw.sound.Statement.{statement}
 use Rattle.supersaw.proofs.Supersaw.sound.Tie as tie
 
 abbrev Inv-loop : tie.InvT-loop
-Inv-loop sub-phase sample-rate detune mix freq-memo base-freq supersaw₀ sum₀ total-mix₀ center-saw₀ finite₀ i₀ supersaw sum total-mix center-saw finite i =
+Inv-loop numbers sub-phase sample-rate detune mix freq-memo base-freq supersaw₀ sum₀ total-mix₀ center-saw₀ finite₀ i₀ supersaw sum total-mix center-saw finite i =
     (i ≤ 7) × (length (supersaw .phases) ≡ 7) × (supersaw .«sample_rate» ≡ supersaw₀ .«sample_rate»)
     × (localsOf supersaw sum total-mix center-saw finite ≡ voicesOf detune base-freq sample-rate (supersaw₀ .phases) i)
 
 abbrev μ-loop : tie.MeasureT-loop
-μ-loop sub-phase sample-rate detune mix freq-memo base-freq supersaw₀ sum₀ total-mix₀ center-saw₀ finite₀ i₀ supersaw sum total-mix center-saw finite i =
+μ-loop numbers sub-phase sample-rate detune mix freq-memo base-freq supersaw₀ sum₀ total-mix₀ center-saw₀ finite₀ i₀ supersaw sum total-mix center-saw finite i =
     7 - i
 
 loop-holds : tie.Need-loop-holds Inv-loop μ-loop
@@ -60,7 +60,7 @@ returns c =
       low .before .sub-increment .ensures,
       l .inv .2,
     )
-    (sound-done (a .self) (a .c) (l .supersaw) _ _ _ (l .sum) (l .total-mix) (l .center-saw) (l .finite) (l .i)
+    (sound-done (a .self) (a .c) (l .supersaw) _ _ _ _ (l .sum) (l .total-mix) (l .center-saw) (l .finite) (l .i)
     (clamped .clamp .ensures) (pitch .before .clamp2 .ensures) (pitch .voct-to-hz .ensures)
     (l .inv .0) (low .before .before .loop-test .left) (l .inv .3))
 

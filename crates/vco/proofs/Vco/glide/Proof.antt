@@ -21,17 +21,17 @@ use Rattle.vco.proofs.Vco.glide.Statement.{statement}
 use Rattle.vco.proofs.Vco.glide.Tie as tie
 
 abbrev Inv-loop : tie.InvT-loop
-Inv-loop dt pw wanted samples₀ marks₀ p-old₀ at₀ i₀ samples marks p-old at i =
+Inv-loop dt pw wanted numbers samples₀ marks₀ p-old₀ at₀ i₀ samples marks p-old at i =
     (i ≤ length marks₀)
     × (length samples ≡ length samples₀)
     × (length marks ≡ length marks₀)
-    × (samples ≡ sets samples₀ 0 (joined (frameAt nPorts (heldTold wanted pw dt) (heldNext dt) (held p-old₀ at₀)) i))
-    × (marks ≡ over (markAt (heldTold wanted pw dt) (heldNext dt) (held p-old₀ at₀)) i marks₀)
+    × (samples ≡ sets samples₀ 0 (joined (frameAt nPorts (heldTold wanted numbers pw dt) (heldNext dt) (held p-old₀ at₀)) i))
+    × (marks ≡ over (markAt (heldTold wanted numbers pw dt) (heldNext dt) (held p-old₀ at₀)) i marks₀)
     × (held p-old at ≡ afterTicks (heldNext dt) i (held p-old₀ at₀))
     × (phaseOk p-old ≡ true)
 
 abbrev μ-loop : tie.MeasureT-loop
-μ-loop dt pw wanted samples₀ marks₀ p-old₀ at₀ i₀ samples marks p-old at i = length marks₀ - i
+μ-loop dt pw wanted numbers samples₀ marks₀ p-old₀ at₀ i₀ samples marks p-old at i = length marks₀ - i
 
 loop-holds : tie.Need-loop-holds Inv-loop μ-loop
 unfolding afterTicks
@@ -51,12 +51,12 @@ loop-again c =
     let s = looped .loop .inv in
     let t = turned .loop-test .taken in
     let r = restarted .restart .ensures ∙ ap (restartOf _) (restarted .before .crosses .ensures) in
-    let a = heard-now _ _ _ _ _ _ _ _ _ refl r (s .5) in
+    let a = heard-now _ _ _ _ _ _ _ _ _ _ refl r (s .5) in
     let p = put .put-heard .ensures in
     let k = put .put-heard .kept in (
       omega arith,
-      k .1 .1 .1 .1 .1 .1 .1 .0 ∙ s .1,
-      k .1 .1 .1 .1 .1 .1 .1 .1 .0 ∙ s .2,
+      k .1 .1 .1 .1 .1 .1 .1 .1 .0 ∙ s .1,
+      k .1 .1 .1 .1 .1 .1 .1 .1 .1 .0 ∙ s .2,
       rw (p .0) (frames-more nPorts four-ports _ _ _ _ _ _ _ _ _ (s .2) (rw (s .2) at t) (s .1 ∙ looped .before .before .before .pre .2) (s .3) a),
       rw (p .1) (marks-more nPorts four-ports _ _ _ _ _ _ _ (rw (s .2) at t) (s .4) a),
       moved _ _ _ _ _ _ _ (c .wrap-phase .ensures) r (s .5),

@@ -11,7 +11,7 @@ returns c =
     let s = tested .before .before .before .before .before in
     let a = s .args in
     let quiet = tested .before .calm .ensures (tested .if1 .taken) in
-    let e = quiet-answer (a .at) (a .phase .0) (a .p-old .0) (a .pw) (a .dt .0) (a .wanted) (s .pre .0) quiet in
+    let e = quiet-answer (a .at) (a .phase .0) (a .p-old .0) (a .pw) (a .dt .0) (a .wanted) (a .numbers) (s .pre .0) quiet in
     let p = put .put .ensures in
     (simp (p .0, marked .marked .ensures, marked .before .plain .ensures, e), simp (p .1, marked .marked .ensures, marked .before .plain .ensures, e))
 

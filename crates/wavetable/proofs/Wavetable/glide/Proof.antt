@@ -15,16 +15,16 @@ use Rattle.wavetable.proofs.Wavetable.glide.Statement.{statement}
 use Rattle.wavetable.proofs.Wavetable.glide.Tie as tie
 
 abbrev Inv-loop : tie.InvT-loop
-Inv-loop pair step bank samples₀ marks₀ phase₀ i₀ samples marks phase i =
+Inv-loop pair step numbers bank samples₀ marks₀ phase₀ i₀ samples marks phase i =
     (i ≤ length marks₀)
     × (length samples ≡ length samples₀)
     × (length marks ≡ length marks₀)
-    × (samples ≡ sets samples₀ 0 (joined (frameAt nPorts (heldAnswer bank pair step) (heldNext step) phase₀) i))
-    × (marks ≡ over (markAt (heldAnswer bank pair step) (heldNext step) phase₀) i marks₀)
+    × (samples ≡ sets samples₀ 0 (joined (frameAt nPorts (heldAnswer bank pair numbers step) (heldNext step) phase₀) i))
+    × (marks ≡ over (markAt (heldAnswer bank pair numbers step) (heldNext step) phase₀) i marks₀)
     × (phase ≡ afterTicks (heldNext step) i phase₀)
 
 abbrev μ-loop : tie.MeasureT-loop
-μ-loop pair step bank samples₀ marks₀ phase₀ i₀ samples marks phase i = length marks₀ - i
+μ-loop pair step numbers bank samples₀ marks₀ phase₀ i₀ samples marks phase i = length marks₀ - i
 
 loop-holds : tie.Need-loop-holds Inv-loop μ-loop
 unfolding afterTicks
@@ -63,7 +63,7 @@ loop-again c =
     let s = looped .loop .inv in
     let t = turned .loop-test .taken in
     let finite = marked .before .is-finite .ensures in
-    let a = heard _ _ _ _ _ _ _ _ _ _ (marked .mark .ensures) (marked .before .before .volts1 .ensures) (mixed .mix .ensures) finite (s .5) in
+    let a = heard _ _ _ _ _ _ _ _ _ _ (marked .heard .ensures) (mixed .mix .ensures) finite (s .5) in
     let p = put .put .ensures in
     let k = put .put .kept in (
       omega arith,

@@ -19,9 +19,8 @@ returns c =
     let started = stepped .before .before .before in
     simp (
       c .wrap-phase .ensures,
-      marked .mark .ensures,
+      marked .heard .ensures,
       marked .before .is-finite .ensures,
-      marked .before .before .volts1 .ensures,
       mixed .mix .ensures,
       mixed .before .choose .ensures,
       stepped .increment .ensures,
