@@ -21,6 +21,7 @@ ghost use Rattle.common.specs.Memo.{recall3};
 ghost use Rattle.common.specs.Ports.{wants};
 ghost use Rattle.common.specs.Tests.{phaseOk};
 ghost use Rattle.answer.specs.Answer.{hostNumber, voltsOf};
+ghost use Rattle.answer.specs.Mark.{allNumbers};
 ghost use Rattle.answer.specs.Block.{afterTicks, framed, joined, block, markAt, frameAt};
 ghost use Rattle.vco.specs.Consts.{nPorts, pwLow, pwHigh};
 ghost use Rattle.vco.specs.Waves.{sineOf, sawOf, levelOf, pwEdgeOf, sqrOf, cornerHalfOf, triOf, steppedOf};

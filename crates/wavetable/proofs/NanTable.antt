@@ -1,7 +1,7 @@
 -- Marks over the controls; and a NaN on the table input plays the second table alone, as table 0 with morph 1 does, and is steered.
 use mathlib.Core.Bool.{Bool, true, false, cond, not, _&&_}
 use mathlib.Core.List.{List}
-use mathlib.Core.Path.{_≡_, refl, sym, ap, _∙_, subst}
+use mathlib.Core.Path.{_≡_, refl, sym, ap, _∙_}
 use Prim.Native.Nat.{ℕ}
 use native.Mathlib.Omega.{arith}
 use lib.Dec.{eqb}
@@ -9,12 +9,12 @@ use lib.Ieee.{Float, nan, binary64, lt, add, sub, mul, isNan, ofBits, ofInt, toU
 use lib.ListN.{length}
 use Rattle.answer.proofs.Laws.{mark-says, mark-steers, tick-steers, clean-steered}
 use Rattle.answer.specs.Answer.{volts1, markNumber, voltsOf, steered, clean}
-use Rattle.answer.specs.Mark.{allNumbers, markOf}
+use Rattle.answer.specs.Mark.{allNumbers}
 use Rattle.answer.specs.declared.Answer.the-variants as answer
 use Rattle.laws.proofs.Number.{add-nan-l, sub-nan-l, mul-nan-l}
 use Rattle.laws.specs.Float.{zer, one}
 use Rattle.numeric.proofs.RangeLaws.{clamp-nan}
-use Rattle.numeric.specs.Basic.{clampOf, minOf, realOf, wholeOf}
+use Rattle.numeric.specs.Basic.{clampOf, minOf, realOf}
 use Rattle.wavetable.specs.Consts.{lastTableReal}
 use Rattle.wavetable.specs.Promises.{secondTable, Plays, Nan-steers, Nan-table}
 use Rattle.wavetable.specs.Reads.{tablePosOf, tableIndexOf, blendOf, mixOf}
@@ -34,7 +34,7 @@ unfolding tablePosOf
 pos-nan = ap (λ (x : Float). mul binary64 x lastTableReal) (clamp-nan zer one) ∙ mul-nan-l lastTableReal
 
 index-nan : tableIndexOf nan ≡ 0
-unfolding tableIndexOf wholeOf toUnsigned
+unfolding tableIndexOf toUnsigned
 index-nan = refl
 
 blend-nan : (morph : Float) → blendOf nan 0 morph ≡ one
@@ -49,11 +49,11 @@ unfolding tablePosOf clampOf lt mul ofBits
 pos-zero = refl
 
 index-zero : tableIndexOf zer ≡ 0
-unfolding tableIndexOf wholeOf toUnsigned ofBits
+unfolding tableIndexOf toUnsigned ofBits
 index-zero = refl
 
 blend-one : blendOf zer 0 one ≡ one
-unfolding blendOf realOf clampOf minOf lt isNan add sub ofInt ofBits
+unfolding blendOf clampOf minOf lt isNan add sub ofInt ofBits
 blend-one = refl
 
 -- table and morph as a tick goes by them: the first of two tables, and how much of the second
@@ -65,11 +65,16 @@ same-choice morph = rw (pos-nan, index-nan, blend-nan, pos-zero, index-zero, ble
 
 -- ---- so the tick is the same but for its mark
 module _ (s : Wavetable) (c : WavetableControls) (bank : List Float) (h : c .table ≡ nan) where
+  same-mix : (inc phase : Float)
+      → mixOf bank (tableIndexOf (tablePosOf nan)) (blendOf (tablePosOf nan) (tableIndexOf (tablePosOf nan)) (c .morph)) inc phase
+      ≡ mixOf bank (tableIndexOf (tablePosOf zer)) (blendOf (tablePosOf zer) (tableIndexOf (tablePosOf zer)) one) inc phase
+  same-mix inc phase = ap (λ (x : ℕ × Float). mixOf bank (x .0) (x .1) inc phase) (same-choice (c .morph))
+
   sound-volts : voltsOf (wavetableSoundOf s c bank .answer) ≡ voltsOf (wavetableSoundOf s (secondTable c) bank .answer)
   unfolding wavetableSoundOf
   sound-volts =
       mark-says _ _ _ _ _ .volts
-      ∙ rw h (ap (λ (x : ℕ × Float). volts1 (mixOf bank (x .0) (x .1) _ _)) (same-choice (c .morph)))
+      ∙ rw h (ap volts1 (same-mix _ _))
       ∙ sym (mark-says _ _ _ _ _ .volts)
 
   sound-state : wavetableSoundOf s c bank .wavetable ≡ wavetableSoundOf s (secondTable c) bank .wavetable
@@ -86,22 +91,14 @@ module _ (s : Wavetable) (c : WavetableControls) (bank : List Float) (h : c .tab
 
   sound-mark : markNumber (wavetableSoundOf s (secondTable c) bank .answer) ≡ clean → markNumber (wavetableSoundOf s c bank .answer) ≡ steered
   unfolding wavetableSoundOf
-  sound-mark e =
-      rw given-nan
-      (rw h (subst (λ (x : ℕ × Float). markNumber (markOf (volts1 (mixOf bank (x .0) (x .1) _ _)) false true _ false) ≡ steered)
-      (sym (same-choice (c .morph))) (clean-steered _ _ _ _ _ e)))
+  sound-mark e = rw (given-nan, h, same-mix) (clean-steered _ _ _ _ _ e)
 
 -- a refused tick is refused alike
 pub nan-table : Nan-table
 unfolding wavetableTickOf
 nan-table s c bank h = go (eqb (wavetableTickRefusalOf s (length bank)) 0)
   where
-    refused : WavetableTicked
-    refused = record { answer = answer.Refused (wavetableTickRefusalOf s (length bank)); wavetable = s }
-
-    unclean : markNumber (refused .answer) ≡ clean → markNumber (refused .answer) ≡ steered
-    unclean e = absurd (unfold refused markNumber in omega arith)
-
-    go : (b : Bool) → Plays (cond b (wavetableSoundOf s c bank) refused) (cond b (wavetableSoundOf s (secondTable c) bank) refused)
+    go : (b : Bool) → let refused : WavetableTicked = record { answer = answer.Refused (wavetableTickRefusalOf s (length bank)); wavetable = s } in
+        Plays (cond b (wavetableSoundOf s c bank) refused) (cond b (wavetableSoundOf s (secondTable c) bank) refused)
     go true = record { volts = sound-volts s c bank h; state = sound-state s c bank h; mark = sound-mark s c bank h }
-    go false = record { volts = refl; state = refl; mark = unclean }
+    go false = record { volts = refl; state = refl; mark = λ e. absurd (unfold markNumber in omega arith) }

@@ -14,7 +14,7 @@ glide-requires c κs =
     let restarted = c .before .before .before .before in
     let recalled = restarted .before .before .before .before in
     let known = recalled .before .before .before .before .before in
-    let p = known .before .before .pre in
+    let p = known .before .before .before .pre in
     (rw (restarted .restart .ensures) (restart-in _ _ (accepts _ (p .0) .1)), p .2)
 
 returns : tie.Need-returns
@@ -23,7 +23,8 @@ returns c =
     let stepped = glided .before .before .before .before in
     let risen = stepped .before .before .before in
     let recalled = risen .before .before in
-    let known = recalled .before .before .before .before .before in let start = known .before .before in
+    let asked = recalled .before .before .before .before .before in
+    let start = asked .before .before .before in
     let a = start .args in
     let g = glided .glide .ensures in
     let w = holds (a .self) (a .c) (a .wanted) (start .pre .0) in
@@ -31,11 +32,12 @@ returns c =
     let step = stepped .increment .ensures in
     let at = stepped .before .restart .ensures in
     let edge = risen .rising .ensures in
-    let memo = recalled .recall .ensures in (
+    let memo = recalled .recall .ensures in
+    let numbers = asked .are-numbers .ensures in (
       simp (g .0, step, at, edge, memo) (sym (held-after _ _ _ _ _ _ _ _ w n (start .pre .1))),
       (
-        g .1 .0 ∙ simp (step, at, edge, memo) (sym (held-frames _ _ _ _ _ _ _ _ w nPorts n)),
-        g .1 .1 ∙ simp (step, at, edge, memo) (sym (held-marks _ _ _ _ _ _ _ _ w n)),
+        g .1 .0 ∙ simp (step, at, edge, memo, numbers) (sym (held-frames _ _ _ _ _ _ _ _ w nPorts n)),
+        g .1 .1 ∙ simp (step, at, edge, memo, numbers) (sym (held-marks _ _ _ _ _ _ _ _ w n)),
       ),
     )
 
@@ -43,6 +45,7 @@ pub run-spec : {M : Type 1} → statement M
 run-spec =
     tie.close
     (tie.spec
+    (λ c κs. search needs)
     (λ c κs. search needs)
     (λ c κs. search needs)
     (λ c κs. search needs)

@@ -11,8 +11,9 @@ mark-requires : tie.Need-mark-requires
 mark-requires c κs =
     let put-out = c .before .before .before .before .before in
     let restarted = put-out .before .before in
-    let known = restarted .before .before .before .before .before in let began = known .before .before .before .before .before in
-    sound-finite _ _ _ _ _ _ _ (began .pre) (restarted .restart .ensures) (put-out .outputs .ensures) (c .before .is-small .ensures)
+    let known = restarted .before .before .before .before .before in
+    let asked = known .before .before .before .before .before in
+    sound-finite _ _ _ _ _ _ _ (asked .before .pre) (restarted .restart .ensures) (put-out .outputs .ensures) (c .before .is-small .ensures)
 
 returns : tie.Need-returns
 unfolding lfoSoundOf
@@ -20,6 +21,7 @@ returns c =
     let marked = c .before in
     let stepped = marked .before .before .before .before .before in
     let edged = stepped .before .before .before .before .before in
+    let known = edged .before .before .before in
     simp (
       c .wrap-phase .ensures,
       marked .mark .ensures,
@@ -29,12 +31,14 @@ returns c =
       stepped .before .before .before .restart .ensures,
       edged .rising .ensures,
       edged .before .before .recall .ensures,
+      known .before .before .before .before .before .are-numbers .ensures,
     )
 
 pub sound-spec : {M : Type 1} → statement M
 sound-spec =
     tie.close
     (tie.spec
+    (λ c κs. search needs)
     (λ c κs. search needs)
     (λ c κs. search needs)
     (λ c κs. search needs)

@@ -8,7 +8,7 @@ use Rattle.vco.proofs.Vco.sound.Tie as tie
 heard-requires : tie.Need-heard-requires
 heard-requires c κs =
     let edged = c .before .before .before .before in let ready = edged .before .before .before .before .before in
-    let s = ready .before .before .before .before .before in
+    let s = ready .before .before .before .before .before .before in
     (simp (c .before .restart .ensures) (restart-in (s .args .self .phase) _ (s .pre)), simp (c .width .ensures) (clamp-width _))
 
 returns : tie.Need-returns
@@ -18,6 +18,7 @@ returns c =
     let restarted = answered .before .before in
     let crossed = restarted .before .before .before in
     let tuned = crossed .before .before .before in
+    let known = tuned .before .before in
     simp (
       c .wrap-phase .ensures,
       answered .heard .ensures,
@@ -27,12 +28,14 @@ returns c =
       crossed .rising-frac .ensures,
       crossed .before .increment .ensures,
       tuned .tuned .ensures,
+      known .before .before .before .before .before .are-numbers .ensures,
     )
 
 pub sound-spec : {M : Type 1} → statement M
 sound-spec =
     tie.close
     (tie.spec
+    (λ c κs. search needs)
     (λ c κs. search needs)
     (λ c κs. search needs)
     (λ c κs. search needs)

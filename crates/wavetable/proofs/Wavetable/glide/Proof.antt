@@ -40,7 +40,7 @@ add-i : tie.Need-add-i Inv-loop μ-loop
 add-i c =
     let put = c .before .before .before .before .before in
     let marked = put .before .before .before in
-    let checked = marked .before in let turned = checked .before .before .before .before .before in
+    let checked = marked .before in let turned = checked .before .before .before .before in
     let entered = turned .before .before .before .before .before in
     let s = turned .before .loop .inv in
     omega (arith, s .0, s .2, turned .loop-test .taken, entered .good)
@@ -49,14 +49,14 @@ loop-less : tie.Need-loop-less Inv-loop μ-loop
 loop-less c =
     let put = c .before .before .before .before .before in
     let marked = put .before .before .before in
-    let checked = marked .before in let turned = checked .before .before .before .before .before in
+    let checked = marked .before in let turned = checked .before .before .before .before in
     omega (arith, turned .before .loop .inv .2, turned .loop-test .taken)
 
 loop-again : tie.Need-loop-again Inv-loop μ-loop
 loop-again c =
     let put = c .before .before .before .before .before in
     let marked = put .before .before .before in
-    let mixed = marked .before .before .before in
+    let mixed = marked .before .before in
     let turned = mixed .before .before .before in
     let looped = turned .before in
     let began = looped .before .before .before .before in
@@ -98,7 +98,6 @@ glide-spec =
     μ-loop
     loop-holds
     mix-requires
-    (λ c κs. tt)
     (λ c κs. tt)
     (λ c κs. tt)
     (λ c κs. tt)

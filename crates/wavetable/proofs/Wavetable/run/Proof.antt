@@ -12,8 +12,8 @@ glide-requires : tie.Need-glide-requires
 glide-requires c κs =
     let chosen = c .before .before in
     let synced = chosen .before .before .before .before .before in
-    let lent = synced .before .before .before .before .before in
-    let began = lent .before .before .before in
+    let asked = synced .before .before .before .before .before in
+    let began = asked .before .before .before .before in
     (bank-sized _ _ (began .pre .0), pair-fits _ _ _ _ (chosen .choose .ensures), began .pre .2)
 
 returns : tie.Need-returns
@@ -22,9 +22,9 @@ returns c =
     let chosen = glided .before .before .before in
     let tuned = chosen .before .before .before in
     let synced = tuned .before .before in
-    let lent = synced .before .before .before .before .before in
-    let a = lent .before .before .before .args in
-    let p = lent .before .before .before .pre in
+    let asked = synced .before .before .before .before .before in
+    let a = asked .before .before .before .before .args in
+    let p = asked .before .before .before .before .pre in
     let g = glided .glide .ensures in
     let w = holds (a .self) (a .c) (a .bank .now) (p .0) in
     let n = length (a .marks .now) in (
@@ -38,6 +38,7 @@ returns c =
               tuned .voct-to-hz .ensures,
               tuned .before .restart .ensures,
               synced .synced .ensures,
+              asked .are-numbers .ensures,
             ) (sym (held-frames _ _ _ _ _ _ _ _ w nPorts n)),
         g .1 .1
             ∙ simp (
@@ -46,6 +47,7 @@ returns c =
               tuned .voct-to-hz .ensures,
               tuned .before .restart .ensures,
               synced .synced .ensures,
+              asked .are-numbers .ensures,
             ) (sym (held-marks _ _ _ _ _ _ _ _ w n)),
       ),
     )
@@ -54,6 +56,7 @@ pub run-spec : {M : Type 1} → statement M
 run-spec =
     tie.close
     (tie.spec
+    (λ c κs. search needs)
     (λ c κs. search needs)
     (λ c κs. search needs)
     (λ c κs. search needs)

@@ -8,15 +8,16 @@ use Rattle.wavetable.proofs.Wavetable.sound.Tie as tie
 mix-requires : tie.Need-mix-requires
 mix-requires c κs =
     let synced = c .before .before .before .before .before in let known = synced .before .before .before .before .before in
-    (known .before .pre, pair-fits _ _ _ _ (c .choose .ensures))
+    (known .before .before .pre, pair-fits _ _ _ _ (c .choose .ensures))
 
 returns : tie.Need-returns
 unfolding wavetableSoundOf
 returns c =
     let marked = c .before in
-    let mixed = marked .before .before .before .before .before in
+    let mixed = marked .before .before .before .before in
     let stepped = mixed .before .before in
     let started = stepped .before .before .before in
+    let known = started .before .before in
     simp (
       c .wrap-phase .ensures,
       marked .heard .ensures,
@@ -27,6 +28,7 @@ returns c =
       stepped .before .before .voct-to-hz .ensures,
       started .restart .ensures,
       started .before .synced .ensures,
+      known .before .before .before .before .are-numbers .ensures,
       mix-pair,
     )
 
@@ -39,8 +41,8 @@ sound-spec =
     (λ c κs. search needs)
     (λ c κs. search needs)
     (λ c κs. search needs)
-    mix-requires
     (λ c κs. search needs)
+    mix-requires
     (λ c κs. search needs)
     (λ c κs. search needs)
     (λ c κs. search needs)
