@@ -324,7 +324,6 @@ impl Supersaw {
     fn sound(self, c: SupersawControls) -> SupersawTicked
         ensures { λ r. ⌜ r ≡ supersawSoundOf self c ⌝ }
     {
-        let numbers = c.are_numbers();
         let sub_phase = self.sub_phase;
         let sample_rate = self.sample_rate;
         let memo = self.freq_memo;
@@ -359,6 +358,7 @@ impl Supersaw {
         supersaw.sub_phase = common::wrap_phase(sub_next);
         supersaw.freq_memo = freq_memo;
         let volts = answer::volts2(output, sub);
+        let numbers = c.are_numbers();
         SupersawTicked {
             answer: answer::mark(volts, false, true, still_finite(finite, sub_next), numbers),
             supersaw,

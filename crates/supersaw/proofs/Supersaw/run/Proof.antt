@@ -11,7 +11,8 @@ glide-requires : tie.Need-glide-requires
 glide-requires c κs =
     let ready = c .before .before in
     let clamped = ready .before .before .before .before .before in
-    let apart = clamped .before .before .before .before .before in let begun = apart .before .before in
+    let asked = clamped .before .before .before .before .before in
+    let begun = asked .before .before .before in
     (quiet-held (begun .args .self) (begun .args .c) _ _ _ _ _ (begun .pre .0) (clamped .clamp .ensures) (ready .increments .ensures), begun .pre .2)
 
 returns : tie.Need-returns
@@ -20,7 +21,8 @@ returns c =
     let ready = glided .before .before .before in
     let pitch = ready .before .before .before in
     let clamped = pitch .before .before in
-    let apart = clamped .before .before .before .before .before in let begun = apart .before .before in
+    let asked = clamped .before .before .before .before .before in
+    let begun = asked .before .before .before in
     let a = begun .args in
     let g = glided .glide .ensures in
     let n = length (a .marks .now) in
@@ -29,11 +31,12 @@ returns c =
     let at = ready .before .lanes .ensures .0 in
     let memo = pitch .voct-to-hz .ensures in
     let mix = pitch .before .clamp2 .ensures in
-    let detune = clamped .clamp .ensures in (
-      simp (c .voices .ensures, g .0, step, at, memo, mix, detune) (sym (held-after _ _ _ _ _ _ _ _ w n (begun .pre .1))),
+    let detune = clamped .clamp .ensures in
+    let numbers = asked .are-numbers .ensures in (
+      simp (c .voices .ensures, g .0, step, at, memo, mix, detune, numbers) (sym (held-after _ _ _ _ _ _ _ _ w n (begun .pre .1))),
       (
-        g .1 .0 ∙ simp (step, at, memo, mix, detune) (sym (held-frames _ _ _ _ _ _ _ _ w nPorts n)),
-        g .1 .1 ∙ simp (step, at, memo, mix, detune) (sym (held-marks _ _ _ _ _ _ _ _ w n)),
+        g .1 .0 ∙ simp (step, at, memo, mix, detune, numbers) (sym (held-frames _ _ _ _ _ _ _ _ w nPorts n)),
+        g .1 .1 ∙ simp (step, at, memo, mix, detune, numbers) (sym (held-marks _ _ _ _ _ _ _ _ w n)),
       ),
     )
 
@@ -41,6 +44,7 @@ pub run-spec : {M : Type 1} → statement M
 run-spec =
     tie.close
     (tie.spec
+    (λ c κs. search needs)
     (λ c κs. search needs)
     (λ c κs. search needs)
     (λ c κs. search needs)

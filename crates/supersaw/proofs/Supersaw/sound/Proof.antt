@@ -10,12 +10,12 @@ use Rattle.supersaw.proofs.Supersaw.sound.Statement.{statement}
 use Rattle.supersaw.proofs.Supersaw.sound.Tie as tie
 
 abbrev Inv-loop : tie.InvT-loop
-Inv-loop numbers sub-phase sample-rate detune mix freq-memo base-freq supersaw₀ sum₀ total-mix₀ center-saw₀ finite₀ i₀ supersaw sum total-mix center-saw finite i =
+Inv-loop c sub-phase sample-rate detune mix freq-memo base-freq supersaw₀ sum₀ total-mix₀ center-saw₀ finite₀ i₀ supersaw sum total-mix center-saw finite i =
     (i ≤ 7) × (length (supersaw .phases) ≡ 7) × (supersaw .«sample_rate» ≡ supersaw₀ .«sample_rate»)
     × (localsOf supersaw sum total-mix center-saw finite ≡ voicesOf detune base-freq sample-rate (supersaw₀ .phases) i)
 
 abbrev μ-loop : tie.MeasureT-loop
-μ-loop numbers sub-phase sample-rate detune mix freq-memo base-freq supersaw₀ sum₀ total-mix₀ center-saw₀ finite₀ i₀ supersaw sum total-mix center-saw finite i =
+μ-loop c sub-phase sample-rate detune mix freq-memo base-freq supersaw₀ sum₀ total-mix₀ center-saw₀ finite₀ i₀ supersaw sum total-mix center-saw finite i =
     7 - i
 
 loop-holds : tie.Need-loop-holds Inv-loop μ-loop
@@ -45,7 +45,8 @@ loop-again c =
 
 returns : tie.Need-returns Inv-loop μ-loop
 returns c =
-    let output = c .before .before in
+    let asked = c .before .before in
+    let output = asked .before in
     let low = output .before .before .before .before in
     let pitch = low .before .before .before .before .before in
     let clamped = pitch .before .before in
@@ -54,6 +55,7 @@ returns c =
     simp (
       c .mark .ensures,
       c .before .still-finite2 .ensures,
+      asked .are-numbers .ensures,
       output .volts2 .ensures,
       output .before .wrap-phase2 .ensures,
       low .saw2 .ensures,
@@ -61,7 +63,7 @@ returns c =
       l .inv .2,
     )
     (sound-done (a .self) (a .c) (l .supersaw) _ _ _ _ (l .sum) (l .total-mix) (l .center-saw) (l .finite) (l .i)
-    (clamped .clamp .ensures) (pitch .before .clamp2 .ensures) (pitch .voct-to-hz .ensures)
+    (clamped .clamp .ensures) (pitch .before .clamp2 .ensures) refl (pitch .voct-to-hz .ensures)
     (l .inv .0) (low .before .before .loop-test .left) (l .inv .3))
 
 pub sound-spec : {M : Type 1} → statement M
@@ -91,6 +93,7 @@ sound-spec =
     (λ c. omega arith)
     (λ c. omega arith)
     loop-again
+    (λ c κs. search needs)
     (λ c κs. search needs)
     (λ c κs. search needs)
     (λ c κs. search needs)
