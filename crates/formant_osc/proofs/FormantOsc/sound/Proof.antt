@@ -12,6 +12,7 @@ returns c =
     let pulsed = rung .before .before .before in
     let pitched = pulsed .before .before .before in
     let wrapped = pitched .before .before .before .before in
+    let known = wrapped .before .before .before .before .before in
     simp (
       c .wrap-phase2 .ensures,
       c .before .voiced .ensures,
@@ -28,12 +29,14 @@ returns c =
       pitched .before .before .clamp .ensures,
       wrapped .wrap-phase .ensures,
       wrapped .before .before .before .increment .ensures,
+      known .before .before .before .before .before .are-numbers .ensures,
     )
 
 pub sound-spec : {M : Type 1} → statement M
 sound-spec =
     tie.close
     (tie.spec
+    (λ c κs. search needs)
     (λ c κs. search needs)
     (λ c κs. search needs)
     (λ c κs. search needs)
