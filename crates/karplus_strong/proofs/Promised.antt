@@ -19,7 +19,7 @@ use Rattle.common.specs.Tests.{rateOk, drawsOk}
 use Rattle.karplus_strong.proofs.Alike.{length-blank, Keeps, strike-keeps, stepped}
 use Rattle.karplus_strong.proofs.Parts.{made-says, max-len-range, Sound, struck-range, sound-line, turn-is}
 use Rattle.karplus_strong.proofs.Reached.{Good, after-good, reached-good}
-use Rattle.karplus_strong.proofs.Ticks.{step-heard, heard-none, heard-accepted, struckStep, struck-heard, unless-number}
+use Rattle.karplus_strong.proofs.Ticks.{numbersOf, step-heard, heard-none, heard-accepted, struckStep, struck-heard, unless-number}
 use Rattle.karplus_strong.proofs.Ticks.{twice-heard, twice-left, tick-is, good-refusal, good-room, good-none, good-first, good-tick}
 use Rattle.karplus_strong.proofs.Held.{tuneOf, holds, first-none}
 use Rattle.karplus_strong.specs.Shortcuts.{heldAnswer}
@@ -38,12 +38,12 @@ use Rattle.karplus_strong.specs.declared.KarplusStrongControls.{KarplusS
 
 pub finite-or-cleared : Finite-or-cleared
 finite-or-cleared s c draws l e = rw (tick-is s c draws l)
-    (twice-heard _ (karplusStrongRefusalOf s (length l)) (triggerRefusalOf s c draws) s l (struckStep s c draws l) (struck-heard s c draws l)
+    (twice-heard (numbersOf c) (karplusStrongRefusalOf s (length l)) (triggerRefusalOf s c draws) s l (struckStep s c draws l) (struck-heard s c draws l)
     (rw (tick-is s c draws l) at e))
 
 pub refused-leaves : Refused-leaves
 refused-leaves s c draws l e = rw (tick-is s c draws l)
-    (twice-left _ (karplusStrongRefusalOf s (length l)) (triggerRefusalOf s c draws) s l (struckStep s c draws l) (struck-heard s c draws l)
+    (twice-left (numbersOf c) (karplusStrongRefusalOf s (length l)) (triggerRefusalOf s c draws) s l (struckStep s c draws l) (struck-heard s c draws l)
     (rw (tick-is s c draws l) at e))
 
 -- ---- a reached string is ready
@@ -51,7 +51,8 @@ good-number : (s : KarplusStrong) (c : KarplusStrongControls) (draws : List ℕ)
     → refusalOf (karplusStrongTickOf s c draws l .out .answer) ≡ triggerRefusalOf s c draws
 good-number s c draws l g =
     ap (λ (t : Ticking). refusalOf (t .out .answer)) (good-tick s c draws l g)
-    ∙ unless-number (triggerRefusalOf s c draws) s l (struckStep s c draws l) (heard-none _ (struckStep s c draws l .out .answer) (struck-heard s c draws l))
+    ∙ unless-number (triggerRefusalOf s c draws) s l (struckStep s c draws l)
+    (heard-none (numbersOf c) (struckStep s c draws l .out .answer) (struck-heard s c draws l))
 
 good-block : (x : Strung) (c : KarplusStrongControls) (draws : List ℕ) (t : Tally) (o : List Float) (m : List ℕ) → Good (x .string) (length (x .line))
     → karplusStrongBlockOf x c draws t o m .refused
@@ -115,7 +116,7 @@ good-accepted : (s : KarplusStrong) (c : KarplusStrongControls) (draws : List �
 unfolding tickUnless
 good-accepted s c draws l g e = ap (λ (t : Ticking). accepted (t .out .answer))
     (good-tick s c draws l g ∙ ap (λ (k : ℕ). tickUnless k s l (struckStep s c draws l)) e)
-    ∙ heard-accepted _ (struckStep s c draws l .out .answer) (struck-heard s c draws l)
+    ∙ heard-accepted (numbersOf c) (struckStep s c draws l .out .answer) (struck-heard s c draws l)
 
 -- the step leaves the rate, and the edge record of the tick's trigger
 struck-step-keeps : (s : KarplusStrong) (c : KarplusStrongControls) (draws : List ℕ) (l : List Float)
@@ -187,7 +188,7 @@ edge-comes x h low high none draws f el eh n ok = (
 -- ---- and no tick of a block is refused whose first isn't
 turn-accepted : (s : KarplusStrong) (c : KarplusStrongControls) (x : Strung) → accepted (heldAnswer (tuneOf s c) x) ≡ true
 unfolding heldAnswer
-turn-accepted s c x = ap (λ (t : Ticking). accepted (t .out .answer)) (turn-is _ _ _ _ _ _) ∙ heard-accepted _ _ (step-heard _ _ _ _ _ _)
+turn-accepted s c x = ap (λ (t : Ticking). accepted (t .out .answer)) (turn-is _ _ _ _ _ _) ∙ heard-accepted (numbersOf c) _ (step-heard _ _ _ _ _ _)
 
 pub block-accepts : Block-accepts
 block-accepts x c draws n z h =

@@ -63,6 +63,9 @@ pub heard-none : (numbers : Bool) (a : Answer) → Heard numbers a → refusalOf
 heard-none numbers a h = accepted-unrefused a (heard-accepted numbers a h)
 
 -- ---- what a tick answers: the step's, unless it is refused
+abbrev pub numbersOf : KarplusStrongControls → Bool
+numbersOf c = allNumbers (controlsOf c)
+
 unfoldable pub struckStep : KarplusStrong → KarplusStrongControls → List ℕ → List Float → Ticking
 struckStep s c draws l =
     let struck = strikeIf (taken s c) (heardString s (risingOf (s .«trigger_edge») (c .trigger) .edge) (memoAt s c)) (periodAt s c) (brightnessOf c) draws l in

@@ -15,7 +15,7 @@ within-requires-2 c κs = (minus-one-fin, one-fin)
 period-of-requires : tie.Need-period-of-requires
 period-of-requires c κs =
     let bounded = c .before .before .before .before in let known = bounded .before .before .before .before .before in
-    let entered = known .before .before .before .before in
+    let entered = known .before .before .before .before .before in
     accepted _ _ (entered .pre .0) .0 .rate
 
 strike-if-requires : tie.Need-strike-if-requires
@@ -23,7 +23,7 @@ strike-if-requires c κs =
     let edged = c .before .before in
     let tuned = edged .before .before .before in
     let bounded = tuned .before .before .before in let known = bounded .before .before .before .before .before in
-    let entered = known .before .before .before .before in
+    let entered = known .before .before .before .before .before in
     let good = accepted _ _ (entered .pre .0) in
     let number = memo-number _ _ _ _ (good .0 .value) (tuned .before .finite-or .ensures) (tuned .voct-to-hz .ensures) in
     let period = edged .before .period-of .ensures in
@@ -36,7 +36,7 @@ tuned-requires c κs =
     let edged = c .before .before .before .before .before in
     let tuned = edged .before .before .before in
     let bounded = tuned .before .before .before in let known = bounded .before .before .before .before .before in
-    let entered = known .before .before .before .before in
+    let entered = known .before .before .before .before .before in
     let good = accepted _ _ (entered .pre .0) .0 in
     let number = memo-number _ _ _ _ (good .value) (tuned .before .finite-or .ensures) (tuned .voct-to-hz .ensures) in
     rw (bounded .within .ensures, tuned .before .before .within2 .ensures, edged .before .period-of .ensures) (delay-range _ _ _ _ (good .rate) number)
@@ -48,7 +48,7 @@ ring-requires c κs =
     let struck-if = at-tuned .before .before .before in let edged = struck-if .before .before .before in
     let tuned = edged .before .before .before in
     let bounded = tuned .before .before .before in let known = bounded .before .before .before .before .before in
-    let entered = known .before .before .before .before in
+    let entered = known .before .before .before .before .before in
     let good = accepted _ _ (entered .pre .0) in
     let number = memo-number _ _ _ _ (good .0 .value) (tuned .before .finite-or .ensures) (tuned .voct-to-hz .ensures) in
     let r = sound-ready _ _ _ _ _ _ _ _ _ _ _ _ _ _ _ (good .0) (good .1) number (edged .before .period-of .ensures) (struck-if .strike-if .ensures .0)
@@ -62,14 +62,14 @@ returns c =
     let struck-if = at-tuned .before .before .before in let edged = struck-if .before .before .before in
     let tuned = edged .before .before .before in
     let bounded = tuned .before .before .before in let known = bounded .before .before .before .before .before in
-    let entered = known .before .before .before .before in
+    let entered = known .before .before .before .before .before in
     run-by _ _ _ _ _ _ _ _ (tuned .before .finite-or .ensures) (tuned .voct-to-hz .ensures) (edged .before .period-of .ensures) (edged .rising .ensures)
-    (entered .pre .0) (entered .pre .1) _ _ _ _ _ _
-    (bounded .within .ensures) (tuned .before .before .within2 .ensures) refl (struck-if .strike-if .ensures) (at-tuned .tuned .ensures) _ (entered .pre .2)
+    (entered .pre .0) (entered .pre .1) _ _ _ _ _ _ _
+    (bounded .within .ensures) (tuned .before .before .within2 .ensures) (known .are-numbers .ensures) refl (struck-if .strike-if .ensures) (at-tuned .tuned .ensures) _ (entered .pre .2)
     _ _ _ (rung .ring .ensures)
 
 pub run-spec : {M : Type 1} → statement M
 run-spec =
     tie.close
-    (tie.spec within-requires within-requires-2 (λ c κs. search needs) (λ c κs. search needs) period-of-requires (λ c κs. search needs)
+    (tie.spec (λ c κs. search needs) within-requires within-requires-2 (λ c κs. search needs) (λ c κs. search needs) period-of-requires (λ c κs. search needs)
     strike-if-requires tuned-requires ring-requires (λ c. search needs) (λ c. search needs) (λ c. search needs) returns)

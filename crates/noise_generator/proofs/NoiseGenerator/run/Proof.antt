@@ -14,13 +14,13 @@ use Rattle.noise_generator.specs.Shortcuts.{whole, neededAt}
 use Rattle.noise_generator.specs.NoiseGenerator.{neededOf, changedBy, neededBy, correlationOf}
 use Rattle.noise_generator.specs.NoiseGenerator.{drawing, noiseGeneratorToldOf, noiseGeneratorNextOf}
 use Rattle.noise_generator.proofs.CalmLaws.{ahead-taken, ahead-finite}
-use Rattle.noise_generator.proofs.TickLaws.{drawingAt, heard, moved, advanced, reaches}
+use Rattle.noise_generator.proofs.TickLaws.{numbersOf, drawingAt, heard, moved, advanced, reaches}
 use Rattle.noise_generator.proofs.TurnLaws.{turn-there}
 use Rattle.noise_generator.proofs.NoiseGenerator.run.Statement.{statement}
 use Rattle.noise_generator.proofs.NoiseGenerator.run.Tie as tie
 
 abbrev Inv-loop : tie.InvT-loop
-Inv-loop self c wanted draws samples₀ marks₀ rows₀ rows2₀ rest₀ last-white₀ calm at₀ i₀ samples marks rows rows2 rest last-white at i =
+Inv-loop self c wanted draws samples₀ marks₀ rows₀ rows2₀ rest₀ last-white₀ calm numbers at₀ i₀ samples marks rows rows2 rest last-white at i =
     (i ≤ length marks₀)
     × (length samples ≡ nPorts * length marks₀)
     × (length marks ≡ length marks₀)
@@ -31,19 +31,19 @@ Inv-loop self c wanted draws samples₀ marks₀ rows₀ rows2₀ rest₀ last-w
     × (at ≤ length draws)
 
 abbrev μ-loop : tie.MeasureT-loop
-μ-loop self c wanted draws samples₀ marks₀ rows₀ rows2₀ rest₀ last-white₀ calm at₀ i₀ samples marks rows rows2 rest last-white at i = length marks₀ - i
+μ-loop self c wanted draws samples₀ marks₀ rows₀ rows2₀ rest₀ last-white₀ calm numbers at₀ i₀ samples marks rows rows2 rest last-white at i = length marks₀ - i
 
 loop-holds : tie.Need-loop-holds Inv-loop μ-loop
 unfolding afterTicks neededBy changedBy
 loop-holds c =
     let apart = c .before .before .before .before .before in
-    (omega arith, apart .before .before .before .pre .1, refl, joined-none _ _, over-none _ _, refl, refl, omega arith)
+    (omega arith, apart .before .before .before .before .pre .1, refl, joined-none _ _, over-none _ _, refl, refl, omega arith)
 
 turn-requires : tie.Need-turn-requires Inv-loop μ-loop
 unfolding neededAt neededOf
 turn-requires c κs =
     let clamped = c .before .before .before in
-    let calmed = clamped .before .before .before in
+    let calmed = clamped .before .before .before .before in
     let begun = calmed .before .before .before .before .before .before .before .before in
     let a = begun .args in
     let good = begun .good .0 .1 .1 in
@@ -60,7 +60,7 @@ unfolding neededAt neededOf
 add-at c =
     let given-back = c .before .before .before .before in let turned = given-back .before .before .before .before .before in
     let tested = turned .before .before .before .before .before in
-    let apart = tested .before .before .before .before .before in let begun = apart .before .before .before .before .before in
+    let apart = tested .before .before .before .before .before in let begun = apart .before .before .before .before .before .before in
     let t = tested .loop-test .taken in
     let l = tested .before .loop in
     let a = begun .args in
@@ -77,7 +77,7 @@ add-i c =
     let apart = tested .before .before .before .before .before in
     let t = tested .loop-test .taken in
     let s = tested .before .loop .inv in
-    let g = apart .before .before .before .before .before .good in
+    let g = apart .before .before .before .before .before .before .good in
     omega (arith, t, s, g)
 
 loop-again : tie.Need-loop-again Inv-loop μ-loop
@@ -87,7 +87,7 @@ loop-again c =
     let turned = put .before .before .before in
     let asked = turned .before .before .before .before in
     let tested = asked .before in
-    let apart = tested .before .before .before .before .before in let begun = apart .before .before .before .before .before in
+    let apart = tested .before .before .before .before .before in let begun = apart .before .before .before .before .before .before in
     let s = tested .before .loop in
     let a = begun .args in
     let h = begun .pre .0 in
@@ -96,8 +96,8 @@ loop-again c =
     let r = turned .turn .ensures in
     let x = whole (s .rows) (s .rows2) (s .rest) (a .self .correlation) (s .last-white) in
     let e =
-    turn-there _ (correlationOf (a .self) (a .c)) x (a .wanted) (s .at) (a .draws .now) _ (asked .clamped .ensures)
-    (r .0 (a .self .correlation) (s .last-white)) in
+    turn-there _ (correlationOf (a .self) (a .c)) _ (numbersOf (a .c)) x (a .wanted) (s .at) (a .draws .now) _ (asked .clamped .ensures)
+    (tested .before .before .are-numbers .ensures) (r .0 (a .self .correlation) (s .last-white)) in
     let told = heard (a .self) (a .c) (a .wanted) (a .draws .now) _ h (s .i) (omega arith) x (s .at) _ (s .inv .5) (s .inv .6) e in
     let place = advanced (a .self) (a .c) (a .wanted) (a .draws .now) _ h (s .i) (omega arith) x (s .at) _ (s .inv .5) (s .inv .6) e in
     let reach = reaches (a .self) (a .c) (a .wanted) (a .draws .now) _ h (s .i) (omega arith) x (s .at) _ (s .inv .5) (s .inv .6) e in (
@@ -114,14 +114,14 @@ loop-again c =
 same-length : tie.Need-same-length Inv-loop μ-loop
 same-length c =
     let calmed = c .before .before in let apart = calmed .before .before .before .before .before in
-    c .before .loop .inv .1 ∙ sym (apart .before .before .before .pre .1)
+    c .before .loop .inv .1 ∙ sym (apart .before .before .before .before .pre .1)
 
 same-length-2 : tie.Need-same-length-2 Inv-loop μ-loop
 same-length-2 c = c .before .loop .inv .2
 
 returns : tie.Need-returns Inv-loop μ-loop
 returns c =
-    let apart = c .before .before .before .before .before in let begun = apart .before .before .before .before .before in
+    let apart = c .before .before .before .before .before in let begun = apart .before .before .before .before .before .before in
     let s = c .before .loop in
     let a = begun .args in
     let n = le-antisymm (s .inv .0) (omega arith) in (
@@ -135,6 +135,7 @@ run-spec =
     (tie.spec
     Inv-loop
     μ-loop
+    (λ c κs. search needs)
     (λ c κs. search needs)
     loop-holds
     (λ c κs. search needs)

@@ -1,5 +1,5 @@
 use mathlib.Core.Bool.{false≢true}
-use mathlib.Core.Path.{ap, _∙_}
+use mathlib.Core.Path.{ap₂, _∙_}
 use Rattle.noise_generator.specs.Shortcuts.{neededAt}
 use Rattle.noise_generator.specs.NoiseGenerator.{neededOf, turnOf}
 use borrow.Author.Needs.{needs}
@@ -10,15 +10,16 @@ turn-requires : tie.Need-turn-requires
 unfolding neededAt neededOf
 turn-requires c κs =
     let apart = c .before .before .before .before .before in
-    (apart .before .before .before .pre, λ e. absurd (false≢true e))
+    (apart .before .before .before .before .pre, λ e. absurd (false≢true e))
 
 returns : tie.Need-returns
 returns c =
-    let clamped = c .before .before .before .before in
+    let asked = c .before .before .before .before in
+    let clamped = asked .before in
     let apart = clamped .before .before .before .before .before in
     let a = apart .before .args in
     c .before .turn .ensures .0 (a .self .correlation) (a .self .«last_white»)
-    ∙ ap (λ k. turnOf k numbers (a .self) (a .wanted) (a .draws .now)) (clamped .clamped .ensures)
+    ∙ ap₂ (λ k n. turnOf k n (a .self) (a .wanted) (a .draws .now)) (clamped .clamped .ensures) (asked .are-numbers .ensures)
 
 pub sound-spec : {M : Type 1} → statement M
-sound-spec = tie.close (tie.spec (λ c κs. search needs) turn-requires returns)
+sound-spec = tie.close (tie.spec (λ c κs. search needs) (λ c κs. search needs) turn-requires returns)

@@ -79,15 +79,15 @@ heard-requires c κs calm =
     (white .before .before .bipolar .ensures) (white .bipolar2 .ensures) (c .before .before .sample .ensures) (c .sample2 .ensures))
     ∙ begun .pre .1 calm
 
-add-t21 : tie.Need-add-t21
-add-t21 c =
+add-t22 : tie.Need-add-t22
+add-t22 c =
     let drawn = c .before .before .before .before .before in let called = drawn .before .before .before .before .before in
     let m = changed-most (called .before .before .next-index .result) in
     let e = called .changed .ensures in
     omega arith
 
-add-t26 : tie.Need-add-t26
-add-t26 c =
+add-t27 : tie.Need-add-t27
+add-t27 c =
     let drawn = c .before .before .before .before .before in let called = drawn .before .before .before .before in
     let m = changed-most (called .before .before .before .next-index .result) in
     let k = changed-most (called .before .before .next-index2 .result) in
@@ -105,7 +105,7 @@ returns c =
     let n = called .before .changed .ensures in
     let k = called .changed2 .ensures in (
       turned (a .rest) _ _ _ _ i j n k (a .correlation) (a .wanted) (a .draws .now) (a .rows .now) (a .rows2 .now) _ _ _ _ _ _
-          (white .before .before .bipolar .ensures) (white .bipolar2 .ensures) (c .before .before .before .sample .ensures) (c .before .sample2 .ensures) _
+          (white .before .before .bipolar .ensures) (white .bipolar2 .ensures) (c .before .before .before .sample .ensures) (c .before .sample2 .ensures) _ _
           (c .heard .ensures),
       all-taken (a .rest) _ _ _ _ i j n k,
     )
@@ -126,6 +126,6 @@ turn-spec =
     add-sample
     sample-requires-2
     heard-requires
-    add-t21
-    add-t26
+    add-t22
+    add-t27
     returns)
