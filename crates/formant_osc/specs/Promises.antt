@@ -143,7 +143,7 @@ Dead-spoiled = (s : FormantOsc) → Dead s → Spoiled s
 
 -- ---- no tick is clean with a control that is NaN, and none is steered without one
 abbrev pub Nan-steers : Type 0
-Nan-steers = (s : FormantOsc) (c : FormantOscControls) 
+Nan-steers = (s : FormantOsc) (c : FormantOscControls)
     → Steers (c .«v_oct» .0 ∷ c .vowel ∷ c .«formant_shift» ∷ c .vibrato ∷ []) (formantOscTickOf s c .answer)
 
 -- ---- in a reached one a control that is NaN, whichever it is, is told by notfinite or lost: its tick is neither clean nor steered

@@ -442,7 +442,13 @@ impl Supersaw {
     {
         let s = saws(t, dt);
         let next = sums(t, dt);
-        answered(Self::blend(s, mix), s[7], all_finite(next), numbers, wraps(next))
+        answered(
+            Self::blend(s, mix),
+            s[7],
+            all_finite(next),
+            numbers,
+            wraps(next),
+        )
     }
 
     // The same tick, by the shorter way where it is quiet.

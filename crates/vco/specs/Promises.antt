@@ -84,7 +84,7 @@ Edge-comes = (s : Vco) → ReachedVco s → (c d : VcoControls) (wanted : ℕ) �
 
 -- ---- no tick is clean with a control that is NaN, and none is steered without one
 abbrev pub Nan-steers : Type 0
-Nan-steers = (s : Vco) (c : VcoControls) (wanted : ℕ) 
+Nan-steers = (s : Vco) (c : VcoControls) (wanted : ℕ)
     → Steers (c .voct .0 ∷ c .fm .0 ∷ c .pw ∷ c .sync ∷ c .«fm_lin» ∷ []) (vcoTickOf s c wanted .answer)
 
 -- ---- no tick of a block is refused whose first isn't, and a tally with room takes each of their answers

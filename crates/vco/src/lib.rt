@@ -306,7 +306,13 @@ impl Vco {
             common::out(wanted & Self::WANT_SAW != 0, saw),
             common::out(wanted & Self::WANT_SQR != 0, sqr),
         );
-        answer::mark(volts, false, true, numeric::is_finite(phase.0 + dt.0), numbers)
+        answer::mark(
+            volts,
+            false,
+            true,
+            numeric::is_finite(phase.0 + dt.0),
+            numbers,
+        )
     }
 
     // The samples with their mark. A quiet tick is clean, or steered.
@@ -324,7 +330,13 @@ impl Vco {
     {
         let sin = Self::sin(wanted, phase);
         if calm(at, phase, pw, dt) {
-            answer::marked(Self::plain(sin, phase, pw, wanted), false, true, true, numbers)
+            answer::marked(
+                Self::plain(sin, phase, pw, wanted),
+                false,
+                true,
+                true,
+                numbers,
+            )
         } else {
             Self::smoothed(sin, at, phase, p_old, pw, dt, wanted, numbers)
         }

@@ -74,7 +74,7 @@ Edge-comes = (s : Wavetable) → ReachedWavetable s → (c d : WavetableControls
 
 -- ---- no tick is clean with a control that is NaN, and none is steered without one
 abbrev pub Nan-steers : Type 0
-Nan-steers = (s : Wavetable) (c : WavetableControls) (bank : List Float) 
+Nan-steers = (s : Wavetable) (c : WavetableControls) (bank : List Float)
     → Steers (c .«v_oct» .0 ∷ c .table ∷ c .morph ∷ c .sync ∷ []) (wavetableTickOf s c bank .answer)
 
 -- ---- a NaN on the table input plays the second table alone, as table 0 with morph 1 does: the same volts, and the same state after it. Where that
