@@ -1,4 +1,4 @@
-/* Renders a vowel of 480 samples twice, once with a broken control value, and shows what is finished; plucks a string; renders noise;
+/* Renders a vowel of 480 samples twice, once with a broken control value, and shows what is finished; plucks strings; renders noise;
  * then reads a score:
  *
  *     tools/library ../target/gruttisol
@@ -29,12 +29,26 @@ static int render(double vowel)
     int first = 0; /* samples before the first that isn't clean */
     while (first < SAMPLES && marks[first] == GRUTTISOL_CLEAN)
         first++;
-    return printf("begun=%u finished=%u cleared=%u notfinite=%u lost=%u claimed=%s, clean up to sample %d\n", counts[0], counts[1],
-                  counts[2], counts[3], counts[4], counts[0] == SAMPLES && counts[1] == SAMPLES ? "yes" : "no", first);
+    return printf("begun=%u finished=%u cleared=%u notfinite=%u lost=%u steered=%u claimed=%s, clean up to sample %d\n",
+                  counts[0], counts[1], counts[2], counts[3], counts[4], counts[5],
+                  counts[0] == SAMPLES && counts[1] == SAMPLES ? "yes" : "no", first);
+}
+
+/* What a tick answered. Of all numbers clean alone is finished. */
+static const char *word(uint32_t answer)
+{
+    switch (answer) {
+    case GRUTTISOL_CLEARED: return "cleared";
+    case GRUTTISOL_NOTFINITE: return "notfinite";
+    case GRUTTISOL_LOST: return "lost";
+    case GRUTTISOL_CLEAN: return "clean";
+    case GRUTTISOL_STEERED: return "steered";
+    default: return "refused";
+    }
 }
 
 /* Line and draws are the caller's; these are long enough at every rate and pitch. */
-static void pluck(double sample_rate)
+static void pluck(double sample_rate, double brightness)
 {
     static double line[GRUTTISOL_KARPLUS_STRONG_LINE];
     static uint64_t draws[GRUTTISOL_KARPLUS_STRONG_DRAWS];
@@ -45,13 +59,13 @@ static void pluck(double sample_rate)
                                                    wholes, GRUTTISOL_KARPLUS_STRONG_WHOLES,
                                                    line, GRUTTISOL_KARPLUS_STRONG_LINE);
     if (answer == 0)
-        answer = gruttisol_karplus_strong_tick(-32.0, 5.0, 0.5, 0.5, 0.0, floats, GRUTTISOL_KARPLUS_STRONG_FLOATS,
+        answer = gruttisol_karplus_strong_tick(-32.0, 5.0, 0.5, brightness, 0.0, floats, GRUTTISOL_KARPLUS_STRONG_FLOATS,
                                                wholes, GRUTTISOL_KARPLUS_STRONG_WHOLES,
                                                line, GRUTTISOL_KARPLUS_STRONG_LINE,
                                                draws, GRUTTISOL_KARPLUS_STRONG_DRAWS,
                                                out, GRUTTISOL_KARPLUS_STRONG_SAMPLES);
-    printf("a string at %g Hz, of a line of %u cells: %s\n", sample_rate,
-           (unsigned)gruttisol_karplus_strong_cells(sample_rate), answer == GRUTTISOL_CLEAN ? "clean" : "refused or not clean");
+    printf("a string at %g Hz, of a line of %u cells, as bright as %g: %s\n", sample_rate,
+           (unsigned)gruttisol_karplus_strong_cells(sample_rate), brightness, word(answer));
 }
 
 /* A block of noise is lent the draws that its ticks need together, here less so many. */
@@ -101,8 +115,9 @@ int main(void)
 
     render(0.25);
     render(NAN);
-    pluck(192000.0);
-    pluck(INFINITY);
+    pluck(192000.0, 0.5);
+    pluck(192000.0, NAN);
+    pluck(INFINITY, 0.5);
     blow(0);
     blow(1);
     printf("a rate of 999.5 Hz: refused=%u\n", gruttisol_vco_new(999.5, floats, GRUTTISOL_VCO_FLOATS, wholes, GRUTTISOL_VCO_WHOLES));

@@ -10,7 +10,7 @@
  *
  * A call answers a number:
  *   0         done, and so is a block
- *   11 to 14  an accepted tick, a gruttisol_mark: cleared, notfinite, lost, clean
+ *   11 to 15  an accepted tick, a gruttisol_mark: cleared, notfinite, lost, clean, steered; only 14, clean, is finished
  *   1 to 7    refused, and so is a score by 20 to 23; see gruttisol_refusal below
  *   50 to 53  an array of another length: floats, wholes, samples, counts
  * A refused call leaves every array as it stood.
@@ -24,7 +24,14 @@
  * room for all of its ticks it is refused by 7, though so many single ticks would go on until the tally is full.
  *
  * What a host must change that was written for an earlier header:
- *   - a block's marks are 11 to 14, as a tick answers, and no longer 1 to 4;
+ *   - A TICK MAY NOW ANSWER 15, STEERED, and so may the marks of a block: a control that was given to it is NaN. It is no refusal: the
+ *     state has moved on. And it is NOT FINISHED, though its samples are finite. NOTHING IN THE LENGTHS OF A TICK'S ARRAYS TELLS A HOST
+ *     OF THIS. The other numbers mean what they meant, clean is 14. A host that takes every number above 10 but 14 for dirty is right
+ *     already. ONE THAT TAKES 11, 12 AND 13 FOR DIRTY AND THE REST FOR CLEAN MUST CHANGE, or it counts steered ticks as finished; and so
+ *     must one that takes all but 11 to 14 for refused;
+ *   - a tally has six counts, of which steered is the last, and begun is the sum of the five others. Five counts are refused by 53, so a
+ *     host with blocks or tallies notices;
+ *   - a block's marks are 11 to 15, as a tick answers, and no longer 1 to 4;
  *   - samples are the last array of gruttisol_wavetable_tick and gruttisol_karplus_strong_tick, after bank, or line and draws;
  *   - the cells of a string's line are asked of gruttisol_karplus_strong_cells.
  */
@@ -39,11 +46,13 @@
 extern "C" {
 #endif
 
+/* How an accepted tick went: the first that applies of cleared, notfinite, lost, steered, clean. */
 enum gruttisol_mark {
     GRUTTISOL_CLEARED = 11,   /* the string zeroed its line */
     GRUTTISOL_NOTFINITE = 12, /* a wanted output isn't finite, or what stands before its clamp */
     GRUTTISOL_LOST = 13,      /* a phase plus its increment isn't finite */
-    GRUTTISOL_CLEAN = 14      /* nothing of this: the only ticks that are finished */
+    GRUTTISOL_CLEAN = 14,     /* nothing of all this: the only ticks that are finished */
+    GRUTTISOL_STEERED = 15    /* a control that was given is NaN, a gate or one of an unwanted output too; an infinity never counts */
 };
 
 enum gruttisol_refusal {
@@ -60,8 +69,8 @@ enum gruttisol_refusal {
     GRUTTISOL_OUT_OF_RANGE = 23 /* a number out of its range */
 };
 
-/* ---- the tally: counts are begun, finished, cleared, notfinite, lost; a new one is five zeros */
-#define GRUTTISOL_COUNTS 5
+/* ---- the tally: counts are begun, finished, cleared, notfinite, lost, steered; a new one is six zeros */
+#define GRUTTISOL_COUNTS 6
 
 /* Takes the number that a tick answered; one that is no gruttisol_mark is a refused tick, which counts nowhere. */
 uint32_t gruttisol_tally_take(uint32_t code, uint32_t *counts, size_t counts_len);

@@ -8,7 +8,7 @@ use gruttisol::formant_osc::FormantOsc;
 use gruttisol::lfo::Lfo;
 use gruttisol::score::{self, Inputs, Score};
 use gruttisol::supersaw::Supersaw;
-use gruttisol::tally::Tally;
+use gruttisol::tally::{Tally, NAMES};
 use gruttisol::vco::Vco;
 use std::process::ExitCode;
 use std::{env, fs};
@@ -30,10 +30,12 @@ fn main() -> ExitCode {
     };
     match score::read(&text).and_then(|score| render(&score).map(|rendered| (score, rendered))) {
         Ok((score, (loudest, tally))) => {
-            let [begun, finished, cleared, notfinite, lost] = *tally.counts();
+            let [begun, finished, ..] = *tally.counts();
             let claimed = if finished == begun && begun == score.frames { "yes" } else { "no" };
             println!("loudest={loudest}");
-            println!("begun={begun}\nfinished={finished}\ncleared={cleared}\nnotfinite={notfinite}\nlost={lost}");
+            for (name, count) in NAMES.iter().zip(tally.counts()) {
+                println!("{name}={count}");
+            }
             println!("claimed={claimed}");
             ExitCode::SUCCESS
         }

@@ -28,8 +28,8 @@ impl fmt::Display for Refused {
 
 impl error::Error for Refused {}
 
-/// How an accepted tick went: the first of these that applies. The numbers are those that an exported tick answers and a block
-/// writes.
+/// How an accepted tick went: the first of these that applies, as they stand here. The numbers are those that an exported tick
+/// answers and a block writes. Only a clean tick is finished.
 #[derive(Clone, Copy, PartialEq, Eq, Debug)]
 pub enum Mark {
     /// The string zeroed its line.
@@ -38,12 +38,15 @@ pub enum Mark {
     NotFinite = 12,
     /// A phase plus its increment isn't finite.
     Lost = 13,
+    /// A control that was given is NaN, be it a gate or one that no wanted output depends on; infinities don't count. The sound is
+    /// finite, and may not be what was meant.
+    Steered = 15,
     Clean = 14,
 }
 
 impl Mark {
     /// All marks, in the order of their numbers.
-    pub const ALL: [Mark; 4] = [Mark::Cleared, Mark::NotFinite, Mark::Lost, Mark::Clean];
+    pub const ALL: [Mark; 5] = [Mark::Cleared, Mark::NotFinite, Mark::Lost, Mark::Clean, Mark::Steered];
 
     /// The mark of this number, if it is one's.
     #[inline]
@@ -57,6 +60,7 @@ impl Mark {
             Mark::Cleared => "cleared",
             Mark::NotFinite => "notfinite",
             Mark::Lost => "lost",
+            Mark::Steered => "steered",
             Mark::Clean => "clean",
         }
     }

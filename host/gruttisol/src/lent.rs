@@ -127,6 +127,7 @@ macro_rules! oscillator {
 mod tests {
     use super::*;
     use crate::answer::Mark;
+    use crate::tally::COUNTS;
 
     const UNTOUCHED: u64 = 0x7ff8_0bad_0bad_0bad;
     const NO_RATE: f64 = 0.0;
@@ -173,13 +174,13 @@ mod tests {
     ) {
         for f in [0, floats - 1, floats, floats + 1] {
             for w in [0, wholes - 1, wholes, wholes + 1] {
-                for k in [0, 4, 5, 6] {
+                for k in [0, COUNTS - 1, COUNTS, COUNTS + 1] {
                     for (s, m) in
                         [(0, 0), (ports, 1), (ports * 7, 7), (ports * 7 + 1, 7), (ports * 7, 8), (1, 0), (0, 1)]
                     {
                         let mut lent = (vec![f64::from_bits(UNTOUCHED); f], vec![UNTOUCHED; w], vec![3; k]);
                         let (mut samples, mut marks) = (vec![-0.0; s], vec![77; m]);
-                        let number = match (f == floats, w == wholes, k == 5, s == ports * m) {
+                        let number = match (f == floats, w == wholes, k == COUNTS, s == ports * m) {
                             (false, ..) => 50,
                             (_, false, ..) => 51,
                             (_, _, false, _) => 53,
@@ -298,10 +299,20 @@ mod tests {
 
     #[test]
     fn tally() {
-        for n in [0, 1, 4, 6, 64] {
+        for n in [0, 1, COUNTS - 1, COUNTS + 1, 64] {
             let mut counts = vec![0; n];
             assert_eq!(tally_take(Mark::Clean as u32, &mut counts), 53);
             assert!(counts.iter().all(|&count| count == 0));
+        }
+    }
+
+    /// The five numbers of marks, and no other.
+    #[test]
+    fn numbers_that_count() {
+        for number in (0..100).chain([u32::MAX]) {
+            let mut counts = [0; COUNTS];
+            assert_eq!(tally_take(number, &mut counts), 0);
+            assert_eq!(counts[0] == 1, (11..=15).contains(&number), "{number}");
         }
     }
 

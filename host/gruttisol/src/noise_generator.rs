@@ -54,7 +54,7 @@ pub struct Volts {
 ///     // of each tick: white, pink, white2, pink2
 ///     assert!(samples.chunks(4).all(|tick| tick[0] == 0.0 && tick[1].abs() < 5.0));
 /// }
-/// assert_eq!(tally.counts(), &[2560, 2560, 0, 0, 0]);
+/// assert_eq!(tally.counts(), &[2560, 2560, 0, 0, 0, 0]);
 /// # Ok::<(), gruttisol::answer::Refused>(())
 /// ```
 #[derive(Clone, Copy, Debug)]
@@ -289,15 +289,18 @@ mod tests {
         }
     }
 
+    /// A NaN is told where it is heard; where it isn't, a given one is told all the same, and the generator's own isn't given.
     #[test]
-    fn a_nan_is_told_where_it_is_wanted() {
+    fn a_nan_is_told_where_it_is_wanted_or_given() {
         let (draws, nan) = (draws(4), Controls { correlation: Some(f64::NAN) });
         let spoiled = NoiseGenerator::with_correlation(f64::NAN);
         assert!(spoiled.parts().0[34].is_nan());
-        for (mut noise, controls) in [(spoiled, STORED), (NoiseGenerator::new(), nan)] {
+        for (mut noise, controls, unheard) in
+            [(spoiled, STORED, Mark::Clean), (NoiseGenerator::new(), nan, Mark::Steered)]
+        {
             for wanted in 0..16 {
                 let heard = wanted & (NoiseGenerator::WANT_WHITE2 | NoiseGenerator::WANT_PINK2) != 0;
-                let mark = if heard { Mark::NotFinite } else { Mark::Clean };
+                let mark = if heard { Mark::NotFinite } else { unheard };
                 noise.reset();
                 assert_eq!(noise.tick(&controls, wanted, &draws).unwrap().mark, mark, "wanted {wanted}");
             }

@@ -3,9 +3,12 @@ use crate::answer::{done, Mark, Refused};
 use crate::lent::tally_take;
 
 /// How many counts a tally has.
-pub const COUNTS: usize = 5;
+pub const COUNTS: usize = 6;
 
-/// Counts: begun, finished (the clean ones), cleared, notfinite, lost.
+/// What they are called, in their order. Finished are the clean ones.
+pub const NAMES: [&str; COUNTS] = ["begun", "finished", "cleared", "notfinite", "lost", "steered"];
+
+/// Counts, as `NAMES` has them.
 #[derive(Clone, Copy, PartialEq, Eq, Debug, Default)]
 pub struct Tally {
     counts: [u32; COUNTS],

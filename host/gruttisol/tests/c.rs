@@ -20,10 +20,11 @@ fn the_example_shows_what_is_finished() {
     assert!(ran.status.success());
     assert_eq!(
         String::from_utf8(ran.stdout).unwrap(),
-        "begun=480 finished=480 cleared=0 notfinite=0 lost=0 claimed=yes, clean up to sample 480\n\
-         begun=480 finished=0 cleared=0 notfinite=480 lost=0 claimed=no, clean up to sample 0\n\
-         a string at 192000 Hz, of a line of 9612 cells: clean\n\
-         a string at inf Hz, of a line of 0 cells: refused or not clean\n\
+        "begun=480 finished=480 cleared=0 notfinite=0 lost=0 steered=0 claimed=yes, clean up to sample 480\n\
+         begun=480 finished=0 cleared=0 notfinite=480 lost=0 steered=0 claimed=no, clean up to sample 0\n\
+         a string at 192000 Hz, of a line of 9612 cells, as bright as 0.5: clean\n\
+         a string at 192000 Hz, of a line of 9612 cells, as bright as nan: steered\n\
+         a string at inf Hz, of a line of 0 cells, as bright as 0.5: refused\n\
          noise of 480 samples and 2872 draws: refused=0 begun=480 finished=480\n\
          noise of 480 samples and 2871 draws: refused=5 begun=0 finished=0\n\
          a rate of 999.5 Hz: refused=1\n\

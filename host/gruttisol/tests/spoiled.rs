@@ -27,7 +27,7 @@ fn a_spoiled_vowel_stays_spoiled_until_a_reset() {
         ticks(&mut vowel, &GOOD, 1000, Mark::NotFinite);
         vowel.reset().unwrap();
         ticks(&mut vowel, &GOOD, 1000, Mark::Clean);
-        assert_eq!(tally.counts(), &[3101, 1100, 0, 2001, 0], "{broken:?}");
+        assert_eq!(tally.counts(), &[3101, 1100, 0, 2001, 0, 0], "{broken:?}");
     }
 }
 
