@@ -20,15 +20,26 @@ pub const UNIT: Control = Control { lo: -0.1, hi: 1.1, corners: &[0.0, 1.0, 0.5,
 pub const BOTH_WAYS: Control = Control { lo: -1.1, hi: 1.1, corners: &[-1.0, 0.0, 1.0], gate: false };
 pub const GATE: Control = Control { lo: -5.0, hi: 10.0, corners: &[0.0, 2.5, 5.0], gate: true };
 
-pub struct Draw(Random);
+/// The NaN that ours takes any for, as a memo's key.
+pub const ONE_NAN: u64 = 0x7ff8_0000_0000_0000;
+
+pub struct Draw {
+    random: Random,
+    /// Whether every NaN that is drawn is `ONE_NAN`, so that a memo may hold a number under a NaN; else NaNs are of all kinds.
+    pub one_nan: bool,
+}
 
 impl Draw {
     pub fn new(seed: u64) -> Self {
-        Draw(Random::new(seed))
+        Draw { random: Random::new(seed), one_nan: false }
+    }
+
+    pub fn of_one_nan(seed: u64) -> Self {
+        Draw { one_nan: true, ..Draw::new(seed) }
     }
 
     pub fn bits(&mut self) -> u64 {
-        self.0.bits()
+        self.random.bits()
     }
 
     pub fn below(&mut self, n: u64) -> u64 {
@@ -44,7 +55,7 @@ impl Draw {
     }
 
     pub fn between(&mut self, lo: f64, hi: f64) -> f64 {
-        self.0.between(lo, hi)
+        self.random.between(lo, hi)
     }
 
     /// The number or one beside it.
@@ -72,8 +83,9 @@ impl Draw {
             10 => f64::powi(2.0, self.below(2046) as i32 - 1022),
             _ => f64::from_bits(self.bits()),
         };
-        if self.one_in(2) {
-            -x
+        let x = if self.one_in(2) { -x } else { x };
+        if self.one_nan && x.is_nan() {
+            f64::from_bits(ONE_NAN)
         } else {
             x
         }
@@ -177,8 +189,12 @@ impl Draw {
     pub fn level(&mut self) -> f64 {
         match self.below(8) {
             0 => self.odd(),
-            _ => self.between(-1.0, 1.0),
+            _ => self.tame_level(),
         }
+    }
+
+    pub fn tame_level(&mut self) -> f64 {
+        self.between(-1.0, 1.0)
     }
 
     /// A memo's keys: the bits of what it is to be asked next, or others.
@@ -190,6 +206,18 @@ impl Draw {
         })
     }
 
+    /// A value, drawn so, for a memo that holds these keys. Any NaN is the one NaN to us, where the Rust tells their bits apart; so where
+    /// there are NaNs of all kinds a key that is one comes with the value that it has, a NaN too, and both sides agree whether they hit or
+    /// not.
+    pub fn under(&mut self, keys: &[u64], drawn: fn(&mut Draw) -> f64) -> f64 {
+        let value = drawn(self);
+        if !self.one_nan && keys.iter().any(|&key| f64::from_bits(key).is_nan()) {
+            f64::NAN
+        } else {
+            value
+        }
+    }
+
     /// A memo's `valid`: any word but 0 says that it holds.
     pub fn valid(&mut self) -> u64 {
         match self.below(8) {
@@ -197,15 +225,5 @@ impl Draw {
             2 => self.bits(),
             _ => 1,
         }
-    }
-}
-
-/// A value for a memo that holds these keys. Any NaN is the one NaN to us, where the Rust tells their bits apart; so a key
-/// that is a NaN comes with the value that it has, a NaN too, and both sides agree whether they hit or not.
-pub fn under(keys: &[u64], value: f64) -> f64 {
-    if keys.iter().any(|&key| f64::from_bits(key).is_nan()) {
-        f64::NAN
-    } else {
-        value
     }
 }

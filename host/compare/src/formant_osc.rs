@@ -1,5 +1,5 @@
 //! The formant oscillator on both sides.
-use crate::draw::{under, Control, Draw, PITCH, UNIT};
+use crate::draw::{Control, Draw, PITCH, UNIT};
 use crate::marked::Marked;
 use crate::pair::{block, both, refusal};
 use crate::script::{Counts, Pair};
@@ -33,19 +33,17 @@ impl Pair for FormantOsc {
         let mut floats = [0.0; 29];
         floats[..2].fill_with(|| draw.phase());
         if draw.one_in(2) {
-            floats[2..12].fill_with(|| draw.between(-1.0, 1.0));
+            floats[2..12].fill_with(|| draw.tame_level());
         } else {
             floats[2..12].fill_with(|| draw.level());
         }
         floats[12] = draw.state_rate();
-        let [key] = draw.keys([controls[0]]);
-        floats[13] = under(&[key], draw.hertz());
+        let pitch = if controls[3].is_nan() { controls[3] } else { controls[0] }; // the vibrato is added to it
+        let [key] = draw.keys([pitch]);
+        floats[13] = draw.under(&[key], Draw::hertz);
         let [a, b, c] = draw.keys([controls[1].clamp(0.0, 1.0), controls[2], floats[12]]);
-        if draw.one_in(2) {
-            floats[14..].fill_with(|| under(&[a, b, c], draw.between(-1.0, 1.0)));
-        } else {
-            floats[14..].fill_with(|| under(&[a, b, c], draw.level()));
-        }
+        let level = if draw.one_in(2) { Draw::tame_level } else { Draw::level };
+        floats[14..].fill_with(|| draw.under(&[a, b, c], level));
         (floats, [key, draw.valid(), a, b, c, draw.valid()])
     }
 

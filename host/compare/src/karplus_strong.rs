@@ -112,7 +112,7 @@ impl Pair for KarplusStrong {
     const CONTROLS: &'static [Control] = &[PITCH, GATE, UNIT, UNIT, BOTH_WAYS];
     const PORTS: usize = 1;
     const MASKED: bool = false;
-    const MARKS: &'static [Mark] = &[Mark::Cleared, Mark::Clean];
+    const MARKS: &'static [Mark] = &[Mark::Cleared, Mark::Steered, Mark::Clean];
     const REFUSALS: &'static [u32] = &[1, 2, 3, 5, 6, 7, 52];
     const KINDS: &'static [&'static str] = &[STRIKES, REPAIRED];
     type Floats = [f64; 6];
@@ -278,7 +278,7 @@ impl Pair for KarplusStrong {
         if cleared {
             Mark::Cleared
         } else {
-            mark(samples.iter().copied(), [], [])
+            mark(samples.iter().copied(), [], [], controls)
         }
     }
 

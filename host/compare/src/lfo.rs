@@ -1,5 +1,5 @@
 //! The low-frequency oscillator on both sides.
-use crate::draw::{under, Control, Draw, GATE, UNIT};
+use crate::draw::{Control, Draw, GATE, UNIT};
 use crate::marked::Marked;
 use crate::pair::{block, both, refusal};
 use crate::script::{Counts, Pair};
@@ -30,7 +30,7 @@ impl Pair for Lfo {
 
     fn invent(&self, controls: &[f64], draw: &mut Draw) -> ([f64; 4], [u64; 2]) {
         let [key] = draw.keys([controls[0]]);
-        let val = under(&[key], draw.hertz());
+        let val = draw.under(&[key], Draw::hertz);
         ([draw.phase(), draw.state_rate(), draw.previous(), val], [key, draw.valid()])
     }
 

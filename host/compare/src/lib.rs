@@ -17,6 +17,8 @@ pub mod supersaw;
 pub mod vco;
 pub mod wavetable;
 
+use draw::Draw;
+use gruttisol::answer::Mark;
 use script::{run, ticks, Counts, Pair};
 
 /// A run of scripts from a seed, for so many ticks; the error is the first difference.
@@ -37,11 +39,14 @@ const fn of<P: Pair>() -> (&'static str, Run) {
     (P::NAME, run::<P>)
 }
 
-/// The list's lines of an oscillator, as `ticks` has them.
+/// The list's lines of an oscillator, as `ticks` has them: so many of any mark, and some that are steered, which are rare among those.
 fn lines<P: Pair>(n: usize) -> Result<String, String> {
+    const STEERED: usize = 8;
+    let told = |said| format!("{}: {said}", P::NAME);
+    let any = ticks::<P>(&mut Draw::new(1), n, None).map_err(told)?;
+    let steered = ticks::<P>(&mut Draw::of_one_nan(1), STEERED, Some(Mark::Steered)).map_err(told)?;
     let words = |case: &Vec<u64>| case.iter().map(|word| format!(" {word:016X}")).collect::<String>();
-    let cases = ticks::<P>(1, n).map_err(|said| format!("{}: {said}", P::NAME))?;
-    Ok(cases.iter().map(|case| format!("{}_tick{}\n", P::NAME, words(case))).collect())
+    Ok(any.iter().chain(&steered).map(|case| format!("{}_tick{}\n", P::NAME, words(case))).collect())
 }
 
 /// The Rust's ticks in the list that the program `replay` runs; ours were compared with them on the way.

@@ -5,7 +5,7 @@ use gruttisol::answer::Mark;
 use quiver::modules::oscillators::probe::Probe;
 use quiver::modules::oscillators::{FormantOsc, Lfo, Supersaw, Vco};
 
-/// A tick and its mark, which is found from the states before and after it.
+/// A tick and its mark, which is found from the states before and after it and from the controls.
 pub trait Marked {
     /// Writes the wanted samples. There are as many controls and samples as the oscillator has ports.
     fn marked_tick(&mut self, controls: &[f64], wanted: u32, samples: &mut [f64]) -> Mark;
@@ -16,7 +16,7 @@ impl Marked for Vco {
         let ([phase, _, previous, _], _) = self.flat();
         self.body(controls.try_into().unwrap(), wanted, samples.try_into().unwrap());
         let ([_, rate, _, freq], _) = self.flat();
-        mark(wanted_of(samples, wanted), [], [used(phase, previous, controls[3]) + freq / rate])
+        mark(wanted_of(samples, wanted), [], [used(phase, previous, controls[3]) + freq / rate], controls)
     }
 }
 
@@ -25,7 +25,7 @@ impl Marked for Lfo {
         let ([phase, _, previous, _], _) = self.flat();
         self.body(controls.try_into().unwrap(), wanted, samples.try_into().unwrap());
         let ([_, rate, _, freq], _) = self.flat();
-        mark(wanted_of(samples, wanted), [], [used(phase, previous, controls[2]) + freq / rate])
+        mark(wanted_of(samples, wanted), [], [used(phase, previous, controls[2]) + freq / rate], controls)
     }
 }
 
@@ -36,7 +36,7 @@ impl Marked for Supersaw {
         let (after, _) = self.flat();
         let (rate, freq, detune) = (after[8], after[9], controls[1].clamp(0.0, 1.0));
         let seven = (0..7).map(|i| before[i] + freq * (1.0 + Supersaw::DETUNES[i] * detune) / rate);
-        mark(samples.iter().copied(), [], seven.chain([before[7] + freq / (2.0 * rate)]))
+        mark(samples.iter().copied(), [], seven.chain([before[7] + freq / (2.0 * rate)]), controls)
     }
 }
 
@@ -50,6 +50,6 @@ impl Marked for FormantOsc {
         let sum =
             (0..5).fold(0.0, |sum, i| sum + (after[14 + 3 * i] * pulse + before[2 + 2 * i]) * FormantOsc::GAINS[i]);
         let phases = [before[0] + freq / rate, before[1] + FormantOsc::VIBRATO_HZ / rate];
-        mark(samples.iter().copied(), [sum], phases)
+        mark(samples.iter().copied(), [sum], phases, controls)
     }
 }

@@ -1,10 +1,10 @@
 //! The noise generator on both sides, over the draws that the Rust takes from its stream.
 use crate::draw::{Control, Draw, UNIT};
 use crate::pair::{move_stream, wanted_of, NO_DRAW};
-use crate::script::{mark, unchanged, unused_block, Counts, Pair};
+use crate::script::{mark, unchanged, unused_block, Counts, Pair, NO_SUM};
 use gruttisol::answer::{Mark, Refused};
 use gruttisol::noise_generator as ours;
-use gruttisol::tally::Tally;
+use gruttisol::tally::{Tally, COUNTS};
 use quiver::modules::oscillators as rust;
 use quiver::modules::oscillators::probe::Probe;
 use quiver::port::GraphModule;
@@ -95,7 +95,7 @@ impl NoiseGenerator {
         if ticks == 1 {
             unchanged(self, counts, number, |pair| pair.ours_tick(controls, u32::MAX, &mut [0.0; 4]).map(drop))?;
         }
-        let tally = draw.of(&[[0; 5], [5, 1, 1, 1, 1]]);
+        let tally = draw.of(&[[0; COUNTS], NO_SUM]);
         unused_block(self, counts, number, tally, controls, 4 * ticks, ticks)
     }
 
@@ -113,7 +113,7 @@ impl NoiseGenerator {
             self.must_refuse(6, controls, ticks, draw, counts)?;
             self.draws.truncate(draw.of(&[0, at, needed - 1]));
             self.must_refuse(5, controls, ticks, draw, counts)?;
-            unused_block(self, counts, 52, [5, 1, 1, 1, 1], controls, 4 * ticks + 1, ticks)?;
+            unused_block(self, counts, 52, NO_SUM, controls, 4 * ticks + 1, ticks)?;
             self.draws.clone_from(&good);
         }
         self.draws.pop();
@@ -128,7 +128,7 @@ impl Pair for NoiseGenerator {
     const CONTROLS: &'static [Control] = &[UNIT];
     const PORTS: usize = 4;
     const MASKED: bool = true;
-    const MARKS: &'static [Mark] = &[Mark::NotFinite, Mark::Clean];
+    const MARKS: &'static [Mark] = &[Mark::NotFinite, Mark::Steered, Mark::Clean];
     const REFUSALS: &'static [u32] = &[5, 6, 7, 52];
     const KINDS: &'static [&'static str] = &[NOT_GIVEN, UNEQUAL, SIXTEEN, OVER, ABOVE];
     const RATED: bool = false;
@@ -223,13 +223,13 @@ impl Pair for NoiseGenerator {
 
     fn theirs_tick(&mut self, controls: &[f64], wanted: u32, samples: &mut [f64]) -> Mark {
         let volts = samples.first_chunk_mut().unwrap();
-        if self.given {
-            self.theirs.body(controls.try_into().unwrap(), wanted, volts);
-        } else {
-            self.theirs.body_of_stored(wanted, volts);
+        let given = if self.given { controls } else { &[] };
+        match *given {
+            [correlation] => self.theirs.body(&[correlation], wanted, volts),
+            _ => self.theirs.body_of_stored(wanted, volts),
         }
         self.stored = true;
-        mark(wanted_of(samples, wanted), [], [])
+        mark(wanted_of(samples, wanted), [], [], given)
     }
 
     fn ours_reset(&mut self) -> Result<(), Refused> {

@@ -1,7 +1,7 @@
 //! One script for every oscillator: calls drawn from a seed, made on both sides, and everything compared after each.
-use crate::draw::{Control, Draw};
+use crate::draw::{Control, Draw, ONE_NAN};
 use gruttisol::answer::{Mark, Refused};
-use gruttisol::tally::Tally;
+use gruttisol::tally::{Tally, COUNTS};
 use std::collections::BTreeMap;
 use std::fmt;
 
@@ -13,14 +13,14 @@ pub trait Pair: Sized {
     /// Whether a tick takes a mask of wanted outputs; else all are wanted.
     const MASKED: bool;
     /// The marks that its ticks can get and the numbers that refuse its calls: a run must meet all of them.
-    const MARKS: &'static [Mark] = &[Mark::NotFinite, Mark::Lost, Mark::Clean];
+    const MARKS: &'static [Mark] = &[Mark::NotFinite, Mark::Lost, Mark::Steered, Mark::Clean];
     const REFUSALS: &'static [u32] = &[1, 2, 7, 52];
     /// Kinds of calls that are its own, which a run must meet too.
     const KINDS: &'static [&'static str] = &[];
     /// Whether it has a sample rate; else it takes any number for one, and nothing comes of it.
     const RATED: bool = true;
     type Floats: AsRef<[f64]> + Copy;
-    type Wholes: AsRef<[u64]> + Copy;
+    type Wholes: AsRef<[u64]> + AsMut<[u64]> + Copy;
 
     /// A new one on both sides, if ours isn't refused.
     fn new(sample_rate: f64, draw: &mut Draw) -> Result<Self, Refused>;
@@ -38,7 +38,7 @@ pub trait Pair: Sized {
     fn refusal(floats: &Self::Floats, wholes: &Self::Wholes) -> u32;
 
     fn ours_tick(&mut self, controls: &[f64], wanted: u32, samples: &mut [f64]) -> Result<Mark, Refused>;
-    /// The mark is the scope's, of the Rust's values.
+    /// The mark is the scope's, of the Rust's values and of the controls.
     fn theirs_tick(&mut self, controls: &[f64], wanted: u32, samples: &mut [f64]) -> Mark;
     /// As many ticks as there are marks.
     fn ours_block(
@@ -87,7 +87,7 @@ pub trait Pair: Sized {
 #[derive(Clone, Default, Debug)]
 pub struct Counts {
     /// Accepted ticks, in the order of `Mark::ALL`.
-    pub marks: [u64; 4],
+    pub marks: [u64; Mark::ALL.len()],
     /// Blocks among these.
     pub blocks: u64,
     pub resets: u64,
@@ -112,8 +112,7 @@ impl Counts {
 
     /// What a run of this oscillator must meet and hasn't met once: marks, refusals and kinds of calls.
     fn unmet<P: Pair>(&self) -> Vec<String> {
-        let marks =
-            P::MARKS.iter().map(|&mark| (mark.word().into(), self.marks[mark as usize - Mark::ALL[0] as usize]));
+        let marks = P::MARKS.iter().map(|&mark| (mark.word().into(), self.marks[place(mark)]));
         let refusals = P::REFUSALS.iter().map(|n| (format!("refused by {n}"), *self.refused.get(n).unwrap_or(&0)));
         let calls = [
             ("block", self.blocks),
@@ -129,13 +128,12 @@ impl Counts {
 
 impl fmt::Display for Counts {
     fn fmt(&self, f: &mut fmt::Formatter<'_>) -> fmt::Result {
-        write!(f, "{} ticks (", self.ticks())?;
-        for (mark, n) in Mark::ALL.into_iter().zip(self.marks) {
-            write!(f, "{n} {}{}", mark.word(), if mark == Mark::Clean { ")" } else { ", " })?;
-        }
+        let marks: Vec<String> =
+            Mark::ALL.into_iter().zip(self.marks).map(|(mark, n)| format!("{n} {}", mark.word())).collect();
         let Counts { blocks, resets, rate_changes, states, .. } = self;
         let refused: u64 = self.refused.values().sum();
-        write!(f, ", {blocks} blocks, {resets} resets, {rate_changes} rate changes, {states} states put in, {refused} refused calls")?;
+        write!(f, "{} ticks ({}), {blocks} blocks, {resets} resets", self.ticks(), marks.join(", "))?;
+        write!(f, ", {rate_changes} rate changes, {states} states put in, {refused} refused calls")?;
         self.own.iter().try_for_each(|(kind, n)| write!(f, ", {n} {kind}"))
     }
 }
@@ -157,29 +155,37 @@ pub fn run<P: Pair>(seed: u64, ticks: u64) -> Result<Counts, String> {
     }
 }
 
-/// So many ticks from a seed, in the words of the list that the program `replay` runs: a state, controls, the mask and what is
-/// lent, and what the Rust makes of them. A state that the scope refuses is answered by its number and left as it stood.
-pub fn ticks<P: Pair>(seed: u64, n: usize) -> Result<Vec<Vec<u64>>, String> {
+/// So many ticks that are drawn, of any mark or of this one, in the words of the list that the program `replay` runs: a state, controls, the
+/// mask and what is lent, and what the Rust makes of them. A state that the scope refuses is answered by its number and left as it stood.
+pub fn ticks<P: Pair>(draw: &mut Draw, n: usize, of: Option<Mark>) -> Result<Vec<Vec<u64>>, String> {
     const CALLS: usize = 20; // of one oscillator
-    let (mut draw, mut counts) = (Draw::new(seed), Counts::default());
-    let mut cases = vec![];
+    let (mut counts, mut cases) = (Counts::default(), vec![]);
     while cases.len() < n {
-        let mood = Mood { held: 3, gates: 2, rarely: 4, ..Mood::drawn(&mut draw) };
-        let mut pair = P::new(draw.rate(), &mut draw).map_err(|n| n.to_string())?;
+        let mood = Mood { held: 3, gates: 2, rarely: 4, ..Mood::drawn(draw) };
+        let mut pair = P::new(draw.rate(), draw).map_err(|n| n.to_string())?;
         if !pair.storable(&pair.theirs().0) {
             continue;
         }
         same(&mut pair)?;
         let mut controls: Vec<f64> = P::CONTROLS.iter().map(|control| draw.usual(control)).collect();
-        for _ in 0..CALLS.min(n - cases.len()) {
-            turn::<P>(&mut controls, &mood, &mut draw);
-            cases.push(case(&mut pair, &controls, &mut draw, &mut counts)?);
+        for _ in 0..CALLS {
+            turn::<P>(&mut controls, &mood, draw);
+            let (mark, case) = case(&mut pair, &controls, draw, &mut counts)?;
+            if cases.len() < n && (of.is_none() || of == mark) {
+                cases.push(case);
+            }
         }
     }
     Ok(cases)
 }
 
-fn case<P: Pair>(pair: &mut P, controls: &[f64], draw: &mut Draw, counts: &mut Counts) -> Result<Vec<u64>, String> {
+/// A tick's mark, if it is accepted, and its words.
+fn case<P: Pair>(
+    pair: &mut P,
+    controls: &[f64],
+    draw: &mut Draw,
+    counts: &mut Counts,
+) -> Result<(Option<Mark>, Vec<u64>), String> {
     let invented = pair.invent(controls, draw);
     let refusal = P::refusal(&invented.0, &invented.1);
     let wanted = mask::<P>(draw);
@@ -198,7 +204,7 @@ fn case<P: Pair>(pair: &mut P, controls: &[f64], draw: &mut Draw, counts: &mut C
             words.extend(invented.1.as_ref());
             words.extend([0; 5].iter().take(P::PORTS));
             words.extend(pair.stored_left());
-            return Ok(words);
+            return Ok((None, words));
         }
         pair.put_ours(&invented.0, &invented.1);
         pair.put_theirs(&invented.0, &invented.1, draw);
@@ -210,7 +216,7 @@ fn case<P: Pair>(pair: &mut P, controls: &[f64], draw: &mut Draw, counts: &mut C
     words.extend(raw::<P>(pair.theirs()).into_iter().map(one_nan));
     words.extend(samples[..P::PORTS].iter().map(|x| one_nan(x.to_bits())));
     words.extend(pair.stored_left());
-    Ok(words)
+    Ok((Some(mark), words))
 }
 
 /// A state's floats, by their bits, and whole numbers.
@@ -221,7 +227,7 @@ fn raw<P: Pair>((floats, wholes): (P::Floats, P::Wholes)) -> Vec<u64> {
 /// The bits of a float, of any NaN the same. Memo keys are such bits too, and other whole numbers are too small to be a NaN's.
 pub fn one_nan(bits: u64) -> u64 {
     if f64::from_bits(bits).is_nan() {
-        0x7ff8_0000_0000_0000
+        ONE_NAN
     } else {
         bits
     }
@@ -260,6 +266,7 @@ impl Mood {
 }
 
 fn scene<P: Pair>(draw: &mut Draw, counts: &mut Counts) -> Result<(), String> {
+    draw.one_nan = !draw.one_nan; // by turns
     let mood = Mood::drawn(draw);
     if P::RATED {
         let bad = draw.bad_rate();
@@ -335,12 +342,12 @@ fn tick<P: Pair>(pair: &mut P, controls: &[f64], draw: &mut Draw, counts: &mut C
     };
     pair.lend(controls, 1, draw, counts).map_err(told)?;
     let (mark, _) = sound(pair, controls, wanted).map_err(told)?;
-    counts.marks[mark as usize - Mark::ALL[0] as usize] += 1;
+    counts.marks[place(mark)] += 1;
     Ok(())
 }
 
 /// A tick on both sides, with its mark and samples; an output that isn't wanted reads 0.0.
-fn sound<P: Pair>(pair: &mut P, controls: &[f64], wanted: u32) -> Result<(Mark, [f64; 5]), String> {
+pub fn sound<P: Pair>(pair: &mut P, controls: &[f64], wanted: u32) -> Result<(Mark, [f64; 5]), String> {
     let (mut ours, mut theirs) = ([1.0; 5], [f64::from_bits(UNWRITTEN); 5]);
     let mark = pair.ours_tick(controls, wanted, &mut ours[..P::PORTS]).map_err(|n| n.to_string())?;
     let their_mark = pair.theirs_tick(controls, wanted, &mut theirs[..P::PORTS]);
@@ -367,6 +374,25 @@ fn same_sound(wanted: u32, (mark, ours): (Mark, &[f64]), (their_mark, theirs): (
     Ok(())
 }
 
+/// A mark's place in `Mark::ALL`.
+fn place(mark: Mark) -> usize {
+    mark as usize - Mark::ALL[0] as usize
+}
+
+/// The place in a tally of the count of a mark.
+fn count_of(mark: Mark) -> usize {
+    match mark {
+        Mark::Clean => 1,
+        Mark::Cleared => 2,
+        Mark::NotFinite => 3,
+        Mark::Lost => 4,
+        Mark::Steered => 5,
+    }
+}
+
+/// Counts that don't add up: without steered they would.
+pub const NO_SUM: [u32; COUNTS] = [4, 1, 1, 1, 1, 1];
+
 /// A block against so many ticks of the Rust, and its tally against their marks. First it is tried with a tally that has no room,
 /// one that doesn't add up, and samples that don't fit.
 fn block<P: Pair>(pair: &mut P, controls: &[f64], draw: &mut Draw, counts: &mut Counts) -> Result<(), String> {
@@ -385,15 +411,15 @@ fn block<P: Pair>(pair: &mut P, controls: &[f64], draw: &mut Draw, counts: &mut 
     }
     let full = u32::MAX - n as u32;
     let over = full.saturating_add(1); // for no ticks there is always room
-    for bad in [[over, over, 0, 0, 0], [5, 1, 1, 1, 1]] {
-        if (n > 0 || bad[0] == 5) && draw.one_in(4) {
+    for bad in [[over, over, 0, 0, 0, 0], NO_SUM] {
+        if (n > 0 || bad == NO_SUM) && draw.one_in(4) {
             unused_block(pair, counts, 7, bad, controls, P::PORTS * n, n).map_err(told)?;
         }
     }
     if draw.one_in(4) {
-        unused_block(pair, counts, 52, [0; 5], controls, P::PORTS * n + 1, n).map_err(told)?;
+        unused_block(pair, counts, 52, [0; COUNTS], controls, P::PORTS * n + 1, n).map_err(told)?;
     }
-    let started = draw.of(&[[0; 5], [full, 0, full, 0, 0], [10, 1, 2, 3, 4]]);
+    let started = draw.of(&[[0; COUNTS], [full, 0, full, 0, 0, 0], [15, 1, 2, 3, 4, 5]]);
     let (mut tally, mut due) = (Tally::of_counts(started), started);
     let (mut samples, mut marks) = (vec![1.0; P::PORTS * n], vec![9; n]);
     pair.ours_block(controls, wanted, &mut tally, &mut samples, &mut marks).map_err(|n| told(n.to_string()))?;
@@ -406,10 +432,9 @@ fn block<P: Pair>(pair: &mut P, controls: &[f64], draw: &mut Draw, counts: &mut 
         let ours = &samples[P::PORTS * i..P::PORTS * (i + 1)];
         same_sound(wanted, (mark, ours), (their_mark, &theirs[..P::PORTS]))
             .map_err(|said| told(format!("tick {i}: {said}")))?;
-        let at = mark as usize - Mark::ALL[0] as usize;
-        counts.marks[at] += 1;
+        counts.marks[place(mark)] += 1;
         due[0] += 1;
-        due[[2, 3, 4, 1][at]] += 1;
+        due[count_of(mark)] += 1;
     }
     if tally.counts() != &due {
         return Err(told(format!("the tally is {:?}, and is due to be {due:?}", tally.counts())));
@@ -424,7 +449,7 @@ pub fn unused_block<P: Pair>(
     pair: &mut P,
     counts: &mut Counts,
     number: u32,
-    tally: [u32; 5],
+    tally: [u32; COUNTS],
     controls: &[f64],
     samples: usize,
     n: usize,
@@ -471,7 +496,7 @@ fn put_state<P: Pair>(pair: &mut P, controls: &[f64], draw: &mut Draw, counts: &
     }
     let (rate, bad, mut samples) = (draw.rate(), draw.bad_rate(), [0.0; 5]);
     unchanged(pair, counts, number, |pair| pair.ours_tick(controls, u32::MAX, &mut samples[..P::PORTS]).map(drop))
-        .and_then(|_| unused_block(pair, counts, number, [0; 5], controls, 3 * P::PORTS, 3))
+        .and_then(|_| unused_block(pair, counts, number, [0; COUNTS], controls, 3 * P::PORTS, 3))
         .and_then(|_| unchanged(pair, counts, number, |pair| pair.ours_reset()))
         .and_then(|_| unchanged(pair, counts, number, |pair| pair.ours_set_sample_rate(rate)))
         .and_then(|_| unchanged(pair, counts, 1, |pair| pair.ours_set_sample_rate(bad)))
@@ -544,16 +569,19 @@ pub fn bad_phase(phase: f64) -> bool {
 }
 
 /// The mark by the scope's rule: `outputs` are the wanted ones, `sums` what stands before a clamp, `phases` each phase
-/// plus its increment.
+/// plus its increment, `controls` those that are given, each asked by itself: infinities of two signs add up to a NaN.
 pub fn mark(
     outputs: impl IntoIterator<Item = f64>,
     sums: impl IntoIterator<Item = f64>,
     phases: impl IntoIterator<Item = f64>,
+    controls: &[f64],
 ) -> Mark {
     if !outputs.into_iter().chain(sums).all(f64::is_finite) {
         Mark::NotFinite
     } else if !phases.into_iter().all(f64::is_finite) {
         Mark::Lost
+    } else if controls.iter().any(|control| control.is_nan()) {
+        Mark::Steered
     } else {
         Mark::Clean
     }

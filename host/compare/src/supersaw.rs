@@ -1,5 +1,5 @@
 //! The supersaw on both sides.
-use crate::draw::{under, Control, Draw, PITCH, UNIT};
+use crate::draw::{Control, Draw, PITCH, UNIT};
 use crate::marked::Marked;
 use crate::pair::{block, both, refusal};
 use crate::script::{Counts, Pair};
@@ -32,7 +32,7 @@ impl Pair for Supersaw {
         let mut floats = [0.0; 10];
         floats[..8].fill_with(|| phase(draw));
         floats[8] = draw.state_rate();
-        floats[9] = under(&[key], draw.hertz());
+        floats[9] = draw.under(&[key], Draw::hertz);
         (floats, [key, draw.valid()])
     }
 

@@ -1,5 +1,5 @@
 //! The voltage-controlled oscillator on both sides.
-use crate::draw::{under, Control, Draw, GATE, OCTAVES, PITCH, UNIT, VOLTS};
+use crate::draw::{Control, Draw, GATE, OCTAVES, PITCH, UNIT, VOLTS};
 use crate::marked::Marked;
 use crate::pair::{block, both, refusal};
 use crate::script::{Counts, Pair};
@@ -27,7 +27,7 @@ impl Pair for Vco {
 
     fn invent(&self, controls: &[f64], draw: &mut Draw) -> ([f64; 4], [u64; 4]) {
         let [a, b, c] = draw.keys([controls[0], controls[1], controls[4]]);
-        let val = under(&[a, b, c], draw.hertz());
+        let val = draw.under(&[a, b, c], Draw::hertz);
         // now and then right where the square falls
         let phase = if draw.one_in(8) { controls[2].clamp(0.05, 0.95) } else { draw.phase() };
         ([phase, draw.state_rate(), draw.previous(), val], [a, b, c, draw.valid()])

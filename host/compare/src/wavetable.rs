@@ -1,5 +1,5 @@
 //! The wavetable oscillator on both sides, over one bank.
-use crate::draw::{under, Control, Draw, GATE, PITCH, UNIT};
+use crate::draw::{Control, Draw, GATE, PITCH, UNIT};
 use crate::pair::{block, both, refusal, used};
 use crate::script::{mark, unchanged, Counts, Pair};
 use gruttisol::answer::{Mark, Refused};
@@ -52,7 +52,7 @@ impl Pair for Wavetable {
 
     fn invent(&self, controls: &[f64], draw: &mut Draw) -> ([f64; 4], [u64; 2]) {
         let [key] = draw.keys([controls[0]]);
-        let val = under(&[key], draw.hertz());
+        let val = draw.under(&[key], Draw::hertz);
         ([draw.phase(), draw.state_rate(), draw.previous(), val], [key, draw.valid()])
     }
 
@@ -89,7 +89,7 @@ impl Pair for Wavetable {
         let ([phase, _, previous, _], _) = self.theirs.flat();
         self.theirs.body(controls.try_into().unwrap(), wanted, samples.try_into().unwrap());
         let ([_, rate, _, freq], _) = self.theirs.flat();
-        mark(samples.iter().copied(), [], [used(phase, previous, controls[3]) + freq / rate])
+        mark(samples.iter().copied(), [], [used(phase, previous, controls[3]) + freq / rate], controls)
     }
 }
 

@@ -80,9 +80,9 @@ fn a_nan_for_a_memos_key() {
         assert!(theirs.flat().0[3].is_nan());
         let mut ours = Lfo::of_parts(floats, wholes);
         let ticked = ours.tick(&Controls { rate, depth: 10.0, reset: 0.0 }, Lfo::WANT_ALL).unwrap();
-        assert_eq!(ticked.mark, Mark::Clean);
+        assert_eq!(ticked.mark, Mark::Steered);
         assert_eq!(*ours.parts().0, [1.0 / 48000.0, 48000.0, 0.0, 1.0]);
-        println!("ours hits and goes on at 1 Hz, the Rust misses");
+        println!("ours hits, goes on at 1 Hz and is steered, the Rust misses");
 
         // of a Vco the Rust's triangle is then no number
         let (floats, wholes) = ([0.0, 48000.0, 0.0, 1.0], [0x7ff8_0000_0000_0000, 0, 0, 1]);
@@ -93,7 +93,7 @@ fn a_nan_for_a_memos_key() {
         let controls = gruttisol::vco::Controls { voct: rate, fm: 0.0, pw: 0.5, sync: 0.0, fm_lin: 0.0 };
         let mut ours = gruttisol::vco::Vco::of_parts(floats, wholes);
         let ticked = ours.tick(&controls, gruttisol::vco::Vco::WANT_ALL).unwrap();
-        assert_eq!(ticked.mark, Mark::Clean);
-        println!("a Vco of ours hits and is clean, the Rust's triangle is {}", samples[1]);
+        assert_eq!(ticked.mark, Mark::Steered);
+        println!("a Vco of ours hits and is steered, the Rust's triangle is {}", samples[1]);
     }
 }
