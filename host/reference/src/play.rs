@@ -55,6 +55,7 @@ struct Marks {
     cleared: u32,
     notfinite: u32,
     lost: u32,
+    steered: u32,
 }
 
 impl Marks {
@@ -64,14 +65,15 @@ impl Marks {
             Mark::Cleared => &mut self.cleared,
             Mark::NotFinite => &mut self.notfinite,
             Mark::Lost => &mut self.lost,
+            Mark::Steered => &mut self.steered,
         } += 1;
     }
 
     fn write(&self, frames: u32, out: &mut impl Write) -> io::Result<()> {
-        let Marks { finished, cleared, notfinite, lost } = self;
-        let begun = finished + cleared + notfinite + lost;
+        let Marks { finished, cleared, notfinite, lost, steered } = self;
+        let begun = finished + cleared + notfinite + lost + steered;
         let claimed = if *finished == begun && begun == frames { "yes" } else { "no" };
         writeln!(out, "begun={begun}\nfinished={finished}\ncleared={cleared}\nnotfinite={notfinite}\nlost={lost}")?;
-        writeln!(out, "claimed={claimed}")
+        writeln!(out, "steered={steered}\nclaimed={claimed}")
     }
 }

@@ -13,13 +13,13 @@ pub struct Counts {
     pub claimed: u64,
     pub frames: u64,
     /// Frames of each mark that a score can get.
-    pub marks: [u64; 3],
+    pub marks: [u64; MARKS.len()],
     /// Scores refused by 20, 21, 22 and 23.
     pub refused: [u64; 4],
 }
 
 /// The marks that a score can get; only the string clears its line, and no score plays it.
-const MARKS: [&str; 3] = ["notfinite", "lost", "clean"];
+const MARKS: [&str; 4] = ["notfinite", "lost", "steered", "clean"];
 
 impl Counts {
     fn take(&mut self, text: &[u8]) {

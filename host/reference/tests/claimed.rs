@@ -48,6 +48,7 @@ fn status_of(name: &str, score: &str) -> Option<i32> {
 fn claimed_not_claimed_and_refused() {
     assert_eq!(status_of("claimed", SCORE), Some(0));
     assert_eq!(status_of("not_claimed", &SCORE.replace("500000", "nan")), Some(1));
+    assert_eq!(status_of("steered", &SCORE.replace("reset=0", "reset=nan")), Some(1));
     assert_eq!(status_of("refused_20", &SCORE.repeat(20)), Some(2));
     assert_eq!(status_of("refused_21", ""), Some(2));
     assert_eq!(status_of("refused_22", &SCORE.replace("48000", "x")), Some(2));
@@ -88,8 +89,8 @@ fn texts_without_an_end() {
         assert_eq!(fails(run(program, Stdio::null(), Stdio::piped())), text.replace("\\n", "\n").as_bytes());
     };
     cut("nothing", "");
-    cut("cut_claim", "lost=0\\nclaimed=yes");
-    cut("cut_word", "lost=0\\nclaimed=y");
+    cut("cut_claim", "steered=0\\nclaimed=yes");
+    cut("cut_word", "steered=0\\nclaimed=y");
     cut("cut_frame", "n=0\\nmark=clean\\n");
     cut("cut_refusal", "refused=2");
     cut("cut_feed", "refused=21");
