@@ -5,7 +5,7 @@ use gruttisol::answer::{Mark, Refused};
 use gruttisol::formant_osc::{self, FormantOsc};
 use gruttisol::karplus_strong::{self, KarplusStrong};
 use gruttisol::noise_generator::{self, NoiseGenerator};
-use gruttisol::tally::Tally;
+use gruttisol::tally::{self, Tally};
 use gruttisol::wavetable::{self, Wavetable};
 use random::Random;
 use std::fmt::Write;
@@ -49,13 +49,11 @@ impl Text {
 
     /// The whole, of so many frames.
     fn end(mut self, frames: u32) -> String {
-        let [begun, finished, cleared, notfinite, lost] = *self.tally.counts();
+        let [begun, finished, ..] = *self.tally.counts();
         let claimed = if finished == begun && begun == frames { "yes" } else { "no" };
-        writeln!(
-            self.text,
-            "begun={begun}\nfinished={finished}\ncleared={cleared}\nnotfinite={notfinite}\nlost={lost}"
-        )
-        .unwrap();
+        for (name, count) in tally::NAMES.iter().zip(self.tally.counts()) {
+            writeln!(self.text, "{name}={count}").unwrap();
+        }
         writeln!(self.text, "claimed={claimed}").unwrap();
         self.text
     }

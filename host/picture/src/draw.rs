@@ -24,7 +24,8 @@ const PARTS: f64 = 10.0;
 const LIGHT: &str = "stroke=\"#000\" stroke-opacity=\".2\"";
 const COLOURS: [&str; 5] = ["#1f6fb2", "#c2571a", "#2f855a", "#8a3ffc", "#b83280"];
 /// The marks that aren't clean, and what stands behind their frames.
-const BEHIND: [(&str, &str); 3] = [("notfinite", "#f8c9c4"), ("lost", "#fbe3b5"), ("cleared", "#cfe3f7")];
+const BEHIND: [(&str, &str); 4] =
+    [("notfinite", "#f8c9c4"), ("lost", "#fbe3b5"), ("cleared", "#cfe3f7"), ("steered", "#e3d5f5")];
 
 /// The picture of a render with `hz` frames a second.
 pub fn svg(render: &Render, hz: u32) -> String {

@@ -9,9 +9,9 @@ pub struct Render {
     pub end: Vec<String>,
 }
 
-const MARKS: [&str; 4] = ["clean", "cleared", "notfinite", "lost"];
+const MARKS: [&str; 5] = ["clean", "cleared", "notfinite", "lost", "steered"];
 /// The lines at the end, by their keys.
-const END: [&str; 6] = ["begun", "finished", "cleared", "notfinite", "lost", "claimed"];
+const END: [&str; 7] = ["begun", "finished", "cleared", "notfinite", "lost", "steered", "claimed"];
 
 /// Reads the whole text. Every frame must have the outputs of the first, in their order.
 pub fn read(text: &str) -> Result<Render, String> {

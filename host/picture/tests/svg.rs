@@ -3,16 +3,17 @@ use picture::svg;
 
 const HZ: u32 = 48000;
 
-const END: &str = "begun=4\nfinished=2\ncleared=0\nnotfinite=1\nlost=1\nclaimed=no\n";
+const END: &str = "begun=5\nfinished=2\ncleared=0\nnotfinite=1\nlost=1\nsteered=1\nclaimed=no\n";
 
-/// 0, 5, -5 V and the NaN on one output, 1 V throughout on the other; the third frame is lost, the fourth not finite.
-fn four_frames() -> String {
+/// 0, 5, -5 V, the NaN and 0 V on one output, 1 V throughout on the other; the third frame is lost, the fourth not finite, the fifth steered.
+fn five_frames() -> String {
     let frame = |n, mark, up| format!("n={n}\nmark={mark}\nup={up}\nflat=3FF0000000000000\n");
     [
         frame(0, "clean", "0000000000000000"),
         frame(1, "clean", "4014000000000000"),
         frame(2, "lost", "C014000000000000"),
         frame(3, "notfinite", "7FF8000000000000"),
+        frame(4, "steered", "0000000000000000"),
         END.into(),
     ]
     .concat()
@@ -62,18 +63,20 @@ fn axis<'a>(svg: &'a str, unit: &str) -> Vec<(f64, &'a str)> {
 
 #[test]
 fn points_and_marks() {
-    let svg = svg(&four_frames(), HZ).unwrap();
+    let svg = svg(&five_frames(), HZ).unwrap();
     well_formed(&svg);
     assert!(svg.starts_with("<svg xmlns=\"http://www.w3.org/2000/svg\" viewBox=\""));
-    // 640 wide from 96 on, 44 either way of the middle, and the curve ends before the NaN
-    let up = "points=\"96.0,76.0 256.0,32.0 416.0,120.0\"";
-    let flat = "points=\"96.0,144.0 256.0,144.0 416.0,144.0 576.0,144.0\"";
-    assert!(svg.contains(up) && svg.contains(flat), "{svg}");
-    assert_eq!(svg.matches("<polyline").count(), 2);
+    // 640 wide from 96 on, 44 either way of the middle, and the curve ends before the NaN; after it a point alone is a stroke
+    let up = "points=\"96.0,76.0 224.0,32.0 352.0,120.0\"";
+    let after = "points=\"608.0,76.0 609.0,76.0\"";
+    let flat = "points=\"96.0,144.0 224.0,144.0 352.0,144.0 480.0,144.0 608.0,144.0\"";
+    assert!(svg.contains(up) && svg.contains(after) && svg.contains(flat), "{svg}");
+    assert_eq!(svg.matches("<polyline").count(), 3);
     assert!(svg.contains(">up<") && svg.contains(">flat<"));
-    assert!(svg.contains("x=\"416.0\"") && svg.contains("<title>lost: frames 2 to 2</title>"));
-    assert!(svg.contains("x=\"576.0\"") && svg.contains("<title>notfinite: frames 3 to 3</title>"));
-    assert!(svg.contains("begun=4   finished=2   cleared=0   notfinite=1   lost=1   claimed=no"));
+    assert!(svg.contains("x=\"352.0\"") && svg.contains("<title>lost: frames 2 to 2</title>"));
+    assert!(svg.contains("x=\"480.0\"") && svg.contains("<title>notfinite: frames 3 to 3</title>"));
+    assert!(svg.contains("x=\"608.0\"") && svg.contains("<title>steered: frames 4 to 4</title>"));
+    assert!(svg.contains("begun=5   finished=2   cleared=0   notfinite=1   lost=1   steered=1   claimed=no"));
 }
 
 /// Neighbouring frames of one mark are one stretch, and a gap in a wave makes two curves.
@@ -172,9 +175,9 @@ fn frames_above_and_time_below() {
 /// The legend has the colours that stand behind frames, and no others.
 #[test]
 fn a_legend_of_the_marks_that_occur() {
-    let colours = [("notfinite", "#f8c9c4"), ("lost", "#fbe3b5"), ("cleared", "#cfe3f7")];
-    for mask in 0..8 {
-        let marks: Vec<_> = (0..3).filter(|n| mask >> n & 1 == 1).map(|n| colours[n]).collect();
+    let colours = [("notfinite", "#f8c9c4"), ("lost", "#fbe3b5"), ("cleared", "#cfe3f7"), ("steered", "#e3d5f5")];
+    for mask in 0..16 {
+        let marks: Vec<_> = (0..4).filter(|n| mask >> n & 1 == 1).map(|n| colours[n]).collect();
         let named = marks.iter().map(|(mark, _)| *mark).chain(["clean"]);
         let frames = named.enumerate().map(|(n, mark)| format!("n={n}\nmark={mark}\nout=3FF0000000000000\n"));
         let svg = svg(&(frames.collect::<String>() + END), HZ).unwrap();
@@ -208,7 +211,7 @@ fn rows_of_few_finite_samples() {
 
 #[test]
 fn rates_that_are_no_scores() {
-    let text = four_frames();
+    let text = five_frames();
     assert!(svg(&text, 1000).is_ok() && svg(&text, 192_000).is_ok());
     for hz in [0, 999, 192_001, u32::MAX] {
         let why = format!("{hz} Hz isn't the rate of a score, which is from 1000 to 192000");
@@ -218,7 +221,7 @@ fn rates_that_are_no_scores() {
 
 #[test]
 fn texts_that_are_no_render() {
-    let good = four_frames();
+    let good = five_frames();
     let cases = [
         ("refused=22\n".to_owned(), "the score was refused by 22: there is nothing to draw"),
         (String::new(), "the text ends before line 1"),
@@ -231,8 +234,9 @@ fn texts_that_are_no_render() {
         (good.replacen("up=0", "up=g", 1), "line 3 isn't a sample of 16 digits"),
         (good.replacen("up", "<b>", 1), "line 3 isn't a key, an equals sign and a value"),
         (good.replacen("n=1\nmark=clean\nup", "n=1\nmark=clean\ndown", 1), "line 7 isn't the output that is due"),
-        (good.replace("claimed=no\n", ""), "the text ends before line 22"),
-        (good.replace("lost=1\n", ""), "line 21 isn't the line of lost"),
+        (good.replace("claimed=no\n", ""), "the text ends before line 27"),
+        (good.replace("lost=1\n", ""), "line 25 isn't the line of lost"),
+        (good.replace("steered=1\n", ""), "line 26 isn't the line of steered"),
         (good[..40].to_owned(), "line 4 isn't a key, an equals sign and a value"),
     ];
     for (text, why) in cases {
@@ -253,8 +257,8 @@ fn the_command() {
         run.stdin.take().unwrap().write_all(text.as_bytes()).unwrap();
         run.wait_with_output().unwrap()
     };
-    let (text, refused) = (four_frames(), drawn("refused=21\n"));
-    let file = std::path::Path::new(env!("CARGO_TARGET_TMPDIR")).join("four_frames");
+    let (text, refused) = (five_frames(), drawn("refused=21\n"));
+    let file = std::path::Path::new(env!("CARGO_TARGET_TMPDIR")).join("five_frames");
     std::fs::write(&file, &text).unwrap();
     let file = file.to_str().unwrap();
     assert_eq!(drawn(&text).stdout, svg(&text, HZ).unwrap().as_bytes());
