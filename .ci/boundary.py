@@ -73,7 +73,7 @@ CONSTANTS = [
     ("COUNTS", "boundary", "COUNTS"),
     ("BANK", "wavetable", "BANK_SIZE"),
     ("TABLE", "wavetable", "PART_SIZE"),
-    *((mark, "answer", f"TOLD_{mark}") for mark in ("CLEARED", "NOTFINITE", "LOST", "CLEAN")),
+    *((mark, "answer", f"TOLD_{mark}") for mark in ("CLEARED", "NOTFINITE", "LOST", "CLEAN", "STEERED")),
 ]
 # and that another place says: the text with the number
 SAID = [

@@ -1,4 +1,5 @@
--- A mark keeps its volts, and says of the controls whether one is NaN; and from new a tally counts what it took, which is all that it is given while there is room.
+-- A mark keeps its volts, and says of the controls whether one is NaN; and from new a tally counts what it took, which is all that it is
+-- given while there is room.
 use mathlib.Core.Bool.{Bool, _&&_, true, false, cond, not, true≢false}
 use mathlib.Core.List.{List, [], _∷_}
 use mathlib.Core.Path.{_≡_, refl, sym, ap, _∙_, subst}

@@ -183,7 +183,8 @@ alike-sounded : (rising : Bool) (k : ℕ) (s t : KarplusStrong) (p b d c : Float
     (tickUnless k s m (stepOf (strikeIf rising t p b draws m .string) p d c numbers (strikeIf rising t p b draws m .line)))
 alike-sounded rising (suc k) s t p b d c numbers draws l m e a h g r = same-refused k s l m _ _ e
 alike-sounded false zero s t p b d c numbers draws l m e a h g r = unfold tickUnless strikeIf in alike-step t p d c numbers l m h g a
-alike-sounded true zero s t p b d c numbers draws l m e a h g r = unfold tickUnless strikeIf strikeOf in alike-struck-step t p b d c numbers draws l m r (a .size)
+alike-sounded true zero s t p b d c numbers draws l m e a h g r =
+    unfold tickUnless strikeIf strikeOf in alike-struck-step t p b d c numbers draws l m r (a .size)
   where
     alike-struck-step : (t : KarplusStrong) (p b d c : Float) (numbers : Bool) (draws : List ℕ) (l m : List Float) → struckLen p ≤ length l
         → length l ≡ length m
@@ -192,8 +193,8 @@ alike-sounded true zero s t p b d c numbers draws l m e a h g r = unfold tickUnl
     alike-struck-step t p b d c numbers draws l m r e =
         let q = length-struck (struckLen p) b draws l r in
         let z : 0 < struckLen p = unfold struckLen in omega arith in
-        alike-step (restOf t (struckLen p) (t .«trigger_edge»)) p d c numbers (struckOf (struckLen p) b draws l) (struckOf (struckLen p) b draws m) z (omega arith)
-        (alike-struck (struckLen p) b draws l m r e)
+        alike-step (restOf t (struckLen p) (t .«trigger_edge»)) p d c numbers (struckOf (struckLen p) b draws l) (struckOf (struckLen p) b draws m) z
+        (omega arith) (alike-struck (struckLen p) b draws l m r e)
 
 alike-sound : (s : KarplusStrong) (c : KarplusStrongControls) (draws : List ℕ) (l m : List Float) → Sound s → maxLenOf (s .«sample_rate») + 2 ≤ length l
     → Alike (s .len) l m → SameTick (karplusStrongSoundOf s c draws l) (karplusStrongSoundOf s c draws m)

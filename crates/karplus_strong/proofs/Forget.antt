@@ -21,7 +21,8 @@ use Rattle.karplus_strong.specs.Consts.{nPorts}
 use Rattle.karplus_strong.specs.Line.{struckOf}
 use Rattle.karplus_strong.specs.Step.{Ticking, restOf, stepOf}
 use Rattle.karplus_strong.specs.KarplusStrong.{triggerRefusalOf, firstRefusalOf, karplusStrongBlockOf, finiteOr, struckLen, strikeOf, strikeIf}
-use Rattle.karplus_strong.specs.KarplusStrong.{heardString, tickUnless, karplusStrongTickOf, Strung, dampingOf, brightnessOf, stretchOf, controlsOf, memoAt, periodAt}
+use Rattle.karplus_strong.specs.KarplusStrong.{heardString, tickUnless, karplusStrongTickOf, Strung, dampingOf, brightnessOf, stretchOf, controlsOf}
+use Rattle.karplus_strong.specs.KarplusStrong.{memoAt, periodAt}
 use Rattle.answer.specs.Mark.{allNumbers}
 use Rattle.karplus_strong.specs.Calls.{Call, Tick, Play, Ticked, after, reply, Fit, ReachedKarplusStrong}
 use Rattle.karplus_strong.specs.Promises.{taken, Strikes, Fresh, Forgotten, Forgets, Block-forgets, SameTick}

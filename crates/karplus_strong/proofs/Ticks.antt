@@ -76,7 +76,7 @@ pub sound-is : (s : KarplusStrong) (c : KarplusStrongControls) (draws : List ℕ
 unfolding karplusStrongSoundOf triggerRefusalOf struckStep
 sound-is s c draws l = refl
 
-pub struck-heard : (s : KarplusStrong) (c : KarplusStrongControls) (draws : List ℕ) (l : List Float) → Heard (allNumbers (controlsOf c)) (struckStep s c draws l .out .answer)
+pub struck-heard : (s : KarplusStrong) (c : KarplusStrongControls) (draws : List ℕ) (l : List Float) → Heard (numbersOf c) (struckStep s c draws l .out .answer)
 unfolding struckStep
 struck-heard s c draws l =
     let struck = strikeIf (taken s c) (heardString s (risingOf (s .«trigger_edge») (c .trigger) .edge) (memoAt s c)) (periodAt s c) (brightnessOf c) draws l in

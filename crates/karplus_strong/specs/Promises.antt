@@ -21,9 +21,9 @@ use Rattle.answer.specs.declared.Tally.{Tally}
 use Rattle.karplus_strong.specs.Consts.{nPorts}
 use Rattle.karplus_strong.specs.Step.{Ticking}
 use Rattle.karplus_strong.specs.KarplusStrong.{maxLenOf, Strung, strung, newStrung, newLike, roomOf, karplusStrongRefusalOf, karplusStrongCellsOf}
-use Rattle.karplus_strong.specs.KarplusStrong.{Making, karplusStrongNewOf, struckLen, stretchOf, controlsOf, periodAt, karplusStrongTickOf, karplusStrongToldOf}
+use Rattle.karplus_strong.specs.KarplusStrong.{Making, karplusStrongNewOf, struckLen, stretchOf, controlsOf, periodAt, karplusStrongTickOf}
 use Rattle.karplus_strong.specs.KarplusStrong.{karplusStrongNextOf, triggerRefusalOf, firstRefusalOf, karplusStrongBlockOf, karplusStrongResetOf}
-use Rattle.karplus_strong.specs.KarplusStrong.{karplusStrongSetSampleRateOf}
+use Rattle.karplus_strong.specs.KarplusStrong.{karplusStrongToldOf, karplusStrongSetSampleRateOf}
 use Rattle.karplus_strong.specs.Calls.{Call, Tick, Play, Reset, SetSampleRate, Lend, Told, strungAfter, after, reply, Fit, First, ReachedKarplusStrong}
 use Rattle.karplus_strong.specs.declared.KarplusStrong.{KarplusStrong}
 use Rattle.karplus_strong.specs.declared.KarplusStrongControls.{KarplusStrongControls}
@@ -164,9 +164,9 @@ steadyMark c = cond (allNumbers (controlsOf c)) clean steered
 
 abbrev pub Finite-or-cleared : Type 0
 Finite-or-cleared =
-    (s : KarplusStrong) (c : KarplusStrongControls) (draws : List ℕ) (l : List Float) → accepted (karplusStrongTickOf s c draws l .out .answer) ≡ true
-    → ((markNumber (karplusStrongTickOf s c draws l .out .answer) ≡ steadyMark c) × (isFin (voltsOf (karplusStrongTickOf s c draws l .out .answer) .p10) ≡ true))
-    ⊎ ((markNumber (karplusStrongTickOf s c draws l .out .answer) ≡ cleared) × (voltsOf (karplusStrongTickOf s c draws l .out .answer) ≡ volts1 zer))
+    (s : KarplusStrong) (c : KarplusStrongControls) (draws : List ℕ) (l : List Float) → let a = karplusStrongTickOf s c draws l .out .answer in
+    accepted a ≡ true
+    → ((markNumber a ≡ steadyMark c) × (isFin (voltsOf a .p10) ≡ true)) ⊎ ((markNumber a ≡ cleared) × (voltsOf a ≡ volts1 zer))
 
 -- and while its stretch counts as 0.0 or -0.0 a string is never cleared, whatever its other controls do. With another it may be: at
 -- 48,000 Hz, voct 0.0 and damping 1.0, a stretch of -1.0 and 1.0 by turns drives the loop up until it overflows

@@ -35,7 +35,8 @@ tickedOf s mix numbers memo v =
 
 pub sound-done : (s : Supersaw) (c : SupersawControls) (u : Supersaw) (detune mix : Float) (numbers : Bool) (memo : Memo1)
     (sum total center : Float) (finite : Bool) (i : ℕ)
-    → detune ≡ clampOf (c .detune) zer one → mix ≡ clampOf (c .mix) zer one → numbers ≡ allNumbers (controlsOf c) → memo ≡ recall1 voctToHzAt (s .«freq_memo») (c .voct .0)
+    → detune ≡ clampOf (c .detune) zer one → mix ≡ clampOf (c .mix) zer one → numbers ≡ allNumbers (controlsOf c)
+    → memo ≡ recall1 voctToHzAt (s .«freq_memo») (c .voct .0)
     → i ≤ 7 → 7 ≤ i → localsOf u sum total center finite ≡ voicesOf detune (memo .val) (s .«sample_rate») (s .phases) i
     → tickedOf s mix numbers memo (localsOf u sum total center finite) ≡ supersawSoundOf s c
 sound-done s c u detune mix numbers memo sum total center finite i d x n m a b e =

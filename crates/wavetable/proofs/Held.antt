@@ -29,7 +29,8 @@ use Rattle.wavetable.proofs.Accepted.{accepts, bank-sized}
 use Rattle.wavetable.specs.Shortcuts.{pairOf, mixAt, heldAnswer, heldNext}
 use Rattle.wavetable.specs.Consts.{bankSize}
 use Rattle.wavetable.specs.Reads.{tablePosOf, tableIndexOf, blendOf, readTable, mixOf}
-use Rattle.wavetable.specs.Wavetable.{controlsOf, wavetableRefusalOf, wavetableTickRefusalOf, wavetableSoundOf, wavetableTickOf, wavetableToldOf, wavetableNextOf}
+use Rattle.wavetable.specs.Wavetable.{controlsOf, wavetableRefusalOf, wavetableTickRefusalOf, wavetableSoundOf, wavetableTickOf}
+use Rattle.wavetable.specs.Wavetable.{wavetableToldOf, wavetableNextOf}
 use Rattle.wavetable.specs.Promises.{taken, Block-accepts, Block-tallies}
 use Rattle.wavetable.specs.declared.Pair.{Pair}
 use Rattle.wavetable.specs.declared.Wavetable.{Wavetable}

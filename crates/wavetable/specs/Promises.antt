@@ -88,7 +88,8 @@ pub record Plays (t u : WavetableTicked) : Type 0 where
   pub mark : markNumber (u .answer) ≡ clean → markNumber (t .answer) ≡ steered
 
 abbrev pub Nan-table : Type 0
-Nan-table = (s : Wavetable) (c : WavetableControls) (bank : List Float) → c .table ≡ nan → Plays (wavetableTickOf s c bank) (wavetableTickOf s (secondTable c) bank)
+Nan-table = (s : Wavetable) (c : WavetableControls) (bank : List Float) → c .table ≡ nan
+    → Plays (wavetableTickOf s c bank) (wavetableTickOf s (secondTable c) bank)
 
 -- ---- no tick of a block is refused whose first isn't, and a tally with room takes each of their answers
 abbrev pub Block-accepts : Type 0

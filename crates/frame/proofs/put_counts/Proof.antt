@@ -14,8 +14,8 @@ returns c =
     let put-3 = put-4 .before .before .before .before .before in
     let put-2 = put-3 .before .before .before .before .before in
     let put = put-2 .before .before .before .before .before in
-    after _ _ _ _ (after _ _ _ _ (after _ _ _ _ (after _ _ _ _ (after _ _ _ _ (put .put-count .ensures) (put-2 .put-count2 .ensures)) (put-3 .put-count3 .ensures))
-    (put-4 .put-count4 .ensures)) (put-5 .put-count5 .ensures)) (put-6 .put-count6 .ensures)
+    let three = after _ _ _ _ (after _ _ _ _ (put .put-count .ensures) (put-2 .put-count2 .ensures)) (put-3 .put-count3 .ensures) in
+    after _ _ _ _ (after _ _ _ _ (after _ _ _ _ three (put-4 .put-count4 .ensures)) (put-5 .put-count5 .ensures)) (put-6 .put-count6 .ensures)
 
 pub put-counts-spec : {M : Type 1} → statement M
 put-counts-spec =

@@ -65,8 +65,8 @@ returns c =
     let entered = known .before .before .before .before .before in
     run-by _ _ _ _ _ _ _ _ (tuned .before .finite-or .ensures) (tuned .voct-to-hz .ensures) (edged .before .period-of .ensures) (edged .rising .ensures)
     (entered .pre .0) (entered .pre .1) _ _ _ _ _ _ _
-    (bounded .within .ensures) (tuned .before .before .within2 .ensures) (known .are-numbers .ensures) refl (struck-if .strike-if .ensures) (at-tuned .tuned .ensures) _ (entered .pre .2)
-    _ _ _ (rung .ring .ensures)
+    (bounded .within .ensures) (tuned .before .before .within2 .ensures) (known .are-numbers .ensures) refl (struck-if .strike-if .ensures)
+    (at-tuned .tuned .ensures) _ (entered .pre .2) _ _ _ (rung .ring .ensures)
 
 pub run-spec : {M : Type 1} → statement M
 run-spec =

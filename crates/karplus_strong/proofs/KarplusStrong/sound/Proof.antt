@@ -72,5 +72,5 @@ returns-2 c =
 pub sound-spec : {M : Type 1} → statement M
 sound-spec =
     tie.close
-    (tie.spec (λ c κs. search needs) within-requires within-requires-2 (λ c κs. search needs) (λ c κs. search needs) period-of-requires (λ c κs. search needs) draws-refusal-requires
-    strike-if-requires step-requires (λ c. search needs) returns returns-2)
+    (tie.spec (λ c κs. search needs) within-requires within-requires-2 (λ c κs. search needs) (λ c κs. search needs) period-of-requires (λ c κs. search needs)
+    draws-refusal-requires strike-if-requires step-requires (λ c. search needs) returns returns-2)

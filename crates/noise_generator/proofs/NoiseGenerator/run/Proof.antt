@@ -77,7 +77,8 @@ add-i c =
     let apart = tested .before .before .before .before .before in
     let t = tested .loop-test .taken in
     let s = tested .before .loop .inv in
-    let g = apart .before .before .before .before .before .before .good in
+    let begun = apart .before .before .before .before .before .before in
+    let g = begun .good in
     omega (arith, t, s, g)
 
 loop-again : tie.Need-loop-again Inv-loop μ-loop

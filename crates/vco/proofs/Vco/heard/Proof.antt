@@ -9,7 +9,8 @@ returns c =
     let s = tested .before .before .before in
     let quiet = tested .before .calm .ensures (tested .if1 .taken) in
     let a = s .args in
-    simp (c .marked .ensures, c .before .plain .ensures) (quiet-answer (a .at) (a .phase .0) (a .p-old .0) (a .pw) (a .dt .0) (a .wanted) (a .numbers) (s .pre .0) quiet)
+    simp (c .marked .ensures, c .before .plain .ensures)
+    (quiet-answer (a .at) (a .phase .0) (a .p-old .0) (a .pw) (a .dt .0) (a .wanted) (a .numbers) (s .pre .0) quiet)
 
 pub heard-spec : {M : Type 1} → statement M
 heard-spec =
