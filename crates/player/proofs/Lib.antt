@@ -4,6 +4,7 @@ pub mod Range
 pub mod Accepted
 pub mod Heard
 pub mod Counts
+pub mod Unclaimed
 pub mod Rendered
 pub mod Whole
 pub mod On

@@ -9,6 +9,7 @@ use Rattle.player.specs.Promises.{Read-renders, Settled}
 use Rattle.player.proofs.Counts.{all-begin, heard-counts, claimed-clean}
 use Rattle.player.proofs.Heard.{frames-heard, frames-accepted}
 use Rattle.player.proofs.Range.{valid-rate}
+use Rattle.player.proofs.Unclaimed.{nan-unclaimed}
 
 pub read-renders : Read-renders
 read-renders text s e =
@@ -23,6 +24,7 @@ read-renders text s e =
       counts = counts;
       begun = counts .begun ∙ all-begin (heardOf s) accepts ∙ n;
       claimed = claimed-clean s (omega arith);
+      with-nan = nan-unclaimed s (v .head .frames-least) (omega arith);
     }
 
 pub settled : Settled

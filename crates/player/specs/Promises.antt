@@ -1,6 +1,6 @@
 -- Theorems about playing a score: the statements. The proofs of the same names in small letters stand in proofs/.
 use Prim.Native.Nat.{ℕ, _+_, _*_, _≤_}
-use mathlib.Core.Bool.{Bool, true}
+use mathlib.Core.Bool.{Bool, true, false}
 use mathlib.Core.List.{List, [], _∷_, _++_}
 use mathlib.Core.Path.{_≡_}
 use lib.Ieee.{Float}
@@ -17,6 +17,10 @@ use Rattle.line.specs.Bytes.{ascii}
 use Rattle.score.specs.Score.{scoreOf}
 use Rattle.score.specs.Promises.{Valid}
 use Rattle.score.specs.Text.{ownerOf}
+use Rattle.score.specs.declared.Control.{Control}
+use Rattle.score.specs.declared.Control.the-variants.{Microvolts, Nan}
+use Rattle.score.specs.declared.Inputs.{Inputs}
+use Rattle.score.specs.declared.Inputs.the-variants as inputs
 use Rattle.score.specs.declared.Score.{Score}
 use Rattle.score.specs.declared.Reading.the-variants.{Values}
 use Rattle.frame.specs.End.{claimedOf, endText}
@@ -68,6 +72,21 @@ pub record ClaimedWhenClean (s : Score) : Type 0 where
 abbrev pub Claimed-clean : Type 0
 Claimed-clean = (s : Score) → s .head .frames ≤ 4294967295 → ClaimedWhenClean s
 
+-- ---- and it never is with an input that is nan, whichever it is: a NaN control is told in the first frame already
+abbrev pub inputsIn : Inputs → List Control
+inputsIn (inputs.Vco i) = i .voct ∷ i .fm ∷ i .pw ∷ i .sync ∷ i .«fm_lin» ∷ []
+inputsIn (inputs.Lfo i) = i .rate ∷ i .depth ∷ i .reset ∷ []
+inputsIn (inputs.Supersaw i) = i .voct ∷ i .detune ∷ i .mix ∷ []
+inputsIn (inputs.Formant i) = i .«v_oct» ∷ i .vowel ∷ i .«formant_shift» ∷ i .vibrato ∷ []
+
+unfoldable pub someNan : List Control → Bool
+someNan [] = false
+someNan (Microvolts n ∷ xs) = someNan xs
+someNan (Nan ∷ xs) = true
+
+abbrev pub Nan-unclaimed : Type 0
+Nan-unclaimed = (s : Score) → 1 ≤ s .head .frames → s .head .frames ≤ 4294967295 → someNan (inputsIn (s .inputs)) ≡ true → claims s ≡ false
+
 -- ---- so of a score that is read: a tick for each frame, all of them accepted and all begun, each counted by its mark
 pub record Rendered (s : Score) : Type 0 where
   pub frames : length (heardOf s) ≡ s .head .frames
@@ -75,6 +94,7 @@ pub record Rendered (s : Score) : Type 0 where
   pub counts : CountsAll (heardOf s)
   pub begun : tallyAfter (heardOf s) .begun ≡ s .head .frames
   pub claimed : ClaimedWhenClean s
+  pub with-nan : someNan (inputsIn (s .inputs)) ≡ true → claims s ≡ false
 
 abbrev pub Read-renders : Type 0
 Read-renders = (text : List ℕ) (s : Score) → scoreOf text ≡ Values s → Rendered s
