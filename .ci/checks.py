@@ -343,6 +343,25 @@ def sheet_is_table(files):
             yield f"{SHEET}: {' '.join(of_sheet)}"
 
 
+def controls_asked(files):
+    """Each control of an oscillator stands in the list that steered asks, and each that is a number in that of the promise Nan-steers."""
+    named = lambda text: re.findall(r"\bc \.«?(\w+)", text)
+    for source in [path for path in files if re.fullmatch(r"crates/\w+/src/lib.rt", path)]:
+        controls = re.search(r"^pub struct \w+Controls \{\n(.*?)^\}", files[source], re.M | re.S)
+        fields = re.findall(r"^    pub (\w+): (\w+),$", controls[1], re.M) if controls else []
+        of_crate = [path for path in files if path.startswith(source.replace("src/lib.rt", "specs/"))]
+        for path, text in ((path, files[path]) for path in of_crate if fields):
+            for listed in re.findall(r"^controlsOf c = (.*)$", text, re.M):
+                if named(listed) != [name for name, _ in fields]:
+                    yield f"{path}: controlsOf lists {named(listed)}"
+            for listed in re.findall(r"^Nan-steers = .*?Steers \((.*?)\)", text, re.M | re.S):
+                if named(listed) != [name for name, kind in fields if kind in ("f64", "VoltsPerOctave")]:
+                    yield f"{path}: Nan-steers lists {named(listed)}"
+        for stated in ("controlsOf c =", "Nan-steers ="):
+            if fields and not any(f"\n{stated} " in files[path] for path in of_crate):
+                yield f"{source}: no {stated} in specs"
+
+
 # every edit of these is tried from nothing; of any other crate one is
 LIGHT = {"laws", "values", "examples"}
 # no edit of these changes definition and code together
@@ -584,6 +603,13 @@ CHECKS = {
         changed(TABLE, "    [64, 32, 16, 8, 4, 2, 1, 1], // Pulse25\n", ""),
         changed(TABLE, "const MAX_HARMONICS", "const HARMONICS"),
         {TABLE: "", SHEET: "## The sheet\n| wave | 0 | 1 | 2 | 3 | 4 | 5 | 6 | 7 |\n## \n"},
+    ],
+    controls_asked: [
+        changed("crates/vco/specs/Vco.antt", "c .pw ∷ c .sync ∷", "c .sync ∷"),
+        changed("crates/wavetable/specs/Promises.antt", "∷ c .table ∷ c .morph ∷", "∷ c .morph ∷"),
+        changed("crates/lfo/specs/Lfo.antt", "controlsOf c = c .rate ∷ c .depth", "controlsOf c = c .rate ∷ c .rate"),
+        changed("crates/noise_generator/specs/NoiseGenerator.antt", "givenIn (c .correlation)", "[]"),
+        {"crates/x/src/lib.rt": "pub struct XControls {\n    pub y: f64,\n}\n"},
     ],
     tests_counted: [
         {".ci/harness": HARNESS.replace("failed b", "ok b")},

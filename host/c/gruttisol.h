@@ -26,9 +26,9 @@
  * What a host must change that was written for an earlier header:
  *   - A TICK MAY NOW ANSWER 15, STEERED, and so may the marks of a block: a control that was given to it is NaN. It is no refusal: the
  *     state has moved on. And it is NOT FINISHED, though its samples are finite. NOTHING IN THE LENGTHS OF A TICK'S ARRAYS TELLS A HOST
- *     OF THIS. The other numbers mean what they meant, clean is 14. A host that takes every number above 10 but 14 for dirty is right
- *     already. ONE THAT TAKES 11, 12 AND 13 FOR DIRTY AND THE REST FOR CLEAN MUST CHANGE, or it counts steered ticks as finished; and so
- *     must one that takes all but 11 to 14 for refused;
+ *     OF THIS. The other numbers mean what they meant, clean is 14. A host that takes 14 alone for finished, and 1 to 7 and 50 to 53 for
+ *     refused, is right already. ONE THAT TAKES 11, 12 AND 13 FOR DIRTY AND THE REST FOR CLEAN MUST CHANGE, or it counts steered ticks as
+ *     finished; and so must one that takes all but 11 to 14 for refused;
  *   - a tally has six counts, of which steered is the last, and begun is the sum of the five others. Five counts are refused by 53, so a
  *     host with blocks or tallies notices;
  *   - a block's marks are 11 to 15, as a tick answers, and no longer 1 to 4;

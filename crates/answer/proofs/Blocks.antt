@@ -443,10 +443,10 @@ record Marks-one (a : Answer) : Type 0 where
 
 mark-one : (a : Answer) → accepted a ≡ true → Marks-one a
 unfolding hostNumber markNumber oneIf accepted counted
-mark-one (answer.Clean v) h = record { one = refl; marked = refl; same = λ t. refl }
 mark-one (answer.Cleared v) h = record { one = refl; marked = refl; same = λ t. refl }
 mark-one (answer.NotFinite v) h = record { one = refl; marked = refl; same = λ t. refl }
 mark-one (answer.Lost v) h = record { one = refl; marked = refl; same = λ t. refl }
+mark-one (answer.Clean v) h = record { one = refl; marked = refl; same = λ t. refl }
 mark-one (answer.Steered v) h = record { one = refl; marked = refl; same = λ t. refl }
 mark-one (answer.Refused n) h = absurd (false≢true h)
 

@@ -3,18 +3,21 @@
 use mathlib.Core.Bool.{Bool, _&&_, true, false, cond, not, true≢false}
 use mathlib.Core.List.{List, [], _∷_}
 use mathlib.Core.Path.{_≡_, refl, sym, ap, _∙_, subst}
-use Prim.Native.Nat.{ℕ, _+_, _≤_}
-use native.Mathlib.Nat.{add-zero}
+use Prim.Native.Nat.{ℕ, zero, suc, _+_, _≤_, _<_}
+use native.Mathlib.Nat.{add-zero, not-suc-le-zero, le-of-suc-le-suc}
 use native.Mathlib.Numerals.{add-one}
 use native.Mathlib.Omega.{arith}
 use lib.Arith.{lt-of-le-ne}
 use lib.Dec.{eqb, lit≤}
-use lib.Ieee.{Float}
+use lib.Ieee.{Float, nan, isNan}
+use lib.ListN.{length, getD}
 use borrow.Author.Tests.{eqb-true, eq-eqb, eqb-false, ne-eqb}
+use Rattle.laws.proofs.Tests.{both-true}
 use Rattle.laws.specs.Machine.{begun}
-use Rattle.answer.specs.Answer.{markNumber, voltsOf, refusalOf, accepted, answerOf, cleared, notfinite, lost, steered, clean}
+use Rattle.answer.specs.Answer.{markNumber, hostNumber, voltsOf, refusalOf, accepted, answerOf, cleared, notfinite, lost, steered, clean}
 use Rattle.answer.specs.Mark.{allFinite, allNumbers, ruleOf, markedOf, markOf}
-use Rattle.answer.specs.Promises.{Mark-says, Marks-in-order, Clean-steered, Steers, Counts, Tally-counts, Tally-takes-all, Takes, Refused-nowhere}
+use Rattle.answer.specs.Promises.{Mark-says, Marks-in-order, Clean-steered, Numbers-say, Steers, Sounds-as, Told-numbers}
+use Rattle.answer.specs.Promises.{Counts, Tally-counts, Tally-takes-all, Takes, Refused-nowhere}
 use Rattle.answer.specs.Tally.{sumOf, addsUp, oneIf, counted, talliedNumber, tallyOr, tallyOf, Run, settle, run, newRun, many, acceptedIn, tallyAfter}
 use Rattle.answer.specs.declared.Volts.{Volts}
 use Rattle.answer.specs.declared.Answer.{Answer}
@@ -92,21 +95,43 @@ rule-steers false true true false = (λ e. absurd (omega arith), λ e. refl)
 rule-steers false true false d = (λ e. absurd (omega arith), λ e. absurd (omega arith))
 rule-steers false false c d = (λ e. absurd (omega arith), λ e. absurd (omega arith))
 
-steers : (controls : List Float) (a : Answer) → (markNumber a ≡ clean → allNumbers controls ≡ true)
-    → (markNumber a ≡ steered → allNumbers controls ≡ false) → Steers controls a
-steers controls a p q =
-    record { when-clean = p; when-steered = q; with-nan = λ h e. true≢false (sym (p e) ∙ h); without-nan = λ h e. true≢false (sym h ∙ q e) }
-
 -- so of a tick that is marked over its controls, and of one that is refused
 pub mark-steers : (v : Volts) (zeroed sums phases : Bool) (controls : List Float) → Steers controls (markOf v zeroed sums phases (allNumbers controls))
 mark-steers v zeroed sums phases controls =
     let e = mark-says v zeroed sums phases (allNumbers controls) .number in
     let r = rule-steers zeroed (sums && allFinite v) phases (allNumbers controls) in
-    steers controls _ (λ h. r .0 (sym e ∙ h)) (λ h. r .1 (sym e ∙ h))
+    record { when-clean = λ h. r .0 (sym e ∙ h); when-steered = λ h. r .1 (sym e ∙ h) }
 
 pub refused-steers : (n : ℕ) (controls : List Float) → Steers controls (answer.Refused n)
 unfolding markNumber
-refused-steers n controls = steers controls _ (λ h. absurd (omega arith)) (λ h. absurd (omega arith))
+refused-steers n controls = record { when-clean = λ h. absurd (omega arith); when-steered = λ h. absurd (omega arith) }
+
+-- each control by itself
+number-of : (b : Bool) → not b ≡ true → b ≡ false
+number-of true h = absurd (true≢false (sym h))
+number-of false h = refl
+
+each-number : (xs : List Float) → allNumbers xs ≡ true → (i : ℕ) → i < length xs → isNan (getD xs i nan) ≡ false
+unfolding allNumbers
+each-number [] h i l = absurd (not-suc-le-zero l)
+each-number (x ∷ xs) h zero l = number-of (isNan x) (both-true (not (isNan x)) (allNumbers xs) h .0)
+each-number (x ∷ xs) h (suc i) l = each-number xs (both-true (not (isNan x)) (allNumbers xs) h .1) i (le-of-suc-le-suc l)
+
+number-each : (xs : List Float) → ((i : ℕ) → i < length xs → isNan (getD xs i nan) ≡ false) → allNumbers xs ≡ true
+unfolding allNumbers
+number-each [] h = refl
+number-each (x ∷ xs) h = rw (h zero (omega arith)) (number-each xs (λ i l. h (suc i) (omega arith)))
+
+pub numbers-say : Numbers-say
+numbers-say xs = (each-number xs, number-each xs)
+
+-- so one NaN is told of
+pub nan-given : (xs : List Float) (i : ℕ) → i < length xs → getD xs i nan ≡ nan → allNumbers xs ≡ false
+nan-given xs i l e = go (allNumbers xs) refl
+  where
+    go : (b : Bool) → allNumbers xs ≡ b → b ≡ false
+    go true h = absurd (true≢false (unfold isNan in (sym (ap isNan e) ∙ each-number xs h i l)))
+    go false h = refl
 
 -- of a tick that is x where n is 0, and else y, refused by n
 pub tick-steers : {T : Type 0} (told : T → Answer) (controls : List Float) (n : ℕ) (x y : T) → Steers controls (told x) → told y ≡ answer.Refused n
@@ -117,23 +142,47 @@ tick-steers told controls n x y h e = go (eqb n 0)
     go true = h
     go false = subst (Steers controls) (sym e) (refused-steers n controls)
 
+-- ---- a NaN in the place of a number that sounds the same
+pub mark-sounds : (v w : Volts) (zeroed sums phases numbers : Bool) → v ≡ w
+    → Sounds-as (markOf v zeroed sums phases false) (markOf w zeroed sums phases numbers)
+mark-sounds v w zeroed sums phases numbers e =
+    record {
+      volts = mark-says v zeroed sums phases false .volts ∙ e ∙ sym (mark-says w zeroed sums phases numbers .volts);
+      mark = λ h. ap (λ (u : Volts). markNumber (markOf u zeroed sums phases false)) e ∙ clean-steered w zeroed sums phases numbers h;
+    }
+
+pub tick-sounds : {T : Type 0} (told : T → Answer) (n : ℕ) (x u y : T) → Sounds-as (told x) (told u) → told y ≡ answer.Refused n
+    → Sounds-as (told (cond (eqb n 0) x y)) (told (cond (eqb n 0) u y))
+tick-sounds told n x u y h e = go (eqb n 0)
+  where
+    go : (b : Bool) → Sounds-as (told (cond b x y)) (told (cond b u y))
+    go true = h
+    go false = record { volts = refl; mark = λ c. absurd (unclean (sym (ap markNumber e) ∙ c)) }
+      where
+        unclean : markNumber (answer.Refused n) ≡ clean → ⊥
+        unclean c = unfold markNumber in omega arith
+
+pub told-numbers : Told-numbers
+unfolding hostNumber accepted markNumber
+told-numbers v = record { cleared = refl; notfinite = refl; lost = refl; clean = refl; steered = refl }
+
 -- a refused tick's mark has the number 0
 pub mark-accepted : (a : Answer) → not (eqb (markNumber a) 0) ≡ accepted a
 unfolding markNumber accepted
-mark-accepted (answer.Clean v) = refl
 mark-accepted (answer.Cleared v) = refl
 mark-accepted (answer.NotFinite v) = refl
 mark-accepted (answer.Lost v) = refl
+mark-accepted (answer.Clean v) = refl
 mark-accepted (answer.Steered v) = refl
 mark-accepted (answer.Refused n) = refl
 
 -- ---- refusals
 pub accepted-unrefused : (a : Answer) → accepted a ≡ true → refusalOf a ≡ 0
 unfolding accepted refusalOf
-accepted-unrefused (answer.Clean v) h = refl
 accepted-unrefused (answer.Cleared v) h = refl
 accepted-unrefused (answer.NotFinite v) h = refl
 accepted-unrefused (answer.Lost v) h = refl
+accepted-unrefused (answer.Clean v) h = refl
 accepted-unrefused (answer.Steered v) h = refl
 accepted-unrefused (answer.Refused n) h = absurd (true≢false (sym h))
 
@@ -153,10 +202,10 @@ mark-one : (a : Answer) → (markNumber a ≡ 0 → ⊥)
     → oneIf (markNumber a) clean + oneIf (markNumber a) cleared + oneIf (markNumber a) notfinite + oneIf (markNumber a) lost + oneIf (markNumber a) steered
     ≡ 1
 unfolding markNumber oneIf
-mark-one (answer.Clean v) h = refl
 mark-one (answer.Cleared v) h = refl
 mark-one (answer.NotFinite v) h = refl
 mark-one (answer.Lost v) h = refl
+mark-one (answer.Clean v) h = refl
 mark-one (answer.Steered v) h = refl
 mark-one (answer.Refused n) h = absurd (h refl)
 
@@ -167,19 +216,19 @@ counted-sum t a n h = let o = mark-one a n in omega arith
 -- an answer with a mark is an accepted tick's
 ticked : (a : Answer) (xs : List Answer) → (markNumber a ≡ 0 → ⊥) → acceptedIn (a ∷ xs) ≡ acceptedIn xs + 1
 unfolding acceptedIn accepted markNumber
-ticked (answer.Clean v) xs n = refl
 ticked (answer.Cleared v) xs n = refl
 ticked (answer.NotFinite v) xs n = refl
 ticked (answer.Lost v) xs n = refl
+ticked (answer.Clean v) xs n = refl
 ticked (answer.Steered v) xs n = refl
 ticked (answer.Refused k) xs n = absurd (n refl)
 
 not-ticked : (a : Answer) (xs : List Answer) → markNumber a ≡ 0 → acceptedIn (a ∷ xs) ≡ acceptedIn xs
 unfolding acceptedIn accepted markNumber
-not-ticked (answer.Clean v) xs z = absurd (omega arith)
 not-ticked (answer.Cleared v) xs z = absurd (omega arith)
 not-ticked (answer.NotFinite v) xs z = absurd (omega arith)
 not-ticked (answer.Lost v) xs z = absurd (omega arith)
+not-ticked (answer.Clean v) xs z = absurd (omega arith)
 not-ticked (answer.Steered v) xs z = absurd (omega arith)
 not-ticked (answer.Refused n) xs z = add-zero (acceptedIn xs)
 
@@ -264,10 +313,10 @@ module _ (t : Tally) (s : t .begun ≡ sumOf t) where
 
   takes-one : (a : Answer) → t .begun + weight a ≤ 4294967295 → Taken t a
   unfolding tallyOf markNumber counted oneIf weight accepted
-  takes-one (answer.Clean v) h = record { after = counted t clean; taken = simp (adds-up, not-full h); sum = omega arith; begun = refl }
   takes-one (answer.Cleared v) h = record { after = counted t cleared; taken = simp (adds-up, not-full h); sum = omega arith; begun = refl }
   takes-one (answer.NotFinite v) h = record { after = counted t notfinite; taken = simp (adds-up, not-full h); sum = omega arith; begun = refl }
   takes-one (answer.Lost v) h = record { after = counted t lost; taken = simp (adds-up, not-full h); sum = omega arith; begun = refl }
+  takes-one (answer.Clean v) h = record { after = counted t clean; taken = simp (adds-up, not-full h); sum = omega arith; begun = refl }
   takes-one (answer.Steered v) h = record { after = counted t steered; taken = simp (adds-up, not-full h); sum = omega arith; begun = refl }
   takes-one (answer.Refused n) h = record { after = t; taken = simp adds-up; sum = s; begun = omega arith }
 
@@ -315,9 +364,9 @@ takes t a u e = (ap talliedNumber e, ap (tallyOr t) e)
 
 pub refused-nowhere : Refused-nowhere
 unfolding tallyOf addsUp markNumber accepted
-refused-nowhere t (answer.Clean v) r h = absurd (true≢false r)
 refused-nowhere t (answer.Cleared v) r h = absurd (true≢false r)
 refused-nowhere t (answer.NotFinite v) r h = absurd (true≢false r)
 refused-nowhere t (answer.Lost v) r h = absurd (true≢false r)
+refused-nowhere t (answer.Clean v) r h = absurd (true≢false r)
 refused-nowhere t (answer.Steered v) r h = absurd (true≢false r)
 refused-nowhere t (answer.Refused n) r h = takes t (answer.Refused n) t (simp (eq-eqb (t .begun) (sumOf t) h))

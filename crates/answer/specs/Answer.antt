@@ -46,36 +46,36 @@ told mark = 10 + mark
 
 -- an answer's mark; 0 of a refused tick
 unfoldable pub markNumber : Answer → ℕ
-markNumber (answer.Clean v) = clean
 markNumber (answer.Cleared v) = cleared
 markNumber (answer.NotFinite v) = notfinite
 markNumber (answer.Lost v) = lost
+markNumber (answer.Clean v) = clean
 markNumber (answer.Steered v) = steered
 markNumber (answer.Refused n) = 0
 
 -- the sample volts; a refused tick has none
 unfoldable pub voltsOf : Answer → Volts
-voltsOf (answer.Clean v) = v
 voltsOf (answer.Cleared v) = v
 voltsOf (answer.NotFinite v) = v
 voltsOf (answer.Lost v) = v
+voltsOf (answer.Clean v) = v
 voltsOf (answer.Steered v) = v
 voltsOf (answer.Refused n) = volts1 zer
 
 -- the scope's number of a refusal; 0 of an accepted tick
 unfoldable pub refusalOf : Answer → ℕ
-refusalOf (answer.Clean v) = 0
 refusalOf (answer.Cleared v) = 0
 refusalOf (answer.NotFinite v) = 0
 refusalOf (answer.Lost v) = 0
+refusalOf (answer.Clean v) = 0
 refusalOf (answer.Steered v) = 0
 refusalOf (answer.Refused n) = n
 
 unfoldable pub accepted : Answer → Bool
-accepted (answer.Clean v) = true
 accepted (answer.Cleared v) = true
 accepted (answer.NotFinite v) = true
 accepted (answer.Lost v) = true
+accepted (answer.Clean v) = true
 accepted (answer.Steered v) = true
 accepted (answer.Refused n) = false
 

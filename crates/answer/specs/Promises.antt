@@ -1,16 +1,17 @@
 -- Theorems about answers, marks and the tally: the statements. proofs/Laws.antt proves each under the same name in small letters.
 use mathlib.Core.Path.{_≡_}
-use mathlib.Core.Logic.{_≢_}
 use mathlib.Core.Bool.{Bool, true, false, _&&_}
 use mathlib.Core.List.{List}
 use Prim.Native.Nat.{ℕ, _+_, _≤_, _<_}
-use lib.Ieee.{Float}
+use lib.Ieee.{Float, nan, isNan}
+use lib.ListN.{length, getD}
 use Rattle.answer.specs.Answer.{markNumber, hostNumber, voltsOf, accepted, cleared, notfinite, lost, steered, clean}
 use Rattle.answer.specs.Block.{roomFor, countedTo, answerAt, markAt}
 use Rattle.answer.specs.Mark.{allFinite, allNumbers, markOf, ruleOf}
 use Rattle.answer.specs.Tally.{Run, run, newRun, sumOf, many, acceptedIn, tallyAfter, talliedNumber, tallyOr, tallyOf}
 use Rattle.answer.specs.declared.Volts.{Volts}
 use Rattle.answer.specs.declared.Answer.{Answer}
+use Rattle.answer.specs.declared.Answer.the-variants as answer
 use Rattle.answer.specs.declared.Tally.{Tally}
 
 -- a marked tick is an accepted one, keeps its volts, and has the number of the first rule that applies
@@ -40,14 +41,34 @@ abbrev pub Clean-steered : Type 0
 Clean-steered = (v : Volts) (zeroed sums phases numbers : Bool) → markNumber (markOf v zeroed sums phases numbers) ≡ clean
     → markNumber (markOf v zeroed sums phases false) ≡ steered
 
--- what a mark says of the controls given to the tick: none of a clean one's is NaN, and some of a steered one's is. Each oscillator
--- promises this of every tick, under the name Nan-steers, of the list of its controls
+-- allNumbers asks each control by itself, and an infinity is a number: no sum of them could stand for it
+abbrev pub Numbers-say : Type 0
+Numbers-say = (xs : List Float)
+    → (allNumbers xs ≡ true → (i : ℕ) → i < length xs → isNan (getD xs i nan) ≡ false)
+    × (((i : ℕ) → i < length xs → isNan (getD xs i nan) ≡ false) → allNumbers xs ≡ true)
+
+-- what a mark says of the controls given to the tick: none of a clean one's is NaN, and some of a steered one's is; so a tick with a NaN is
+-- never clean, and one without is never steered. Each oscillator promises this of every tick, under the name Nan-steers, of the list of its
+-- controls
 pub record Steers (controls : List Float) (a : Answer) : Type 0 where
   pub when-clean : markNumber a ≡ clean → allNumbers controls ≡ true
   pub when-steered : markNumber a ≡ steered → allNumbers controls ≡ false
-  -- so a tick with a NaN is never clean, and one without is never steered
-  pub with-nan : allNumbers controls ≡ false → markNumber a ≢ clean
-  pub without-nan : allNumbers controls ≡ true → markNumber a ≢ steered
+
+-- a sounds as b does, and where b is clean a is steered: what a NaN in the place of a number does that sounds the same
+pub record Sounds-as (a b : Answer) : Type 0 where
+  pub volts : voltsOf a ≡ voltsOf b
+  pub mark : markNumber b ≡ clean → markNumber a ≡ steered
+
+-- the numbers that a host is told, none of which ever changes its meaning
+pub record Told (v : Volts) : Type 0 where
+  pub cleared : hostNumber (answer.Cleared v) ≡ 11
+  pub notfinite : hostNumber (answer.NotFinite v) ≡ 12
+  pub lost : hostNumber (answer.Lost v) ≡ 13
+  pub clean : hostNumber (answer.Clean v) ≡ 14
+  pub steered : hostNumber (answer.Steered v) ≡ 15
+
+abbrev pub Told-numbers : Type 0
+Told-numbers = (v : Volts) → Told v
 
 -- each count is the number of answers with that mark that the tally took; begun is the number of accepted ticks that it took, and the sum
 -- of the counts

@@ -76,12 +76,13 @@ const TOLD_CLEAN: u32 = 10 + CLEAN;
 
 const TOLD_STEERED: u32 = 10 + STEERED;
 
-// What a tick answers: its mark with its samples, or the number that refused it.
+// What a tick answers: its mark with its samples, or the number that refused it. The marks stand in the order of their numbers, so
+// that a number is computed, and not looked up.
 pub enum Answer {
-    Clean(Volts),
     Cleared(Volts),
     NotFinite(Volts),
     Lost(Volts),
+    Clean(Volts),
     Steered(Volts),
     Refused(u32),
 }
@@ -97,10 +98,10 @@ pub fn mark_number(a: Answer) -> u32
     ensures { λ r. ⌜ r ≡ markNumber a ⌝ }
 {
     match a {
-        Answer::Clean(_) => CLEAN,
         Answer::Cleared(_) => CLEARED,
         Answer::NotFinite(_) => NOTFINITE,
         Answer::Lost(_) => LOST,
+        Answer::Clean(_) => CLEAN,
         Answer::Steered(_) => STEERED,
         Answer::Refused(_) => 0,
     }
@@ -117,10 +118,10 @@ pub fn host_number(a: Answer) -> u32
     ensures { λ r. ⌜ r ≡ hostNumber a ⌝ }
 {
     match a {
-        Answer::Clean(_) => TOLD_CLEAN,
         Answer::Cleared(_) => TOLD_CLEARED,
         Answer::NotFinite(_) => TOLD_NOTFINITE,
         Answer::Lost(_) => TOLD_LOST,
+        Answer::Clean(_) => TOLD_CLEAN,
         Answer::Steered(_) => TOLD_STEERED,
         Answer::Refused(n) => n,
     }
@@ -131,10 +132,10 @@ pub fn samples(a: Answer) -> Volts
     ensures { λ r. ⌜ r ≡ voltsOf a ⌝ }
 {
     match a {
-        Answer::Clean(v) => v,
         Answer::Cleared(v) => v,
         Answer::NotFinite(v) => v,
         Answer::Lost(v) => v,
+        Answer::Clean(v) => v,
         Answer::Steered(v) => v,
         Answer::Refused(_) => volts1(0.0),
     }

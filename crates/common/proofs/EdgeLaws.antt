@@ -5,10 +5,10 @@ use lib.Dec.{T}
 use lib.Ieee.{lt, le, ofBits, eq}
 use lib.Ieee.Bits.{is-true}
 use Rattle.laws.specs.Float.{zer}
-use Rattle.laws.proofs.Order.{le-false, lt-false}
+use Rattle.laws.proofs.Order.{le-false, lt-false, lt-nan}
 use Rattle.laws.proofs.Tests.{of-true}
 use Rattle.common.specs.Edge.{thresholdOf, resetOf, risesAbove, risingAboveOf, risingOf, crossedAboveOf, crossedOf}
-use Rattle.common.specs.Promises.{Rises-new, Rises-once, Rising-like, Crossed-is, Rising-once, Rising-comes, Rising-not}
+use Rattle.common.specs.Promises.{Rises-new, Rises-once, Rising-like, Crossed-is, Rising-once, Rising-comes, Rising-not, Rising-nan}
 use Rattle.common.specs.declared.EdgeDetector.{EdgeDetector}
 
 rises-left : (a b c : Bool) → (a && b) ≡ true → c ≡ true → (a && c) ≡ true
@@ -51,3 +51,7 @@ rising-comes e v h = rw h (unfold lt ofBits in refl)
 pub rising-not : Rising-not
 unfolding risingOf risingAboveOf risesAbove
 rising-not e v h = simp (lt-false (thresholdOf e) v (of-true (le v (thresholdOf e)) h))
+
+pub rising-nan : Rising-nan
+unfolding risingOf risingAboveOf risesAbove thresholdOf
+rising-nan e = (simp (lt-nan (thresholdOf e)), rising-not e zer (unfold le lt eq ofBits in refl))

@@ -3,7 +3,7 @@ use mathlib.Core.Path.{_≡_}
 use mathlib.Core.Bool.{true, false, cond}
 use mathlib.Core.Logic.{_⊎_}
 use lib.Dec.{T}
-use lib.Ieee.{Float, le}
+use lib.Ieee.{Float, nan, le}
 use Rattle.laws.specs.Float.{zer, F64}
 use Rattle.common.specs.Phase.{turns, wrapOf}
 use Rattle.common.specs.Memo.{filled1, filled3, recall1, recall3}
@@ -55,6 +55,10 @@ Rising-comes = (e : EdgeDetector) (v : Float) → le v (thresholdOf e) ≡ true 
 -- such a sample is none itself
 abbrev pub Rising-not : Type 0
 Rising-not = (e : EdgeDetector) (v : Float) → le v (thresholdOf e) ≡ true → risingOf e v .rising ≡ false
+
+-- nor is a NaN, or 0.0
+abbrev pub Rising-nan : Type 0
+Rising-nan = (e : EdgeDetector) → (risingOf e nan .rising ≡ false) × (risingOf e zer .rising ≡ false)
 
 -- a sample that stands still gives no second edge
 abbrev pub Rises-once : Type 0

@@ -1,10 +1,10 @@
 // The NoiseGenerator for hosts, over lent slices. A state is floats [pink.rows 0 to 15, pink.running_sum, pink2.rows 0 to 15,
 // pink2.running_sum, correlation, last_white] and wholes [pink.index, pink2.index], of each the low 32 bits; samples are
 // [white, pink, white2, pink2]. A `given` of 0 leaves a tick's correlation to the stored one.
-// Each call but `needed` and `needed_by` answers a number: 0 done; of an accepted tick what its mark, notfinite or clean, is told
-// by; of a refused call 5 to 7 as the scope has them, or 50, 51, 52, 53 where floats, wholes, samples or counts have another
-// length. A refused call writes nothing. A block answers 0, with the ticks' samples one after another, their marks by the same
-// numbers, and the tally's counts.
+// Each call but `needed` and `needed_by` answers a number: 0 done; of an accepted tick what its mark, notfinite, steered or clean,
+// is told by; of a refused call 5 to 7 as the scope has them, or 50, 51, 52, 53 where floats, wholes, samples or counts have
+// another length. A refused call writes nothing. A block answers 0, with the ticks' samples one after another, their marks by the
+// same numbers, and the tally's counts.
 use answer::Tallied;
 use common::Hertz;
 use noise_generator::Correlation;
@@ -178,7 +178,8 @@ fn controls(given: u32, correlation: f64) -> NoiseGeneratorControls
     }
 }
 
-// The samples and the state after an accepted tick; a refused one leaves them.
+// The samples and the state after an accepted tick; a refused one leaves them. The number is asked for last: asked for before,
+// each mark that it may be would copy the state once more.
 fn put_ticked(
     t: NoiseGeneratorTicked,
     floats: &mut [f64],
@@ -190,7 +191,6 @@ fn put_ticked(
         ≡ heardOf floatsOf wholesOf samplesOf (t .answer) (t .«noise_generator») (now (floats .entry)) (now (wholes .entry)) (now (samples .entry)) ⌝ }
 {
     let answer = t.answer;
-    let code = answer::host_number(answer);
     if answer::is_accepted(answer) {
         let s = t.noise_generator;
         let v = answer::samples(answer);
@@ -199,8 +199,10 @@ fn put_ticked(
         samples[1] = v.p11;
         samples[2] = v.p12;
         samples[3] = v.p13;
+        answer::host_number(answer)
+    } else {
+        answer::host_number(answer)
     }
-    code
 }
 
 #[no_mangle]

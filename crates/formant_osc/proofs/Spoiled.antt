@@ -1,6 +1,7 @@
 -- A sum that isn't finite makes a tick notfinite; and what isn't finite in a resonator's first cell stays so, and goes through the sum.
 use mathlib.Core.Bool.{Bool, true, false, false≢true, _&&_}
 use mathlib.Core.List.{List}
+use mathlib.Core.Logic.{_⊎_, inl, inr}
 use mathlib.Core.Path.{_≡_, refl, sym, ap, _∙_, subst}
 use Prim.Native.Nat.{ℕ, zero, suc, _<_, _*_}
 use native.Mathlib.Omega.{arith}
@@ -8,7 +9,7 @@ use lib.Ieee.{Float, nan}
 use lib.ListN.{length, getD}
 use Rattle.answer.proofs.Blocks.{ticks-keep, block-keeps}
 use Rattle.answer.proofs.Laws.{mark-says}
-use Rattle.answer.specs.Answer.{markNumber, accepted, notfinite, clean, told}
+use Rattle.answer.specs.Answer.{markNumber, accepted, notfinite, steered, clean, told}
 use Rattle.answer.specs.Block.{afterTicks, answerAt, markAt}
 use Rattle.answer.specs.Mark.{allFinite, ruleOf, markOf}
 use Rattle.answer.specs.declared.Tally.{Tally}
@@ -50,12 +51,20 @@ sum-marks s c e = tick-either Unfinished s c (λ a. sound-unfinished s c e) (λ 
 
 pub clean-finite : Clean-finite
 unfolding markNumber
-clean-finite s c = tick-either (λ (t : FormantOscTicked). markNumber (t .answer) ≡ clean → isFin (formantOscRung s c .sum) ≡ true) s c
-    (go (isFin (formantOscRung s c .sum)) refl) (λ n h. absurd (omega arith))
+clean-finite s c = tick-either (λ (t : FormantOscTicked). Steady (markNumber (t .answer)) → isFin (formantOscRung s c .sum) ≡ true) s c
+    (go (isFin (formantOscRung s c .sum)) refl) (λ n h. absurd (none h))
   where
-    go : (b : Bool) → isFin (formantOscRung s c .sum) ≡ b → markNumber (formantOscSoundOf s c .answer) ≡ clean → b ≡ true
+    Steady : ℕ → Type 0
+    Steady n = (n ≡ clean) ⊎ (n ≡ steered)
+
+    none : Steady 0 → ⊥
+    none (inl h) = omega arith
+    none (inr h) = omega arith
+
+    go : (b : Bool) → isFin (formantOscRung s c .sum) ≡ b → Steady (markNumber (formantOscSoundOf s c .answer)) → b ≡ true
     go true e h = refl
-    go false e h = absurd (let k = sound-unfinished s c e in omega arith)
+    go false e (inl h) = absurd (let k = sound-unfinished s c e in omega arith)
+    go false e (inr h) = absurd (let k = sound-unfinished s c e in omega arith)
 
 -- ---- through a resonator
 out-wild : (b0 a1 a2 s0 s1 x : Float) → isFin s0 ≡ false → isFin (resonateOf b0 a1 a2 s0 s1 x .out) ≡ false

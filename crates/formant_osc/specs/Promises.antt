@@ -7,7 +7,7 @@ use Prim.Native.Nat.{ℕ, suc, _<_, _*_}
 use lib.Dec.{eqb}
 use lib.Ieee.{Float, nan, binary64, div, ofBits}
 use lib.ListN.{length, getD}
-use Rattle.answer.specs.Answer.{notfinite, lost, clean, told, markNumber, accepted, outcomeNumber}
+use Rattle.answer.specs.Answer.{notfinite, lost, steered, clean, told, markNumber, accepted, outcomeNumber}
 use Rattle.answer.specs.Block.{Block, blockRefusalOf}
 use Rattle.answer.specs.Promises.{Steers, AllAccepted, AllTaken}
 use Rattle.answer.specs.declared.Tally.{Tally}
@@ -50,9 +50,10 @@ abbrev pub Sum-marks : Type 0
 Sum-marks = (s : FormantOsc) (c : FormantOscControls) → isFin (formantOscRung s c .sum) ≡ false → accepted (formantOscTickOf s c .answer) ≡ true
     → markNumber (formantOscTickOf s c .answer) ≡ notfinite
 
--- so the sum of a clean tick is finite
+-- so the sum of a clean tick is finite, and of a steered one
 abbrev pub Clean-finite : Type 0
-Clean-finite = (s : FormantOsc) (c : FormantOscControls) → markNumber (formantOscTickOf s c .answer) ≡ clean → isFin (formantOscRung s c .sum) ≡ true
+Clean-finite = (s : FormantOsc) (c : FormantOscControls)
+    → (markNumber (formantOscTickOf s c .answer) ≡ clean) ⊎ (markNumber (formantOscTickOf s c .answer) ≡ steered) → isFin (formantOscRung s c .sum) ≡ true
 
 -- ---- a clean tick is there: the first of a new one at 48,000 Hz, with every control 0
 abbrev pub firstRate : Hertz

@@ -87,10 +87,10 @@ marked-length o n mark v h m =
 
 pub frame-length : Frame-length
 unfolding frameText
-frame-length o n (answer.Clean v) h = marked-length o n (ascii "clean") v h (omega arith)
 frame-length o n (answer.Cleared v) h = marked-length o n (ascii "cleared") v h (omega arith)
 frame-length o n (answer.NotFinite v) h = marked-length o n (ascii "notfinite") v h (omega arith)
 frame-length o n (answer.Lost v) h = marked-length o n (ascii "lost") v h (omega arith)
+frame-length o n (answer.Clean v) h = marked-length o n (ascii "clean") v h (omega arith)
 frame-length o n (answer.Steered v) h = marked-length o n (ascii "steered") v h (omega arith)
 frame-length o n (answer.Refused r) h = omega arith
 

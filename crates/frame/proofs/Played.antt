@@ -88,10 +88,10 @@ outputs-at osc.Formant l i w h = λ k. sampleLine (ascii "out=") (h 0 (lit≤ tt
 frame-same : (o : Osc) (k : ℕ) (a : Answer) (w : Volts) → accepted a ≡ true → outputsText o w ≡ outputsText o (voltsOf a)
     → frameText o k (answerOf (hostNumber a) w) ≡ frameText o k a
 unfolding frameText markedText answerOf hostNumber accepted markNumber voltsOf
-frame-same o k (answer.Clean v) w t h = ap (λ (t : List ℕ). countLine (ascii "n=") k ++ wordLine (ascii "mark=") (ascii "clean") ++ t) h
 frame-same o k (answer.Cleared v) w t h = ap (λ (t : List ℕ). countLine (ascii "n=") k ++ wordLine (ascii "mark=") (ascii "cleared") ++ t) h
 frame-same o k (answer.NotFinite v) w t h = ap (λ (t : List ℕ). countLine (ascii "n=") k ++ wordLine (ascii "mark=") (ascii "notfinite") ++ t) h
 frame-same o k (answer.Lost v) w t h = ap (λ (t : List ℕ). countLine (ascii "n=") k ++ wordLine (ascii "mark=") (ascii "lost") ++ t) h
+frame-same o k (answer.Clean v) w t h = ap (λ (t : List ℕ). countLine (ascii "n=") k ++ wordLine (ascii "mark=") (ascii "clean") ++ t) h
 frame-same o k (answer.Steered v) w t h = ap (λ (t : List ℕ). countLine (ascii "n=") k ++ wordLine (ascii "mark=") (ascii "steered") ++ t) h
 frame-same o k (answer.Refused n) w t h = absurd (false≢true t)
 

@@ -39,9 +39,9 @@ markedText osc n mark v = countLine (ascii "n=") n ++ wordLine (ascii "mark=") m
 
 -- the frame n; a refused tick has no text
 unfoldable pub frameText : Osc → ℕ → Answer → List ℕ
-frameText osc n (answer.Clean v) = markedText osc n (ascii "clean") v
 frameText osc n (answer.Cleared v) = markedText osc n (ascii "cleared") v
 frameText osc n (answer.NotFinite v) = markedText osc n (ascii "notfinite") v
 frameText osc n (answer.Lost v) = markedText osc n (ascii "lost") v
+frameText osc n (answer.Clean v) = markedText osc n (ascii "clean") v
 frameText osc n (answer.Steered v) = markedText osc n (ascii "steered") v
 frameText osc n (answer.Refused r) = []

@@ -88,10 +88,10 @@ pub fn put_frame(out: &mut [u8], at: usize, osc: Osc, n: u32, a: Answer) -> usiz
     ensures { λ r. ⌜ now (out .exit) ≡ sets (now (out .entry)) at (frameText osc n a) ⌝ }
 {
     match a {
-        Answer::Clean(v) => put_marked(out, at, osc, n, b"clean", v),
         Answer::Cleared(v) => put_marked(out, at, osc, n, b"cleared", v),
         Answer::NotFinite(v) => put_marked(out, at, osc, n, b"notfinite", v),
         Answer::Lost(v) => put_marked(out, at, osc, n, b"lost", v),
+        Answer::Clean(v) => put_marked(out, at, osc, n, b"clean", v),
         Answer::Steered(v) => put_marked(out, at, osc, n, b"steered", v),
         Answer::Refused(_) => text::put_text(out, at, b""),
     }

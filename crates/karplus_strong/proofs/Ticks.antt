@@ -1,4 +1,4 @@
--- A tick is its strike and step, unless a refusal's number stands before them. What it answers is clean or cleared.
+-- A tick is its strike and step, unless a refusal's number stands before them. What it answers is clean, steered or cleared.
 use mathlib.Core.Bool.{Bool, true, false, cond, not, true≢false}
 use mathlib.Core.List.{List}
 use mathlib.Core.Logic.{inl, inr, _⊎_}

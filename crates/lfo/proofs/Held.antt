@@ -3,30 +3,32 @@ use mathlib.Core.Bool.{Bool, true, false}
 use mathlib.Core.Path.{_≡_, refl, ap, _∙_}
 use Prim.Native.Nat.{ℕ, _+_}
 use native.Mathlib.Numerals.{add-one}
-use lib.Ieee.{Float, binary64, add, div}
+use lib.Dec.{lit<}
+use lib.Ieee.{Float, nan, binary64, add, div}
 use lib.Ieee.Fits.{add-fits}
 use Rattle.answer.specs.Answer.{refusalOf}
 use Rattle.answer.specs.Block.{afterTicks, answerAt}
 use Rattle.answer.proofs.Blocks.{Holds, held-accepted, all-taken}
-use Rattle.answer.proofs.Laws.{mark-says, refused-by, mark-steers, tick-steers}
+use Rattle.answer.proofs.Laws.{mark-says, refused-by, mark-steers, tick-steers, nan-given, mark-sounds, tick-sounds}
 use Rattle.answer.specs.Mark.{allNumbers, markOf}
+use Rattle.answer.specs.Promises.{Sounds-as}
 use Rattle.answer.specs.declared.Answer.{Answer}
 use Rattle.answer.specs.declared.Volts.{Volts}
 use Rattle.common.specs.Phase.{turns, wrapOf, incrementOf, restartOf}
 use Rattle.common.specs.Edge.{risingOf}
 use Rattle.common.specs.Memo.{recall1}
 use Rattle.common.specs.Tests.{phaseOk}
-use Rattle.common.proofs.EdgeLaws.{rising-once}
+use Rattle.common.proofs.EdgeLaws.{rising-once, rising-nan}
 use Rattle.common.proofs.MemoLaws.{recall1-again}
 use Rattle.common.proofs.PhaseLaws.{wrap-in, restart-in}
 use Rattle.common.specs.declared.Turns.{Turns}
-use Rattle.laws.specs.Float.{isFin}
+use Rattle.laws.specs.Float.{zer, isFin}
 use Rattle.lfo.specs.Shortcuts.{heldTold, heldNext}
 use Rattle.lfo.proofs.Accepted.{accepts, sounds}
 use Rattle.lfo.specs.Consts.{ten}
 use Rattle.lfo.specs.Lfo.{controlsOf, lfoRefusalOf, lfoOutputsOf, lfoSoundOf, lfoTickOf, lfoToldOf, lfoNextOf}
 use Rattle.lfo.specs.Waves.{rateToHz}
-use Rattle.lfo.specs.Promises.{Nan-steers, Block-accepts, Block-tallies}
+use Rattle.lfo.specs.Promises.{Nan-steers, lowReset, Nan-reset, Block-accepts, Block-tallies}
 use Rattle.lfo.specs.declared.Lfo.{Lfo}
 use Rattle.lfo.specs.declared.LfoControls.{LfoControls}
 use Rattle.lfo.specs.declared.LfoTicked.{LfoTicked}
@@ -101,3 +103,19 @@ tick-refusal s c wanted = refused-by (λ (t : LfoTicked). t .answer) (lfoRefusal
 pub nan-steers : Nan-steers
 unfolding lfoTickOf lfoSoundOf
 nan-steers s c wanted = tick-steers (λ (t : LfoTicked). t .answer) (controlsOf c) (lfoRefusalOf s) _ _ (mark-steers _ _ _ _ (controlsOf c)) refl
+
+-- a reset that is NaN takes no edge, and neither does 0 V
+module _ (s : Lfo) (c : LfoControls) (wanted : ℕ) (h : c .reset ≡ nan) where
+  nan-still : risingOf (s .«reset_edge») (c .reset) .rising ≡ false
+  nan-still = rw h (rising-nan (s .«reset_edge») .0)
+
+  low-still : risingOf (s .«reset_edge») zer .rising ≡ false
+  low-still = rising-nan (s .«reset_edge») .1
+
+  reset-sounds : Sounds-as (lfoSoundOf s c wanted .answer) (lfoSoundOf s (lowReset c) wanted .answer)
+  unfolding lfoSoundOf
+  reset-sounds = rw (nan-given (controlsOf c) 2 (lit< tt) h, nan-still, low-still) (mark-sounds _ _ _ _ _ _ refl)
+
+pub nan-reset : Nan-reset
+unfolding lfoTickOf
+nan-reset s c wanted h = tick-sounds (λ (t : LfoTicked). t .answer) (lfoRefusalOf s) _ _ _ (reset-sounds s c wanted h) refl

@@ -4,15 +4,16 @@ use mathlib.Core.List.{List, _∷_, []}
 use mathlib.Core.Path.{_≡_}
 use Prim.Native.Nat.{ℕ, _*_, _<_}
 use lib.Dec.{eqb}
-use lib.Ieee.{Float, binary64, le, div}
+use lib.Ieee.{Float, nan, binary64, le, div}
 use lib.ListN.{length}
 use Rattle.answer.specs.Answer.{voltsOf, accepted, outcomeNumber}
 use Rattle.answer.specs.Block.{Block, blockRefusalOf}
-use Rattle.answer.specs.Promises.{Steers, AllAccepted, AllTaken}
+use Rattle.answer.specs.Promises.{Steers, Sounds-as, AllAccepted, AllTaken}
 use Rattle.answer.specs.Mark.{allFinite}
 use Rattle.common.specs.Consts.{five}
 use Rattle.common.specs.Edge.{risingOf, thresholdOf}
 use Rattle.common.specs.Tests.{rateOk, phaseOk}
+use Rattle.laws.specs.Float.{zer}
 use Rattle.laws.specs.Machine.{replies, Settles}
 use Rattle.lfo.specs.Calls.{Call, Tick, Reset, SetSampleRate, Told, Fit, after, reply, First, ReachedLfo}
 use Rattle.lfo.specs.Consts.{ten, nPorts}
@@ -72,6 +73,13 @@ Edge-comes = (s : Lfo) → ReachedLfo s → (c d : LfoControls) (v w : ℕ) → 
 -- ---- no tick is clean with a control that is NaN, and none is steered without one
 abbrev pub Nan-steers : Type 0
 Nan-steers = (s : Lfo) (c : LfoControls) (wanted : ℕ) → Steers (c .rate ∷ c .depth ∷ c .reset ∷ []) (lfoTickOf s c wanted .answer)
+
+-- ---- a reset that is NaN never rises, and sounds as 0 V there: where that tick is clean, this one is steered
+abbrev pub lowReset : LfoControls → LfoControls
+lowReset c = record { rate = c .rate; depth = c .depth; reset = zer }
+
+abbrev pub Nan-reset : Type 0
+Nan-reset = (s : Lfo) (c : LfoControls) (wanted : ℕ) → c .reset ≡ nan → Sounds-as (lfoTickOf s c wanted .answer) (lfoTickOf s (lowReset c) wanted .answer)
 
 -- ---- a small depth sounds finite: in an accepted tick no output overflows, wanted or not
 abbrev pub Small-finite : Type 0

@@ -460,8 +460,8 @@ impl NoiseGenerator {
         }
     }
 
-    // The ticks of a block, each with the draws that those before it left. Whether the state is calm is asked once: each tick leaves it so. So are the
-    // controls.
+    // The ticks of a block, each with the draws that those before it left. Whether the state is calm, which each tick leaves so, and
+    // whether a NaN is given are asked once.
     fn run(
         self,
         c: NoiseGeneratorControls,

@@ -50,10 +50,10 @@ one-is n k h = go (eqb n k) refl h
 marks-most : (xs : List Answer) → many clean xs + many cleared xs + many notfinite xs + many lost xs + many steered xs ≤ length xs
 unfolding many oneIf markNumber
 marks-most [] = omega arith
-marks-most (answer.Clean v ∷ xs) = omega (arith, marks-most xs)
 marks-most (answer.Cleared v ∷ xs) = omega (arith, marks-most xs)
 marks-most (answer.NotFinite v ∷ xs) = omega (arith, marks-most xs)
 marks-most (answer.Lost v ∷ xs) = omega (arith, marks-most xs)
+marks-most (answer.Clean v ∷ xs) = omega (arith, marks-most xs)
 marks-most (answer.Steered v ∷ xs) = omega (arith, marks-most xs)
 marks-most (answer.Refused n ∷ xs) = omega (arith, marks-most xs)
 

@@ -4,19 +4,21 @@ use mathlib.Core.Path.{_≡_, refl, sym, ap, _∙_}
 use Prim.Native.Nat.{ℕ, zero, suc, _+_, _<_}
 use native.Mathlib.Numerals.{add-one}
 use native.Mathlib.Omega.{arith}
-use lib.Ieee.{Float, binary64, add}
+use lib.Dec.{lit<}
+use lib.Ieee.{Float, nan, binary64, add}
 use lib.Ieee.Fits.{add-fits}
 use Rattle.answer.specs.Answer.{refusalOf}
 use Rattle.answer.specs.Block.{afterTicks, answerAt}
 use Rattle.answer.proofs.Blocks.{Holds, held-after, held-accepted, all-taken}
-use Rattle.answer.proofs.Laws.{mark-says, refused-by, mark-steers, tick-steers}
+use Rattle.answer.proofs.Laws.{mark-says, refused-by, mark-steers, tick-steers, nan-given, mark-sounds, tick-sounds}
 use Rattle.answer.specs.Mark.{allNumbers}
+use Rattle.answer.specs.Promises.{Sounds-as}
 use Rattle.answer.specs.declared.Answer.{Answer}
 use Rattle.common.specs.Phase.{turns, wrapOf, incrementOf}
 use Rattle.common.specs.Edge.{risingOf, crossedOf}
 use Rattle.common.specs.Memo.{recall3}
 use Rattle.common.specs.Tests.{phaseOk}
-use Rattle.common.proofs.EdgeLaws.{crossed-is, rising-once}
+use Rattle.common.proofs.EdgeLaws.{crossed-is, rising-once, rising-nan}
 use Rattle.common.proofs.MemoLaws.{recall3-again}
 use Rattle.common.proofs.PhaseLaws.{wrap-in}
 use Rattle.common.specs.declared.Turns.{Turns}
@@ -24,13 +26,14 @@ use Rattle.common.specs.declared.Memo3.{Memo3}
 use Rattle.common.specs.declared.EdgeDetector.{EdgeDetector}
 use Rattle.common.specs.declared.Crossing.{Crossing}
 use Rattle.common.specs.declared.Crossing.the-variants.{Nowhere, At}
+use Rattle.laws.specs.Float.{zer}
 use Rattle.numeric.specs.Basic.{clampOf}
 use Rattle.vco.specs.Consts.{pwLow, pwHigh}
 use Rattle.vco.specs.Vco.{controlsOf, frequencyOf, syncedOf, vcoAnswerOf, vcoSoundOf, vcoRefusalOf, vcoTickOf, vcoToldOf, vcoNextOf}
 use Rattle.vco.specs.Shortcuts.{Held, held, heldTold, heldNext}
 use Rattle.vco.proofs.StateLaws.{unrefused}
 use Rattle.vco.proofs.Reached.{tick-sound}
-use Rattle.vco.specs.Promises.{Nan-steers, Block-accepts, Block-tallies}
+use Rattle.vco.specs.Promises.{Nan-steers, lowSync, Nan-sync, Block-accepts, Block-tallies}
 use Rattle.vco.specs.declared.Vco.{Vco}
 use Rattle.vco.specs.declared.VcoControls.{VcoControls}
 use Rattle.vco.specs.declared.VcoTicked.{VcoTicked}
@@ -38,7 +41,7 @@ use Rattle.vco.specs.declared.VcoTicked.{VcoTicked}
 -- ---- a turn of the loop
 pub heard-now : (wanted : ℕ) (numbers : Bool) (pw : Float) (dt : Turns) (start : Held) (i : ℕ) (p q : Turns) (at : Crossing) (a : Answer)
     → a ≡ vcoAnswerOf at (q .0) (p .0) pw (dt .0) wanted numbers
-    → q ≡ syncedOf p at → held p at ≡ afterTicks (heldNext dt) i start → a ≡ answerAt (heldTold wanted numbers pw dt) (heldNext dt) start i
+    → q ≡ syncedOf p at → held p at ≡ afterTicks (heldNext dt) i start → a ≡ answerAt (heldTold wanted pw numbers dt) (heldNext dt) start i
 unfolding answerAt heldTold
 heard-now wanted numbers pw dt start i p q at a e r z = simp (e, r, ← z)
 
@@ -60,7 +63,7 @@ module _ (s : Vco) (c : VcoControls) where
 
   -- what a tick of a block answers
   abbrev pub toldOf : ℕ → Held → Answer
-  toldOf wanted = heldTold wanted (allNumbers (controlsOf c)) (clampOf (c .pw) pwLow pwHigh) stepOf
+  toldOf wanted = heldTold wanted (clampOf (c .pw) pwLow pwHigh) (allNumbers (controlsOf c)) stepOf
 
   -- the detector that tells this crossing: the one before the block if it is an edge, the one after a tick if it is none
   unfoldable pub edgeOf : Crossing → EdgeDetector
@@ -149,3 +152,19 @@ tick-refusal s c wanted = refused-by (λ (t : VcoTicked). t .answer) (vcoRefusal
 pub nan-steers : Nan-steers
 unfolding vcoTickOf vcoSoundOf vcoAnswerOf
 nan-steers s c wanted = tick-steers (λ (t : VcoTicked). t .answer) (controlsOf c) (vcoRefusalOf s) _ _ (mark-steers _ _ _ _ (controlsOf c)) refl
+
+-- a sync that is NaN takes no edge, and neither does 0 V
+module _ (s : Vco) (c : VcoControls) (wanted : ℕ) (h : c .sync ≡ nan) where
+  nan-nowhere : crossedOf (s .«sync_edge») (c .sync) .at ≡ Nowhere
+  nan-nowhere = rw h (simp (crossed-is, rising-nan (s .«sync_edge») .0))
+
+  low-nowhere : crossedOf (s .«sync_edge») zer .at ≡ Nowhere
+  low-nowhere = simp (crossed-is, rising-nan (s .«sync_edge») .1)
+
+  sync-sounds : Sounds-as (vcoSoundOf s c wanted .answer) (vcoSoundOf s (lowSync c) wanted .answer)
+  unfolding vcoSoundOf vcoAnswerOf
+  sync-sounds = rw (nan-given (controlsOf c) 3 (lit< tt) h, nan-nowhere, low-nowhere) (mark-sounds _ _ _ _ _ _ refl)
+
+pub nan-sync : Nan-sync
+unfolding vcoTickOf
+nan-sync s c wanted h = tick-sounds (λ (t : VcoTicked). t .answer) (vcoRefusalOf s) _ _ _ (sync-sounds s c wanted h) refl

@@ -4,7 +4,7 @@ use mathlib.Core.Bool.{Bool, true, cond}
 use mathlib.Core.List.{List, [], _∷_}
 use Prim.Native.Nat.{ℕ, _*_, _<_}
 use lib.Dec.{eqb}
-use lib.Ieee.{Float, binary64, le, neg, ofBits}
+use lib.Ieee.{Float, nan, binary64, le, neg, ofBits}
 use lib.ListN.{length}
 use Rattle.laws.specs.Float.{zer}
 use Rattle.laws.specs.Machine.{replies, Settles}
@@ -14,7 +14,7 @@ use Rattle.common.specs.Tests.{rateOk, phaseOk}
 use Rattle.common.specs.declared.Hertz.{Hertz}
 use Rattle.answer.specs.Answer.{accepted, voltsOf, outcomeNumber, volts4}
 use Rattle.answer.specs.Block.{Block, blockRefusalOf}
-use Rattle.answer.specs.Promises.{Steers, AllAccepted, AllTaken}
+use Rattle.answer.specs.Promises.{Steers, Sounds-as, AllAccepted, AllTaken}
 use Rattle.answer.specs.declared.Answer.the-variants as answer
 use Rattle.answer.specs.declared.Outcome.the-variants as outcome
 use Rattle.answer.specs.declared.Tally.{Tally}
@@ -86,6 +86,13 @@ Edge-comes = (s : Vco) → ReachedVco s → (c d : VcoControls) (wanted : ℕ) �
 abbrev pub Nan-steers : Type 0
 Nan-steers = (s : Vco) (c : VcoControls) (wanted : ℕ)
     → Steers (c .voct .0 ∷ c .fm .0 ∷ c .pw ∷ c .sync ∷ c .«fm_lin» ∷ []) (vcoTickOf s c wanted .answer)
+
+-- ---- a sync that is NaN never rises, and sounds as 0 V there: where that tick is clean, this one is steered
+abbrev pub lowSync : VcoControls → VcoControls
+lowSync c = record { voct = c .voct; fm = c .fm; pw = c .pw; sync = zer; «fm_lin» = c .«fm_lin» }
+
+abbrev pub Nan-sync : Type 0
+Nan-sync = (s : Vco) (c : VcoControls) (wanted : ℕ) → c .sync ≡ nan → Sounds-as (vcoTickOf s c wanted .answer) (vcoTickOf s (lowSync c) wanted .answer)
 
 -- ---- no tick of a block is refused whose first isn't, and a tally with room takes each of their answers
 abbrev pub Block-accepts : Type 0

@@ -49,8 +49,8 @@ pub record Held : Type 0 where
 abbrev pub held : Turns → Crossing → Held
 held p at = record { phase = p; at = at }
 
-unfoldable pub heldTold : ℕ → Bool → Float → Turns → Held → Answer
-heldTold wanted numbers pw dt h = vcoAnswerOf (h .at) (syncedOf (h .phase) (h .at) .0) (h .phase .0) pw (dt .0) wanted numbers
+unfoldable pub heldTold : ℕ → Float → Bool → Turns → Held → Answer
+heldTold wanted pw numbers dt h = vcoAnswerOf (h .at) (syncedOf (h .phase) (h .at) .0) (h .phase .0) pw (dt .0) wanted numbers
 
 unfoldable pub heldNext : Turns → Held → Held
 heldNext dt h = held (turns (wrapOf (add binary64 (syncedOf (h .phase) (h .at) .0) (dt .0)))) Nowhere

@@ -441,9 +441,9 @@ impl Vco {
         requires { ⌜ (phaseOk start ≡ true) × Width pw × (length (now samples) ≡ nPorts * length (now marks)) ⌝ }
         ensures { λ r. ⌜ r ≡ afterTicks (heldNext dt) (length (now (marks .entry))) (held start edge) .phase ⌝ }
         ensures { λ r. ⌜ now (samples .exit)
-            ≡ joined (frameAt nPorts (heldTold wanted numbers pw dt) (heldNext dt) (held start edge)) (length (now (marks .entry))) ⌝ }
+            ≡ joined (frameAt nPorts (heldTold wanted pw numbers dt) (heldNext dt) (held start edge)) (length (now (marks .entry))) ⌝ }
         ensures { λ r. ⌜ now (marks .exit)
-            ≡ tab (markAt (heldTold wanted numbers pw dt) (heldNext dt) (held start edge)) (length (now (marks .entry))) ⌝ }
+            ≡ tab (markAt (heldTold wanted pw numbers dt) (heldNext dt) (held start edge)) (length (now (marks .entry))) ⌝ }
     {
         let mut p_old = start;
         let mut at = edge;
@@ -469,7 +469,7 @@ impl Vco {
         p_old
     }
 
-    // The ticks of a block: what memo, edge and controls say is worked out once, whether one is NaN too.
+    // The ticks of a block: what memo, edge and controls say, also whether one is NaN, is worked out once.
     fn run(self, c: VcoControls, wanted: u32, samples: &mut [f64], marks: &mut [u32]) -> Self
         requires { ⌜ (vcoRefusalOf self ≡ 0) × (0 < length (now marks)) × (length (now samples) ≡ nPorts * length (now marks)) ⌝ }
         ensures { λ r. ⌜ r ≡ afterTicks (vcoNextOf c wanted) (length (now (marks .entry))) self ⌝ }

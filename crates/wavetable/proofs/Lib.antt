@@ -5,7 +5,7 @@ pub mod Levels
 pub mod Fractions
 pub mod Accepted
 pub mod Held
-pub mod NanTable
+pub mod Nan
 pub mod Reached
 pub mod Forget
 pub mod Settled

@@ -6,9 +6,9 @@ use Prim.Native.Nat.{ℕ, _*_, _<_}
 use lib.Dec.{eqb}
 use lib.Ieee.{Float, nan, le}
 use lib.ListN.{length}
-use Rattle.answer.specs.Answer.{accepted, markNumber, voltsOf, steered, clean, outcomeNumber}
+use Rattle.answer.specs.Answer.{accepted, outcomeNumber}
 use Rattle.answer.specs.Block.{Block, blockRefusalOf}
-use Rattle.answer.specs.Promises.{Steers, AllAccepted, AllTaken}
+use Rattle.answer.specs.Promises.{Steers, Sounds-as, AllAccepted, AllTaken}
 use Rattle.answer.specs.declared.Outcome.the-variants as outcome
 use Rattle.answer.specs.declared.Tally.{Tally}
 use Rattle.common.specs.Consts.{five}
@@ -82,14 +82,18 @@ Nan-steers = (s : Wavetable) (c : WavetableControls) (bank : List Float)
 abbrev pub secondTable : WavetableControls → WavetableControls
 secondTable c = record { «v_oct» = c .«v_oct»; table = zer; morph = one; sync = c .sync }
 
-pub record Plays (t u : WavetableTicked) : Type 0 where
-  pub volts : voltsOf (t .answer) ≡ voltsOf (u .answer)
-  pub state : t .wavetable ≡ u .wavetable
-  pub mark : markNumber (u .answer) ≡ clean → markNumber (t .answer) ≡ steered
-
 abbrev pub Nan-table : Type 0
 Nan-table = (s : Wavetable) (c : WavetableControls) (bank : List Float) → c .table ≡ nan
-    → Plays (wavetableTickOf s c bank) (wavetableTickOf s (secondTable c) bank)
+    → Sounds-as (wavetableTickOf s c bank .answer) (wavetableTickOf s (secondTable c) bank .answer)
+    × (wavetableTickOf s c bank .wavetable ≡ wavetableTickOf s (secondTable c) bank .wavetable)
+
+-- ---- a sync that is NaN never rises, and sounds as 0 V there: where that tick is clean, this one is steered
+abbrev pub lowSync : WavetableControls → WavetableControls
+lowSync c = record { «v_oct» = c .«v_oct»; table = c .table; morph = c .morph; sync = zer }
+
+abbrev pub Nan-sync : Type 0
+Nan-sync = (s : Wavetable) (c : WavetableControls) (bank : List Float) → c .sync ≡ nan
+    → Sounds-as (wavetableTickOf s c bank .answer) (wavetableTickOf s (lowSync c) bank .answer)
 
 -- ---- no tick of a block is refused whose first isn't, and a tally with room takes each of their answers
 abbrev pub Block-accepts : Type 0

@@ -365,8 +365,8 @@ impl Wavetable {
         while i < marks.len() {
             let next = Turns(phase.0 + step.0);
             let out = mix(bank, pair, phase);
-            let heard = heard(out, numeric::is_finite(next.0), numbers);
-            answer::put(heard, PORTS, i, &mut *samples, &mut *marks);
+            let told = heard(out, numeric::is_finite(next.0), numbers);
+            answer::put(told, PORTS, i, &mut *samples, &mut *marks);
             phase = common::wrap_phase(next);
             i += 1;
         }

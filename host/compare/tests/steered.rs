@@ -217,6 +217,7 @@ mod oscillators {
         for (place, control) in controls::<P>().iter().enumerate() {
             let mut pair = fresh::<P>();
             let (mark, _) = tick(&mut pair, &with::<P>(place, f64::NAN), u32::MAX);
+            assert_eq!(mark, due([control], u32::MAX), "{} {}", P::NAME, control.name);
             if mark == Steered {
                 let held = pair.ours().0.as_ref().iter().any(|x| x.is_nan());
                 assert_eq!(held, P::CONTROLS[place].gate, "{} {}", P::NAME, control.name);

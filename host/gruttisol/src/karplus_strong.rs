@@ -6,7 +6,7 @@ use crate::lent::{
 };
 use crate::tally::Tally;
 
-/// Inputs in port order. One that isn't finite counts as its default, the trigger excepted; by a NaN the tick is steered.
+/// Inputs in port order. One that isn't finite counts as its default, the trigger excepted; a tick given a NaN is steered, or cleared.
 #[derive(Clone, Copy, PartialEq, Debug)]
 pub struct Controls {
     /// Pitch in volts per octave, 0 being middle C.

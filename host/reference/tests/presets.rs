@@ -52,6 +52,18 @@ fn presets_are_as_described() {
     println!("{} presets", described.len());
 }
 
+/// What the table says of `deaf`: but for the marks its frames are those of `concert_a`.
+#[test]
+fn deaf_sounds_as_concert_a() {
+    let [deaf, concert_a] = ["deaf", "concert_a"].map(|name| {
+        let text = String::from_utf8(program::render(&fs::read(preset(name)).unwrap())).unwrap();
+        let (frames, _) = text.split_once("begun=").unwrap();
+        frames.to_owned()
+    });
+    let marks = concert_a.matches("mark=clean\n").count();
+    assert!(marks == 480 && deaf == concert_a.replace("mark=clean\n", "mark=steered\n"), "{marks} frames");
+}
+
 #[test]
 fn long_presets_last_a_second() {
     let long = described("\n## A second or more\n");

@@ -20,14 +20,13 @@ slice-write-samples-4 c = simp length-set (omega arith)
 returns : tie.Need-returns
 unfolding heardOf samplesOf
 returns c =
-    let put = c .before .before .before .before in
+    let put = c .before .before .before .before .before in
     let heard = put .before .before .before in
     let tested = heard .before .before in
     let told = tested .before in
-    let numbered = told .before in
-    let start = numbered .before .before .before .before in
+    let start = told .before .before .before .before in
     simp (
-      numbered .host-number .ensures,
+      c .host-number .ensures,
       ← told .is-accepted .ensures,
       tested .if1 .taken,
       heard .samples .ensures,
@@ -38,7 +37,7 @@ returns c =
 
 returns-2 : tie.Need-returns-2
 unfolding heardOf
-returns-2 c = simp (c .before .before .host-number .ensures, ← c .before .is-accepted .ensures, c .if1 .left)
+returns-2 c = simp (c .host-number2 .ensures, ← c .before .before .is-accepted .ensures, c .before .if1 .left)
 
 pub put-ticked-spec : {M : Type 1} → statement M
 put-ticked-spec =
@@ -47,11 +46,12 @@ put-ticked-spec =
     (λ c κs. search needs)
     (λ c κs. search needs)
     (λ c κs. search needs)
-    (λ c κs. search needs)
     (λ c. search needs)
     slice-write-samples-2
     slice-write-samples-3
     slice-write-samples-4
+    (λ c κs. search needs)
+    (λ c κs. search needs)
     (λ c. search needs)
     (λ c. search needs)
     (λ c. search needs)

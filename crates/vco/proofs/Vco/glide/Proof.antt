@@ -25,8 +25,8 @@ Inv-loop dt pw wanted numbers samples₀ marks₀ p-old₀ at₀ i₀ samples ma
     (i ≤ length marks₀)
     × (length samples ≡ length samples₀)
     × (length marks ≡ length marks₀)
-    × (samples ≡ sets samples₀ 0 (joined (frameAt nPorts (heldTold wanted numbers pw dt) (heldNext dt) (held p-old₀ at₀)) i))
-    × (marks ≡ over (markAt (heldTold wanted numbers pw dt) (heldNext dt) (held p-old₀ at₀)) i marks₀)
+    × (samples ≡ sets samples₀ 0 (joined (frameAt nPorts (heldTold wanted pw numbers dt) (heldNext dt) (held p-old₀ at₀)) i))
+    × (marks ≡ over (markAt (heldTold wanted pw numbers dt) (heldNext dt) (held p-old₀ at₀)) i marks₀)
     × (held p-old at ≡ afterTicks (heldNext dt) i (held p-old₀ at₀))
     × (phaseOk p-old ≡ true)
 

@@ -1,24 +1,25 @@
--- Marks over the controls; and a NaN on the table input plays the second table alone, as table 0 with morph 1 does, and is steered.
-use mathlib.Core.Bool.{Bool, true, false, cond, not, _&&_}
+-- Marks over the controls; and a NaN on the table input plays the second table alone, as table 0 with morph 1 does, and is steered. So is a NaN
+-- sync, which never rises.
+use mathlib.Core.Bool.{Bool, true, false, cond}
 use mathlib.Core.List.{List}
-use mathlib.Core.Path.{_≡_, refl, sym, ap, _∙_}
+use mathlib.Core.Path.{_≡_, refl, ap, _∙_}
 use Prim.Native.Nat.{ℕ}
-use native.Mathlib.Omega.{arith}
-use lib.Dec.{eqb}
+use lib.Dec.{eqb, lit<}
 use lib.Ieee.{Float, nan, binary64, lt, add, sub, mul, isNan, ofBits, ofInt, toUnsigned}
 use lib.ListN.{length}
-use Rattle.answer.proofs.Laws.{mark-says, mark-steers, tick-steers, clean-steered}
-use Rattle.answer.specs.Answer.{volts1, markNumber, voltsOf, steered, clean}
-use Rattle.answer.specs.Mark.{allNumbers}
+use Rattle.answer.proofs.Laws.{mark-steers, tick-steers, nan-given, mark-sounds, tick-sounds}
+use Rattle.answer.specs.Promises.{Sounds-as}
 use Rattle.answer.specs.declared.Answer.the-variants as answer
+use Rattle.common.proofs.EdgeLaws.{rising-nan}
+use Rattle.common.specs.Edge.{risingOf}
 use Rattle.laws.proofs.Number.{add-nan-l, sub-nan-l, mul-nan-l}
 use Rattle.laws.specs.Float.{zer, one}
 use Rattle.numeric.proofs.RangeLaws.{clamp-nan}
 use Rattle.numeric.specs.Basic.{clampOf, minOf, realOf}
 use Rattle.wavetable.specs.Consts.{lastTableReal}
-use Rattle.wavetable.specs.Promises.{secondTable, Plays, Nan-steers, Nan-table}
+use Rattle.wavetable.specs.Promises.{Nan-steers, secondTable, Nan-table, lowSync, Nan-sync}
 use Rattle.wavetable.specs.Reads.{tablePosOf, tableIndexOf, blendOf, mixOf}
-use Rattle.wavetable.specs.Wavetable.{controlsOf, wavetableTickRefusalOf, wavetableSoundOf, wavetableTickOf}
+use Rattle.wavetable.specs.Wavetable.{edgeOf, controlsOf, wavetableTickRefusalOf, wavetableSoundOf, wavetableTickOf}
 use Rattle.wavetable.specs.declared.Wavetable.{Wavetable}
 use Rattle.wavetable.specs.declared.WavetableControls.{WavetableControls}
 use Rattle.wavetable.specs.declared.WavetableTicked.{WavetableTicked}
@@ -70,35 +71,36 @@ module _ (s : Wavetable) (c : WavetableControls) (bank : List Float) (h : c .tab
       ≡ mixOf bank (tableIndexOf (tablePosOf zer)) (blendOf (tablePosOf zer) (tableIndexOf (tablePosOf zer)) one) inc phase
   same-mix inc phase = ap (λ (x : ℕ × Float). mixOf bank (x .0) (x .1) inc phase) (same-choice (c .morph))
 
-  sound-volts : voltsOf (wavetableSoundOf s c bank .answer) ≡ voltsOf (wavetableSoundOf s (secondTable c) bank .answer)
+  table-sounds : Sounds-as (wavetableSoundOf s c bank .answer) (wavetableSoundOf s (secondTable c) bank .answer)
   unfolding wavetableSoundOf
-  sound-volts =
-      mark-says _ _ _ _ _ .volts
-      ∙ rw h (ap volts1 (same-mix _ _))
-      ∙ sym (mark-says _ _ _ _ _ .volts)
+  table-sounds = rw (nan-given (controlsOf c) 1 (lit< tt) h, h, same-mix) (mark-sounds _ _ _ _ _ _ refl)
 
-  sound-state : wavetableSoundOf s c bank .wavetable ≡ wavetableSoundOf s (secondTable c) bank .wavetable
-  unfolding wavetableSoundOf
-  sound-state = refl
-
-  given-nan : allNumbers (controlsOf c) ≡ false
-  unfolding allNumbers
-  given-nan = rw h (go (not (isNan (c .«v_oct» .0))))
+  table-state : wavetableTickOf s c bank .wavetable ≡ wavetableTickOf s (secondTable c) bank .wavetable
+  unfolding wavetableTickOf wavetableSoundOf
+  table-state = go (eqb (wavetableTickRefusalOf s (length bank)) 0)
     where
-      go : (b : Bool) → (b && (not (isNan nan) && (not (isNan (c .morph)) && (not (isNan (c .sync)) && true)))) ≡ false
-      go true = unfold isNan in refl
+      go : (b : Bool) → let refused : WavetableTicked = record { answer = answer.Refused (wavetableTickRefusalOf s (length bank)); wavetable = s } in
+          cond b (wavetableSoundOf s c bank) refused .wavetable ≡ cond b (wavetableSoundOf s (secondTable c) bank) refused .wavetable
+      go true = unfold wavetableSoundOf in refl
       go false = refl
 
-  sound-mark : markNumber (wavetableSoundOf s (secondTable c) bank .answer) ≡ clean → markNumber (wavetableSoundOf s c bank .answer) ≡ steered
-  unfolding wavetableSoundOf
-  sound-mark e = rw (given-nan, h, same-mix) (clean-steered _ _ _ _ _ e)
-
--- a refused tick is refused alike
 pub nan-table : Nan-table
 unfolding wavetableTickOf
-nan-table s c bank h = go (eqb (wavetableTickRefusalOf s (length bank)) 0)
-  where
-    go : (b : Bool) → let refused : WavetableTicked = record { answer = answer.Refused (wavetableTickRefusalOf s (length bank)); wavetable = s } in
-        Plays (cond b (wavetableSoundOf s c bank) refused) (cond b (wavetableSoundOf s (secondTable c) bank) refused)
-    go true = record { volts = sound-volts s c bank h; state = sound-state s c bank h; mark = sound-mark s c bank h }
-    go false = record { volts = refl; state = refl; mark = λ e. absurd (unfold markNumber in omega arith) }
+nan-table s c bank h =
+    (tick-sounds (λ (t : WavetableTicked). t .answer) (wavetableTickRefusalOf s (length bank)) _ _ _ (table-sounds s c bank h) refl, table-state s c bank h)
+
+-- ---- a sync that is NaN takes no edge, and neither does 0 V
+module _ (s : Wavetable) (c : WavetableControls) (bank : List Float) (h : c .sync ≡ nan) where
+  nan-still : risingOf (edgeOf s) (c .sync) .rising ≡ false
+  nan-still = rw h (rising-nan (edgeOf s) .0)
+
+  low-still : risingOf (edgeOf s) zer .rising ≡ false
+  low-still = rising-nan (edgeOf s) .1
+
+  sync-sounds : Sounds-as (wavetableSoundOf s c bank .answer) (wavetableSoundOf s (lowSync c) bank .answer)
+  unfolding wavetableSoundOf
+  sync-sounds = rw (nan-given (controlsOf c) 3 (lit< tt) h, nan-still, low-still) (mark-sounds _ _ _ _ _ _ refl)
+
+pub nan-sync : Nan-sync
+unfolding wavetableTickOf
+nan-sync s c bank h = tick-sounds (λ (t : WavetableTicked). t .answer) (wavetableTickRefusalOf s (length bank)) _ _ _ (sync-sounds s c bank h) refl
