@@ -159,7 +159,7 @@ pub part-frames : (k o n : ℕ) → (o % k ≡ 0 → ⊥) → false ≡ eqb o (k
 part-frames k o n h = sym (ne-eqb o (k * n) (λ e. h (ap (λ (x : ℕ). x % k) (e ∙ mul-comm k n) ∙ mul-mod-left n k)))
 
 -- ---- a loop that puts one answer after another
--- an oscillator has one output, two, four or five
+-- an oscillator has one output, two, four or six
 pub one-port : (v : Volts) → length (portsOf 1 v) ≡ 1
 unfolding portsOf
 one-port v = refl
@@ -172,9 +172,9 @@ pub four-ports : (v : Volts) → length (portsOf 4 v) ≡ 4
 unfolding portsOf
 four-ports v = refl
 
-pub five-ports : (v : Volts) → length (portsOf 5 v) ≡ 5
+pub six-ports : (v : Volts) → length (portsOf 6 v) ≡ 6
 unfolding portsOf
-five-ports v = refl
+six-ports v = refl
 
 -- the place of tick i of n
 pub frame-place : (ports n i o : ℕ) → o ≡ ports * n → i < n → ports * i + ports ≤ o
@@ -203,7 +203,7 @@ frame-put ports n i v l p k h e =
     let rest = length-drop (ports * i) l in
     let part : ports * i + ports - ports * i ≡ ports = omega arith in
     let size : length (part-of ports i l) ≡ ports = length-take-le (ports * i + ports - ports * i) (drop (ports * i) l) (omega arith) ∙ part in
-    let few = length-take ports (v .p10 ∷ v .p11 ∷ v .p12 ∷ v .p13 ∷ v .p14 ∷ []) in
+    let few = length-take ports (v .p10 ∷ v .p11 ∷ v .p12 ∷ v .p13 ∷ v .p14 ∷ v .p15 ∷ []) in
     sets-part l p (portsOf ports v) (ports * i) (ports * i + ports - ports * i) (omega arith) (omega arith)
     (e ∙ ap (λ (k : ℕ). sets (part-of ports i l) 0 (portsOf k v)) size)
     ∙ sym (framed-whole ports n i v l k h)

@@ -5,7 +5,7 @@ use Rattle.answer.specs.Settled.{Settled}
 pub settled : Settled
 settled =
     record {
-      volts5 = λ a b c d e. laws.settled _;
+      volts6 = λ a b c d e f. laws.settled _;
       volts4 = λ a b c d. laws.settled _;
       volts2 = λ a b. laws.settled _;
       volts1 = λ a. laws.settled _;

@@ -11,11 +11,11 @@ use Rattle.answer.specs.declared.Outcome.{Outcome}
 use Rattle.answer.specs.declared.Outcome.the-variants as outcome
 
 -- ---- volts: port 10 first; an output that an oscillator doesn't have reads 0.0
-abbrev pub volts5 : Float → Float → Float → Float → Float → Volts
-volts5 a b c d e = record { p10 = a; p11 = b; p12 = c; p13 = d; p14 = e }
+abbrev pub volts6 : Float → Float → Float → Float → Float → Float → Volts
+volts6 a b c d e f = record { p10 = a; p11 = b; p12 = c; p13 = d; p14 = e; p15 = f }
 
 abbrev pub volts4 : Float → Float → Float → Float → Volts
-volts4 a b c d = volts5 a b c d zer
+volts4 a b c d = volts6 a b c d zer zer
 
 abbrev pub volts2 : Float → Float → Volts
 volts2 a b = volts4 a b zer zer

@@ -56,7 +56,7 @@ afterTicks next (suc n) s = next (afterTicks next n s)
 
 -- the outputs of an oscillator that has so many, in port order
 unfoldable pub portsOf : ℕ → Volts → List Float
-portsOf ports v = take ports (v .p10 ∷ v .p11 ∷ v .p12 ∷ v .p13 ∷ v .p14 ∷ [])
+portsOf ports v = take ports (v .p10 ∷ v .p11 ∷ v .p12 ∷ v .p13 ∷ v .p14 ∷ v .p15 ∷ [])
 
 -- tick i's outputs at their place among the samples of n ticks with so many ports each; samples that aren't those are left
 unfoldable pub framed : ℕ → ℕ → ℕ → Volts → List Float → List Float

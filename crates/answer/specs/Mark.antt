@@ -10,7 +10,7 @@ use Rattle.answer.specs.declared.Answer.{Answer}
 
 -- an output that isn't wanted reads 0.0, so this asks the wanted ones
 unfoldable pub allFinite : Volts → Bool
-allFinite v = isFin (v .p10) && (isFin (v .p11) && (isFin (v .p12) && (isFin (v .p13) && isFin (v .p14))))
+allFinite v = isFin (v .p10) && (isFin (v .p11) && (isFin (v .p12) && (isFin (v .p13) && (isFin (v .p14) && isFin (v .p15)))))
 
 -- none of these controls is NaN; an infinity is a number
 unfoldable pub allNumbers : List Float → Bool

@@ -7,7 +7,7 @@ use lib.Dec.{eqb}
 use lib.Ieee.{Float}
 use lib.ListN.{length, set}
 use Rattle.laws.specs.Machine.{Settles}
-use Rattle.answer.specs.Answer.{volts1, volts2, volts4, volts5, markNumber, hostNumber, voltsOf, accepted, answerOf}
+use Rattle.answer.specs.Answer.{volts1, volts2, volts4, volts6, markNumber, hostNumber, voltsOf, accepted, answerOf}
 use Rattle.answer.specs.Block.{roomFor, marksTaken, framed, blockRefusalOf}
 use Rattle.answer.specs.Mark.{allNumbers, markedOf, markOf}
 use Rattle.answer.specs.Tally.{newTally, tallyOf, tallyOr}
@@ -17,7 +17,7 @@ use Rattle.answer.specs.declared.Tally.{Tally}
 use Rattle.answer.specs.declared.Tallied.{Tallied}
 
 pub record Settled : Type 0 where
-  pub volts5 : (a b c d e : Float) → Settles (λ (r : Volts). r ≡ volts5 a b c d e)
+  pub volts6 : (a b c d e f : Float) → Settles (λ (r : Volts). r ≡ volts6 a b c d e f)
   pub volts4 : (a b c d : Float) → Settles (λ (r : Volts). r ≡ volts4 a b c d)
   pub volts2 : (a b : Float) → Settles (λ (r : Volts). r ≡ volts2 a b)
   pub volts1 : (a : Float) → Settles (λ (r : Volts). r ≡ volts1 a)

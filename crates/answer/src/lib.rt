@@ -7,24 +7,25 @@ ghost use lib.ListN.{length, set};
 ghost use lib.Dec.{eqb};
 ghost use lib.Ieee.{isNan};
 ghost use lib.Seq.{sets};
-ghost use Rattle.answer.specs.Answer.{volts1, volts2, volts4, volts5, markNumber, hostNumber, voltsOf, accepted, answerOf};
+ghost use Rattle.answer.specs.Answer.{volts1, volts2, volts4, volts6, markNumber, hostNumber, voltsOf, accepted, answerOf};
 ghost use Rattle.answer.specs.Mark.{allFinite, allNumbers, markedOf, markOf};
 ghost use Rattle.answer.specs.Tally.{newTally, sumOf, addsUp, oneIf, counted, tallyOr, tallyOf};
 ghost use Rattle.answer.specs.Block.{manyTo, cellsOf, roomFor, grownBy, marksTaken, portsOf, framed, blockRefusalOf};
 
-// Sample volts: a field for each output port number of the Rust. An output that an oscillator doesn't have, or that isn't
-// wanted, reads 0.0.
+// Sample volts: a field for each output port number of the Rust, and p15, which is ours. An output that an oscillator doesn't have, or
+// that isn't wanted, reads 0.0.
 pub struct Volts {
     pub p10: f64,
     pub p11: f64,
     pub p12: f64,
     pub p13: f64,
     pub p14: f64,
+    pub p15: f64,
 }
 
-// The volts of an oscillator with five outputs, and of one with fewer, from port 10 on.
-pub fn volts5(p10: f64, p11: f64, p12: f64, p13: f64, p14: f64) -> Volts
-    ensures { λ r. ⌜ r ≡ volts5 p10 p11 p12 p13 p14 ⌝ }
+// The volts of an oscillator with six outputs, and of one with fewer, from port 10 on.
+pub fn volts6(p10: f64, p11: f64, p12: f64, p13: f64, p14: f64, p15: f64) -> Volts
+    ensures { λ r. ⌜ r ≡ volts6 p10 p11 p12 p13 p14 p15 ⌝ }
 {
     Volts {
         p10,
@@ -32,13 +33,14 @@ pub fn volts5(p10: f64, p11: f64, p12: f64, p13: f64, p14: f64) -> Volts
         p12,
         p13,
         p14,
+        p15,
     }
 }
 
 pub fn volts4(p10: f64, p11: f64, p12: f64, p13: f64) -> Volts
     ensures { λ r. ⌜ r ≡ volts4 p10 p11 p12 p13 ⌝ }
 {
-    volts5(p10, p11, p12, p13, 0.0)
+    volts6(p10, p11, p12, p13, 0.0, 0.0)
 }
 
 pub fn volts2(p10: f64, p11: f64) -> Volts
@@ -167,7 +169,11 @@ fn all_finite(v: Volts) -> bool
         if numeric::is_finite(v.p11) {
             if numeric::is_finite(v.p12) {
                 if numeric::is_finite(v.p13) {
-                    numeric::is_finite(v.p14)
+                    if numeric::is_finite(v.p14) {
+                        numeric::is_finite(v.p15)
+                    } else {
+                        false
+                    }
                 } else {
                     false
                 }
@@ -459,6 +465,10 @@ fn put_volts(v: Volts, part: &mut [f64])
         return;
     }
     part[4] = v.p14;
+    if n < 6 {
+        return;
+    }
+    part[5] = v.p15;
 }
 
 // The outputs of tick i among the samples of n ticks with so many outputs each. Samples that aren't those are left: a block has asked that

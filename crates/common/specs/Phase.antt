@@ -1,11 +1,13 @@
--- wrap_phase, polyblep and polyblamp, written from common.rs; and two lines that the oscillators share.
-use mathlib.Core.Bool.{Bool, cond}
-use lib.Ieee.{Float, binary64, add, sub, mul, div, neg, lt, le}
+-- wrap_phase, polyblep and polyblamp, written from common.rs; beside the first, which request CR 5 asks for, whether a whole turn was passed;
+-- and two lines that the oscillators share.
+use mathlib.Core.Bool.{Bool, cond, _&&_}
+use lib.Ieee.{Float, binary64, add, sub, mul, div, neg, lt, le, ne}
 use Rattle.laws.specs.Float.{zer, one, two, isFin}
 use Rattle.numeric.specs.Floor.{floorOf}
 use Rattle.common.specs.Consts.{three}
 use Rattle.common.specs.declared.Hertz.{Hertz}
 use Rattle.common.specs.declared.Turns.{Turns}
+use Rattle.common.specs.declared.Wrapped.{Wrapped}
 
 abbrev pub turns : Float → Turns
 turns x = record { 0 = x }
@@ -15,6 +17,14 @@ unfoldable pub wrapOf : Float → Float
 wrapOf x =
     let wrapped = sub binary64 x (floorOf x) in
     cond (isFin x) (cond (le one wrapped) zer wrapped) zer
+
+-- not of the Rust. A whole turn was passed: x is finite and floor(x) isn't 0
+unfoldable pub turnedOf : Float → Bool
+turnedOf x = isFin x && ne (floorOf x) zer
+
+-- what wrap_phase answers: the Rust's phase, and beside it whether a whole turn was passed
+abbrev pub wrapPhaseOf : Turns → Wrapped
+wrapPhaseOf x = record { phase = turns (wrapOf (x .0)); turned = turnedOf (x .0) }
 
 -- t < dt: with t / dt, 2.0 * t - t * t - 1.0. t > 1.0 - dt: with (t - 1.0) / dt, t * t + 2.0 * t + 1.0. Else 0.0.
 unfoldable pub polyblepOf : Float → Float → Float

@@ -1,11 +1,11 @@
 -- What the crates above count on: the statements. The proofs of the same names in small letters stand in proofs/.
 use mathlib.Core.Path.{_≡_}
-use mathlib.Core.Bool.{true, false, cond}
+use mathlib.Core.Bool.{true, false, cond, not, _&&_}
 use mathlib.Core.Logic.{_⊎_}
 use lib.Dec.{T}
 use lib.Ieee.{Float, nan, le}
-use Rattle.laws.specs.Float.{zer, F64}
-use Rattle.common.specs.Phase.{turns, wrapOf}
+use Rattle.laws.specs.Float.{zer, F64, isFin}
+use Rattle.common.specs.Phase.{turns, wrapOf, turnedOf}
 use Rattle.common.specs.Memo.{filled1, filled3, recall1, recall3}
 use Rattle.common.specs.Consts.{five}
 use Rattle.common.specs.Edge.{thresholdOf, resetOf, risesAbove, fracAbove, risingOf, crossedOf}
@@ -19,6 +19,10 @@ use Rattle.common.specs.declared.Memo3.{Memo3}
 -- the wrap of any f64 is a phase that refusal 2 lets pass
 abbrev pub Wrap-in : Type 0
 Wrap-in = (x : Float) → F64 x → phaseOk (turns (wrapOf x)) ≡ true
+
+-- a whole turn is passed exactly where a number is finite and is no phase itself
+abbrev pub Turned-says : Type 0
+Turned-says = (x : Float) → F64 x → turnedOf x ≡ (isFin x && not (phaseOk (turns x)))
 
 -- a memo that is empty, or holds what its closure computes for some keys
 abbrev pub Coherent1 : (Float → Hertz) → Memo1 → Type 0

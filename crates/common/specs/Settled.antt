@@ -6,13 +6,14 @@ use Prim.Native.Nat.{ℕ}
 use lib.Ieee.{Float}
 use Rattle.laws.specs.Machine.{Settles}
 use Rattle.common.specs.Pitch.{voctToHz}
-use Rattle.common.specs.Phase.{turns, wrapOf, polyblepOf, polyblampOf, incrementOf, restartOf}
+use Rattle.common.specs.Phase.{wrapPhaseOf, polyblepOf, polyblampOf, incrementOf, restartOf}
 use Rattle.common.specs.Memo.{newMemo1, hits1, filled1, recall1, voctToHzAt, newMemo3, hits3, filled3}
 use Rattle.common.specs.Edge.{newEdge, risingAboveOf, risingOf, crossedAboveOf, crossedOf, resetOf}
 use Rattle.common.specs.Ports.{outOf}
 use Rattle.common.specs.Tests.{rateOk, phaseOk, drawsRefusalOf}
 use Rattle.common.specs.declared.Hertz.{Hertz}
 use Rattle.common.specs.declared.Turns.{Turns}
+use Rattle.common.specs.declared.Wrapped.{Wrapped}
 use Rattle.common.specs.declared.VoltsPerOctave.{VoltsPerOctave}
 use Rattle.common.specs.declared.Memo1.{Memo1}
 use Rattle.common.specs.declared.Memo3.{Memo3}
@@ -22,7 +23,7 @@ use Rattle.common.specs.declared.Crossed.{Crossed}
 
 pub record Settled : Type 0 where
   pub voct-to-hz : (v : VoltsPerOctave) → Settles (λ (r : Hertz). r ≡ voctToHz v)
-  pub wrap-phase : (x : Turns) → Settles (λ (r : Turns). r ≡ turns (wrapOf (x .0)))
+  pub wrap-phase : (x : Turns) → Settles (λ (r : Wrapped). r ≡ wrapPhaseOf x)
   pub polyblep : (t dt : Turns) → Settles (λ (r : Float). r ≡ polyblepOf (t .0) (dt .0))
   pub polyblamp : (t dt : Turns) → Settles (λ (r : Float). r ≡ polyblampOf (t .0) (dt .0))
   pub increment : (freq rate : Hertz) → Settles (λ (r : Turns). r ≡ incrementOf freq rate)

@@ -4,7 +4,7 @@ ghost use mathlib.Core.Path.{_≡_};
 ghost use Prim.Native.Nat.{_≤_};
 ghost use lib.ListN.{length};
 ghost use Rattle.common.specs.Pitch.{voctToHz};
-ghost use Rattle.common.specs.Phase.{turns, wrapOf, polyblepOf, polyblampOf, incrementOf, restartOf};
+ghost use Rattle.common.specs.Phase.{turns, wrapPhaseOf, polyblepOf, polyblampOf, incrementOf, restartOf};
 ghost use Rattle.common.specs.Memo.{newMemo1, hits1, filled1, newMemo3, hits3, filled3, recall1, voctToHzAt};
 ghost use Rattle.common.specs.Edge.{newEdge, thresholdOf, risingAboveOf, risingOf, crossedAboveOf, crossedOf, resetOf};
 ghost use Rattle.common.specs.Ports.{outOf};
@@ -35,48 +35,86 @@ pub fn voct_to_hz(voct: VoltsPerOctave) -> Hertz
     Hertz(C4_HZ * numeric::exp2(numeric::clamp(voct.0, -MAX_ABS_VOCT, MAX_ABS_VOCT)))
 }
 
+// What the Rust's `wrap_phase` says; and beside it, which is ours, whether a whole turn was passed: the number is finite and its floor
+// isn't 0.
+pub struct Wrapped {
+    pub phase: Turns,
+    pub turned: bool,
+}
+
 // Any number brought into [0, 1), as the Rust has it.
-fn wrapped(x: f64) -> f64
-    ensures { λ r. ⌜ r ≡ wrapOf x ⌝ }
+fn wrap(x: f64) -> Wrapped
+    ensures { λ r. ⌜ r ≡ wrapPhaseOf (turns x) ⌝ }
 {
     if numeric::is_finite(x) {
-        let w = x - numeric::floor(x);
-        if w >= 1.0 { 0.0 } else { w }
+        let floor = numeric::floor(x);
+        let turned = floor != 0.0;
+        let w = x - floor;
+        if w >= 1.0 {
+            Wrapped {
+                phase: Turns(0.0),
+                turned,
+            }
+        } else {
+            Wrapped {
+                phase: Turns(w),
+                turned,
+            }
+        }
     } else {
-        0.0
+        Wrapped {
+            phase: Turns(0.0),
+            turned: false,
+        }
     }
 }
 
 // The same without a floor where x is above -1 and below 2, as a phase and an increment nearly always are. Below 1 is a way of its
 // own: most phases take it, and the next tick needn't wait for a choice.
-fn wrapped_near(x: f64) -> f64
-    ensures { λ r. ⌜ r ≡ wrapOf x ⌝ }
+fn wrap_near(x: f64) -> Wrapped
+    ensures { λ r. ⌜ r ≡ wrapPhaseOf (turns x) ⌝ }
 {
     if x > 0.0 {
         if x < 1.0 {
-            x
+            Wrapped {
+                phase: Turns(x),
+                turned: false,
+            }
         } else if x < 2.0 {
-            x - 1.0
+            Wrapped {
+                phase: Turns(x - 1.0),
+                turned: true,
+            }
         } else {
-            wrapped(x)
+            wrap(x)
         }
     } else if x < 0.0 {
         if x > -1.0 {
             let w = x + 1.0;
-            if w >= 1.0 { 0.0 } else { w }
+            if w >= 1.0 {
+                Wrapped {
+                    phase: Turns(0.0),
+                    turned: true,
+                }
+            } else {
+                Wrapped {
+                    phase: Turns(w),
+                    turned: true,
+                }
+            }
         } else {
-            wrapped(x)
+            wrap(x)
         }
     } else {
-        wrapped(x)
+        wrap(x)
     }
 }
 
-// A phase brought back into [0, 1); one that isn't finite starts again at 0.
-pub fn wrap_phase(x: Turns) -> Turns
-    ensures { λ r. ⌜ r ≡ turns (wrapOf (x .0)) ⌝ }
+// A phase brought back into [0, 1), where one that isn't finite starts again at 0; and whether it passed a whole turn.
+pub fn wrap_phase(x: Turns) -> Wrapped
+    ensures { λ r. ⌜ r ≡ wrapPhaseOf x ⌝ }
 {
-    Turns(wrapped_near(x.0))
+    wrap_near(x.0)
 }
 
 // The residual over plain numbers.

@@ -23,6 +23,7 @@ settled =
       cos = λ x. laws.settled _;
       «voct_to_hz» = λ voct. laws.settled _;
       «wrap_phase» = λ x. laws.settled _;
+      «wrap_turned» = λ x. laws.settled _;
       polyblep = λ t dt. laws.settled _;
       polyblamp = λ t dt. laws.settled _;
       «tally_take» = λ code counts. laws.settled _;

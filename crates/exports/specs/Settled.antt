@@ -12,7 +12,7 @@ use Rattle.numeric.specs.Floor.{floorOf}
 use Rattle.numeric.specs.Draw.{drawOf, bipolarOf}
 use Rattle.numeric.specs.Power.{exp2Of, pow3000Of}
 use Rattle.numeric.specs.Trig.{sinOf, cosOf}
-use Rattle.common.specs.Phase.{wrapOf, polyblepOf, polyblampOf}
+use Rattle.common.specs.Phase.{wrapOf, turnedOf, polyblepOf, polyblampOf}
 use Rattle.common.specs.Memo.{voctToHzAt}
 use Rattle.exports.specs.Counts.{Kept, tallyAt}
 
@@ -35,6 +35,7 @@ pub record Settled : Type 0 where
   pub cos : (x : Float) → Settles (λ (r : Float). r ≡ cosOf x)
   pub «voct_to_hz» : (voct : Float) → Settles (λ (r : Float). r ≡ voctToHzAt voct .0)
   pub «wrap_phase» : (x : Float) → Settles (λ (r : Float). r ≡ wrapOf x)
+  pub «wrap_turned» : (x : Float) → Settles (λ (r : Bool). r ≡ turnedOf x)
   pub polyblep : (t dt : Float) → Settles (λ (r : Float). r ≡ polyblepOf t dt)
   pub polyblamp : (t dt : Float) → Settles (λ (r : Float). r ≡ polyblampOf t dt)
   pub «tally_take» : (code : ℕ) (counts : List ℕ) → Settles (λ (k : Kept). k ≡ tallyAt code counts)

@@ -2,7 +2,7 @@
 use common::Turns;
 use common::VoltsPerOctave;
 ghost use mathlib.Core.Path.{_≡_};
-ghost use Rattle.common.specs.Phase.{wrapOf, polyblepOf, polyblampOf};
+ghost use Rattle.common.specs.Phase.{wrapOf, turnedOf, polyblepOf, polyblampOf};
 ghost use Rattle.common.specs.Memo.{voctToHzAt};
 
 #[no_mangle]
@@ -16,7 +16,15 @@ pub extern "C" fn gruttisol_voct_to_hz(voct: f64) -> f64
 pub extern "C" fn gruttisol_wrap_phase(x: f64) -> f64
     ensures { λ r. ⌜ r ≡ wrapOf x ⌝ }
 {
-    common::wrap_phase(Turns(x)).0
+    common::wrap_phase(Turns(x)).phase.0
+}
+
+// The other half of the same wrap's answer, in a call of its own: one number is answered.
+#[no_mangle]
+pub extern "C" fn gruttisol_wrap_turned(x: f64) -> bool
+    ensures { λ r. ⌜ r ≡ turnedOf x ⌝ }
+{
+    common::wrap_phase(Turns(x)).turned
 }
 
 #[no_mangle]

@@ -17,7 +17,7 @@ abbrev pub nWholes : ℕ
 nWholes = 2
 
 abbrev pub nSamples : ℕ
-nSamples = 5
+nSamples = 6
 
 -- floats [phase, sample_rate, reset_edge.prev, freq_memo.val], wholes [freq_memo.key, freq_memo.valid]
 unfoldable pub stateOf : List Float → List ℕ → Lfo
@@ -35,6 +35,6 @@ floatsOf s = s .phase .0 ∷ s .«sample_rate» .0 ∷ (edgeFloats (s .«reset_e
 unfoldable pub wholesOf : Lfo → List ℕ
 wholesOf s = s .«freq_memo» .key ∷ cond (s .«freq_memo» .valid) 1 0 ∷ []
 
--- [sin, tri, saw, sqr, sin_uni]
+-- [sin, tri, saw, sqr, sin_uni, eoc]
 unfoldable pub samplesOf : Volts → List Float
-samplesOf v = v .p10 ∷ v .p11 ∷ v .p12 ∷ v .p13 ∷ v .p14 ∷ []
+samplesOf v = v .p10 ∷ v .p11 ∷ v .p12 ∷ v .p13 ∷ v .p14 ∷ v .p15 ∷ []

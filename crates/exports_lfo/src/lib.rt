@@ -1,5 +1,5 @@
 // The Lfo for hosts, over lent slices. A state is floats [phase, sample_rate, reset_edge.prev, freq_memo.val] and
-// wholes [freq_memo.key, freq_memo.valid], the last 0 or not; samples are [sin, tri, saw, sqr, sin_uni].
+// wholes [freq_memo.key, freq_memo.valid], the last 0 or not; samples are [sin, tri, saw, sqr, sin_uni, eoc].
 // Each call answers a number: 0 done; of an accepted tick what its mark is told by; of a refused call 1 to 7 as the scope has
 // them, or 50, 51, 52, 53 where floats, wholes, samples or counts have another length. A refused call writes nothing. A block
 // answers 0, with the ticks' samples one after another, their marks by the same numbers, and the tally's counts.
@@ -33,7 +33,7 @@ const FLOATS: usize = VAL + 1;
 
 const WHOLES: usize = 2;
 
-const SAMPLES: usize = 5;
+const SAMPLES: usize = 6;
 
 fn state(floats: &[f64], wholes: &[u64]) -> Lfo
     requires { ⌜ (length (now floats) ≡ nFloats) × (length (now wholes) ≡ nWholes) ⌝ }
@@ -117,6 +117,7 @@ fn put_ticked(t: LfoTicked, floats: &mut [f64], wholes: &mut [u64], samples: &mu
         samples[2] = v.p12;
         samples[3] = v.p13;
         samples[4] = v.p14;
+        samples[5] = v.p15;
     }
     code
 }

@@ -20,13 +20,14 @@ use Rattle.answer.proofs.Blocks.{Holds, held-after, held-marks, held-frames, he
 use Rattle.answer.proofs.Laws.{mark-says, refused-by, mark-steers, tick-steers}
 use Rattle.answer.specs.Mark.{allNumbers}
 use Rattle.common.specs.Memo.{recall1, voctToHzAt}
-use Rattle.common.specs.Phase.{turns, wrapOf, incrementOf}
+use Rattle.common.specs.Phase.{turns, wrapPhaseOf, incrementOf}
 use Rattle.common.specs.Tests.{rateOk, phaseOk}
 use Rattle.common.proofs.MemoLaws.{recall1-again}
 use Rattle.common.proofs.PhaseLaws.{wrap-in, accepted-state}
 use Rattle.common.specs.declared.Hertz.{Hertz}
 use Rattle.common.specs.declared.Memo1.{Memo1}
 use Rattle.common.specs.declared.Turns.{Turns}
+use Rattle.common.specs.declared.Wrapped.{Wrapped}
 use Rattle.common.specs.declared.VoltsPerOctave.{VoltsPerOctave}
 use Rattle.formant_osc.proofs.Coherent.{coefs-again}
 use Rattle.formant_osc.proofs.Still.{still-pitch}
@@ -70,12 +71,13 @@ pub still-memo : (v : VoltsPerOctave) (depth : Float) (q : Turns) (m n k : Memo1
     → (still ≡ true → n ≡ m) → still ≡ true → k ≡ m
 still-memo v depth q m n k still r e w t = e ∙ r t ∙ w t
 
-pub swung : (v : VoltsPerOctave) (depth : Float) (rate : Hertz) (d : Driver) (i : ℕ) (q q' vibrato : Turns) (m m' : Memo1)
-    → m' ≡ recall1 voctToHzAt m (pitchOf v depth (q .0) .0) → vibrato ≡ incrementOf vibratoRate rate → q' ≡ turns (wrapOf (add binary64 (q .0) (vibrato .0)))
+pub swung : (v : VoltsPerOctave) (depth : Float) (rate : Hertz) (d : Driver) (i : ℕ) (q : Turns) (u : Wrapped) (vibrato : Turns) (m m' : Memo1)
+    → m' ≡ recall1 voctToHzAt m (pitchOf v depth (q .0) .0) → vibrato ≡ incrementOf vibratoRate rate
+    → u ≡ wrapPhaseOf (turns (add binary64 (q .0) (vibrato .0)))
     → q ≡ afterTicks (driveNext v depth rate) i d .«vibrato_phase» → m ≡ afterTicks (driveNext v depth rate) i d .«freq_memo»
-    → (q' ≡ afterTicks (driveNext v depth rate) (i + 1) d .«vibrato_phase») × (m' ≡ afterTicks (driveNext v depth rate) (i + 1) d .«freq_memo»)
+    → (u .phase ≡ afterTicks (driveNext v depth rate) (i + 1) d .«vibrato_phase») × (m' ≡ afterTicks (driveNext v depth rate) (i + 1) d .«freq_memo»)
 unfolding afterTicks driveNext vibratoSum driveMemo
-swung v depth rate d i q q' vibrato m m' a y z w k = (rw add-one (simp (z, y, w)), rw add-one (simp (a, k, w)))
+swung v depth rate d i q u vibrato m m' a y z w k = (rw add-one (simp (z, y, w)), rw add-one (simp (a, k, w)))
 
 pub stridden : (v : VoltsPerOctave) (depth : Float) (rate : Hertz) (d : Driver) (i : ℕ) (q step : Turns) (m m' : Memo1)
     → m' ≡ recall1 voctToHzAt m (pitchOf v depth (q .0) .0) → step ≡ incrementOf (m' .val) rate
@@ -85,12 +87,12 @@ unfolding strideAt driveMemo
 stridden v depth rate d i q step m m' a b w k = simp (b, a, w, k)
 
 -- ---- a turn of the second
-pub pulse-turn : (xs ys : List Float) (f : ℕ → Float) (i : ℕ) (start p p' step : Turns) (a : Bool) (n : ℕ)
+pub pulse-turn : (xs ys : List Float) (f : ℕ → Float) (i : ℕ) (start p : Turns) (u : Wrapped) (step : Turns) (a : Bool) (n : ℕ)
     → i < length xs → ys ≡ over f i xs → p ≡ phaseAt xs start i → step ≡ turns (getD ys i nan)
-    → p' ≡ turns (wrapOf (add binary64 (p .0) (step .0))) → a ≡ isFin (add binary64 (p .0) (step .0)) → n ≡ flag a
-    → (p' ≡ phaseAt xs start (i + 1)) × (n ≡ phaseFlagAt xs start i)
+    → u ≡ wrapPhaseOf (turns (add binary64 (p .0) (step .0))) → a ≡ isFin (add binary64 (p .0) (step .0)) → n ≡ flag a
+    → (u .phase ≡ phaseAt xs start (i + 1)) × (n ≡ phaseFlagAt xs start i)
 unfolding phaseAt phaseFlagAt
-pulse-turn xs ys f i start p p' step a n h e z v r w t =
+pulse-turn xs ys f i start p u step a n h e z v r w t =
     let x : getD ys i nan ≡ getD xs i nan = ap (λ (l : List Float). getD l i nan) e ∙ over-at nan f i xs h in
     (rw add-one (simp (r, z, v, x)), simp (t, w, z, v, x))
 
@@ -126,7 +128,7 @@ module _
   phase-at : (i : ℕ) → i ≤ n → phaseAt xs (d .phase) i ≡ afterTicks (driveNext v depth rate) i d .phase
   unfolding phaseAt afterTicks driveNext phaseSum strideAt
   phase-at zero h = refl
-  phase-at (suc i) h = let p = phase-at i (omega arith) in let q = stride-at i (omega arith) in (λ k. turns (wrapOf (add binary64 (p k .0) (q k))))
+  phase-at (suc i) h = let p = phase-at i (omega arith) in let q = stride-at i (omega arith) in (λ k. wrapPhaseOf (turns (add binary64 (p k .0) (q k))) .phase)
 
   pub driven : (s : Driver) (p : Turns) (ys : List Float) (ns : List ℕ) → s ≡ swayed v depth rate m d → p ≡ phaseAt xs (d .phase) n
       → ys ≡ tab (λ i. glottalPulse (phaseAt xs (d .phase) i .0)) n → ns ≡ tab (phaseFlagAt xs (d .phase)) n

@@ -8,7 +8,7 @@ use Rattle.laws.specs.Float.{zer, one, isFin}
 use Rattle.numeric.specs.Basic.{clampOf}
 use Rattle.common.specs.Consts.{five}
 use Rattle.common.specs.Memo.{newMemo1, recall1, voctToHzAt}
-use Rattle.common.specs.Phase.{turns, wrapOf, incrementOf}
+use Rattle.common.specs.Phase.{turns, wrapPhaseOf, incrementOf}
 use Rattle.common.specs.Tests.{rateOk, phaseOk}
 use Rattle.common.specs.declared.Hertz.{Hertz}
 use Rattle.common.specs.declared.Memo1.{Memo1}
@@ -82,8 +82,8 @@ formantOscSoundOf s c =
           (allNumbers (controlsOf c));
       «formant_osc» =
           record {
-            phase = turns (wrapOf next);
-            «vibrato_phase» = turns (wrapOf vibratoNext);
+            phase = wrapPhaseOf (turns next) .phase;
+            «vibrato_phase» = wrapPhaseOf (turns vibratoNext) .phase;
             «resonator_state» = rung .state;
             «sample_rate» = s .«sample_rate»;
             «freq_memo» = freqs;

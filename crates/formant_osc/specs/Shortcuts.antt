@@ -13,7 +13,7 @@ use Rattle.answer.specs.Mark.{markOf}
 use Rattle.answer.specs.declared.Answer.{Answer}
 use Rattle.common.specs.Consts.{five}
 use Rattle.common.specs.Memo.{recall1, voctToHzAt}
-use Rattle.common.specs.Phase.{turns, wrapOf, incrementOf}
+use Rattle.common.specs.Phase.{turns, wrapPhaseOf, incrementOf}
 use Rattle.common.specs.declared.Hertz.{Hertz}
 use Rattle.common.specs.declared.Memo1.{Memo1}
 use Rattle.common.specs.declared.Turns.{Turns}
@@ -36,7 +36,11 @@ vibratoSum rate d = add binary64 (d .«vibrato_phase» .0) (incrementOf vibratoR
 
 unfoldable pub driveNext : VoltsPerOctave → Float → Hertz → Driver → Driver
 driveNext v depth rate d =
-    record { phase = turns (wrapOf (phaseSum v depth rate d)); «vibrato_phase» = turns (wrapOf (vibratoSum rate d)); «freq_memo» = driveMemo v depth d }
+    record {
+      phase = wrapPhaseOf (turns (phaseSum v depth rate d)) .phase;
+      «vibrato_phase» = wrapPhaseOf (turns (vibratoSum rate d)) .phase;
+      «freq_memo» = driveMemo v depth d;
+    }
 
 -- ---- a bool that waits in the place of a mark, and is none
 unfoldable pub flag : Bool → ℕ
@@ -66,7 +70,7 @@ swayed v depth rate n d =
 -- then the phase before tick i, over those increments xs, and its flag
 unfoldable pub phaseAt : List Float → Turns → ℕ → Turns
 phaseAt xs p zero = p
-phaseAt xs p (suc i) = turns (wrapOf (add binary64 (phaseAt xs p i .0) (getD xs i nan)))
+phaseAt xs p (suc i) = wrapPhaseOf (turns (add binary64 (phaseAt xs p i .0) (getD xs i nan))) .phase
 
 unfoldable pub phaseFlagAt : List Float → Turns → ℕ → ℕ
 phaseFlagAt xs p i = flag (isFin (add binary64 (phaseAt xs p i .0) (getD xs i nan)))

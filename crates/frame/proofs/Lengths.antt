@@ -71,14 +71,14 @@ waves-length : (v : Volts) → length (wavesText v) ≡ 84
 unfolding wavesText
 waves-length v = simp (length-append, sample-length)
 
-outputs-length : (o : Osc) (v : Volts) → length (outputsText o v) ≤ 109
+outputs-length : (o : Osc) (v : Volts) → length (outputsText o v) ≤ 130
 unfolding outputsText
 outputs-length Vco v = omega (arith, waves-length v)
 outputs-length Lfo v = simp (length-append, waves-length, sample-length) (omega arith)
 outputs-length Supersaw v = simp (length-append, sample-length) (omega arith)
 outputs-length Formant v = simp sample-length (omega arith)
 
-marked-length : (o : Osc) (n : ℕ) (mark : List ℕ) (v : Volts) → Short n → length mark ≤ 9 → length (markedText o n mark v) ≤ 137
+marked-length : (o : Osc) (n : ℕ) (mark : List ℕ) (v : Volts) → Short n → length mark ≤ 9 → length (markedText o n mark v) ≤ 158
 unfolding markedText
 marked-length o n mark v h m =
     let a = count-length (ascii "n=") n h in

@@ -22,7 +22,7 @@ use Rattle.answer.specs.Block.{portsOf, joined}
 use Rattle.answer.specs.declared.Volts.{Volts}
 use Rattle.answer.specs.declared.Answer.{Answer}
 use Rattle.answer.specs.declared.Answer.the-variants as answer
-use Rattle.answer.proofs.Blocks.{joined-length, one-port, two-ports, four-ports, five-ports}
+use Rattle.answer.proofs.Blocks.{joined-length, one-port, two-ports, four-ports, six-ports}
 use Rattle.score.specs.declared.Osc.{Osc}
 use Rattle.score.specs.declared.Osc.the-variants as osc
 use Rattle.frame.specs.Frame.{countLine, wordLine, sampleLine, wavesText, outputsText, markedText, frameText}
@@ -57,7 +57,7 @@ joined-cell d f k whole (suc n) i j h l =
 ports-whole : (o : Osc) (v : Volts) → length (portsOf (portsIn o) v) ≡ portsIn o
 unfolding portsIn
 ports-whole osc.Vco v = four-ports v
-ports-whole osc.Lfo v = five-ports v
+ports-whole osc.Lfo v = six-ports v
 ports-whole osc.Supersaw v = two-ports v
 ports-whole osc.Formant v = one-port v
 

@@ -22,14 +22,14 @@ countLine key n = key ++ decimalText n ++ ascii "\n"
 unfoldable pub sampleLine : List ℕ → Float → List ℕ
 sampleLine key x = key ++ hexText (toBits binary64 x) ++ ascii "\n"
 
--- the outputs, in the Rust's port order and names
+-- the outputs, in the Rust's port order and names; of the Lfo then eoc, which is ours
 unfoldable pub wavesText : Volts → List ℕ
 wavesText v =
     sampleLine (ascii "sin=") (v .p10) ++ sampleLine (ascii "tri=") (v .p11) ++ sampleLine (ascii "saw=") (v .p12) ++ sampleLine (ascii "sqr=") (v .p13)
 
 unfoldable pub outputsText : Osc → Volts → List ℕ
 outputsText Vco v = wavesText v
-outputsText Lfo v = wavesText v ++ sampleLine (ascii "sin_uni=") (v .p14)
+outputsText Lfo v = wavesText v ++ sampleLine (ascii "sin_uni=") (v .p14) ++ sampleLine (ascii "eoc=") (v .p15)
 outputsText Supersaw v = sampleLine (ascii "out=") (v .p10) ++ sampleLine (ascii "sub=") (v .p11)
 outputsText Formant v = sampleLine (ascii "out=") (v .p10)
 

@@ -6,7 +6,7 @@ use lib.Dec.{eqb, leb, ltb}
 use lib.Ieee.{Float, nan}
 use lib.ListN.{length, getD}
 use Rattle.laws.specs.Float.{zer}
-use Rattle.answer.specs.Answer.{answerOf, volts5}
+use Rattle.answer.specs.Answer.{answerOf, volts6}
 use Rattle.answer.specs.Block.{joined}
 use Rattle.answer.specs.declared.Volts.{Volts}
 use Rattle.score.specs.declared.Osc.{Osc}
@@ -16,7 +16,7 @@ use Rattle.frame.specs.Frame.{frameText}
 -- how many outputs each has
 unfoldable pub portsIn : Osc → ℕ
 portsIn Vco = 4
-portsIn Lfo = 5
+portsIn Lfo = 6
 portsIn Supersaw = 2
 portsIn Formant = 1
 
@@ -26,7 +26,13 @@ outputAt ports samples i j = cond (ltb j ports) (getD samples (ports * i + j) na
 
 unfoldable pub voltsAt : ℕ → List Float → ℕ → Volts
 voltsAt ports samples i =
-    volts5 (outputAt ports samples i 0) (outputAt ports samples i 1) (outputAt ports samples i 2) (outputAt ports samples i 3) (outputAt ports samples i 4)
+    volts6
+    (outputAt ports samples i 0)
+    (outputAt ports samples i 1)
+    (outputAt ports samples i 2)
+    (outputAt ports samples i 3)
+    (outputAt ports samples i 4)
+    (outputAt ports samples i 5)
 
 -- the text of frame i, and those of the first k frames, numbered from `first` on
 abbrev pub toldText : Osc → ℕ → List Float → List ℕ → ℕ → List ℕ

@@ -40,7 +40,7 @@ pub record ShortTally (t : Tally) : Type 0 where
   pub steered : Short (t .steered)
 
 abbrev pub Frame-length : Type 0
-Frame-length = (o : Osc) (n : ℕ) (a : Answer) → Short n → length (frameText o n a) ≤ 137
+Frame-length = (o : Osc) (n : ℕ) (a : Answer) → Short n → length (frameText o n a) ≤ 158
 
 abbrev pub End-length : Type 0
 End-length = (frames : ℕ) (t : Tally) → ShortTally t → length (endText frames t) ≤ 124

@@ -63,7 +63,8 @@ fn put_outputs(out: &mut [u8], at: usize, osc: Osc, v: Volts) -> usize
         Osc::Vco => put_waves(out, at, v),
         Osc::Lfo => {
             let a = put_waves(&mut *out, at, v);
-            put_sample(out, a, b"sin_uni=", v.p14)
+            let b = put_sample(&mut *out, a, b"sin_uni=", v.p14);
+            put_sample(out, b, b"eoc=", v.p15)
         }
         Osc::Supersaw => {
             let a = put_sample(&mut *out, at, b"out=", v.p10);
@@ -105,7 +106,7 @@ pub fn ports_of(osc: Osc) -> usize
 {
     match osc {
         Osc::Vco => 4,
-        Osc::Lfo => 5,
+        Osc::Lfo => 6,
         Osc::Supersaw => 2,
         Osc::Formant => 1,
     }
@@ -127,12 +128,13 @@ fn volts_at(ports: usize, samples: &[f64], i: usize) -> Volts
     requires { ⌜ ports * (i + 1) ≤ length (now samples) ⌝ }
     ensures { λ r. ⌜ r ≡ voltsAt ports (now (samples .entry)) i ⌝ }
 {
-    answer::volts5(
+    answer::volts6(
         output_at(ports, samples, i, 0),
         output_at(ports, samples, i, 1),
         output_at(ports, samples, i, 2),
         output_at(ports, samples, i, 3),
         output_at(ports, samples, i, 4),
+        output_at(ports, samples, i, 5),
     )
 }
 

@@ -34,10 +34,10 @@ unfolding lfoTickOf
 sounds s c wanted h = simp h
 
 -- a small depth in an accepted tick: every output is finite
-pub sound-finite : (s : Lfo) (edge small : Bool) (p : Turns) (wanted : ℕ) (depth : Float) (v : Volts) → lfoRefusalOf s ≡ 0
-    → p ≡ restartOf (s .phase) edge → v ≡ lfoOutputsOf wanted (p .0) depth → small ≡ isSmall depth → small ≡ true → allFinite v ≡ true
-sound-finite s edge small p wanted depth v h e q b t =
-    rw (q, e) (outputs-finite wanted (restartOf (s .phase) edge .0) depth (restart-in (s .phase) edge (accepts s h .1)) (sym b ∙ t))
+pub sound-finite : (s : Lfo) (edge small : Bool) (p : Turns) (wanted : ℕ) (depth : Float) (turned : Bool) (v : Volts) → lfoRefusalOf s ≡ 0
+    → p ≡ restartOf (s .phase) edge → v ≡ lfoOutputsOf wanted (p .0) depth turned → small ≡ isSmall depth → small ≡ true → allFinite v ≡ true
+sound-finite s edge small p wanted depth turned v h e q b t =
+    rw (q, e) (outputs-finite wanted (restartOf (s .phase) edge .0) depth turned (restart-in (s .phase) edge (accepts s h .1)) (sym b ∙ t))
 
 -- ---- the promise
 sound-small : (s : Lfo) (c : LfoControls) (wanted : ℕ) → isSmall (div binary64 (c .depth) ten) ≡ true → lfoRefusalOf s ≡ 0
@@ -46,7 +46,7 @@ unfolding lfoSoundOf
 sound-small s c wanted k h =
     let edge = risingOf (s .«reset_edge») (c .reset) .rising in
     ap allFinite (mark-says _ _ _ _ _ .volts)
-    ∙ outputs-finite wanted (restartOf (s .phase) edge .0) (div binary64 (c .depth) ten) (restart-in (s .phase) edge (accepts s h .1)) k
+    ∙ outputs-finite wanted (restartOf (s .phase) edge .0) (div binary64 (c .depth) ten) _ (restart-in (s .phase) edge (accepts s h .1)) k
 
 pub small-finite : Small-finite
 unfolding lfoTickOf accepted

@@ -14,7 +14,7 @@ use Rattle.answer.specs.Mark.{allNumbers, markOf}
 use Rattle.answer.specs.Promises.{Sounds-as}
 use Rattle.answer.specs.declared.Answer.{Answer}
 use Rattle.answer.specs.declared.Volts.{Volts}
-use Rattle.common.specs.Phase.{turns, wrapOf, incrementOf, restartOf}
+use Rattle.common.specs.Phase.{turns, wrapPhaseOf, incrementOf, restartOf}
 use Rattle.common.specs.Edge.{risingOf}
 use Rattle.common.specs.Memo.{recall1}
 use Rattle.common.specs.Tests.{phaseOk}
@@ -22,6 +22,7 @@ use Rattle.common.proofs.EdgeLaws.{rising-once, rising-nan}
 use Rattle.common.proofs.MemoLaws.{recall1-again}
 use Rattle.common.proofs.PhaseLaws.{wrap-in, restart-in}
 use Rattle.common.specs.declared.Turns.{Turns}
+use Rattle.common.specs.declared.Wrapped.{Wrapped}
 use Rattle.laws.specs.Float.{zer, isFin}
 use Rattle.lfo.specs.Shortcuts.{heldTold, heldNext}
 use Rattle.lfo.proofs.Accepted.{accepts, sounds}
@@ -35,16 +36,17 @@ use Rattle.lfo.specs.declared.LfoTicked.{LfoTicked}
 use Rattle.common.specs.declared.Memo1.{Memo1}
 
 -- ---- a turn of the loop
-pub heard : (wanted : ℕ) (depth : Float) (numbers : Bool) (step start : Turns) (i : ℕ) (p : Turns) (v : Volts) (f : Bool) (a : Answer)
-    → a ≡ markOf v false true f numbers → v ≡ lfoOutputsOf wanted (p .0) depth → f ≡ isFin (add binary64 (p .0) (step .0))
-    → p ≡ afterTicks (heldNext step) i start → a ≡ answerAt (heldTold wanted depth numbers step) (heldNext step) start i
+pub heard : (wanted : ℕ) (depth : Float) (numbers : Bool) (step start : Turns) (i : ℕ) (p : Turns) (w : Wrapped) (v : Volts) (f : Bool) (a : Answer)
+    → a ≡ markOf v false true f numbers → v ≡ lfoOutputsOf wanted (p .0) depth (w .turned) → w ≡ wrapPhaseOf (turns (add binary64 (p .0) (step .0)))
+    → f ≡ isFin (add binary64 (p .0) (step .0)) → p ≡ afterTicks (heldNext step) i start
+    → a ≡ answerAt (heldTold wanted depth numbers step) (heldNext step) start i
 unfolding answerAt heldTold
-heard wanted depth numbers step start i p v f a e q w z = simp (e, q, w, z)
+heard wanted depth numbers step start i p w v f a e q u k z = simp (e, q, u, k, z)
 
-pub moved : (step start : Turns) (i : ℕ) (p q : Turns) → q ≡ turns (wrapOf (add binary64 (p .0) (step .0))) → p ≡ afterTicks (heldNext step) i start
-    → q ≡ afterTicks (heldNext step) (i + 1) start
+pub moved : (step start : Turns) (i : ℕ) (p : Turns) (w : Wrapped) → w ≡ wrapPhaseOf (turns (add binary64 (p .0) (step .0)))
+    → p ≡ afterTicks (heldNext step) i start → w .phase ≡ afterTicks (heldNext step) (i + 1) start
 unfolding afterTicks heldNext
-moved step start i p q e z = rw add-one (simp (e, z))
+moved step start i p w e z = rw add-one (simp (e, z))
 
 -- ---- the whole
 abbrev heldMemo : Lfo → LfoControls → Memo1

@@ -20,7 +20,7 @@ use Rattle.numeric.specs.Basic.{fabsOf, tau}
 use Rattle.lfo.specs.Consts.{ten}
 use Rattle.lfo.specs.Lfo.{lfoOutputsOf}
 use Rattle.lfo.specs.Small.{most, isSmall}
-use Rattle.lfo.specs.Waves.{sineOf, sinWave, triWave, sawWave, sqrWave, sinUniWave}
+use Rattle.lfo.specs.Waves.{sineOf, sinWave, triWave, sawWave, sqrWave, sinUniWave, eocWave}
 
 -- ---- what goes in
 depth-within : (d : Float) → isSmall d ≡ true → Within 30 d
@@ -40,9 +40,17 @@ unfolding ofBits
 finite-if true n x h = is-true (isFin x) (within-finite n x h)
 finite-if false n x h = refl
 
-pub outputs-finite : (wanted : ℕ) (p d : Float) → phaseOk (turns p) ≡ true → isSmall d ≡ true → allFinite (lfoOutputsOf wanted p d) ≡ true
+-- the pulse is, at any depth
+pub eoc-finite : (want turned : Bool) → isFin (eocWave want turned) ≡ true
+unfolding eocWave ofBits
+eoc-finite true true = refl
+eoc-finite true false = refl
+eoc-finite false turned = refl
+
+pub outputs-finite : (wanted : ℕ) (p d : Float) (turned : Bool) → phaseOk (turns p) ≡ true → isSmall d ≡ true
+    → allFinite (lfoOutputsOf wanted p d turned) ≡ true
 unfolding allFinite lfoOutputsOf
-outputs-finite wanted p d h k = simp (sin-finite, tri-finite, saw-finite, sqr-finite, uni-finite)
+outputs-finite wanted p d turned h k = simp (sin-finite, tri-finite, saw-finite, sqr-finite, uni-finite, eoc-finite (wants wanted 32) turned)
   where
     scale : Float
     scale = mul binary64 five d

@@ -4,7 +4,7 @@ use lib.Ieee.{Float, binary64, ofBits}
 
 -- how many outputs there are
 abbrev pub nPorts : ℕ
-nPorts = 5
+nPorts = 6
 
 -- 10, and the lowest frequency in hertz: 0.01
 abbrev pub ten : Float

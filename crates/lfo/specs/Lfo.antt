@@ -1,21 +1,21 @@
 -- The Lfo's calls, written from oscillators.rs, with the scope's refusals and marks.
-use mathlib.Core.Bool.{true, false, cond}
+use mathlib.Core.Bool.{Bool, true, false, cond}
 use mathlib.Core.List.{List, [], _∷_}
 use Prim.Native.Nat.{ℕ}
 use lib.Dec.{eqb}
 use lib.Ieee.{Float, binary64, mul, div, add}
-use Rattle.answer.specs.Answer.{volts5}
+use Rattle.answer.specs.Answer.{volts6}
 use Rattle.answer.specs.Block.{Block, blockOf}
 use Rattle.answer.specs.Mark.{allNumbers, markOf}
 use Rattle.common.specs.Consts.{five}
 use Rattle.common.specs.Edge.{newEdge, resetOf, risingOf}
 use Rattle.common.specs.Memo.{newMemo1, recall1}
-use Rattle.common.specs.Phase.{turns, wrapOf, incrementOf, restartOf}
+use Rattle.common.specs.Phase.{turns, wrapPhaseOf, incrementOf, restartOf}
 use Rattle.common.specs.Ports.{wants}
 use Rattle.common.specs.Tests.{rateOk, phaseOk}
 use Rattle.laws.specs.Float.{zer, isFin}
 use Rattle.lfo.specs.Consts.{ten, nPorts}
-use Rattle.lfo.specs.Waves.{rateToHz, sineOf, sinWave, triWave, sawWave, sqrWave, sinUniWave}
+use Rattle.lfo.specs.Waves.{rateToHz, sineOf, sinWave, triWave, sawWave, sqrWave, sinUniWave, eocWave}
 use Rattle.common.specs.declared.Hertz.{Hertz}
 use Rattle.answer.specs.declared.Volts.{Volts}
 use Rattle.answer.specs.declared.Answer.{Answer}
@@ -51,22 +51,23 @@ madeUnless n old new = cond (eqb n 0) (record { outcome = outcome.Done; lfo = ne
 unfoldable pub lfoNewOf : Hertz → LfoMade
 lfoNewOf r = madeUnless (cond (rateOk r) 0 1) (newLfo r) (newLfo r)
 
--- the outputs of tick_wanted, each where it is wanted
-unfoldable pub lfoOutputsOf : ℕ → Float → Float → Volts
-lfoOutputsOf wanted phase depth =
+-- the outputs of tick_wanted, each where it is wanted; and after them eoc, which the Rust hasn't: whether the tick passes a whole turn
+unfoldable pub lfoOutputsOf : ℕ → Float → Float → Bool → Volts
+lfoOutputsOf wanted phase depth turned =
     let scale = mul binary64 five depth in
-    volts5
+    volts6
     (sinWave (wants wanted 1) (sineOf phase) scale)
     (triWave (wants wanted 2) phase scale)
     (sawWave (wants wanted 4) phase scale)
     (sqrWave (wants wanted 8) phase scale)
     (sinUniWave (wants wanted 16) (sineOf phase) depth)
+    (eocWave (wants wanted 32) turned)
 
 -- the controls given to a tick, in port order
 abbrev pub controlsOf : LfoControls → List Float
 controlsOf c = c .rate ∷ c .depth ∷ c .reset ∷ []
 
--- tick_wanted, line by line
+-- tick_wanted, line by line; the wrap at its end says eoc too
 unfoldable pub lfoSoundOf : Lfo → LfoControls → ℕ → LfoTicked
 lfoSoundOf s c wanted =
     let depth = div binary64 (c .depth) ten in
@@ -74,9 +75,10 @@ lfoSoundOf s c wanted =
     let risen = risingOf (s .«reset_edge») (c .reset) in
     let phase = restartOf (s .phase) (risen .rising) .0 in
     let next = add binary64 phase (incrementOf (memo .val) (s .«sample_rate») .0) in
+    let wrapped = wrapPhaseOf (turns next) in
     record {
-      answer = markOf (lfoOutputsOf wanted phase depth) false true (isFin next) (allNumbers (controlsOf c));
-      lfo = record { phase = turns (wrapOf next); «sample_rate» = s .«sample_rate»; «reset_edge» = risen .edge; «freq_memo» = memo };
+      answer = markOf (lfoOutputsOf wanted phase depth (wrapped .turned)) false true (isFin next) (allNumbers (controlsOf c));
+      lfo = record { phase = wrapped .phase; «sample_rate» = s .«sample_rate»; «reset_edge» = risen .edge; «freq_memo» = memo };
     }
 
 -- a refused tick leaves the state

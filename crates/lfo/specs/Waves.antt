@@ -1,8 +1,9 @@
--- The Lfo's rate map and its five waveforms, written from Lfo::tick_wanted. One that isn't wanted reads 0.0.
+-- The Lfo's rate map and its five waveforms, written from Lfo::tick_wanted, and its pulse, written from request CR 5. One that isn't wanted
+-- reads 0.0.
 use mathlib.Core.Bool.{Bool, cond, _||_}
 use Prim.Native.Nat.{ℕ}
 use lib.Ieee.{Float, binary64, lt, mul, sub, add, neg}
-use Rattle.common.specs.Consts.{four, half}
+use Rattle.common.specs.Consts.{four, five, half}
 use Rattle.common.specs.Ports.{wants}
 use Rattle.laws.specs.Float.{zer, one, two}
 use Rattle.numeric.specs.Basic.{fabsOf, clampOf, tau}
@@ -42,3 +43,7 @@ sqrWave want phase scale = cond want (cond (lt phase half) scale (neg scale)) ze
 -- (sin(phase * TAU) * 0.5 + 0.5) * depth * 10.0, over that sine
 unfoldable pub sinUniWave : Bool → Float → Float → Float
 sinUniWave want sine depth = cond want (mul binary64 (mul binary64 (add binary64 (mul binary64 sine half) half) depth) ten) zer
+
+-- not of the Rust: 5.0 where a whole turn is passed, else 0.0
+unfoldable pub eocWave : Bool → Bool → Float
+eocWave want turned = cond want (cond turned five zer) zer

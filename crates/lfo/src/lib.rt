@@ -1,5 +1,5 @@
 // The Lfo of oscillators.rs, in its order: a slow oscillator with rate, depth and a reset trigger.
-// Its outputs: p10 sin, p11 tri, p12 saw, p13 sqr, p14 sin_uni.
+// Its outputs: p10 sin, p11 tri, p12 saw, p13 sqr, p14 sin_uni; and p15 eoc, the end of a cycle, which is ours.
 use answer::Answer;
 use answer::Outcome;
 use answer::Tally;
@@ -18,7 +18,7 @@ ghost use Rattle.common.specs.Tests.{phaseOk};
 ghost use Rattle.answer.specs.Mark.{allFinite, allNumbers, markOf};
 ghost use Rattle.answer.specs.Block.{afterTicks, joined, block, markAt, frameAt};
 ghost use Rattle.lfo.specs.Consts.{nPorts};
-ghost use Rattle.lfo.specs.Waves.{rateToHz, sharedSine, sinWave, triWave, sawWave, sqrWave, sinUniWave};
+ghost use Rattle.lfo.specs.Waves.{rateToHz, sharedSine, sinWave, triWave, sawWave, sqrWave, sinUniWave, eocWave};
 ghost use Rattle.lfo.specs.Small.{isSmall};
 ghost use Rattle.lfo.specs.Shortcuts.{heldTold, heldNext};
 ghost use Rattle.lfo.specs.Lfo.{controlsOf, lfoRefusalOf, lfoRateRefusalOf, lfoNewOf, lfoOutputsOf, lfoSoundOf, lfoTickOf, lfoToldOf};
@@ -57,7 +57,7 @@ pub struct LfoMade {
 }
 
 // How many outputs there are.
-const PORTS: usize = 5;
+const PORTS: usize = 6;
 
 // A rate from 0 to 1 as 0.01 Hz to 30 Hz. The clamp lets a NaN pass.
 fn rate_to_hz(rate: f64) -> Hertz
@@ -130,6 +130,17 @@ fn sin_uni(want: bool, sine: f64, depth: f64) -> f64
     }
 }
 
+// 5 V in the tick at whose end a whole turn is passed, whatever the depth.
+fn eoc(want: bool, turned: bool) -> f64
+    ensures { λ r. ⌜ r ≡ eocWave want turned ⌝ }
+{
+    if want {
+        if turned { 5.0 } else { 0.0 }
+    } else {
+        0.0
+    }
+}
+
 // At this depth no output can overflow.
 fn is_small(depth: f64) -> bool
     ensures { λ r. ⌜ r ≡ isSmall depth ⌝ }
@@ -192,6 +203,8 @@ impl Lfo {
 
     const WANT_SIN_UNI: u32 = 1 << 4;
 
+    const WANT_EOC: u32 = 1 << 5;
+
     // The sine that sin and sin_uni share: the Rust computes it for each of them.
     fn shared_sine(wanted: u32, phase: Turns) -> f64
         ensures { λ r. ⌜ r ≡ sharedSine wanted (phase .0) ⌝ }
@@ -206,18 +219,19 @@ impl Lfo {
         }
     }
 
-    // The outputs, each where it is wanted, over the sine that two of them share.
-    fn outputs(wanted: u32, phase: Turns, sine: f64, depth: f64) -> Volts
+    // The outputs, each where it is wanted, over the sine that two of them share. `turned`: the tick passes a whole turn.
+    fn outputs(wanted: u32, phase: Turns, sine: f64, depth: f64, turned: bool) -> Volts
         requires { ⌜ sine ≡ sharedSine wanted (phase .0) ⌝ }
-        ensures { λ r. ⌜ r ≡ lfoOutputsOf wanted (phase .0) depth ⌝ }
+        ensures { λ r. ⌜ r ≡ lfoOutputsOf wanted (phase .0) depth turned ⌝ }
     {
         let scale = 5.0 * depth;
-        answer::volts5(
+        answer::volts6(
             sin(wanted & Self::WANT_SIN != 0, sine, scale),
             tri(wanted & Self::WANT_TRI != 0, phase, scale),
             saw(wanted & Self::WANT_SAW != 0, phase, scale),
             sqr(wanted & Self::WANT_SQR != 0, phase, scale),
             sin_uni(wanted & Self::WANT_SIN_UNI != 0, sine, depth),
+            eoc(wanted & Self::WANT_EOC != 0, turned),
         )
     }
 
@@ -250,13 +264,15 @@ impl Lfo {
         let risen = edge.rising(c.reset);
         let reset_edge = risen.edge;
         let phase = common::restart(old, risen.rising);
-        let sine = Self::shared_sine(wanted, phase);
-        let volts = Self::outputs(wanted, phase, sine, depth);
         let next = Turns(phase.0 + common::increment(freq, sample_rate).0);
+        let wrapped = common::wrap_phase(next);
+        let sine = Self::shared_sine(wanted, phase);
+        let volts = Self::outputs(wanted, phase, sine, depth, wrapped.turned);
+        let moved = wrapped.phase;
         LfoTicked {
             answer: mark(volts, is_small(depth), numeric::is_finite(next.0), numbers),
             lfo: Lfo {
-                phase: common::wrap_phase(next),
+                phase: moved,
                 sample_rate,
                 reset_edge,
                 freq_memo,
@@ -300,11 +316,12 @@ impl Lfo {
         let mut i = 0;
         while i < marks.len() {
             let next = Turns(phase.0 + step.0);
+            let wrapped = common::wrap_phase(next);
             let sine = Self::shared_sine(wanted, phase);
-            let volts = Self::outputs(wanted, phase, sine, depth);
+            let volts = Self::outputs(wanted, phase, sine, depth, wrapped.turned);
             let heard = mark(volts, small, numeric::is_finite(next.0), numbers);
             answer::put(heard, PORTS, i, &mut *samples, &mut *marks);
-            phase = common::wrap_phase(next);
+            phase = wrapped.phase;
             i += 1;
         }
         phase

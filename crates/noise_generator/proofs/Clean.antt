@@ -166,7 +166,7 @@ unfolding allFinite noiseGeneratorVoltsOf
 volts-nan white1 independent pink1 pink2 wanted h =
     let v = noiseGeneratorVoltsOf nan white1 independent pink1 pink2 wanted in
     simp (mix-nan (wants wanted 4) white1 independent, mix-nan (wants wanted 8) pink1 pink2)
-    (one-not (isFin (v .p10)) (isFin (v .p11)) (wants wanted 4) (wants wanted 8) (isFin (v .p14)) h)
+    (one-not (isFin (v .p10)) (isFin (v .p11)) (wants wanted 4) (wants wanted 8) (isFin (v .p14) && isFin (v .p15)) h)
   where
     one-not : (x y p q z : Bool) → (p || q) ≡ true → (x && (y && (not p && (not q && z)))) ≡ false
     one-not false y p q z h = refl

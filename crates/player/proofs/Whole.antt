@@ -69,6 +69,6 @@ pub piece-length : Piece-length
 unfolding textFrom joined
 piece-length s k zero h = omega arith
 piece-length s k (suc n) h =
-    let before : length (joined (λ (i : ℕ). frameOf s (k + i)) n) ≤ 137 * n = piece-length s k n (omega arith) in
+    let before : length (joined (λ (i : ℕ). frameOf s (k + i)) n) ≤ 158 * n = piece-length s k n (omega arith) in
     let last = frame-length (ownerOf (s .inputs)) (k + n) (heardAt s (k + n)) (omega arith) in
     omega (arith, last, length-append (joined (λ (i : ℕ). frameOf s (k + i)) n) (frameOf s (k + n)))

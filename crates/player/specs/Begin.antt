@@ -18,7 +18,7 @@ abbrev pub vcoAll : ℕ
 vcoAll = 15
 
 abbrev pub lfoAll : ℕ
-lfoAll = 31
+lfoAll = 63
 
 unfoldable pub rateOf : ℕ → Hertz
 rateOf hz = record { 0 = ofInt binary64 (pos hz) }

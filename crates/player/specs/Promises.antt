@@ -41,7 +41,7 @@ Plays = (s : Score) → textFrom s 0 (s .head .frames) ++ endText (s .head .fram
 
 -- ---- how long a piece can be; a frame's number has at most 10 digits
 abbrev pub Piece-length : Type 0
-Piece-length = (s : Score) (k n : ℕ) → k + n ≤ 10000000000 → length (textFrom s k n) ≤ 137 * n
+Piece-length = (s : Score) (k n : ℕ) → k + n ≤ 10000000000 → length (textFrom s k n) ≤ 158 * n
 
 -- ---- the rate of a valid score, as each one that is read is, is a good one
 abbrev pub Valid-rate : Type 0

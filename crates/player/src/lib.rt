@@ -52,7 +52,7 @@ pub struct Played {
 // All outputs wanted.
 const VCO_ALL: u32 = 15;
 
-const LFO_ALL: u32 = 31;
+const LFO_ALL: u32 = 63;
 
 // ---- a score's player
 

@@ -67,7 +67,7 @@ pub record Turn (s : Score) (frames : ℕ) (osc : Osc) (ports : ℕ) (out : List
   pub owner : osc ≡ ownerOf (s .inputs)
   pub ports-are : ports ≡ portsIn osc
   pub out-size : length out ≡ 65536
-  pub samples-size : length sm ≡ 2000
+  pub samples-size : length sm ≡ 2400
   pub marks-size : length mk ≡ 400
   pub stands : Stands s k p t
   pub so-far : wrote ≡ true
@@ -76,7 +76,7 @@ pub stands-first : (s : Score) (p : Player) (t : Tally) → p ≡ playerOf s →
 unfolding playerAt tallyAt tallyAfter run tab afterTicks
 stands-first s p t ep et = record { player = ep; tally = et; within = omega arith; whole = inl (0, refl) }
 
-ports-most : (o : Osc) → portsIn o ≤ 5
+ports-most : (o : Osc) → portsIn o ≤ 6
 unfolding portsIn
 ports-most osc.Vco = lit≤ tt
 ports-most osc.Lfo = lit≤ tt
@@ -99,7 +99,7 @@ module _ {s : Score} {frames : ℕ} {osc : Osc} {ports : ℕ} {out : List ℕ} {
   pub room-samples : ports * n ≤ length sm
   room-samples =
       let few : n ≤ 400 = omega arith in
-      let most : ports * n ≤ 2000 = rw (i .ports-are) (mul-le-mul (ports-most osc) few) in
+      let most : ports * n ≤ 2400 = rw (i .ports-are) (mul-le-mul (ports-most osc) few) in
       omega (arith, i .samples-size)
 
   pub room-marks : n ≤ length mk

@@ -120,8 +120,8 @@ fn lesser(a: u32, b: u32) -> u32
 fn play(out: &mut [u8], input: &[u8], taken: Taken, score: Score) -> bool
     requires { ⌜ (length (now out) ≡ 65536) × (takenOf taken (now input) ≡ Values score) ⌝ }
 {
-    // five samples a frame at most
-    let mut samples = [0.0; 2000];
+    // six samples a frame at most
+    let mut samples = [0.0; 2400];
     let mut marks = [0u32; 400];
     let head = score.head;
     let inputs = score.inputs;

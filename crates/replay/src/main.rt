@@ -218,9 +218,9 @@ fn same_lfo(words: &[u8]) -> bool {
         mask(words, 9),
         &mut floats[..4],
         &mut wholes[..2],
-        &mut samples[..5],
+        &mut samples[..6],
     );
-    same_told(words, 10, code, 4, floats, 2, wholes, 5, samples, [0.0; 62])
+    same_told(words, 10, code, 4, floats, 2, wholes, 6, samples, [0.0; 62])
 }
 
 fn same_vco(words: &[u8]) -> bool {

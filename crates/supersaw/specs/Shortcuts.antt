@@ -7,7 +7,7 @@ use Prim.Native.Nat.{ℕ, zero, suc}
 use lib.Ieee.{Float, binary64, add, sub, mul, div, lt, ofBits, fits}
 use Rattle.laws.specs.Float.{zer, one, two, isFin}
 use Rattle.laws.specs.Lists.{all, tab}
-use Rattle.common.specs.Phase.{wrapOf}
+use Rattle.common.specs.Phase.{turns, wrapPhaseOf}
 use Rattle.common.specs.declared.Hertz.{Hertz}
 use Rattle.common.specs.declared.Turns.{Turns}
 use Rattle.answer.specs.Answer.{volts2}
@@ -32,7 +32,7 @@ unfoldable pub sumsOf : List Float → List Float → List Float
 sumsOf t dt = tab (λ i. add binary64 (at t i) (at dt i)) 8
 
 unfoldable pub wrapsOf : List Float → List Float
-wrapsOf x = tab (λ i. wrapOf (at x i)) 8
+wrapsOf x = tab (λ i. wrapPhaseOf (turns (at x i)) .phase .0) 8
 
 unfoldable pub lanesFinite : List Float → Bool
 lanesFinite x = all (λ i. isFin (at x i)) 8

@@ -8,7 +8,7 @@ use Rattle.laws.specs.Float.{zer, one, isFin}
 use Rattle.laws.specs.Lists.{all, tab}
 use Rattle.numeric.specs.Basic.{clampOf, realOf}
 use Rattle.common.specs.Memo.{newMemo1, recall1, voctToHzAt}
-use Rattle.common.specs.Phase.{turns, wrapOf}
+use Rattle.common.specs.Phase.{turns, wrapPhaseOf}
 use Rattle.common.specs.Tests.{rateOk, phaseOk}
 use Rattle.common.specs.declared.Hertz.{Hertz}
 use Rattle.answer.specs.Answer.{volts2}
@@ -73,7 +73,7 @@ supersawSoundOf s c =
     let next = add binary64 (s .«sub_phase» .0) sub_dt in
     record {
       answer = markOf (volts2 output (sawOf (s .«sub_phase» .0) sub_dt)) false true (v .finite && isFin next) (allNumbers (controlsOf c));
-      supersaw = record { phases = v .phases; «sub_phase» = turns (wrapOf next); «sample_rate» = s .«sample_rate»; «freq_memo» = memo };
+      supersaw = record { phases = v .phases; «sub_phase» = wrapPhaseOf (turns next) .phase; «sample_rate» = s .«sample_rate»; «freq_memo» = memo };
     }
 
 -- a refused tick leaves the state

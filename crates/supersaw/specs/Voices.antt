@@ -6,7 +6,7 @@ use lib.Dec.{eqb}
 use lib.ListN.{getD, set}
 use lib.Ieee.{Float, nan, binary64, add, sub, mul}
 use Rattle.laws.specs.Float.{zer, one, two, isFin}
-use Rattle.common.specs.Phase.{incrementOf, wrapOf, polyblepOf}
+use Rattle.common.specs.Phase.{turns, incrementOf, wrapPhaseOf, polyblepOf}
 use Rattle.common.specs.declared.Hertz.{Hertz}
 use Rattle.common.specs.declared.Turns.{Turns}
 use Rattle.supersaw.specs.Consts.{detuneRatios, mixLevels}
@@ -45,7 +45,7 @@ voiceOf detune base rate v i =
     let saw = sawOf (at (v .phases) i) dt in
     let next = add binary64 (at (v .phases) i) dt in
     record {
-      phases = set (v .phases) i (wrapOf next);
+      phases = set (v .phases) i (wrapPhaseOf (turns next) .phase .0);
       sum = add binary64 (v .sum) (mul binary64 saw (at mixLevels i));
       «total_mix» = add binary64 (v .«total_mix») (at mixLevels i);
       «center_saw» = cond (eqb i 3) saw (v .«center_saw»);

@@ -89,9 +89,13 @@ frame-sqr : frameVolts .p13 ≡ ofBits binary64 0x4014000000000000
 unfolding vcoVoltsOf ofBits ofInt add sub mul neg lt fabsOf clampOf floorOf polyblepOf outOf levelOf pwEdgeOf sqrOf steppedOf
 frame-sqr = refl
 
-frame-last : frameVolts .p14 ≡ zer
+frame-uni : frameVolts .p14 ≡ zer
 unfolding vcoVoltsOf
-frame-last = refl
+frame-uni = refl
+
+frame-eoc : frameVolts .p15 ≡ zer
+unfolding vcoVoltsOf
+frame-eoc = refl
 
 pub first-frame : First-frame
 first-frame = ap (λ (t : VcoTicked). t .answer) (tick-sound (newVco frameRate) (good-new frameRate rate) frameControls 15) ∙ frame-answer ∙ clean
@@ -103,7 +107,7 @@ first-frame = ap (λ (t : VcoTicked). t .answer) (tick-sound (newVco frameRate) 
     printed = volts4 (ofBits binary64 0) (ofBits binary64 0xc014000000000000) (ofBits binary64 0xc014000000000000) (ofBits binary64 0x4014000000000000)
 
     volts : frameVolts ≡ printed
-    volts = λ i. record { p10 = frame-sin i; p11 = frame-tri i; p12 = frame-saw i; p13 = frame-sqr i; p14 = frame-last i }
+    volts = λ i. record { p10 = frame-sin i; p11 = frame-tri i; p12 = frame-saw i; p13 = frame-sqr i; p14 = frame-uni i; p15 = frame-eoc i }
 
     marked : markOf printed false true (isFin (add binary64 zer zer)) true ≡ answer.Clean printed
     marked = unfold markOf markedOf ruleOf answerOf allFinite add ofBits in refl

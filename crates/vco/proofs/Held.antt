@@ -14,7 +14,7 @@ use Rattle.answer.proofs.Laws.{mark-says, refused-by, mark-steers, tick-steers,
 use Rattle.answer.specs.Mark.{allNumbers}
 use Rattle.answer.specs.Promises.{Sounds-as}
 use Rattle.answer.specs.declared.Answer.{Answer}
-use Rattle.common.specs.Phase.{turns, wrapOf, incrementOf}
+use Rattle.common.specs.Phase.{turns, wrapPhaseOf, incrementOf}
 use Rattle.common.specs.Edge.{risingOf, crossedOf}
 use Rattle.common.specs.Memo.{recall3}
 use Rattle.common.specs.Tests.{phaseOk}
@@ -22,6 +22,7 @@ use Rattle.common.proofs.EdgeLaws.{crossed-is, rising-once, rising-nan}
 use Rattle.common.proofs.MemoLaws.{recall3-again}
 use Rattle.common.proofs.PhaseLaws.{wrap-in}
 use Rattle.common.specs.declared.Turns.{Turns}
+use Rattle.common.specs.declared.Wrapped.{Wrapped}
 use Rattle.common.specs.declared.Memo3.{Memo3}
 use Rattle.common.specs.declared.EdgeDetector.{EdgeDetector}
 use Rattle.common.specs.declared.Crossing.{Crossing}
@@ -45,10 +46,10 @@ pub heard-now : (wanted : ℕ) (numbers : Bool) (pw : Float) (dt : Turns) (start
 unfolding answerAt heldTold
 heard-now wanted numbers pw dt start i p q at a e r z = simp (e, r, ← z)
 
-pub moved : (dt : Turns) (start : Held) (i : ℕ) (p q r : Turns) (at : Crossing) → r ≡ turns (wrapOf (add binary64 (q .0) (dt .0)))
-    → q ≡ syncedOf p at → held p at ≡ afterTicks (heldNext dt) i start → held r Nowhere ≡ afterTicks (heldNext dt) (i + 1) start
+pub moved : (dt : Turns) (start : Held) (i : ℕ) (p q : Turns) (w : Wrapped) (at : Crossing) → w ≡ wrapPhaseOf (turns (add binary64 (q .0) (dt .0)))
+    → q ≡ syncedOf p at → held p at ≡ afterTicks (heldNext dt) i start → held (w .phase) Nowhere ≡ afterTicks (heldNext dt) (i + 1) start
 unfolding afterTicks heldNext
-moved dt start i p q r at e w z = rw add-one (simp (e, w, ← z))
+moved dt start i p q w at e r z = rw add-one (simp (e, r, ← z))
 
 -- ---- the whole
 module _ (s : Vco) (c : VcoControls) where

@@ -8,7 +8,7 @@ use lib.Ieee.{Float, binary64, add, lt, le}
 use Rattle.answer.specs.Answer.{volts4}
 use Rattle.answer.specs.declared.Answer.{Answer}
 use Rattle.answer.specs.declared.Volts.{Volts}
-use Rattle.common.specs.Phase.{turns, wrapOf, polyblepOf, polyblampOf}
+use Rattle.common.specs.Phase.{turns, wrapPhaseOf, polyblepOf, polyblampOf}
 use Rattle.common.specs.Ports.{wants, outOf}
 use Rattle.common.specs.declared.Crossing.{Crossing}
 use Rattle.common.specs.declared.Crossing.the-variants.{Nowhere}
@@ -53,4 +53,4 @@ unfoldable pub heldTold : ℕ → Float → Bool → Turns → Held → Answer
 heldTold wanted pw numbers dt h = vcoAnswerOf (h .at) (syncedOf (h .phase) (h .at) .0) (h .phase .0) pw (dt .0) wanted numbers
 
 unfoldable pub heldNext : Turns → Held → Held
-heldNext dt h = held (turns (wrapOf (add binary64 (syncedOf (h .phase) (h .at) .0) (dt .0)))) Nowhere
+heldNext dt h = held (wrapPhaseOf (turns (add binary64 (syncedOf (h .phase) (h .at) .0) (dt .0))) .phase) Nowhere

@@ -9,7 +9,7 @@ use Rattle.numeric.specs.Basic.{fabsOf, clampOf}
 use Rattle.numeric.specs.Power.{exp2Of}
 use Rattle.common.specs.Consts.{four, five}
 use Rattle.common.specs.Pitch.{voctToHz}
-use Rattle.common.specs.Phase.{turns, wrapOf, polyblepOf, polyblampOf, incrementOf, restartOf}
+use Rattle.common.specs.Phase.{turns, wrapPhaseOf, polyblepOf, polyblampOf, incrementOf, restartOf}
 use Rattle.common.specs.Memo.{newMemo3, recall3}
 use Rattle.common.specs.Edge.{newEdge, resetOf, crossedOf}
 use Rattle.common.specs.Ports.{wants, outOf}
@@ -106,7 +106,7 @@ vcoSoundOf s c wanted =
     let next = add binary64 (phase .0) (dt .0) in
     record {
       answer = vcoAnswerOf (crossed .at) (phase .0) (s .phase .0) pw (dt .0) wanted (allNumbers (controlsOf c));
-      vco = record { phase = turns (wrapOf next); «sample_rate» = s .«sample_rate»; «sync_edge» = crossed .edge; «freq_memo» = memo };
+      vco = record { phase = wrapPhaseOf (turns next) .phase; «sample_rate» = s .«sample_rate»; «sync_edge» = crossed .edge; «freq_memo» = memo };
     }
 
 -- a refused tick leaves the state

@@ -402,10 +402,11 @@ impl Vco {
         let at = crossed.at;
         let sync_edge = crossed.edge;
         let phase = common::restart(p_old, crosses(at));
+        let moved = common::wrap_phase(Turns(phase.0 + dt.0)).phase;
         VcoTicked {
             answer: Self::heard(at, phase, p_old, width(c.pw), dt, wanted, numbers),
             vco: Vco {
-                phase: common::wrap_phase(Turns(phase.0 + dt.0)),
+                phase: moved,
                 sample_rate,
                 sync_edge,
                 freq_memo,
@@ -462,7 +463,7 @@ impl Vco {
                 &mut *samples,
                 &mut *marks,
             );
-            p_old = common::wrap_phase(Turns(phase.0 + dt.0));
+            p_old = common::wrap_phase(Turns(phase.0 + dt.0)).phase;
             at = Crossing::Nowhere;
             i += 1;
         }

@@ -19,11 +19,12 @@ use Rattle.common.proofs.MemoLaws.{recall1-again}
 use Rattle.common.proofs.PhaseLaws.{restart-in, wrap-in}
 use Rattle.common.specs.Edge.{risingAboveOf, risingOf}
 use Rattle.common.specs.Memo.{recall1, voctToHzAt}
-use Rattle.common.specs.Phase.{turns, wrapOf, incrementOf, restartOf}
+use Rattle.common.specs.Phase.{turns, wrapPhaseOf, incrementOf, restartOf}
 use Rattle.common.specs.Tests.{phaseOk}
 use Rattle.common.specs.declared.Memo1.{Memo1}
 use Rattle.common.specs.declared.Risen.{Risen}
 use Rattle.common.specs.declared.Turns.{Turns}
+use Rattle.common.specs.declared.Wrapped.{Wrapped}
 use Rattle.laws.specs.Float.{isFin}
 use Rattle.wavetable.proofs.Accepted.{accepts, bank-sized}
 use Rattle.wavetable.specs.Shortcuts.{pairOf, mixAt, heldAnswer, heldNext}
@@ -52,10 +53,10 @@ pub heard : (bank : List Float) (p : Pair) (numbers : Bool) (step start : Turns)
 unfolding answerAt heldAnswer
 heard bank p numbers step start i t out f a e q w z = simp (e, q, w, z)
 
-pub moved : (step start : Turns) (i : ℕ) (p q : Turns) → q ≡ turns (wrapOf (add binary64 (p .0) (step .0)))
-    → p ≡ afterTicks (heldNext step) i start → q ≡ afterTicks (heldNext step) (i + 1) start
+pub moved : (step start : Turns) (i : ℕ) (p : Turns) (w : Wrapped) → w ≡ wrapPhaseOf (turns (add binary64 (p .0) (step .0)))
+    → p ≡ afterTicks (heldNext step) i start → w .phase ≡ afterTicks (heldNext step) (i + 1) start
 unfolding afterTicks heldNext
-moved step start i p q e z = rw add-one (simp (e, z))
+moved step start i p w e z = rw add-one (simp (e, z))
 
 -- ---- the whole
 abbrev heldMemo : Wavetable → WavetableControls → Memo1

@@ -11,7 +11,7 @@ use Rattle.answer.specs.Answer.{volts1}
 use Rattle.answer.specs.Mark.{markOf}
 use Rattle.answer.specs.declared.Answer.{Answer}
 use Rattle.common.specs.Consts.{five}
-use Rattle.common.specs.Phase.{turns, wrapOf}
+use Rattle.common.specs.Phase.{turns, wrapPhaseOf}
 use Rattle.common.specs.declared.Turns.{Turns}
 use Rattle.laws.specs.Float.{one, isFin}
 use Rattle.numeric.specs.Basic.{wholeOf, realOf}
@@ -64,4 +64,4 @@ unfoldable pub heldAnswer : List Float → Pair → Bool → Turns → Turns →
 heldAnswer bank p numbers step phase = markOf (volts1 (mixAt bank p (phase .0))) false true (isFin (add binary64 (phase .0) (step .0))) numbers
 
 unfoldable pub heldNext : Turns → Turns → Turns
-heldNext step phase = turns (wrapOf (add binary64 (phase .0) (step .0)))
+heldNext step phase = wrapPhaseOf (turns (add binary64 (phase .0) (step .0))) .phase

@@ -10,7 +10,7 @@ use Rattle.answer.specs.Block.{Block, blockOf}
 use Rattle.answer.specs.Mark.{allNumbers, markOf}
 use Rattle.common.specs.Edge.{risingOf}
 use Rattle.common.specs.Memo.{newMemo1, recall1, voctToHzAt}
-use Rattle.common.specs.Phase.{turns, wrapOf, incrementOf, restartOf}
+use Rattle.common.specs.Phase.{turns, wrapPhaseOf, incrementOf, restartOf}
 use Rattle.common.specs.Tests.{rateOk, phaseOk}
 use Rattle.laws.specs.Float.{zer, isFin}
 use Rattle.wavetable.specs.Consts.{nPorts, bankSize}
@@ -74,7 +74,7 @@ wavetableSoundOf s c bank =
     let next = add binary64 phase inc in
     record {
       answer = markOf (volts1 out) false true (isFin next) (allNumbers (controlsOf c));
-      wavetable = record { phase = turns (wrapOf next); «prev_sync» = c .sync; «sample_rate» = s .«sample_rate»; «freq_memo» = memo };
+      wavetable = record { phase = wrapPhaseOf (turns next) .phase; «prev_sync» = c .sync; «sample_rate» = s .«sample_rate»; «freq_memo» = memo };
     }
 
 -- a refused tick leaves the state

@@ -318,10 +318,11 @@ impl Wavetable {
         let phase_inc = common::increment(freq, sample_rate);
         let out = mix(bank, choose(c.table, c.morph, phase_inc), phase);
         let next = Turns(phase.0 + phase_inc.0);
+        let moved = common::wrap_phase(next).phase;
         WavetableTicked {
             answer: heard(out, numeric::is_finite(next.0), numbers),
             wavetable: Wavetable {
-                phase: common::wrap_phase(next),
+                phase: moved,
                 prev_sync: c.sync,
                 sample_rate,
                 freq_memo,
@@ -367,7 +368,7 @@ impl Wavetable {
             let out = mix(bank, pair, phase);
             let told = heard(out, numeric::is_finite(next.0), numbers);
             answer::put(told, PORTS, i, &mut *samples, &mut *marks);
-            phase = common::wrap_phase(next);
+            phase = common::wrap_phase(next).phase;
             i += 1;
         }
         phase

@@ -15,9 +15,10 @@ use Rattle.answer.proofs.put_volts.Tie as tie
 ports-at : (v : Volts) (l : List Float) (n : ℕ) → length l ≡ n → sets l 0 (portsOf (length l) v) ≡ sets l 0 (portsOf n v)
 ports-at v l n h = ap (λ (k : ℕ). sets l 0 (portsOf k v)) h
 
-all-ports : (v : Volts) (l : List Float) → 5 ≤ length l → sets l 0 (portsOf (length l) v) ≡ sets l 0 (v .p10 ∷ v .p11 ∷ v .p12 ∷ v .p13 ∷ v .p14 ∷ [])
+all-ports : (v : Volts) (l : List Float) → 6 ≤ length l
+    → sets l 0 (portsOf (length l) v) ≡ sets l 0 (v .p10 ∷ v .p11 ∷ v .p12 ∷ v .p13 ∷ v .p14 ∷ v .p15 ∷ [])
 unfolding portsOf
-all-ports v l h = ap (sets l 0) (take-all (length l) (v .p10 ∷ v .p11 ∷ v .p12 ∷ v .p13 ∷ v .p14 ∷ []) h)
+all-ports v l h = ap (sets l 0) (take-all (length l) (v .p10 ∷ v .p11 ∷ v .p12 ∷ v .p13 ∷ v .p14 ∷ v .p15 ∷ []) h)
 
 returns : tie.Need-returns
 unfolding portsOf
@@ -52,7 +53,14 @@ slice-write-part-5 : tie.Need-slice-write-part-5
 slice-write-part-5 c = simp length-set (omega arith)
 
 returns-6 : tie.Need-returns-6
-returns-6 c = let began = c .before .before .before .before .before .args in sym (all-ports (began .v) (began .part .now) (omega arith))
+unfolding portsOf
+returns-6 c = let began = c .before .before .before .before .before .before .args in sym (ports-at (began .v) (began .part .now) 5 (omega arith))
+
+slice-write-part-6 : tie.Need-slice-write-part-6
+slice-write-part-6 c = simp length-set (omega arith)
+
+returns-7 : tie.Need-returns-7
+returns-7 c = let began = c .before .before .before .before .before .before .args in sym (all-ports (began .v) (began .part .now) (omega arith))
 
 pub put-volts-spec : {M : Type 1} → statement M
 put-volts-spec =
@@ -73,4 +81,7 @@ put-volts-spec =
     returns-5
     slice-write-part-5
     (λ c. search needs)
-    returns-6)
+    returns-6
+    slice-write-part-6
+    (λ c. search needs)
+    returns-7)

@@ -20,6 +20,9 @@ slice-write-samples-4 c = simp length-set (omega arith)
 slice-write-samples-5 : tie.Need-slice-write-samples-5
 slice-write-samples-5 c = simp length-set (omega arith)
 
+slice-write-samples-6 : tie.Need-slice-write-samples-6
+slice-write-samples-6 c = simp length-set (omega arith)
+
 returns : tie.Need-returns
 unfolding heardOf samplesOf
 returns c =
@@ -46,4 +49,4 @@ pub put-ticked-spec : {M : Type 1} → statement M
 put-ticked-spec = tie.close
     (tie.spec (λ c κs. search needs) (λ c κs. search needs) (λ c κs. search needs) (λ c κs. search needs)
     (λ c. search needs) slice-write-samples-2 slice-write-samples-3
-    slice-write-samples-4 slice-write-samples-5 (λ c. search needs) (λ c. search needs) (λ c. search needs) returns returns-2)
+    slice-write-samples-4 slice-write-samples-5 slice-write-samples-6 (λ c. search needs) (λ c. search needs) (λ c. search needs) returns returns-2)

@@ -30,14 +30,15 @@ loop-holds c = (omega arith, refl, refl, over-none _ _, over-none _ _, refl)
 
 loop-again : tie.Need-loop-again Inv-loop μ-loop
 loop-again c =
-    let pulsed = c .before .before .before in
+    let wrapped = c .before in
+    let pulsed = wrapped .before .before .before in
     let fetched = pulsed .before .before .before in
     let looped = fetched .before .before .before in
     let s = looped .loop .inv in
     let z = looped .before .before .before .pre in
     let k = fetched .kept-turns .ensures in
-    let f = c .before .before .is-finite .ensures in
-    let w = pulse-turn _ _ _ _ _ _ _ _ _ _ (omega arith) (s .3) (s .5) k (c .wrap-phase .ensures) f (c .before .flag .ensures) in (
+    let f = wrapped .before .before .is-finite .ensures in
+    let w = pulse-turn _ _ _ _ _ _ _ _ _ _ (omega arith) (s .3) (s .5) k (wrapped .wrap-phase .ensures) f (wrapped .before .flag .ensures) in (
       omega arith,
       simp length-set (s .1),
       simp length-set (s .2),

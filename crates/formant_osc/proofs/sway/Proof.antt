@@ -49,7 +49,7 @@ tuned-requires c κs =
 
 add-i : tie.Need-add-i Inv-loop μ-loop
 add-i c =
-    let stridden = c .before .before .before .before .before in
+    let stridden = c .before .before .before .before .before .before in
     let going = stridden .before .before .before .before in
     let looped = going .before in
     let weighed = looped .before .before .before in
@@ -59,23 +59,26 @@ add-i c =
 loop-again : tie.Need-loop-again Inv-loop μ-loop
 unfolding eq ne
 loop-again c =
-    let grown = c .before .before .before .before .before in
-    let looped = grown .before .before .before .before .before in
+    let wrapped = c .before in
+    let grown = wrapped .before .before .before .before .before in
+    let going = grown .before .before .before .before in
+    let looped = going .before in
     let weighed = looped .before .before .before in
     let began = weighed .before .before .before .before in
     let s = looped .loop .inv in
+    let more = going .loop-test .taken in
     let p = began .pre in
     let f = of-true (fits binary64 (began .args .v-oct .0)) (began .good .1 .0 .1 .1 .0 .1) in
     let t = grown .before .tuned .ensures in
-    let k = c .before .before .before .keep-turns .ensures in
+    let k = wrapped .before .before .before .keep-turns .ensures in
     let x = stridden _ _ _ _ _ _ _ _ _ t (grown .increment2 .ensures) (s .3) (s .4) in
-    let w = swung _ _ _ _ _ _ _ _ _ _ t (looped .before .before .increment .ensures) (c .wrap-phase .ensures) (s .3) (s .4) in (
-      omega arith,
+    let w = swung _ _ _ _ _ _ _ _ _ _ t (looped .before .before .increment .ensures) (wrapped .wrap-phase .ensures) (s .3) (s .4) in (
+      omega (arith, more, s .1),
       simp (k, length-set) (s .1),
-      rw k (over-more _ _ _ _ _ (omega arith) (s .2) (ap (λ (u : Turns). u .0) x)),
+      rw k (over-more _ _ _ _ _ (omega (arith, more, s .1)) (s .2) (ap (λ (u : Turns). u .0) x)),
       w .0,
       w .1,
-      rw (c .wrap-phase .ensures) (wrap-in _ (add-fits binary64 _ _)),
+      rw (wrapped .wrap-phase .ensures) (wrap-in _ (add-fits binary64 _ _)),
       still-memo _ _ _ _ _ _ _ (still-tuned _ _ _ _ _ _ _ f (weighed .both .ensures) (p .0) (s .5) (p .1) (s .6)) t (s .6),
     )
 

@@ -5,8 +5,8 @@ use native.Mathlib.Omega.{arith}
 use lib.ListN.{length}
 use Rattle.laws.proofs.Over.{over-done, over-none, over-more}
 use Rattle.laws.specs.Lists.{over}
-use Rattle.common.specs.Phase.{wrapOf}
-use Rattle.common.specs.declared.Turns.{Turns}
+use Rattle.common.specs.Phase.{turns, wrapPhaseOf}
+use Rattle.common.specs.declared.Wrapped.{Wrapped}
 use Rattle.supersaw.specs.Voices.{at}
 use Rattle.supersaw.specs.Shortcuts.{wrapsOf}
 use borrow.Author.Needs.{needs}
@@ -14,7 +14,7 @@ use Rattle.supersaw.proofs.wraps.Statement.{statement}
 use Rattle.supersaw.proofs.wraps.Tie as tie
 
 abbrev Inv-loop : tie.InvT-loop
-Inv-loop x t₀ i₀ t i = (i ≤ 8) × (length x ≡ 8) × (t ≡ over (λ (k : ℕ). wrapOf (at x k)) i x)
+Inv-loop x t₀ i₀ t i = (i ≤ 8) × (length x ≡ 8) × (t ≡ over (λ (k : ℕ). wrapPhaseOf (turns (at x k)) .phase .0) i x)
 
 abbrev μ-loop : tie.MeasureT-loop
 μ-loop x t₀ i₀ t i = 8 - i
@@ -26,7 +26,7 @@ loop-again : tie.Need-loop-again Inv-loop μ-loop
 loop-again c = (
   omega arith,
   c .before .before .loop .inv .1,
-  over-more _ _ _ _ _ (omega arith) (c .before .before .loop .inv .2) (ap (λ (z : Turns). z .0) (c .wrap-phase .ensures)),
+  over-more _ _ _ _ _ (omega arith) (c .before .before .loop .inv .2) (ap (λ (w : Wrapped). w .phase .0) (c .wrap-phase .ensures)),
 )
 
 returns : tie.Need-returns Inv-loop μ-loop

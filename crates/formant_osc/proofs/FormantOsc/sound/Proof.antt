@@ -7,18 +7,18 @@ use Rattle.formant_osc.proofs.FormantOsc.sound.Tie as tie
 returns : tie.Need-returns
 unfolding formantOscSoundOf freqMemoOf coefMemoOf formantOscRung voicedOf
 returns c =
-    let checked = c .before .before .before in
-    let rung = checked .before .before .before .before .before in
+    let moved = c .before .before .before .before .before in
+    let rung = moved .before .before .before .before in
     let pulsed = rung .before .before .before in
     let pitched = pulsed .before .before .before in
-    let wrapped = pitched .before .before .before .before in
+    let wrapped = pitched .before .before .before .before .before in
     let known = wrapped .before .before .before .before .before in
     simp (
-      c .wrap-phase2 .ensures,
-      c .before .voiced .ensures,
-      c .before .before .both .ensures,
-      checked .is-finite2 .ensures,
-      checked .before .is-finite .ensures,
+      c .voiced .ensures,
+      c .before .both .ensures,
+      c .before .before .is-finite2 .ensures,
+      c .before .before .before .is-finite .ensures,
+      moved .wrap-phase2 .ensures,
       rung .ring .ensures,
       rung .before .before .recall .ensures,
       pulsed .glottal-pulse .ensures,

@@ -10,7 +10,7 @@ use lib.Seq.{sets}
 use Rattle.laws.specs.Lists.{over}
 use Rattle.laws.proofs.Over.{over-none}
 use Rattle.answer.specs.Block.{afterTicks, markAt, frameAt, joined}
-use Rattle.answer.proofs.Blocks.{five-ports, joined-none, frames-more, frames-done, marks-more, marks-done}
+use Rattle.answer.proofs.Blocks.{six-ports, joined-none, frames-more, frames-done, marks-more, marks-done}
 use Rattle.common.specs.Tests.{phaseOk}
 use Rattle.common.proofs.PhaseLaws.{wrap-in}
 use Rattle.lfo.specs.Consts.{nPorts}
@@ -43,15 +43,15 @@ outputs-requires c κs = c .shared-sine .ensures
 
 mark-requires : tie.Need-mark-requires Inv-loop μ-loop
 mark-requires c κs =
-    let turned = c .before .before .before .before .before in
+    let turned = c .before .before .before .before .before .before in
     let looped = turned .before in
-    λ t. rw (c .before .outputs .ensures) (outputs-finite _ _ _ (looped .loop .inv .6) (sym (looped .before .is-small .ensures) ∙ t))
+    λ t. rw (c .before .outputs .ensures) (outputs-finite _ _ _ _ (looped .loop .inv .6) (sym (looped .before .is-small .ensures) ∙ t))
 
 add-i : tie.Need-add-i Inv-loop μ-loop
 add-i c =
     let put = c .before .before .before .before .before in
     let sounded = put .before .before .before .before .before in
-    let turned = sounded .before .before .before .before in
+    let turned = sounded .before .before .before .before .before in
     let s = turned .before .loop .inv in
     let t = turned .loop-test .taken in
     omega arith
@@ -60,7 +60,7 @@ loop-less : tie.Need-loop-less Inv-loop μ-loop
 loop-less c =
     let put = c .before .before .before .before .before in
     let sounded = put .before .before .before .before .before in
-    let t = sounded .before .before .before .before .loop-test .taken in
+    let t = sounded .before .before .before .before .before .loop-test .taken in
     omega arith
 
 loop-again : tie.Need-loop-again Inv-loop μ-loop
@@ -68,21 +68,23 @@ loop-again c =
     let put = c .before .before .before .before .before in
     let marked = put .before .before .before in
     let sounded = marked .before .before in
-    let turned = sounded .before .before .before .before in
+    let wrapped = sounded .before .before in
+    let turned = wrapped .before .before .before in
     let looped = turned .before in
     let began = looped .before .before .before .before in
     let s = looped .loop .inv in
     let t = turned .loop-test .taken in
-    let a = heard _ _ _ _ _ _ _ _ _ _ (marked .mark .ensures) (sounded .outputs .ensures) (marked .before .is-finite .ensures) (s .5) in
+    let w = wrapped .wrap-phase .ensures in
+    let a = heard _ _ _ _ _ _ _ _ _ _ _ (marked .mark .ensures) (sounded .outputs .ensures) w (marked .before .is-finite .ensures) (s .5) in
     let p = put .put .ensures in
     let k = put .put .kept in (
       omega arith,
       k .1 .1 .1 .0 ∙ s .1,
       k .1 .1 .1 .1 .0 ∙ s .2,
-      rw (p .0) (frames-more nPorts five-ports _ _ _ _ _ _ _ _ _ (s .2) (rw (s .2) at t) (s .1 ∙ began .pre .1) (s .3) a),
-      rw (p .1) (marks-more nPorts five-ports _ _ _ _ _ _ _ (rw (s .2) at t) (s .4) a),
-      moved _ _ _ _ _ (c .wrap-phase .ensures) (s .5),
-      rw (c .wrap-phase .ensures) (wrap-in _ (add-fits binary64 _ _)),
+      rw (p .0) (frames-more nPorts six-ports _ _ _ _ _ _ _ _ _ (s .2) (rw (s .2) at t) (s .1 ∙ began .pre .1) (s .3) a),
+      rw (p .1) (marks-more nPorts six-ports _ _ _ _ _ _ _ (rw (s .2) at t) (s .4) a),
+      moved _ _ _ _ _ w (s .5),
+      rw w (wrap-in _ (add-fits binary64 _ _)),
       s .7,
     )
 
@@ -99,8 +101,8 @@ returns c =
     let s = looped .loop .inv in
     let a = start .args in
     let n : looped .loop .i ≡ length (a .marks .now) = le-antisymm (s .0) (omega arith) in
-    let frames = frames-done nPorts five-ports _ _ _ _ _ _ _ n (start .pre .1) (s .3) in
-    (s .5 ∙ ap (λ k. afterTicks (heldNext (a .step)) k (a .start)) n, (frames, marks-done nPorts five-ports _ _ _ _ _ _ _ n refl (s .4)))
+    let frames = frames-done nPorts six-ports _ _ _ _ _ _ _ n (start .pre .1) (s .3) in
+    (s .5 ∙ ap (λ k. afterTicks (heldNext (a .step)) k (a .start)) n, (frames, marks-done nPorts six-ports _ _ _ _ _ _ _ n refl (s .4)))
 
 pub glide-spec : {M : Type 1} → statement M
 glide-spec =
@@ -111,10 +113,10 @@ glide-spec =
     (λ c κs. tt)
     loop-holds
     (λ c κs. tt)
+    (λ c κs. tt)
     outputs-requires
     (λ c κs. tt)
     mark-requires
-    (λ c κs. tt)
     (λ c κs. tt)
     add-i
     loop-less

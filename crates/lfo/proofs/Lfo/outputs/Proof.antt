@@ -8,10 +8,11 @@ use Rattle.lfo.proofs.Lfo.outputs.Tie as tie
 returns : tie.Need-returns
 unfolding lfoOutputsOf sharedSine
 returns c =
-    let voiced = c .before in
+    let voiced = c .before .before in
     let scaled = voiced .before .before .before .before in
     simp (
-      c .volts5 .ensures,
+      c .volts6 .ensures,
+      c .before .eoc .ensures,
       voiced .sin-uni .ensures,
       voiced .before .sqr .ensures,
       voiced .before .before .saw .ensures,
@@ -25,4 +26,12 @@ returns c =
 pub outputs-spec : {M : Type 1} → statement M
 outputs-spec =
     tie.close
-    (tie.spec (λ c κs. search needs) (λ c κs. search needs) (λ c κs. search needs) (λ c κs. search needs) (λ c κs. search needs) (λ c κs. search needs) returns)
+    (tie.spec
+    (λ c κs. search needs)
+    (λ c κs. search needs)
+    (λ c κs. search needs)
+    (λ c κs. search needs)
+    (λ c κs. search needs)
+    (λ c κs. search needs)
+    (λ c κs. search needs)
+    returns)

@@ -9,29 +9,29 @@ outputs-requires c κs = c .shared-sine .ensures
 
 mark-requires : tie.Need-mark-requires
 mark-requires c κs =
-    let put-out = c .before .before .before .before .before in
-    let restarted = put-out .before .before in
+    let put-out = c .before .before .before in
+    let restarted = put-out .before .before .before .before .before .before in
     let known = restarted .before .before .before .before .before in
     let asked = known .before .before .before .before .before in
-    sound-finite _ _ _ _ _ _ _ (asked .before .pre) (restarted .restart .ensures) (put-out .outputs .ensures) (c .before .is-small .ensures)
+    sound-finite _ _ _ _ _ _ _ _ (asked .before .pre) (restarted .restart .ensures) (put-out .outputs .ensures) (c .before .is-small .ensures)
 
 returns : tie.Need-returns
 unfolding lfoSoundOf
 returns c =
-    let marked = c .before in
-    let stepped = marked .before .before .before .before .before in
-    let edged = stepped .before .before .before .before .before in
-    let known = edged .before .before .before in
+    let put-out = c .before .before .before .before in
+    let stepped = put-out .before .before .before .before .before in
+    let edged = stepped .before .before .before in
+    let known = edged .before .before in
     simp (
-      c .wrap-phase .ensures,
-      marked .mark .ensures,
-      marked .before .is-finite .ensures,
+      c .mark .ensures,
+      c .before .is-finite .ensures,
+      put-out .outputs .ensures,
+      put-out .before .before .wrap-phase .ensures,
       stepped .increment .ensures,
-      stepped .before .outputs .ensures,
-      stepped .before .before .before .restart .ensures,
+      stepped .before .restart .ensures,
       edged .rising .ensures,
-      edged .before .before .recall .ensures,
-      known .before .before .before .before .before .are-numbers .ensures,
+      known .recall .ensures,
+      known .before .before .before .before .before .before .are-numbers .ensures,
     )
 
 pub sound-spec : {M : Type 1} → statement M
@@ -43,10 +43,10 @@ sound-spec =
     (λ c κs. search needs)
     (λ c κs. search needs)
     (λ c κs. search needs)
+    (λ c κs. search needs)
+    (λ c κs. search needs)
     outputs-requires
     (λ c κs. search needs)
     (λ c κs. search needs)
-    (λ c κs. search needs)
     mark-requires
-    (λ c κs. search needs)
     returns)

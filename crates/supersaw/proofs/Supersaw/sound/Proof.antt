@@ -47,7 +47,7 @@ returns : tie.Need-returns Inv-loop μ-loop
 returns c =
     let asked = c .before .before in
     let output = asked .before in
-    let low = output .before .before .before .before in
+    let low = output .before .before .before .before .before in
     let pitch = low .before .before .before .before .before in
     let clamped = pitch .before .before in
     let l = low .before .before .before .loop in
@@ -57,7 +57,7 @@ returns c =
       c .before .still-finite2 .ensures,
       asked .are-numbers .ensures,
       output .volts2 .ensures,
-      output .before .wrap-phase2 .ensures,
+      output .before .before .wrap-phase2 .ensures,
       low .saw2 .ensures,
       low .before .sub-increment .ensures,
       l .inv .2,

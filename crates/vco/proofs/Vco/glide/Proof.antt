@@ -44,7 +44,8 @@ put-heard-requires c κs =
 
 loop-again : tie.Need-loop-again Inv-loop μ-loop
 loop-again c =
-    let known = c .before .before in let put = known .before .before .before .before .before in
+    let wrapped = c .before in
+    let put = wrapped .before .before .before .before .before .before .before in
     let restarted = put .before .before .before in
     let turned = restarted .before .before in
     let looped = turned .before in
@@ -59,8 +60,8 @@ loop-again c =
       k .1 .1 .1 .1 .1 .1 .1 .1 .1 .0 ∙ s .2,
       rw (p .0) (frames-more nPorts four-ports _ _ _ _ _ _ _ _ _ (s .2) (rw (s .2) at t) (s .1 ∙ looped .before .before .before .pre .2) (s .3) a),
       rw (p .1) (marks-more nPorts four-ports _ _ _ _ _ _ _ (rw (s .2) at t) (s .4) a),
-      moved _ _ _ _ _ _ _ (c .wrap-phase .ensures) r (s .5),
-      rw (c .wrap-phase .ensures) (wrap-in _ (add-fits binary64 _ _)),
+      moved _ _ _ _ _ _ _ (wrapped .wrap-phase .ensures) r (s .5),
+      rw (wrapped .wrap-phase .ensures) (wrap-in _ (add-fits binary64 _ _)),
     )
 
 same-length : tie.Need-same-length Inv-loop μ-loop

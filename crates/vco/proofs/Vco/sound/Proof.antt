@@ -7,22 +7,23 @@ use Rattle.vco.proofs.Vco.sound.Tie as tie
 
 heard-requires : tie.Need-heard-requires
 heard-requires c κs =
-    let edged = c .before .before .before .before in let ready = edged .before .before .before .before .before in
-    let s = ready .before .before .before .before .before .before in
-    (simp (c .before .restart .ensures) (restart-in (s .args .self .phase) _ (s .pre)), simp (c .width .ensures) (clamp-width _))
+    let restarted = c .before .before .before .before .before in
+    let tuned = restarted .before .before .before .before .before .before in
+    let s = tuned .before .before .before .before .before .before .before .before in
+    (simp (restarted .restart .ensures) (restart-in (s .args .self .phase) _ (s .pre)), simp (c .width .ensures) (clamp-width _))
 
 returns : tie.Need-returns
 unfolding vcoSoundOf
 returns c =
-    let answered = c .before .before .before in
-    let restarted = answered .before .before in
+    let wrapped = c .before .before .before in
+    let restarted = wrapped .before .before .before in
     let crossed = restarted .before .before .before in
     let tuned = crossed .before .before .before in
     let known = tuned .before .before in
     simp (
-      c .wrap-phase .ensures,
-      answered .heard .ensures,
-      answered .before .width .ensures,
+      c .heard .ensures,
+      c .before .width .ensures,
+      wrapped .wrap-phase .ensures,
       restarted .restart .ensures,
       restarted .before .crosses .ensures,
       crossed .rising-frac .ensures,
@@ -42,6 +43,6 @@ sound-spec =
     (λ c κs. search needs)
     (λ c κs. search needs)
     (λ c κs. search needs)
-    heard-requires
     (λ c κs. search needs)
+    heard-requires
     returns)

@@ -38,7 +38,7 @@ mix-requires c κs =
 
 add-i : tie.Need-add-i Inv-loop μ-loop
 add-i c =
-    let put = c .before .before .before .before .before in
+    let put = c .before .before .before .before .before .before in
     let marked = put .before .before .before in
     let checked = marked .before in let turned = checked .before .before .before .before in
     let entered = turned .before .before .before .before .before in
@@ -47,14 +47,14 @@ add-i c =
 
 loop-less : tie.Need-loop-less Inv-loop μ-loop
 loop-less c =
-    let put = c .before .before .before .before .before in
+    let put = c .before .before .before .before .before .before in
     let marked = put .before .before .before in
     let checked = marked .before in let turned = checked .before .before .before .before in
     omega (arith, turned .before .loop .inv .2, turned .loop-test .taken)
 
 loop-again : tie.Need-loop-again Inv-loop μ-loop
 loop-again c =
-    let put = c .before .before .before .before .before in
+    let put = c .before .before .before .before .before .before in
     let marked = put .before .before .before in
     let mixed = marked .before .before in
     let turned = mixed .before .before .before in
@@ -71,7 +71,7 @@ loop-again c =
       k .1 .1 .1 .1 .0 ∙ s .2,
       rw (p .0) (frames-more nPorts one-port _ _ _ _ _ _ _ _ _ (s .2) (rw (s .2) at t) (s .1 ∙ began .pre .2) (s .3) a),
       rw (p .1) (marks-more nPorts one-port _ _ _ _ _ _ _ (rw (s .2) at t) (s .4) a),
-      moved _ _ _ _ _ (c .wrap-phase .ensures) (s .5),
+      moved _ _ _ _ _ (c .before .wrap-phase .ensures) (s .5),
     )
 
 same-length : tie.Need-same-length Inv-loop μ-loop

@@ -13,15 +13,15 @@ mix-requires c κs =
 returns : tie.Need-returns
 unfolding wavetableSoundOf
 returns c =
-    let marked = c .before in
-    let mixed = marked .before .before .before .before in
+    let wrapped = c .before .before .before in
+    let mixed = wrapped .before .before .before in
     let stepped = mixed .before .before in
     let started = stepped .before .before .before in
     let known = started .before .before in
     simp (
-      c .wrap-phase .ensures,
-      marked .heard .ensures,
-      marked .before .is-finite .ensures,
+      c .heard .ensures,
+      c .before .is-finite .ensures,
+      wrapped .wrap-phase .ensures,
       mixed .mix .ensures,
       mixed .before .choose .ensures,
       stepped .increment .ensures,

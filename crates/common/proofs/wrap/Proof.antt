@@ -1,19 +1,19 @@
-use Rattle.common.specs.Phase.{wrapOf}
+use Rattle.common.specs.Phase.{wrapOf, turnedOf}
 use borrow.Author.Needs.{needs}
-use Rattle.common.proofs.wrapped.Statement.{statement}
-use Rattle.common.proofs.wrapped.Tie as tie
+use Rattle.common.proofs.wrap.Statement.{statement}
+use Rattle.common.proofs.wrap.Tie as tie
 
 returns : tie.Need-returns
-unfolding wrapOf
+unfolding wrapOf turnedOf
 returns c = simp (c .if2 .taken, ← c .before .floor .ensures, c .before .before .if1 .taken, ← c .before .before .before .is-finite .ensures)
 
 returns-2 : tie.Need-returns-2
-unfolding wrapOf
+unfolding wrapOf turnedOf
 returns-2 c = simp (c .if2 .left, ← c .before .floor .ensures, c .before .before .if1 .taken, ← c .before .before .before .is-finite .ensures)
 
 returns-3 : tie.Need-returns-3
-unfolding wrapOf
+unfolding wrapOf turnedOf
 returns-3 c = simp (c .if1 .left, ← c .before .is-finite .ensures)
 
-pub wrapped-spec : {M : Type 1} → statement M
-wrapped-spec = tie.close (tie.spec (λ c κs. search needs) (λ c κs. search needs) returns returns-2 returns-3)
+pub wrap-spec : {M : Type 1} → statement M
+wrap-spec = tie.close (tie.spec (λ c κs. search needs) (λ c κs. search needs) returns returns-2 returns-3)
