@@ -80,7 +80,8 @@ outputs-at osc.Vco l i w h =
     ++ sampleLine (ascii "saw=") (h 2 (lit≤ tt) k) ++ sampleLine (ascii "sqr=") (h 3 (lit≤ tt) k)
 outputs-at osc.Lfo l i w h =
     λ k. (sampleLine (ascii "sin=") (h 0 (lit≤ tt) k) ++ sampleLine (ascii "tri=") (h 1 (lit≤ tt) k)
-    ++ sampleLine (ascii "saw=") (h 2 (lit≤ tt) k) ++ sampleLine (ascii "sqr=") (h 3 (lit≤ tt) k)) ++ sampleLine (ascii "sin_uni=") (h 4 (lit≤ tt) k)
+    ++ sampleLine (ascii "saw=") (h 2 (lit≤ tt) k) ++ sampleLine (ascii "sqr=") (h 3 (lit≤ tt) k))
+    ++ sampleLine (ascii "sin_uni=") (h 4 (lit≤ tt) k) ++ sampleLine (ascii "eoc=") (h 5 (lit≤ tt) k)
 outputs-at osc.Supersaw l i w h = λ k. sampleLine (ascii "out=") (h 0 (lit≤ tt) k) ++ sampleLine (ascii "sub=") (h 1 (lit≤ tt) k)
 outputs-at osc.Formant l i w h = λ k. sampleLine (ascii "out=") (h 0 (lit≤ tt) k)
 

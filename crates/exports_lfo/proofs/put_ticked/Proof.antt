@@ -23,6 +23,9 @@ slice-write-samples-5 c = simp length-set (omega arith)
 slice-write-samples-6 : tie.Need-slice-write-samples-6
 slice-write-samples-6 c = simp length-set (omega arith)
 
+same-samples : tie.Need-same-length-3
+same-samples c = simp length-set
+
 returns : tie.Need-returns
 unfolding heardOf samplesOf
 returns c =
@@ -46,7 +49,21 @@ unfolding heardOf
 returns-2 c = simp (c .before .before .host-number .ensures, ← c .before .is-accepted .ensures, c .if1 .left)
 
 pub put-ticked-spec : {M : Type 1} → statement M
-put-ticked-spec = tie.close
-    (tie.spec (λ c κs. search needs) (λ c κs. search needs) (λ c κs. search needs) (λ c κs. search needs)
-    (λ c. search needs) slice-write-samples-2 slice-write-samples-3
-    slice-write-samples-4 slice-write-samples-5 slice-write-samples-6 (λ c. search needs) (λ c. search needs) (λ c. search needs) returns returns-2)
+put-ticked-spec =
+    tie.close
+    (tie.spec
+    (λ c κs. search needs)
+    (λ c κs. search needs)
+    (λ c κs. search needs)
+    (λ c κs. search needs)
+    (λ c. search needs)
+    slice-write-samples-2
+    slice-write-samples-3
+    slice-write-samples-4
+    slice-write-samples-5
+    slice-write-samples-6
+    (λ c. search needs)
+    (λ c. search needs)
+    same-samples
+    returns
+    returns-2)
