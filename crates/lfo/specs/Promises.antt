@@ -1,24 +1,29 @@
 -- Theorems about the Lfo: the statements. proofs/ proves each under the same name in small letters.
-use mathlib.Core.Bool.{Bool, true, cond}
+use mathlib.Core.Bool.{Bool, true, cond, not, _&&_}
 use mathlib.Core.List.{List, _∷_, []}
 use mathlib.Core.Path.{_≡_}
 use Prim.Native.Nat.{ℕ, _*_, _<_}
 use lib.Dec.{eqb}
-use lib.Ieee.{Float, nan, binary64, le, div}
+use lib.Ieee.{Float, nan, binary64, le, ne, add, div}
 use lib.ListN.{length}
-use Rattle.answer.specs.Answer.{voltsOf, accepted, outcomeNumber}
-use Rattle.answer.specs.Block.{Block, blockRefusalOf}
+use Rattle.answer.specs.Answer.{voltsOf, accepted, outcomeNumber, markNumber, hostNumber, lost}
+use Rattle.answer.specs.Block.{Block, blockRefusalOf, portsOf}
 use Rattle.answer.specs.Promises.{Steers, Sounds-as, AllAccepted, AllTaken}
 use Rattle.answer.specs.Mark.{allFinite}
 use Rattle.common.specs.Consts.{five}
 use Rattle.common.specs.Edge.{risingOf, thresholdOf}
+use Rattle.common.specs.Memo.{recall1}
+use Rattle.common.specs.Phase.{turns, incrementOf, restartOf}
+use Rattle.common.specs.Ports.{wants, Alike}
 use Rattle.common.specs.Tests.{rateOk, phaseOk}
-use Rattle.laws.specs.Float.{zer}
+use Rattle.laws.specs.Float.{zer, isFin}
+use Rattle.numeric.specs.Floor.{floorOf}
 use Rattle.laws.specs.Machine.{replies, Settles}
 use Rattle.lfo.specs.Calls.{Call, Tick, Reset, SetSampleRate, Told, Fit, after, reply, First, ReachedLfo}
 use Rattle.lfo.specs.Consts.{ten, nPorts}
 use Rattle.lfo.specs.Lfo.{newLfo, newLike, lfoRefusalOf, lfoNewOf, lfoTickOf, lfoToldOf, lfoNextOf, lfoBlockOf, lfoResetOf, lfoSetSampleRateOf}
 use Rattle.lfo.specs.Small.{isSmall}
+use Rattle.lfo.specs.Waves.{rateToHz}
 use Rattle.answer.specs.declared.Outcome.the-variants as outcome
 use Rattle.answer.specs.declared.Tally.{Tally}
 use Rattle.common.specs.declared.Hertz.{Hertz}
@@ -85,6 +90,35 @@ Nan-reset = (s : Lfo) (c : LfoControls) (wanted : ℕ) → c .reset ≡ nan → 
 abbrev pub Small-finite : Type 0
 Small-finite = (s : Lfo) (c : LfoControls) (wanted : ℕ) → isSmall (div binary64 (c .depth) ten) ≡ true
     → accepted (lfoTickOf s c wanted .answer) ≡ true → allFinite (voltsOf (lfoTickOf s c wanted .answer)) ≡ true
+
+-- ---- eoc
+-- what an accepted tick wraps at its end: the phase that it uses, which its edge has put to 0, plus the increment
+abbrev pub summed : Lfo → LfoControls → Float
+summed s c =
+    add binary64 (restartOf (s .phase) (taken s c) .0) (incrementOf (recall1 rateToHz (s .«freq_memo») (c .rate) .val) (s .«sample_rate») .0)
+
+-- where it is wanted, eoc is 5.0 exactly where that number is finite and its floor isn't 0, which is: where it is finite and not in [0, 1). Else
+-- it is 0.0, in a lost tick too. The depth says nothing
+pub record Pulses (s : Lfo) (c : LfoControls) (wanted : ℕ) : Type 0 where
+  pub by-floor : voltsOf (lfoTickOf s c wanted .answer) .p15 ≡ cond (wants wanted 32 && (isFin (summed s c) && ne (floorOf (summed s c)) zer)) five zer
+  pub by-range : voltsOf (lfoTickOf s c wanted .answer) .p15 ≡ cond (wants wanted 32 && (isFin (summed s c) && not (phaseOk (turns (summed s c))))) five zer
+  pub in-lost : markNumber (lfoTickOf s c wanted .answer) ≡ lost → voltsOf (lfoTickOf s c wanted .answer) .p15 ≡ zer
+
+abbrev pub Eoc-says : Type 0
+Eoc-says = (s : Lfo) (c : LfoControls) (wanted : ℕ) → accepted (lfoTickOf s c wanted .answer) ≡ true → Pulses s c wanted
+
+-- it stands beside the Rust's five outputs: ticks whose masks want the same of these agree in them, in the mark and in the state
+pub record Beside (a b : LfoTicked) : Type 0 where
+  pub volts : portsOf 5 (voltsOf (a .answer)) ≡ portsOf 5 (voltsOf (b .answer))
+  pub told : hostNumber (a .answer) ≡ hostNumber (b .answer)
+  pub lfo : a .lfo ≡ b .lfo
+
+abbrev pub Eoc-beside : Type 0
+Eoc-beside = (s : Lfo) (c : LfoControls) (v w : ℕ) → Alike 5 v w → Beside (lfoTickOf s c v) (lfoTickOf s c w)
+
+-- ---- bits beyond the outputs do nothing
+abbrev pub Bits-beyond : Type 0
+Bits-beyond = (s : Lfo) (c : LfoControls) (v w : ℕ) → Alike nPorts v w → lfoTickOf s c v ≡ lfoTickOf s c w
 
 -- ---- no tick of a block is refused whose first isn't, and a tally with room takes each of their answers
 abbrev pub Block-accepts : Type 0

@@ -4,6 +4,7 @@ pub mod QuietLaws
 pub mod CalmLaws
 pub mod Reached
 pub mod Held
+pub mod Bits
 pub mod Forget
 pub mod Settled
 pub mod Frame
