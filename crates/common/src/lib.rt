@@ -4,7 +4,7 @@ ghost use mathlib.Core.Path.{_≡_};
 ghost use Prim.Native.Nat.{_≤_};
 ghost use lib.ListN.{length};
 ghost use Rattle.common.specs.Pitch.{voctToHz};
-ghost use Rattle.common.specs.Phase.{turns, wrapPhaseOf, polyblepOf, polyblampOf, incrementOf, restartOf};
+ghost use Rattle.common.specs.Phase.{turns, wrapOf, turnedOf, wrapPhaseOf, polyblepOf, polyblampOf, incrementOf, restartOf};
 ghost use Rattle.common.specs.Memo.{newMemo1, hits1, filled1, newMemo3, hits3, filled3, recall1, voctToHzAt};
 ghost use Rattle.common.specs.Edge.{newEdge, thresholdOf, risingAboveOf, risingOf, crossedAboveOf, crossedOf, resetOf};
 ghost use Rattle.common.specs.Ports.{outOf};
@@ -35,37 +35,42 @@ pub fn voct_to_hz(voct: VoltsPerOctave) -> Hertz
     Hertz(C4_HZ * numeric::exp2(numeric::clamp(voct.0, -MAX_ABS_VOCT, MAX_ABS_VOCT)))
 }
 
-// What the Rust's `wrap_phase` says; and beside it, which is ours, whether a whole turn was passed: the number is finite and its floor
-// isn't 0.
+// What the Rust's `wrap_phase` says; and beside it, which is ours, whether a whole turn was passed.
 pub struct Wrapped {
     pub phase: Turns,
     pub turned: bool,
 }
 
 // Any number brought into [0, 1), as the Rust has it.
-fn wrap(x: f64) -> Wrapped
-    ensures { λ r. ⌜ r ≡ wrapPhaseOf (turns x) ⌝ }
+fn wrap(x: f64) -> f64
+    ensures { λ r. ⌜ r ≡ wrapOf x ⌝ }
 {
     if numeric::is_finite(x) {
-        let floor = numeric::floor(x);
-        let turned = floor != 0.0;
-        let w = x - floor;
-        if w >= 1.0 {
-            Wrapped {
-                phase: Turns(0.0),
-                turned,
-            }
-        } else {
-            Wrapped {
-                phase: Turns(w),
-                turned,
-            }
-        }
+        let w = x - numeric::floor(x);
+        if w >= 1.0 { 0.0 } else { w }
     } else {
-        Wrapped {
-            phase: Turns(0.0),
-            turned: false,
-        }
+        0.0
+    }
+}
+
+// Whether a whole turn was passed: x is finite, and its floor isn't 0.
+fn turned(x: f64) -> bool
+    ensures { λ r. ⌜ r ≡ turnedOf x ⌝ }
+{
+    if numeric::is_finite(x) {
+        numeric::floor(x) != 0.0
+    } else {
+        false
+    }
+}
+
+// Both, of any number.
+fn wrap_far(x: f64) -> Wrapped
+    ensures { λ r. ⌜ r ≡ wrapPhaseOf (turns x) ⌝ }
+{
+    Wrapped {
+        phase: Turns(wrap(x)),
+        turned: turned(x),
     }
 }
 
@@ -86,7 +91,7 @@ fn wrap_near(x: f64) -> Wrapped
                 turned: true,
             }
         } else {
-            wrap(x)
+            wrap_far(x)
         }
     } else if x < 0.0 {
         if x > -1.0 {
@@ -103,10 +108,10 @@ fn wrap_near(x: f64) -> Wrapped
                 }
             }
         } else {
-            wrap(x)
+            wrap_far(x)
         }
     } else {
-        wrap(x)
+        wrap_far(x)
     }
 }
 

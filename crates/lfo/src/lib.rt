@@ -264,11 +264,13 @@ impl Lfo {
         let risen = edge.rising(c.reset);
         let reset_edge = risen.edge;
         let phase = common::restart(old, risen.rising);
-        let next = Turns(phase.0 + common::increment(freq, sample_rate).0);
+        let step = common::increment(freq, sample_rate);
+        let next = Turns(phase.0 + step.0);
         let wrapped = common::wrap_phase(next);
-        let sine = Self::shared_sine(wanted, phase);
-        let volts = Self::outputs(wanted, phase, sine, depth, wrapped.turned);
         let moved = wrapped.phase;
+        let turned = wrapped.turned;
+        let sine = Self::shared_sine(wanted, phase);
+        let volts = Self::outputs(wanted, phase, sine, depth, turned);
         LfoTicked {
             answer: mark(volts, is_small(depth), numeric::is_finite(next.0), numbers),
             lfo: Lfo {

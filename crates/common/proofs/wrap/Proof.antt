@@ -1,18 +1,18 @@
-use Rattle.common.specs.Phase.{wrapOf, turnedOf}
+use Rattle.common.specs.Phase.{wrapOf}
 use borrow.Author.Needs.{needs}
 use Rattle.common.proofs.wrap.Statement.{statement}
 use Rattle.common.proofs.wrap.Tie as tie
 
 returns : tie.Need-returns
-unfolding wrapOf turnedOf
+unfolding wrapOf
 returns c = simp (c .if2 .taken, ← c .before .floor .ensures, c .before .before .if1 .taken, ← c .before .before .before .is-finite .ensures)
 
 returns-2 : tie.Need-returns-2
-unfolding wrapOf turnedOf
+unfolding wrapOf
 returns-2 c = simp (c .if2 .left, ← c .before .floor .ensures, c .before .before .if1 .taken, ← c .before .before .before .is-finite .ensures)
 
 returns-3 : tie.Need-returns-3
-unfolding wrapOf turnedOf
+unfolding wrapOf
 returns-3 c = simp (c .if1 .left, ← c .before .is-finite .ensures)
 
 pub wrap-spec : {M : Type 1} → statement M
