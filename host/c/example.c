@@ -1,5 +1,5 @@
-/* Renders a vowel of 480 samples twice, once with a broken control value, and shows what is finished; plucks strings; renders noise;
- * then reads a score:
+/* Renders a vowel of 480 samples twice, once with a broken control value, and shows what is finished; plucks strings; renders noise; counts
+ * the turns of an Lfo; then reads a score:
  *
  *     tools/library ../target/gruttisol
  *     cc -I c c/example.c ../target/gruttisol/libgruttisol.a -o ../target/example && ../target/example
@@ -94,6 +94,31 @@ static int blow(uint64_t missing)
                   counts[0], counts[1]);
 }
 
+/* Bit 5 of the mask wants the pulses alone: one stands in the last tick of each turn, where a sequencer takes its next step. */
+static int step_on(double depth)
+{
+    static double out[GRUTTISOL_LFO_SAMPLES * SAMPLES];
+    double floats[GRUTTISOL_LFO_FLOATS];
+    uint64_t wholes[GRUTTISOL_LFO_WHOLES];
+    uint32_t counts[GRUTTISOL_COUNTS] = {0}, marks[SAMPLES];
+
+    uint32_t refused = gruttisol_lfo_new(1000.0, floats, GRUTTISOL_LFO_FLOATS, wholes, GRUTTISOL_LFO_WHOLES);
+    if (refused == 0)
+        refused = gruttisol_lfo_block(1.0, depth, 0.0, 1 << 5, floats, GRUTTISOL_LFO_FLOATS, wholes, GRUTTISOL_LFO_WHOLES,
+                                      counts, GRUTTISOL_COUNTS, out, GRUTTISOL_LFO_SAMPLES * SAMPLES, marks, SAMPLES);
+    if (refused)
+        return printf("refused=%u\n", refused);
+    int turns = 0, last = 0;
+    for (int i = 0; i < SAMPLES; i++) {
+        if (out[GRUTTISOL_LFO_SAMPLES * i + 5] == 5.0) {
+            turns++;
+            last = i;
+        }
+    }
+    return printf("an lfo of %d samples, %g V deep: %d turns, the last ends with sample %d, finished=%u\n", SAMPLES, depth, turns, last,
+                  counts[1]);
+}
+
 static void read_score(const char *score, size_t length)
 {
     double volts[GRUTTISOL_SCORE_FLOATS];
@@ -120,6 +145,8 @@ int main(void)
     pluck(INFINITY, 0.5);
     blow(0);
     blow(1);
+    step_on(10.0);
+    step_on(0.0);
     printf("a rate of 999.5 Hz: refused=%u\n", gruttisol_vco_new(999.5, floats, GRUTTISOL_VCO_FLOATS, wholes, GRUTTISOL_VCO_WHOLES));
     read_score(score, sizeof score - 1);
     read_score(score, sizeof score - 2); /* without its last line feed */

@@ -24,6 +24,11 @@
  * room for all of its ticks it is refused by 7, though so many single ticks would go on until the tally is full.
  *
  * What a host must change that was written for an earlier header:
+ *   - AN LFO HAS SIX SAMPLES: eoc, a pulse at the end of each turn, is the last. A tick is lent six, and a block six for each mark, where
+ *     an Lfo's tick stands every six samples and no longer every five. Five are refused by 52, so a host with an Lfo notices. BIT 5 OF AN
+ *     LFO'S `wanted` ASKS FOR IT, and did nothing before: a host that passes 63, or all bits, gets pulses in the sixth sample. One that
+ *     wants none clears the bit, and reads 0.0 there. Bits from 6 on do nothing, and of a Vco bit 5 still doesn't. The five other samples,
+ *     marks and states are what they were;
  *   - A TICK MAY NOW ANSWER 15, STEERED, and so may the marks of a block: a control that was given to it is NaN. It is no refusal: the
  *     state has moved on. And it is NOT FINISHED, though its samples are finite. NOTHING IN THE LENGTHS OF A TICK'S ARRAYS TELLS A HOST
  *     OF THIS. The other numbers mean what they meant, clean is 14. A host that takes 14 alone for finished, and 1 to 7 and 50 to 53 for
@@ -92,10 +97,12 @@ uint32_t gruttisol_vco_reset(double *floats, size_t floats_len, uint64_t *wholes
 uint32_t gruttisol_vco_set_sample_rate(double sample_rate, double *floats, size_t floats_len,
                                        uint64_t *wholes, size_t wholes_len);
 
-/* ---- Lfo: samples sin, tri, saw, sqr, sin_uni; `wanted` as above */
+/* ---- Lfo: samples sin, tri, saw, sqr, sin_uni, eoc; `wanted` as above. eoc, the end of the cycle, is 5.0 in the last tick of a turn and
+ *      0.0 in all others, whatever depth is: whether phase plus increment passed a whole turn, as gruttisol_wrap_turned has it. A tick that
+ *      takes its reset begins at phase 0, so a turn that is cut off has no pulse; nor has a lost tick. */
 #define GRUTTISOL_LFO_FLOATS 4
 #define GRUTTISOL_LFO_WHOLES 2
-#define GRUTTISOL_LFO_SAMPLES 5
+#define GRUTTISOL_LFO_SAMPLES 6
 
 uint32_t gruttisol_lfo_new(double sample_rate, double *floats, size_t floats_len, uint64_t *wholes, size_t wholes_len);
 uint32_t gruttisol_lfo_tick(double rate, double depth, double reset, uint32_t wanted,
@@ -249,7 +256,8 @@ uint32_t gruttisol_score_read(const uint8_t *text, size_t text_len, double *floa
                               uint64_t *wholes, size_t wholes_len);
 
 /* ---- functions of numbers alone: sine and cosine of radians, 2^x and 3000^r; the small functions as Rust has them, any NaN being
- *      7FF8000000000000; k * 2^-53 and twice it less 1; the oscillators' pitch, phase and residuals, in volts, hertz and turns */
+ *      7FF8000000000000; k * 2^-53 and twice it less 1; the oscillators' pitch, phase and residuals, in volts, hertz and turns. wrap_turned
+ *      is whether wrap_phase passes a whole turn: x is finite and its floor isn't 0 */
 double gruttisol_sin(double x);
 double gruttisol_cos(double x);
 double gruttisol_exp2(double x);
@@ -268,6 +276,7 @@ double gruttisol_draw(uint64_t k);
 double gruttisol_bipolar(uint64_t k);
 double gruttisol_voct_to_hz(double voct);
 double gruttisol_wrap_phase(double x);
+bool gruttisol_wrap_turned(double x);
 double gruttisol_polyblep(double t, double dt);
 double gruttisol_polyblamp(double t, double dt);
 

@@ -56,7 +56,7 @@ pub fn render(score: &Score) -> Result<(f64, Tally), Refused> {
         }
         Inputs::Lfo(c) => {
             let mut lfo = Lfo::new(rate)?;
-            blocks(score, 5, |tally, samples, marks| lfo.block(c, Lfo::WANT_ALL, tally, samples, marks))
+            blocks(score, 6, |tally, samples, marks| lfo.block(c, Lfo::WANT_ALL, tally, samples, marks))
         }
         Inputs::Supersaw(c) => {
             let mut supersaw = Supersaw::new(rate)?;

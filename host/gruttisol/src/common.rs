@@ -7,6 +7,9 @@ exported! {
     /// A phase in turns brought into [0, 1); one that isn't finite gives 0.
     fn wrap_phase(x: f64) -> f64;
 
+    /// Whether that passes a whole turn: `x` is finite and its floor isn't 0. 1.0 does, and so does every number below 0.
+    fn wrap_turned(x: f64) -> bool;
+
     /// What smooths a step at phase `t`, `dt` being a tick's increment.
     fn polyblep(t: f64, dt: f64) -> f64;
 

@@ -210,7 +210,7 @@ mod tests {
     #[test]
     fn blocks() {
         refuses_block([4, 4, 4], |f, w, k, s, m| vco_block(0.0, 0.0, 0.5, 0.0, 0.0, u32::MAX, f, w, k, s, m));
-        refuses_block([4, 2, 5], |f, w, k, s, m| lfo_block(0.5, 10.0, 0.0, u32::MAX, f, w, k, s, m));
+        refuses_block([4, 2, 6], |f, w, k, s, m| lfo_block(0.5, 10.0, 0.0, u32::MAX, f, w, k, s, m));
         refuses_block([10, 2, 2], |f, w, k, s, m| supersaw_block(0.0, 0.5, 0.5, f, w, k, s, m));
         refuses_block([4, 2, 1], |f, w, k, s, m| wavetable_block(0.0, 0.0, 0.0, 0.0, f, w, &[], k, s, m));
         refuses_block([29, 6, 1], |f, w, k, s, m| formant_osc_block(0.0, 0.0, 0.0, 0.0, f, w, k, s, m));
@@ -229,7 +229,7 @@ mod tests {
 
     #[test]
     fn lfo() {
-        refuses([4, 2, 5], |f, w, s| lfo_tick(0.5, 10.0, 0.0, u32::MAX, f, w, s));
+        refuses([4, 2, 6], |f, w, s| lfo_tick(0.5, 10.0, 0.0, u32::MAX, f, w, s));
         refuses([4, 2, 0], |f, w, _| lfo_new(NO_RATE, f, w));
         refuses([4, 2, 0], |f, w, _| lfo_reset(f, w));
         refuses([4, 2, 0], |f, w, _| lfo_set_sample_rate(48000.0, f, w));

@@ -27,6 +27,8 @@ fn the_example_shows_what_is_finished() {
          a string at inf Hz, of a line of 0 cells, as bright as 0.5: refused\n\
          noise of 480 samples and 2872 draws: refused=0 begun=480 finished=480\n\
          noise of 480 samples and 2871 draws: refused=5 begun=0 finished=0\n\
+         an lfo of 480 samples, 10 V deep: 14 turns, the last ends with sample 466, finished=480\n\
+         an lfo of 480 samples, 0 V deep: 14 turns, the last ends with sample 466, finished=480\n\
          a rate of 999.5 Hz: refused=1\n\
          a score: lfo, 48000 Hz, frames=480, first input 0.5 V\n\
          a score: refused=21\n"
