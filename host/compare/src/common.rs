@@ -1,5 +1,6 @@
 //! The helpers that the oscillators share against the Rust's, to the last bit.
 use crate::draw::{Draw, PITCH};
+use crate::pair::turned;
 use crate::script::{alike, hex};
 use gruttisol::common as ours;
 use quiver::modules::common as rust;
@@ -35,14 +36,31 @@ pub fn pitch() {
     each("voct_to_hz", |x, _| ours::voct_to_hz(x), |x, _| rust::voct_to_hz(x), |draw| (draw.value(&PITCH, 4), 0.0));
 }
 
-pub fn wrap() {
-    let drawn = |draw: &mut Draw| match draw.below(8) {
-        0 => (draw.odd(), 0.0),
-        1 => (draw.between(-1e6, 1e6), 0.0),
-        2 => (draw.between(-3.0, 3.0).round() + draw.between(-1e-15, 1e-15), 0.0),
-        _ => (draw.between(-1.5, 2.5), 0.0),
+/// A number to wrap, and nothing.
+fn unwrapped(draw: &mut Draw) -> (f64, f64) {
+    // beside some of these the floor changes, or the number is finite no more
+    const CORNERS: [f64; 8] = [0.0, 1.0, 2.0, 2.5, 0.25, 1.0 / (1u64 << 60) as f64, f64::MAX, f64::INFINITY];
+    let x = match draw.below(8) {
+        0 => draw.odd(),
+        1 => draw.between(-1e6, 1e6),
+        2 => draw.between(-3.0, 3.0).round() + draw.between(-1e-15, 1e-15),
+        3 => {
+            let corner = draw.of(&CORNERS);
+            let near = draw.about(corner);
+            draw.of(&[near, -near])
+        }
+        _ => draw.between(-1.5, 2.5),
     };
-    each("wrap_phase", |x, _| ours::wrap_phase(x), |x, _| rust::wrap_phase(x), drawn);
+    (x, 0.0)
+}
+
+pub fn wrap() {
+    each("wrap_phase", |x, _| ours::wrap_phase(x), |x, _| rust::wrap_phase(x), unwrapped);
+}
+
+/// The Rust's wrap doesn't say whether it passes a turn; Rust's own floor does.
+pub fn turn() {
+    each("wrap_turned", |x, _| ours::wrap_turned(x).into(), |x, _| turned(x).into(), unwrapped);
 }
 
 pub fn steps() {

@@ -59,7 +59,7 @@ impl Draw {
     }
 
     /// The number or one beside it.
-    fn about(&mut self, x: f64) -> f64 {
+    pub fn about(&mut self, x: f64) -> f64 {
         match self.below(4) {
             0 => x.next_down(),
             1 => x.next_up(),

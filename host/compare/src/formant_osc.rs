@@ -60,7 +60,7 @@ impl Pair for FormantOsc {
 
     block!(self, _wanted, [v_oct, vowel, formant_shift, vibrato]);
 
-    fn theirs_tick(&mut self, controls: &[f64], wanted: u32, samples: &mut [f64]) -> Mark {
+    fn theirs_tick(&mut self, controls: &[f64], wanted: u32, samples: &mut [f64], _counts: &mut Counts) -> Mark {
         self.theirs.marked_tick(controls, wanted, samples)
     }
 }

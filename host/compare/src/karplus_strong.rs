@@ -259,7 +259,7 @@ impl Pair for KarplusStrong {
 
     /// Whether the line was zeroed is seen by the write position, which is 0 then. Where it would be 0 all the same, a
     /// twin tells, which is turned by a cell and reads the same values.
-    fn theirs_tick(&mut self, controls: &[f64], wanted: u32, samples: &mut [f64]) -> Mark {
+    fn theirs_tick(&mut self, controls: &[f64], wanted: u32, samples: &mut [f64], _counts: &mut Counts) -> Mark {
         let controls: &[f64; 5] = controls.try_into().unwrap();
         let (floats, [len, write_pos, ..]) = self.theirs.flat();
         let taken = rises(floats[4], controls[1]);

@@ -1,5 +1,5 @@
 //! The Rust's oscillators with the mark that the scope gives each of their ticks.
-use crate::pair::{used, wanted_of};
+use crate::pair::{advanced, turned, wanted_of};
 use crate::script::mark;
 use gruttisol::answer::Mark;
 use quiver::modules::oscillators::probe::Probe;
@@ -13,19 +13,28 @@ pub trait Marked {
 
 impl Marked for Vco {
     fn marked_tick(&mut self, controls: &[f64], wanted: u32, samples: &mut [f64]) -> Mark {
-        let ([phase, _, previous, _], _) = self.flat();
+        let (before, _) = self.flat();
         self.body(controls.try_into().unwrap(), wanted, samples.try_into().unwrap());
-        let ([_, rate, _, freq], _) = self.flat();
-        mark(wanted_of(samples, wanted), [], [used(phase, previous, controls[3]) + freq / rate], controls)
+        let (after, _) = self.flat();
+        mark(wanted_of(samples, wanted), [], [advanced(before, controls[3], after)], controls)
     }
 }
 
+/// The bit of a mask that wants an Lfo's `eoc`.
+pub const EOC: u32 = 1 << 5;
+
+/// The Rust has five outputs. The sixth, `eoc`, is ours: it is found from the Rust's values.
 impl Marked for Lfo {
     fn marked_tick(&mut self, controls: &[f64], wanted: u32, samples: &mut [f64]) -> Mark {
-        let ([phase, _, previous, _], _) = self.flat();
-        self.body(controls.try_into().unwrap(), wanted, samples.try_into().unwrap());
-        let ([_, rate, _, freq], _) = self.flat();
-        mark(wanted_of(samples, wanted), [], [used(phase, previous, controls[2]) + freq / rate], controls)
+        let (before, _) = self.flat();
+        let (eoc, five) = samples.split_last_mut().unwrap();
+        self.body(controls.try_into().unwrap(), wanted, five.try_into().unwrap());
+        let (after, _) = self.flat();
+        let wrapped = advanced(before, controls[2], after);
+        if wanted & EOC != 0 {
+            *eoc = if turned(wrapped) { 5.0 } else { 0.0 };
+        }
+        mark(wanted_of(five, wanted), [], [wrapped], controls)
     }
 }
 

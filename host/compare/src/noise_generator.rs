@@ -73,14 +73,13 @@ impl NoiseGenerator {
     fn meet(&self, ticks: usize, counts: &mut Counts) {
         let (_, low) = self.theirs.flat();
         let after = low.map(|counter| counter + ticks as u64);
-        let kinds = [
+        counts.meet([
             (NOT_GIVEN, !self.given),
             (UNEQUAL, low[0] != low[1]),
             (SIXTEEN, (0..2).any(|i| low[i] / 32768 < after[i] / 32768)),
             (OVER, after.iter().any(|&counter| counter > LOW)),
             (ABOVE, self.ours.parts().1.iter().any(|&counter| counter > LOW)),
-        ];
-        kinds.into_iter().filter(|&(_, met)| met).for_each(|(kind, _)| counts.met(kind));
+        ]);
     }
 
     /// A tick or block that must be refused for its draws, whatever the tally is.
@@ -221,7 +220,7 @@ impl Pair for NoiseGenerator {
         self.ours.block(&self.controls(controls), wanted, &self.draws, tally, samples, marks)
     }
 
-    fn theirs_tick(&mut self, controls: &[f64], wanted: u32, samples: &mut [f64]) -> Mark {
+    fn theirs_tick(&mut self, controls: &[f64], wanted: u32, samples: &mut [f64], _counts: &mut Counts) -> Mark {
         let volts = samples.first_chunk_mut().unwrap();
         let given = if self.given { controls } else { &[] };
         match *given {

@@ -81,13 +81,16 @@ pub fn rises(previous: f64, v: f64) -> bool {
     v > 2.5 && previous <= 2.5
 }
 
-/// The phase that a tick uses: 0 where its gate rises.
-pub fn used(phase: f64, previous: f64, gate: f64) -> f64 {
-    if rises(previous, gate) {
-        0.0
-    } else {
-        phase
-    }
+/// What a tick wraps, of the floats before it and after it, which are phase, rate, previous gate and frequency: the phase, 0 where its
+/// gate rises, plus the increment.
+pub fn advanced([phase, _, previous, _]: [f64; 4], gate: f64, [_, rate, _, freq]: [f64; 4]) -> f64 {
+    let used = if rises(previous, gate) { 0.0 } else { phase };
+    used + freq / rate
+}
+
+/// Whether a wrap passes a whole turn, by Rust's own floor.
+pub fn turned(x: f64) -> bool {
+    x.is_finite() && x.floor() != 0.0
 }
 
 /// The outputs that a mask wants.

@@ -5,6 +5,9 @@ use gruttisol::tally::{Tally, COUNTS};
 use std::collections::BTreeMap;
 use std::fmt;
 
+/// The most outputs that an oscillator has.
+pub const MOST: usize = 6;
+
 /// One oscillator on both sides.
 pub trait Pair: Sized {
     const NAME: &'static str;
@@ -38,8 +41,8 @@ pub trait Pair: Sized {
     fn refusal(floats: &Self::Floats, wholes: &Self::Wholes) -> u32;
 
     fn ours_tick(&mut self, controls: &[f64], wanted: u32, samples: &mut [f64]) -> Result<Mark, Refused>;
-    /// The mark is the scope's, of the Rust's values and of the controls.
-    fn theirs_tick(&mut self, controls: &[f64], wanted: u32, samples: &mut [f64]) -> Mark;
+    /// The mark is the scope's, of the Rust's values and of the controls. Kinds that only these values tell are counted.
+    fn theirs_tick(&mut self, controls: &[f64], wanted: u32, samples: &mut [f64], counts: &mut Counts) -> Mark;
     /// As many ticks as there are marks.
     fn ours_block(
         &mut self,
@@ -108,6 +111,11 @@ impl Counts {
     /// Counts a call of a kind that is the oscillator's own.
     pub fn met(&mut self, kind: &'static str) {
         *self.own.entry(kind).or_default() += 1;
+    }
+
+    /// The same for each of these kinds that it is of.
+    pub fn meet(&mut self, kinds: impl IntoIterator<Item = (&'static str, bool)>) {
+        kinds.into_iter().filter(|&(_, its)| its).for_each(|(kind, _)| self.met(kind));
     }
 
     /// What a run of this oscillator must meet and hasn't met once: marks, refusals and kinds of calls.
@@ -202,7 +210,7 @@ fn case<P: Pair>(
             words.push(refusal as u64);
             words.extend(invented.0.as_ref().iter().map(|x| one_nan(x.to_bits())));
             words.extend(invented.1.as_ref());
-            words.extend([0; 5].iter().take(P::PORTS));
+            words.extend([0; MOST].iter().take(P::PORTS));
             words.extend(pair.stored_left());
             return Ok((None, words));
         }
@@ -211,7 +219,7 @@ fn case<P: Pair>(
     }
     pair.lend(controls, 1, draw, counts)?;
     let mut words = given(pair, pair.theirs());
-    let (mark, samples) = sound(pair, controls, wanted)?;
+    let (mark, samples) = sound(pair, controls, wanted, counts)?;
     words.push(mark as u64);
     words.extend(raw::<P>(pair.theirs()).into_iter().map(one_nan));
     words.extend(samples[..P::PORTS].iter().map(|x| one_nan(x.to_bits())));
@@ -341,16 +349,21 @@ fn tick<P: Pair>(pair: &mut P, controls: &[f64], draw: &mut Draw, counts: &mut C
         format!("tick of {controls:?}, wanted {wanted:#x}, from {floats:?} {wholes:x?}: {said}")
     };
     pair.lend(controls, 1, draw, counts).map_err(told)?;
-    let (mark, _) = sound(pair, controls, wanted).map_err(told)?;
+    let (mark, _) = sound(pair, controls, wanted, counts).map_err(told)?;
     counts.marks[place(mark)] += 1;
     Ok(())
 }
 
 /// A tick on both sides, with its mark and samples; an output that isn't wanted reads 0.0.
-pub fn sound<P: Pair>(pair: &mut P, controls: &[f64], wanted: u32) -> Result<(Mark, [f64; 5]), String> {
-    let (mut ours, mut theirs) = ([1.0; 5], [f64::from_bits(UNWRITTEN); 5]);
+pub fn sound<P: Pair>(
+    pair: &mut P,
+    controls: &[f64],
+    wanted: u32,
+    counts: &mut Counts,
+) -> Result<(Mark, [f64; MOST]), String> {
+    let (mut ours, mut theirs) = ([1.0; MOST], [f64::from_bits(UNWRITTEN); MOST]);
     let mark = pair.ours_tick(controls, wanted, &mut ours[..P::PORTS]).map_err(|n| n.to_string())?;
-    let their_mark = pair.theirs_tick(controls, wanted, &mut theirs[..P::PORTS]);
+    let their_mark = pair.theirs_tick(controls, wanted, &mut theirs[..P::PORTS], counts);
     same_sound(wanted, (mark, &ours[..P::PORTS]), (their_mark, &theirs[..P::PORTS]))?;
     same(pair)?;
     Ok((mark, ours))
@@ -424,8 +437,8 @@ fn block<P: Pair>(pair: &mut P, controls: &[f64], draw: &mut Draw, counts: &mut 
     let (mut samples, mut marks) = (vec![1.0; P::PORTS * n], vec![9; n]);
     pair.ours_block(controls, wanted, &mut tally, &mut samples, &mut marks).map_err(|n| told(n.to_string()))?;
     for i in 0..n {
-        let mut theirs = [f64::from_bits(UNWRITTEN); 5];
-        let their_mark = pair.theirs_tick(controls, wanted, &mut theirs[..P::PORTS]);
+        let mut theirs = [f64::from_bits(UNWRITTEN); MOST];
+        let their_mark = pair.theirs_tick(controls, wanted, &mut theirs[..P::PORTS], counts);
         let Some(mark) = Mark::of_number(marks[i]) else {
             return Err(told(format!("tick {i} is marked {}", marks[i])));
         };
@@ -494,7 +507,7 @@ fn put_state<P: Pair>(pair: &mut P, controls: &[f64], draw: &mut Draw, counts: &
         counts.states += 1;
         return Ok(true);
     }
-    let (rate, bad, mut samples) = (draw.rate(), draw.bad_rate(), [0.0; 5]);
+    let (rate, bad, mut samples) = (draw.rate(), draw.bad_rate(), [0.0; MOST]);
     unchanged(pair, counts, number, |pair| pair.ours_tick(controls, u32::MAX, &mut samples[..P::PORTS]).map(drop))
         .and_then(|_| unused_block(pair, counts, number, [0; COUNTS], controls, 3 * P::PORTS, 3))
         .and_then(|_| unchanged(pair, counts, number, |pair| pair.ours_reset()))

@@ -49,7 +49,7 @@ impl Pair for Supersaw {
 
     block!(self, _wanted, [voct, detune, mix]);
 
-    fn theirs_tick(&mut self, controls: &[f64], wanted: u32, samples: &mut [f64]) -> Mark {
+    fn theirs_tick(&mut self, controls: &[f64], wanted: u32, samples: &mut [f64], _counts: &mut Counts) -> Mark {
         self.theirs.marked_tick(controls, wanted, samples)
     }
 }

@@ -47,7 +47,7 @@ impl Pair for Vco {
 
     block!(self, wanted, [voct, fm, pw, sync, fm_lin], wanted);
 
-    fn theirs_tick(&mut self, controls: &[f64], wanted: u32, samples: &mut [f64]) -> Mark {
+    fn theirs_tick(&mut self, controls: &[f64], wanted: u32, samples: &mut [f64], _counts: &mut Counts) -> Mark {
         self.theirs.marked_tick(controls, wanted, samples)
     }
 }

@@ -1,6 +1,6 @@
 //! The wavetable oscillator on both sides, over one bank.
 use crate::draw::{Control, Draw, GATE, PITCH, UNIT};
-use crate::pair::{block, both, refusal, used};
+use crate::pair::{advanced, block, both, refusal};
 use crate::script::{mark, unchanged, Counts, Pair};
 use gruttisol::answer::{Mark, Refused};
 use gruttisol::wavetable as ours;
@@ -85,11 +85,11 @@ impl Pair for Wavetable {
 
     block!(self, _wanted, [v_oct, table, morph, sync], self.bank);
 
-    fn theirs_tick(&mut self, controls: &[f64], wanted: u32, samples: &mut [f64]) -> Mark {
-        let ([phase, _, previous, _], _) = self.theirs.flat();
+    fn theirs_tick(&mut self, controls: &[f64], wanted: u32, samples: &mut [f64], _counts: &mut Counts) -> Mark {
+        let (before, _) = self.theirs.flat();
         self.theirs.body(controls.try_into().unwrap(), wanted, samples.try_into().unwrap());
-        let ([_, rate, _, freq], _) = self.theirs.flat();
-        mark(samples.iter().copied(), [], [used(phase, previous, controls[3]) + freq / rate], controls)
+        let (after, _) = self.theirs.flat();
+        mark(samples.iter().copied(), [], [advanced(before, controls[3], after)], controls)
     }
 }
 

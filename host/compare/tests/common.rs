@@ -16,6 +16,13 @@ fn wrap() {
 
 #[test]
 #[cfg_attr(not(quiver), ignore = "skipped: QUIVER_SRC not found")]
+fn turn() {
+    #[cfg(quiver)]
+    compare::common::turn();
+}
+
+#[test]
+#[cfg_attr(not(quiver), ignore = "skipped: QUIVER_SRC not found")]
 fn steps() {
     #[cfg(quiver)]
     compare::common::steps();

@@ -1,5 +1,5 @@
-//! Where ours and the Rust part: over its own library a power of 2 below the normal numbers is 0 in ours and small there; and as a
-//! memo's key any NaN is one in ours and its own bits there.
+//! Where ours and the Rust part: over its own library a power of 2 below the normal numbers is 0 in ours and small there; as a memo's key
+//! any NaN is one in ours and its own bits there; and an Lfo of ours has an output more.
 
 #[test]
 #[cfg_attr(not(quiver), ignore = "skipped: QUIVER_SRC not found")]
@@ -95,5 +95,29 @@ fn a_nan_for_a_memos_key() {
         let ticked = ours.tick(&controls, gruttisol::vco::Vco::WANT_ALL).unwrap();
         assert_eq!(ticked.mark, Mark::Steered);
         println!("a Vco of ours hits and is steered, the Rust's triangle is {}", samples[1]);
+    }
+}
+
+#[test]
+#[cfg_attr(not(quiver), ignore = "skipped: QUIVER_SRC not found")]
+fn an_output_that_the_rust_has_not() {
+    #[cfg(quiver)]
+    {
+        use gruttisol::lfo::{Controls, Lfo};
+        use quiver_system::modules::oscillators::{self as rust, probe::Probe};
+        use quiver_system::port::GraphModule;
+
+        // a tick that ends its turn: thirty a second, at 1,000 ticks a second, from just before the end
+        let (floats, wholes) = ([0.99, 1000.0, 0.0, 30.0], [1f64.to_bits(), 1]);
+        let (mut theirs, mut samples) = (rust::Lfo::new(1000.0), [7.0; 5]);
+        theirs.put_flat(&floats, &wholes);
+        theirs.body(&[1.0, 10.0, 0.0], Lfo::WANT_EOC, &mut samples);
+        assert_eq!(samples, [7.0; 5]);
+        let ports: Vec<u32> = theirs.port_spec().outputs.iter().map(|port| port.id).collect();
+        assert_eq!(ports, [10, 11, 12, 13, 14]);
+        let controls = Controls { rate: 1.0, depth: 10.0, reset: 0.0 };
+        let ticked = Lfo::of_parts(floats, wholes).tick(&controls, Lfo::WANT_EOC).unwrap();
+        assert_eq!(ticked.volts.eoc, 5.0);
+        println!("with bit 5 of the mask alone the Rust's Lfo writes nothing, ours a pulse");
     }
 }

@@ -72,7 +72,7 @@ const NANS: [u64; 7] = [
 mod oscillators {
     use super::NANS;
     use compare::draw::{Draw, ONE_NAN};
-    use compare::script::{alike, sound, Counts, Pair};
+    use compare::script::{alike, sound, Counts, Pair, MOST};
     use gruttisol::answer::Mark::{self, Clean, Lost, NotFinite, Steered};
     use gruttisol::tally::{Tally, COUNTS, NAMES};
 
@@ -171,10 +171,11 @@ mod oscillators {
 
     /// A tick of which everything is compared with the Rust's.
     #[track_caller]
-    fn tick<P: Pair>(pair: &mut P, controls: &[f64], wanted: u32) -> (Mark, [f64; 5]) {
-        let lent = pair.lend(controls, 1, &mut draw(), &mut Counts::default());
+    fn tick<P: Pair>(pair: &mut P, controls: &[f64], wanted: u32) -> (Mark, [f64; MOST]) {
+        let mut counts = Counts::default();
+        let lent = pair.lend(controls, 1, &mut draw(), &mut counts);
         let told = |said: String| panic!("{} of {controls:?}, wanted {wanted:#x}: {said}", P::NAME);
-        lent.and_then(|()| sound(pair, controls, wanted)).unwrap_or_else(told)
+        lent.and_then(|()| sound(pair, controls, wanted, &mut counts)).unwrap_or_else(told)
     }
 
     /// Every set of controls, of NaNs of all kinds, under every mask.
