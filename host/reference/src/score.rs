@@ -20,7 +20,7 @@ pub enum Refusal {
     Range = 23,
 }
 
-/// An oscillator's name in a score, and its ports in the Rust's order.
+/// An oscillator's name in a score, and its ports in the Rust's order; behind these stands `eoc`, which the Rust hasn't.
 #[derive(PartialEq, Debug)]
 pub struct Osc {
     pub name: &'static str,
@@ -31,7 +31,7 @@ pub struct Osc {
 pub const VCO: Osc =
     Osc { name: "vco", inputs: &["voct", "fm", "pw", "sync", "fm_lin"], outputs: &["sin", "tri", "saw", "sqr"] };
 pub const LFO: Osc =
-    Osc { name: "lfo", inputs: &["rate", "depth", "reset"], outputs: &["sin", "tri", "saw", "sqr", "sin_uni"] };
+    Osc { name: "lfo", inputs: &["rate", "depth", "reset"], outputs: &["sin", "tri", "saw", "sqr", "sin_uni", "eoc"] };
 pub const SUPERSAW: Osc = Osc { name: "supersaw", inputs: &["voct", "detune", "mix"], outputs: &["out", "sub"] };
 pub const FORMANT: Osc =
     Osc { name: "formant", inputs: &["v_oct", "vowel", "formant_shift", "vibrato"], outputs: &["out"] };

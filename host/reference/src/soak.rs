@@ -14,12 +14,17 @@ pub struct Counts {
     pub frames: u64,
     /// Frames of each mark that a score can get.
     pub marks: [u64; MARKS.len()],
+    /// Frames that end a turn of an Lfo.
+    pub pulses: u64,
     /// Scores refused by 20, 21, 22 and 23.
     pub refused: [u64; 4],
 }
 
 /// The marks that a score can get; only the string clears its line, and no score plays it.
 const MARKS: [&str; 4] = ["notfinite", "lost", "steered", "clean"];
+
+/// The line of a pulse: 5 V.
+const PULSE: &str = "eoc=4014000000000000";
 
 impl Counts {
     fn take(&mut self, text: &[u8]) {
@@ -28,11 +33,12 @@ impl Counts {
         } else {
             self.played += 1;
             self.claimed += u64::from(text.ends_with(b"claimed=yes\n"));
-            self.frames += text.windows(3).filter(|start| start == b"\nn=").count() as u64 + 1;
+            let said = |part: &str| text.windows(part.len()).filter(|start| start == &part.as_bytes()).count() as u64;
+            self.frames += said("\nn=") + 1;
             for (n, mark) in self.marks.iter_mut().zip(MARKS) {
-                let line = format!("\nmark={mark}\n");
-                *n += text.windows(line.len()).filter(|start| start == &line.as_bytes()).count() as u64;
+                *n += said(&format!("\nmark={mark}\n"));
             }
+            self.pulses += said(&format!("\n{PULSE}\n"));
         }
     }
 
@@ -43,13 +49,14 @@ impl Counts {
             claimed: self.claimed + other.claimed,
             frames: self.frames + other.frames,
             marks: std::array::from_fn(|i| self.marks[i] + other.marks[i]),
+            pulses: self.pulses + other.pulses,
             refused: std::array::from_fn(|i| self.refused[i] + other.refused[i]),
         }
     }
 
-    /// What scores that are played must meet and haven't met once: claims of both kinds, and marks.
+    /// What scores that are played must meet and haven't met once: claims of both kinds, a pulse, and marks.
     pub fn unplayed(&self) -> Vec<String> {
-        let claims = [("claimed=yes", self.claimed), ("claimed=no", self.played - self.claimed)];
+        let claims = [("claimed=yes", self.claimed), ("claimed=no", self.played - self.claimed), (PULSE, self.pulses)];
         let met = claims.into_iter().chain(MARKS.into_iter().zip(self.marks));
         met.filter(|&(_, n)| n == 0).map(|(what, _)| what.to_string()).collect()
     }
@@ -62,9 +69,9 @@ impl Counts {
 
 impl fmt::Display for Counts {
     fn fmt(&self, f: &mut fmt::Formatter<'_>) -> fmt::Result {
-        let Counts { played, claimed, frames, refused: [a, b, c, d], .. } = self;
+        let Counts { played, claimed, frames, pulses, refused: [a, b, c, d], .. } = self;
         let all = played + a + b + c + d;
-        write!(f, "{all} scores: {played} played ({claimed} claimed, {frames} frames), ")?;
+        write!(f, "{all} scores: {played} played ({claimed} claimed, {frames} frames, {pulses} pulses), ")?;
         write!(f, "refused by 20 {a}, by 21 {b}, by 22 {c}, by 23 {d}")
     }
 }

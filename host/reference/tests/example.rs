@@ -18,7 +18,7 @@ fn as_many_frames_as_a_score_may_have() {
     let end = "begun=480000\nfinished=480000\ncleared=0\nnotfinite=0\nlost=0\nsteered=0\nclaimed=yes\n";
     assert!(printed.ends_with(end.as_bytes()), "the render ends otherwise");
     let lines = printed.iter().filter(|&&byte| byte == b'\n').count();
-    assert_eq!(lines, 480_000 * 7 + 7);
+    assert_eq!(lines, 480_000 * 8 + 7);
     #[cfg(quiver)]
     assert!(printed == reference::render(score.as_bytes()), "the reference prints another text");
     println!("{} bytes of {lines} lines", printed.len());

@@ -54,7 +54,7 @@ fn the_example() {
 #[test]
 fn each_oscillator_has_the_inputs_that_the_page_lists() {
     let page = page();
-    for (osc, outputs) in [("vco", 4), ("lfo", 5), ("supersaw", 2), ("formant", 1)] {
+    for (osc, outputs) in [("vco", 4), ("lfo", 6), ("supersaw", 2), ("formant", 1)] {
         let text = rendered(&score(&page, osc, ("", "")));
         assert!(text.ends_with("claimed=yes\n"), "{osc}: {text}");
         let (_, section) = page.split_once(&format!("### `osc={osc}`")).unwrap();

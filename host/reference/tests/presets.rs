@@ -64,6 +64,14 @@ fn deaf_sounds_as_concert_a() {
     assert!(marks == 480 && deaf == concert_a.replace("mark=clean\n", "mark=steered\n"), "{marks} frames");
 }
 
+/// What the table says of `metronome`.
+#[test]
+fn metronome_beats_six_times() {
+    let text = String::from_utf8(program::render(&fs::read(preset("metronome")).unwrap())).unwrap();
+    assert_eq!(text.matches("\neoc=4014000000000000\n").count(), 6);
+    assert_eq!(text.matches("\neoc=0000000000000000\n").count(), 194);
+}
+
 #[test]
 fn long_presets_last_a_second() {
     let long = described("\n## A second or more\n");
