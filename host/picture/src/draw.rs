@@ -5,7 +5,7 @@ use std::fmt::Write;
 
 /// Width of a wave.
 const WIDTH: f64 = 640.0;
-/// Points of a wave at most, which keeps a picture of five outputs below 60 KB. Of more frames, some stand together, and
+/// Points of a wave at most, which keeps a picture of six outputs below 75 KB. Of more frames, some stand together, and
 /// the lowest and the highest of them are drawn.
 const POINTS: usize = 1000;
 /// Height of a wave from its lowest to its highest volts.
@@ -22,7 +22,7 @@ const ENTRY: f64 = 130.0;
 const PARTS: f64 = 10.0;
 /// How the axes' strokes and the lines of 0 V are drawn.
 const LIGHT: &str = "stroke=\"#000\" stroke-opacity=\".2\"";
-const COLOURS: [&str; 5] = ["#1f6fb2", "#c2571a", "#2f855a", "#8a3ffc", "#b83280"];
+const COLOURS: [&str; 6] = ["#1f6fb2", "#c2571a", "#2f855a", "#8a3ffc", "#b83280", "#7a6a00"];
 /// The marks that aren't clean, and what stands behind their frames.
 const BEHIND: [(&str, &str); 4] =
     [("notfinite", "#f8c9c4"), ("lost", "#fbe3b5"), ("cleared", "#cfe3f7"), ("steered", "#e3d5f5")];

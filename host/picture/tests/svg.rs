@@ -1,5 +1,6 @@
 //! Pictures of small texts.
 use picture::svg;
+use std::collections::BTreeSet;
 
 const HZ: u32 = 48000;
 
@@ -99,6 +100,21 @@ fn many_frames() {
     well_formed(&svg);
     assert!(svg.len() < 20_000, "{} bytes", svg.len());
     assert!(svg.contains("points=\"96.0,120.0 96.0,32.0 97.3,120.0 97.3,32.0 "), "{}", &svg[..1000]);
+}
+
+/// As many outputs as any oscillator has, the Lfo, each in a colour of its own, with as many points as are drawn.
+#[test]
+fn six_outputs() {
+    const NAMES: [&str; 6] = ["sin", "tri", "saw", "sqr", "sin_uni", "eoc"];
+    let outputs = |volts: f64| NAMES.map(|name| format!("{name}={:016X}\n", volts.to_bits())).concat();
+    let frame = |n: u32| format!("n={n}\nmark=clean\n{}", outputs(if n % 2 == 0 { 5.0 } else { -5.0 }));
+    let svg = svg(&((0..1000).map(frame).collect::<String>() + END), HZ).unwrap();
+    well_formed(&svg);
+    let colour = |name: &str| svg.split_once(&format!("\">{name}</text>")).unwrap().0.rsplit('"').next().unwrap();
+    let colours: BTreeSet<&str> = NAMES.into_iter().map(colour).collect();
+    assert_eq!(colours.len(), NAMES.len(), "{colours:?}");
+    assert!(colours.iter().all(|colour| svg.matches(&format!("stroke=\"{colour}\"")).count() == 1), "{colours:?}");
+    assert!((60_000..75_000).contains(&svg.len()), "{} bytes", svg.len());
 }
 
 /// Volts stand at the left of the wave, and never in more than three digits; the least range that holds the wave is taken.
