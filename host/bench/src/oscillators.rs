@@ -53,20 +53,25 @@ fn vco() {
     blocks("vco", 4, held, ours, theirs::vco(), theirs::blocks::vco());
 }
 
+/// The first lines want the Rust's five outputs, as they did before there was a sixth, so that they can be held against earlier runs; the
+/// second ones want `eoc` too, which the Rust hasn't.
 fn lfo() {
-    let mut state = lfo::Lfo::new(RATE).unwrap();
-    let ours = move |&[rate, depth, reset]: &[f64; 3]| {
-        state.tick(&lfo::Controls { rate, depth, reset }, lfo::Lfo::WANT_ALL).unwrap().volts
-    };
-    let held = [0.5, 10.0, 0.0];
-    row("lfo", held, [true, true, false], ours, theirs::lfo());
-    let [rate, depth, reset] = held;
-    let controls = lfo::Controls { rate, depth, reset };
-    let mut state = lfo::Lfo::new(RATE).unwrap();
-    let ours = |tally: &mut Tally, samples: &mut [f64], marks: &mut [u32]| {
-        state.block(black_box(&controls), lfo::Lfo::WANT_ALL, tally, samples, marks).unwrap()
-    };
-    blocks("lfo", 5, held, ours, theirs::lfo(), theirs::blocks::lfo());
+    const FIVE: u32 = 0b11111;
+    for (name, wanted) in [("lfo", FIVE), ("lfo, eoc", FIVE | lfo::Lfo::WANT_EOC)] {
+        let mut state = lfo::Lfo::new(RATE).unwrap();
+        let ours = move |&[rate, depth, reset]: &[f64; 3]| {
+            state.tick(&lfo::Controls { rate, depth, reset }, wanted).unwrap().volts
+        };
+        let held = [0.5, 10.0, 0.0];
+        row(name, held, [true, true, false], ours, theirs::lfo());
+        let [rate, depth, reset] = held;
+        let controls = lfo::Controls { rate, depth, reset };
+        let mut state = lfo::Lfo::new(RATE).unwrap();
+        let ours = |tally: &mut Tally, samples: &mut [f64], marks: &mut [u32]| {
+            state.block(black_box(&controls), wanted, tally, samples, marks).unwrap()
+        };
+        blocks(name, 6, held, ours, theirs::lfo(), theirs::blocks::lfo());
+    }
 }
 
 fn supersaw() {
