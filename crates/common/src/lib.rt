@@ -57,11 +57,9 @@ fn wrap(x: f64) -> f64
 fn turned(x: f64) -> bool
     ensures { λ r. ⌜ r ≡ turnedOf x ⌝ }
 {
-    if numeric::is_finite(x) {
-        numeric::floor(x) != 0.0
-    } else {
-        false
-    }
+    let finite = numeric::is_finite(x);
+    let floor = numeric::floor(x);
+    if finite { floor != 0.0 } else { false }
 }
 
 // Both, of any number.

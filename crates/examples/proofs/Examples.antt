@@ -1,11 +1,11 @@
 -- The examples, computed; the printed frame is the player's theorem, which knows powers and sine only by what numeric promises.
 use mathlib.Core.Path.{refl}
-use lib.Ieee.{sub, mul, div, le, isNan, ofInt, toUnsigned, ofBits}
+use lib.Ieee.{sub, mul, div, neg, le, eq, ne, isNan, ofInt, toUnsigned, ofBits}
 use Rattle.numeric.specs.Basic.{fabsOf, clampOf, minOf, maxOf}
 use Rattle.numeric.specs.Draw.{drawOf, bipolarOf}
 use Rattle.numeric.specs.Floor.{floorOf}
 use Rattle.common.specs.Edge.{thresholdOf, risesAbove, risingAboveOf, risingOf, fracAbove, crossedAboveOf, crossedOf}
-use Rattle.common.specs.Phase.{wrapOf, polyblepOf}
+use Rattle.common.specs.Phase.{wrapOf, turnedOf, polyblepOf}
 use Rattle.wavetable.specs.Harmonics.{maxHarmonic}
 use Rattle.wavetable.specs.Reads.{allowedOf, levelFrom, selectLevel, tablePosOf, tableIndexOf, blendOf}
 use Rattle.karplus_strong.specs.KarplusStrong.{maxLenOf}
@@ -14,8 +14,8 @@ use Rattle.player.proofs.Worked.{worked}
 use Rattle.examples.specs.Table.{Examples, _also_, none}
 
 pub examples : Examples
-unfolding wrapOf floorOf polyblepOf drawOf bipolarOf thresholdOf risesAbove risingAboveOf risingOf fracAbove crossedAboveOf crossedOf maxLenOf maxHarmonic
-    allowedOf levelFrom selectLevel offsetOne offsetTwo tablePosOf tableIndexOf blendOf fabsOf clampOf minOf maxOf sub mul div le isNan ofInt toUnsigned ofBits
+unfolding wrapOf turnedOf floorOf polyblepOf drawOf bipolarOf thresholdOf risesAbove risingAboveOf risingOf fracAbove crossedAboveOf crossedOf maxLenOf maxHarmonic
+    allowedOf levelFrom selectLevel offsetOne offsetTwo tablePosOf tableIndexOf blendOf fabsOf clampOf minOf maxOf sub mul div neg le eq ne isNan ofInt toUnsigned ofBits
 examples =
     refl also refl also refl
     also refl also refl
@@ -27,4 +27,6 @@ examples =
     also refl also refl also refl also refl
     also refl also refl also refl
     also worked
+    also refl also refl also refl also refl also refl
+    also refl also refl also refl also refl also refl also refl
     also none

@@ -1,4 +1,5 @@
--- The scope's ten examples: one table, about the definitions that the contracts cite, and the statement that every row holds.
+-- The scope's ten examples, and after them the corners of request CR 5: one table, about the definitions that the contracts cite, and the
+-- statement that every row holds.
 use Prim.Native.Nat.{ℕ}
 use Prim.Native.String.{String, _++_}
 use mathlib.Core.Bool.{Bool, true, false}
@@ -8,7 +9,7 @@ use lib.Ieee.{Float, binary64, ofBits}
 use Rattle.numeric.specs.Basic.{realOf}
 use Rattle.numeric.specs.Draw.{bipolarOf}
 use Rattle.common.specs.Edge.{risingOf, crossedOf}
-use Rattle.common.specs.Phase.{wrapOf, polyblepOf}
+use Rattle.common.specs.Phase.{wrapOf, turnedOf, polyblepOf}
 use Rattle.common.specs.declared.Risen.{Risen}
 use Rattle.common.specs.declared.Crossed.{Crossed}
 use Rattle.common.specs.declared.Crossing.{Crossing}
@@ -30,6 +31,7 @@ pub data Row : Type 0 where
   offsets : (len delay one two : ℕ) → Row
   blend : (control morph : Float) (index : ℕ) (share : Float) → Row
   render : (text prints : String) → Row
+  turn : (x : Float) (passed : Bool) → Row
 
 -- a float by its bits
 abbrev f64 : ℕ → Float
@@ -87,6 +89,18 @@ table =
     ∷ blend (f64 0x7ff8000000000000) (f64 0) 0 (f64 0x3ff0000000000000)
     -- 10. The frame printed.
     ∷ render score printed
+    -- CR 5. A whole turn is passed by 1, 2.5, -2^-1074, -2^-60, -0.25: yes; by 1 - 2^-53, 0, -0.0, infinity, -infinity, NaN: no.
+    ∷ turn (f64 0x3ff0000000000000) true
+    ∷ turn (f64 0x4004000000000000) true
+    ∷ turn (f64 0x8000000000000001) true
+    ∷ turn (f64 0xbc30000000000000) true
+    ∷ turn (f64 0xbfd0000000000000) true
+    ∷ turn (f64 0x3fefffffffffffff) false
+    ∷ turn (f64 0) false
+    ∷ turn (f64 0x8000000000000000) false
+    ∷ turn (f64 0x7ff0000000000000) false
+    ∷ turn (f64 0xfff0000000000000) false
+    ∷ turn (f64 0x7ff8000000000000) false
     ∷ []
 
 -- whether there is an edge
@@ -110,6 +124,7 @@ Holds (blend control morph index share) =
     let pos = tablePosOf control in
     _≡_ {A = ℕ × Float} (tableIndexOf pos, blendOf pos (tableIndexOf pos) morph) (index, share)
 Holds (render text prints) = renderOf (ascii text) ≡ ascii prints
+Holds (turn x passed) = turnedOf x ≡ passed
 
 -- each row holds
 infixr 5 _also_
