@@ -14,8 +14,9 @@ use Rattle.player.proofs.Worked.{worked}
 use Rattle.examples.specs.Table.{Examples, _also_, none}
 
 pub examples : Examples
-unfolding wrapOf turnedOf floorOf polyblepOf drawOf bipolarOf thresholdOf risesAbove risingAboveOf risingOf fracAbove crossedAboveOf crossedOf maxLenOf maxHarmonic
-    allowedOf levelFrom selectLevel offsetOne offsetTwo tablePosOf tableIndexOf blendOf fabsOf clampOf minOf maxOf sub mul div neg le eq ne isNan ofInt toUnsigned ofBits
+unfolding wrapOf turnedOf floorOf polyblepOf drawOf bipolarOf thresholdOf risesAbove risingAboveOf risingOf fracAbove crossedAboveOf crossedOf maxLenOf
+    maxHarmonic allowedOf levelFrom selectLevel offsetOne offsetTwo tablePosOf tableIndexOf blendOf fabsOf clampOf minOf maxOf sub mul div neg le eq ne
+    isNan ofInt toUnsigned ofBits
 examples =
     refl also refl also refl
     also refl also refl

@@ -54,13 +54,19 @@ slice-write-part-5 c = simp length-set (omega arith)
 
 returns-6 : tie.Need-returns-6
 unfolding portsOf
-returns-6 c = let began = c .before .before .before .before .before .before .args in sym (ports-at (began .v) (began .part .now) 5 (omega arith))
+returns-6 c =
+    let fifth = c .before .before .before in
+    let began = fifth .before .before .before .args in
+    sym (ports-at (began .v) (began .part .now) 5 (omega arith))
 
 slice-write-part-6 : tie.Need-slice-write-part-6
 slice-write-part-6 c = simp length-set (omega arith)
 
 returns-7 : tie.Need-returns-7
-returns-7 c = let began = c .before .before .before .before .before .before .args in sym (all-ports (began .v) (began .part .now) (omega arith))
+returns-7 c =
+    let fifth = c .before .before .before in
+    let began = fifth .before .before .before .args in
+    sym (all-ports (began .v) (began .part .now) (omega arith))
 
 pub put-volts-spec : {M : Type 1} → statement M
 put-volts-spec =

@@ -1,4 +1,3 @@
-use mathlib.Core.Path.{sym}
 use lib.Ieee.{fits, binary64}
 use Rattle.laws.proofs.Tests.{of-true}
 use Rattle.common.proofs.PhaseLaws.{wrap-unit, wrap-two, wrap-minus, turned-unit, turned-two, turned-minus}
@@ -8,34 +7,38 @@ use Rattle.common.proofs.wrap_near.Tie as tie
 
 returns : tie.Need-returns
 returns c =
-    let s = c .before .before in
-    let x = s .args .x in
-    let t = of-true (fits binary64 x) (s .good .0 .1) in
-    simp (wrap-unit x t (c .before .if1 .taken) (c .if2 .taken), turned-unit x t (c .before .if1 .taken) (c .if2 .taken))
+    let began = c .before .before in
+    let x = began .args .x in
+    let t = of-true (fits binary64 x) (began .good .0 .1) in
+    let above = c .before .if1 .taken in
+    simp (wrap-unit x t above (c .if2 .taken), turned-unit x t above (c .if2 .taken))
 
 returns-2 : tie.Need-returns-2
 returns-2 c =
-    let s = c .before .before .before in
-    let x = s .args .x in
-    let t = of-true (fits binary64 x) (s .good .0 .1) in
-    simp (
-      wrap-two x t (c .before .before .if1 .taken) (c .before .if2 .left) (c .if3 .taken),
-      turned-two x t (c .before .before .if1 .taken) (c .before .if2 .left) (c .if3 .taken),
-    )
+    let began = c .before .before .before in
+    let x = began .args .x in
+    let t = of-true (fits binary64 x) (began .good .0 .1) in
+    let above = c .before .before .if1 .taken in
+    let past = c .before .if2 .left in
+    simp (wrap-two x t above past (c .if3 .taken), turned-two x t above past (c .if3 .taken))
 
 returns-4 : tie.Need-returns-4
 returns-4 c =
-    let s = c .before .before .before .before in
-    let x = s .args .x in
-    let t = of-true (fits binary64 x) (s .good .0 .1) in
-    simp (wrap-minus x (c .before .before .if4 .taken) (c .before .if5 .taken), turned-minus x t (c .before .before .if4 .taken) (c .before .if5 .taken), c .if6 .taken)
+    let began = c .before .before .before .before in
+    let x = began .args .x in
+    let t = of-true (fits binary64 x) (began .good .0 .1) in
+    let below = c .before .before .if4 .taken in
+    let near = c .before .if5 .taken in
+    simp (wrap-minus x below near, turned-minus x t below near, c .if6 .taken)
 
 returns-5 : tie.Need-returns-5
 returns-5 c =
-    let s = c .before .before .before .before in
-    let x = s .args .x in
-    let t = of-true (fits binary64 x) (s .good .0 .1) in
-    simp (wrap-minus x (c .before .before .if4 .taken) (c .before .if5 .taken), turned-minus x t (c .before .before .if4 .taken) (c .before .if5 .taken), c .if6 .left)
+    let began = c .before .before .before .before in
+    let x = began .args .x in
+    let t = of-true (fits binary64 x) (began .good .0 .1) in
+    let below = c .before .before .if4 .taken in
+    let near = c .before .if5 .taken in
+    simp (wrap-minus x below near, turned-minus x t below near, c .if6 .left)
 
 pub wrap-near-spec : {M : Type 1} → statement M
 wrap-near-spec =

@@ -22,7 +22,8 @@ returns c =
     let wrapped = put-out .before .before .before in
     let stepped = wrapped .before .before .before in
     let edged = stepped .before .before .before in
-    let known = edged .before .before in
+    let recalled = edged .before .before in
+    let asked = recalled .before .before .before .before .before .before in
     simp (
       c .mark .ensures,
       c .before .is-finite .ensures,
@@ -31,8 +32,8 @@ returns c =
       stepped .increment .ensures,
       stepped .before .restart .ensures,
       edged .rising .ensures,
-      known .recall .ensures,
-      known .before .before .before .before .before .before .are-numbers .ensures,
+      recalled .recall .ensures,
+      asked .are-numbers .ensures,
     )
 
 pub sound-spec : {M : Type 1} → statement M
