@@ -11,7 +11,7 @@ use lib.Ieee.Exact.{HasValue}
 use lib.Ieee.Fits.{down-pos}
 use lib.Ieee.Order.{le-of-values}
 use borrow.Author.Tests.{lt-ltb, le-ltb, eq-eqb, ne-eqb}
-use Rattle.laws.proofs.Order.{finite-between, le-of-lt-true, lt-of-le-not-ge, neg-neg, le-false}
+use Rattle.laws.proofs.Order.{finite-between, le-of-lt-true, lt-false, lt-le-trans, lt-of-le-not-ge, neg-neg, le-false}
 use Rattle.laws.proofs.Tests.{eqb-iff, of-true, of-false, zero-of}
 use Rattle.laws.specs.Float.{zer, one, two, F64, isFin}
 use Rattle.numeric.proofs.FloorLaws.{floor-rest, floor-whole}
@@ -39,9 +39,15 @@ unfolding wrapOf
 wrap-unit x t h k = simp (finite-between x one h k, floor-zero x h k, pos-sub-zer x t h k, le-false x one (of-true (lt x one) k))
 
 -- from 1 to below 2: less 1
-pub wrap-two : (x : Float) → F64 x → lt zer x ≡ true → lt x one ≡ false → lt x two ≡ true → wrapOf x ≡ sub binary64 x one
+above-zero : (x : Float) → le one x ≡ true → lt zer x ≡ true
+above-zero x h = is-true (lt zer x) (lt-le-trans zer one x (unfold lt ofBits in tt) (of-true (le one x) h))
+
+pub wrap-two : (x : Float) → F64 x → le one x ≡ true → lt x two ≡ true → wrapOf x ≡ sub binary64 x one
 unfolding wrapOf
-wrap-two x t h k l = simp (finite-between x two h l, floor-one x t k l h, rest-below x t k l h)
+wrap-two x t h l =
+    let above = above-zero x h in
+    let past = lt-false x one (of-true (le one x) h) in
+    simp (finite-between x two above l, floor-one x t past l above, rest-below x t past l above)
 
 -- above -1 and below 0: and 1, which may round to 1
 pub wrap-minus : (x : Float) → lt x zer ≡ true → lt (neg one) x ≡ true → wrapOf x ≡ cond (le one (add binary64 x one)) zer (add binary64 x one)
@@ -142,9 +148,16 @@ pub turned-unit : (x : Float) → F64 x → lt zer x ≡ true → lt x one ≡ t
 turned-unit x t h k =
     turned-says x t ∙ unfold phaseOk in simp (finite-between x one h k, is-true (le zer x) (le-of-lt-true zer x (of-true (lt zer x) h)), k)
 
-pub turned-two : (x : Float) → F64 x → lt zer x ≡ true → lt x one ≡ false → lt x two ≡ true → turnedOf x ≡ true
-turned-two x t h k l =
-    turned-says x t ∙ unfold phaseOk in simp (finite-between x two h l, is-true (le zer x) (le-of-lt-true zer x (of-true (lt zer x) h)), k)
+pub turned-two : (x : Float) → F64 x → le one x ≡ true → lt x two ≡ true → turnedOf x ≡ true
+turned-two x t h l =
+    let above = above-zero x h in
+    turned-says x t
+    ∙ unfold phaseOk in
+    simp (
+      finite-between x two above l,
+      is-true (le zer x) (le-of-lt-true zer x (of-true (lt zer x) above)),
+      lt-false x one (of-true (le one x) h),
+    )
 
 pub turned-minus : (x : Float) → F64 x → lt x zer ≡ true → lt (neg one) x ≡ true → turnedOf x ≡ true
 turned-minus x t h k = turned-says x t ∙ unfold phaseOk in simp (finite-below x h k, le-false x zer (of-true (lt x zer) h))

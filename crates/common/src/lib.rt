@@ -72,52 +72,46 @@ fn wrap_far(x: f64) -> Wrapped
     }
 }
 
-// The same without a floor where x is above -1 and below 2, as a phase and an increment nearly always are. Below 1 is a way of its
-// own: most phases take it, and the next tick needn't wait for a choice.
+// The same without a floor where x is above -1 and below 2, as a phase and an increment nearly always are.
 fn wrap_near(x: f64) -> Wrapped
     ensures { λ r. ⌜ r ≡ wrapPhaseOf (turns x) ⌝ }
 {
-    if x > 0.0 {
-        if x < 1.0 {
+    if x >= 1.0 && x < 2.0 {
+        Wrapped {
+            phase: Turns(x - 1.0),
+            turned: true,
+        }
+    } else if x < 0.0 && x > -1.0 {
+        let w = x + 1.0;
+        if w >= 1.0 {
             Wrapped {
-                phase: Turns(x),
-                turned: false,
-            }
-        } else if x < 2.0 {
-            Wrapped {
-                phase: Turns(x - 1.0),
+                phase: Turns(0.0),
                 turned: true,
             }
         } else {
-            wrap_far(x)
-        }
-    } else if x < 0.0 {
-        if x > -1.0 {
-            let w = x + 1.0;
-            if w >= 1.0 {
-                Wrapped {
-                    phase: Turns(0.0),
-                    turned: true,
-                }
-            } else {
-                Wrapped {
-                    phase: Turns(w),
-                    turned: true,
-                }
+            Wrapped {
+                phase: Turns(w),
+                turned: true,
             }
-        } else {
-            wrap_far(x)
         }
     } else {
         wrap_far(x)
     }
 }
 
-// A phase brought back into [0, 1), where one that isn't finite starts again at 0; and whether it passed a whole turn.
+// A phase brought back into [0, 1), where one that isn't finite starts again at 0; and whether it passed a whole turn. Above 0 and below
+// 1 is a way of its own: most phases take it, and the next tick needn't wait for a choice.
 pub fn wrap_phase(x: Turns) -> Wrapped
     ensures { λ r. ⌜ r ≡ wrapPhaseOf x ⌝ }
 {
-    wrap_near(x.0)
+    if x.0 > 0.0 && x.0 < 1.0 {
+        Wrapped {
+            phase: x,
+            turned: false,
+        }
+    } else {
+        wrap_near(x.0)
+    }
 }
 
 // The residual over plain numbers.
