@@ -25,10 +25,11 @@
  *
  * What a host must change that was written for an earlier header:
  *   - AN LFO HAS SIX SAMPLES: eoc, a pulse at the end of each turn, is the last. A tick is lent six, and a block six for each mark, where
- *     an Lfo's tick stands every six samples and no longer every five. Five are refused by 52, so a host with an Lfo notices. BIT 5 OF AN
- *     LFO'S `wanted` ASKS FOR IT, and did nothing before: a host that passes 63, or all bits, gets pulses in the sixth sample. One that
- *     wants none clears the bit, and reads 0.0 there. Bits from 6 on do nothing, and of a Vco bit 5 still doesn't. The five other samples,
- *     marks and states are what they were;
+ *     an Lfo's tick stands every six samples and no longer every five. Five are refused by 52, so a host that lends five notices; A HOST
+ *     THAT TAKES ITS LENGTHS FROM GRUTTISOL_LFO_SAMPLES ISN'T REFUSED, and must look for strides of 5 of its own. BIT 5 OF AN LFO'S
+ *     `wanted` ASKS FOR IT, and did nothing before: a host that passes 63, or all bits, gets pulses in the sixth sample. One that wants
+ *     none clears the bit, and reads 0.0 there. Bits from 6 on do nothing, and of a Vco bit 5 still doesn't. The five other samples,
+ *     marks and states are what they were. In render's text an Lfo's frame has a line more, eoc=, after sin_uni=;
  *   - A TICK MAY NOW ANSWER 15, STEERED, and so may the marks of a block: a control that was given to it is NaN. It is no refusal: the
  *     state has moved on. And it is NOT FINISHED, though its samples are finite. NOTHING IN THE LENGTHS OF A TICK'S ARRAYS TELLS A HOST
  *     OF THIS. The other numbers mean what they meant, clean is 14. A host that takes 14 alone for finished, and 1 to 7 and 50 to 53 for

@@ -1,5 +1,5 @@
--- wrap_phase, polyblep and polyblamp, written from common.rs; beside the first, which request CR 5 asks for, whether a whole turn was passed;
--- and two lines that the oscillators share.
+-- wrap_phase, polyblep and polyblamp, written from common.rs; whether a wrap passes a whole turn, which request CR 5 asks for; and two lines
+-- that the oscillators share.
 use mathlib.Core.Bool.{Bool, cond, _&&_}
 use lib.Ieee.{Float, binary64, add, sub, mul, div, neg, lt, le, ne}
 use Rattle.laws.specs.Float.{zer, one, two, isFin}

@@ -13,8 +13,8 @@ abbrev pub wants : ℕ → ℕ → Bool
 wants wanted bit = not (eqb (bitAnd wanted bit) 0)
 
 -- two masks that want the same of the first n outputs
-abbrev pub Alike : ℕ → ℕ → ℕ → Type 0
-Alike n v w = (i : ℕ) → i < n → wants v (2 ^ i) ≡ wants w (2 ^ i)
+abbrev pub WantAlike : ℕ → ℕ → ℕ → Type 0
+WantAlike n v w = (i : ℕ) → i < n → wants v (2 ^ i) ≡ wants w (2 ^ i)
 
 -- outputs.set(.., x * 5.0); what isn't wanted reads 0.0
 unfoldable pub outOf : Bool → Float → Float

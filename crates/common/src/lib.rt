@@ -1,8 +1,11 @@
 // common.rs of the Rust, item by item: what the oscillators share. After it an output that may be unwanted, and the tests behind refusals 1, 2, 5 and 6.
 // Volts per octave, hertz and turns are three kinds of quantity; each helper takes only its own.
+ghost use mathlib.Core.Bool.{cond};
 ghost use mathlib.Core.Path.{_≡_};
 ghost use Prim.Native.Nat.{_≤_};
+ghost use lib.Ieee.{le};
 ghost use lib.ListN.{length};
+ghost use Rattle.laws.specs.Float.{zer, one};
 ghost use Rattle.common.specs.Pitch.{voctToHz};
 ghost use Rattle.common.specs.Phase.{turns, wrapOf, turnedOf, wrapPhaseOf, polyblepOf, polyblampOf, incrementOf, restartOf};
 ghost use Rattle.common.specs.Memo.{newMemo1, hits1, filled1, newMemo3, hits3, filled3, recall1, voctToHzAt};
@@ -41,13 +44,19 @@ pub struct Wrapped {
     pub turned: bool,
 }
 
+// What is left over a floor, which may round to 1.0: that is 0.
+fn below_one(w: f64) -> f64
+    ensures { λ r. ⌜ r ≡ cond (le one w) zer w ⌝ }
+{
+    if w >= 1.0 { 0.0 } else { w }
+}
+
 // Any number brought into [0, 1), as the Rust has it.
 fn wrap(x: f64) -> f64
     ensures { λ r. ⌜ r ≡ wrapOf x ⌝ }
 {
     if numeric::is_finite(x) {
-        let w = x - numeric::floor(x);
-        if w >= 1.0 { 0.0 } else { w }
+        below_one(x - numeric::floor(x))
     } else {
         0.0
     }
@@ -82,17 +91,9 @@ fn wrap_near(x: f64) -> Wrapped
             turned: true,
         }
     } else if x < 0.0 && x > -1.0 {
-        let w = x + 1.0;
-        if w >= 1.0 {
-            Wrapped {
-                phase: Turns(0.0),
-                turned: true,
-            }
-        } else {
-            Wrapped {
-                phase: Turns(w),
-                turned: true,
-            }
+        Wrapped {
+            phase: Turns(below_one(x + 1.0)),
+            turned: true,
         }
     } else {
         wrap_far(x)
@@ -104,10 +105,14 @@ fn wrap_near(x: f64) -> Wrapped
 pub fn wrap_phase(x: Turns) -> Wrapped
     ensures { λ r. ⌜ r ≡ wrapPhaseOf x ⌝ }
 {
-    if x.0 > 0.0 && x.0 < 1.0 {
-        Wrapped {
-            phase: x,
-            turned: false,
+    if x.0 > 0.0 {
+        if x.0 < 1.0 {
+            Wrapped {
+                phase: x,
+                turned: false,
+            }
+        } else {
+            wrap_near(x.0)
         }
     } else {
         wrap_near(x.0)

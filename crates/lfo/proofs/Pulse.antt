@@ -16,7 +16,7 @@ use Rattle.answer.specs.declared.Volts.{Volts}
 use Rattle.common.proofs.PhaseLaws.{turned-says}
 use Rattle.common.specs.Consts.{five}
 use Rattle.common.specs.Phase.{turns, turnedOf}
-use Rattle.common.specs.Ports.{wants, Alike}
+use Rattle.common.specs.Ports.{wants, WantAlike}
 use Rattle.common.specs.Tests.{phaseOk}
 use Rattle.laws.specs.Float.{zer, isFin}
 use Rattle.numeric.specs.Floor.{floorOf}
@@ -91,13 +91,13 @@ module _ (v w : ℕ) (p depth : Float) (turned : Bool) where
   scale : Float
   scale = mul binary64 five depth
 
-  five-same : Alike 5 v w → portsOf 5 (lfoOutputsOf v p depth turned) ≡ portsOf 5 (lfoOutputsOf w p depth turned)
+  five-same : WantAlike 5 v w → portsOf 5 (lfoOutputsOf v p depth turned) ≡ portsOf 5 (lfoOutputsOf w p depth turned)
   unfolding portsOf lfoOutputsOf scale
   five-same h =
       λ k. sinWave (h 0 (lit< tt) k) (sineOf p) scale ∷ triWave (h 1 (lit< tt) k) p scale ∷ sawWave (h 2 (lit< tt) k) p scale
       ∷ sqrWave (h 3 (lit< tt) k) p scale ∷ sinUniWave (h 4 (lit< tt) k) (sineOf p) depth ∷ []
 
-  finite-same : Alike 5 v w → allFinite (lfoOutputsOf v p depth turned) ≡ allFinite (lfoOutputsOf w p depth turned)
+  finite-same : WantAlike 5 v w → allFinite (lfoOutputsOf v p depth turned) ≡ allFinite (lfoOutputsOf w p depth turned)
   unfolding allFinite lfoOutputsOf scale
   finite-same h =
       let pulse : isFin (eocWave (wants v 32) turned) ≡ isFin (eocWave (wants w 32) turned) = eoc-finite _ _ ∙ sym (eoc-finite _ _) in
@@ -107,7 +107,7 @@ module _ (v w : ℕ) (p depth : Float) (turned : Bool) where
       && (isFin (sqrWave (h 3 (lit< tt) k) p scale)
       && (isFin (sinUniWave (h 4 (lit< tt) k) (sineOf p) depth) && pulse k))))
 
-  six-same : Alike 6 v w → lfoOutputsOf v p depth turned ≡ lfoOutputsOf w p depth turned
+  six-same : WantAlike 6 v w → lfoOutputsOf v p depth turned ≡ lfoOutputsOf w p depth turned
   unfolding lfoOutputsOf scale
   six-same h =
       λ k. volts6
@@ -127,7 +127,7 @@ told-by x y phases numbers h = by-rule x ∙ ap (λ (finite : Bool). told (ruleO
     by-rule z = unfold hostNumber in simp (mark-says z false true phases numbers .is-accepted, mark-says z false true phases numbers .number)
 
 module _ (s : Lfo) (c : LfoControls) (v w : ℕ) where
-  sound-beside : Alike 5 v w → Beside (lfoSoundOf s c v) (lfoSoundOf s c w)
+  sound-beside : WantAlike 5 v w → Beside (lfoSoundOf s c v) (lfoSoundOf s c w)
   unfolding lfoSoundOf
   sound-beside h =
       record {
@@ -136,7 +136,7 @@ module _ (s : Lfo) (c : LfoControls) (v w : ℕ) where
         lfo = refl;
       }
 
-  sound-same : Alike 6 v w → lfoSoundOf s c v ≡ lfoSoundOf s c w
+  sound-same : WantAlike 6 v w → lfoSoundOf s c v ≡ lfoSoundOf s c w
   unfolding lfoSoundOf
   sound-same h =
       ap (λ (x : Volts). record { answer = markOf x false true (isFin (summed s c)) (allNumbers (controlsOf c)); lfo = lfoSoundOf s c v .lfo })

@@ -14,7 +14,7 @@ use Rattle.common.specs.Consts.{five}
 use Rattle.common.specs.Edge.{risingOf, thresholdOf}
 use Rattle.common.specs.Memo.{recall1}
 use Rattle.common.specs.Phase.{turns, incrementOf, restartOf}
-use Rattle.common.specs.Ports.{wants, Alike}
+use Rattle.common.specs.Ports.{wants, WantAlike}
 use Rattle.common.specs.Tests.{rateOk, phaseOk}
 use Rattle.laws.specs.Float.{zer, isFin}
 use Rattle.numeric.specs.Floor.{floorOf}
@@ -97,8 +97,8 @@ abbrev pub summed : Lfo → LfoControls → Float
 summed s c =
     add binary64 (restartOf (s .phase) (taken s c) .0) (incrementOf (recall1 rateToHz (s .«freq_memo») (c .rate) .val) (s .«sample_rate») .0)
 
--- where it is wanted, eoc is 5.0 exactly where that number is finite and its floor isn't 0, which is: where it is finite and not in [0, 1). Else
--- it is 0.0, in a lost tick too. The depth says nothing
+-- where it is wanted, eoc is 5.0 exactly where that number is finite and its floor isn't 0, which is, said without a floor: where it is finite and
+-- not in [0, 1). Else it is 0.0, in a lost tick too. The depth says nothing
 pub record Pulses (s : Lfo) (c : LfoControls) (wanted : ℕ) : Type 0 where
   pub by-floor : voltsOf (lfoTickOf s c wanted .answer) .p15 ≡ cond (wants wanted 32 && (isFin (summed s c) && ne (floorOf (summed s c)) zer)) five zer
   pub by-range : voltsOf (lfoTickOf s c wanted .answer) .p15 ≡ cond (wants wanted 32 && (isFin (summed s c) && not (phaseOk (turns (summed s c))))) five zer
@@ -114,11 +114,11 @@ pub record Beside (a b : LfoTicked) : Type 0 where
   pub lfo : a .lfo ≡ b .lfo
 
 abbrev pub Eoc-beside : Type 0
-Eoc-beside = (s : Lfo) (c : LfoControls) (v w : ℕ) → Alike 5 v w → Beside (lfoTickOf s c v) (lfoTickOf s c w)
+Eoc-beside = (s : Lfo) (c : LfoControls) (v w : ℕ) → WantAlike 5 v w → Beside (lfoTickOf s c v) (lfoTickOf s c w)
 
 -- ---- bits beyond the outputs do nothing
 abbrev pub Bits-beyond : Type 0
-Bits-beyond = (s : Lfo) (c : LfoControls) (v w : ℕ) → Alike nPorts v w → lfoTickOf s c v ≡ lfoTickOf s c w
+Bits-beyond = (s : Lfo) (c : LfoControls) (v w : ℕ) → WantAlike nPorts v w → lfoTickOf s c v ≡ lfoTickOf s c w
 
 -- ---- no tick of a block is refused whose first isn't, and a tally with room takes each of their answers
 abbrev pub Block-accepts : Type 0

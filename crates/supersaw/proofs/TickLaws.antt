@@ -7,7 +7,7 @@ use lib.Ieee.{Float, binary64, add, sub, mul, div}
 use Rattle.laws.specs.Float.{zer, one, isFin}
 use Rattle.numeric.specs.Basic.{clampOf}
 use Rattle.common.specs.Memo.{recall1, voctToHzAt}
-use Rattle.common.specs.Phase.{turns, wrapOf}
+use Rattle.common.specs.Phase.{turns, wrapPhaseOf}
 use Rattle.common.specs.declared.Memo1.{Memo1}
 use Rattle.answer.specs.Answer.{volts2}
 use Rattle.answer.specs.Mark.{allNumbers, markOf}
@@ -30,7 +30,7 @@ tickedOf s mix numbers memo v =
     let out = add binary64 (mul binary64 (v .«center_saw») (sub binary64 one mix)) (mul binary64 (div binary64 (v .sum) (v .«total_mix»)) mix) in
     record {
       answer = markOf (volts2 out (sawOf (s .«sub_phase» .0) dt)) false true (v .finite && isFin next) numbers;
-      supersaw = record { phases = v .phases; «sub_phase» = turns (wrapOf next); «sample_rate» = s .«sample_rate»; «freq_memo» = memo };
+      supersaw = record { phases = v .phases; «sub_phase» = wrapPhaseOf (turns next) .phase; «sample_rate» = s .«sample_rate»; «freq_memo» = memo };
     }
 
 pub sound-done : (s : Supersaw) (c : SupersawControls) (u : Supersaw) (detune mix : Float) (numbers : Bool) (memo : Memo1)

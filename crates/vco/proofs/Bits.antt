@@ -3,12 +3,12 @@ use mathlib.Core.Path.{_≡_}
 use Prim.Native.Nat.{ℕ}
 use lib.Dec.{lit<}
 use lib.Ieee.{Float}
-use Rattle.common.specs.Ports.{wants, Alike}
+use Rattle.common.specs.Ports.{wants, WantAlike}
 use Rattle.common.specs.declared.Crossing.{Crossing}
 use Rattle.vco.specs.Promises.{Bits-beyond}
 use Rattle.vco.specs.Vco.{vcoVoltsOf, vcoAnswerOf, vcoSoundOf, vcoTickOf}
 
-volts-same : (v w : ℕ) → Alike 4 v w → (at : Crossing) (p old pw dt : Float) → vcoVoltsOf at p old pw dt v ≡ vcoVoltsOf at p old pw dt w
+volts-same : (v w : ℕ) → WantAlike 4 v w → (at : Crossing) (p old pw dt : Float) → vcoVoltsOf at p old pw dt v ≡ vcoVoltsOf at p old pw dt w
 unfolding vcoVoltsOf
 volts-same v w h at p old pw dt =
     let sin : wants v 1 ≡ wants w 1 = h 0 (lit< tt) in

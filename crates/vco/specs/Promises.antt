@@ -10,7 +10,7 @@ use Rattle.laws.specs.Float.{zer}
 use Rattle.laws.specs.Machine.{replies, Settles}
 use Rattle.common.specs.Consts.{five, half}
 use Rattle.common.specs.Edge.{risingOf, thresholdOf}
-use Rattle.common.specs.Ports.{Alike}
+use Rattle.common.specs.Ports.{WantAlike}
 use Rattle.common.specs.Tests.{rateOk, phaseOk}
 use Rattle.common.specs.declared.Hertz.{Hertz}
 use Rattle.answer.specs.Answer.{accepted, voltsOf, outcomeNumber, volts4}
@@ -97,7 +97,7 @@ Nan-sync = (s : Vco) (c : VcoControls) (wanted : ℕ) → c .sync ≡ nan → So
 
 -- ---- bits beyond the outputs do nothing
 abbrev pub Bits-beyond : Type 0
-Bits-beyond = (s : Vco) (c : VcoControls) (v w : ℕ) → Alike nPorts v w → vcoTickOf s c v ≡ vcoTickOf s c w
+Bits-beyond = (s : Vco) (c : VcoControls) (v w : ℕ) → WantAlike nPorts v w → vcoTickOf s c v ≡ vcoTickOf s c w
 
 -- ---- no tick of a block is refused whose first isn't, and a tally with room takes each of their answers
 abbrev pub Block-accepts : Type 0

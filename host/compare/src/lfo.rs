@@ -62,13 +62,13 @@ impl Pair for Lfo {
         let (before, _) = self.theirs.flat();
         let mark = self.theirs.marked_tick(controls, wanted, samples);
         let (after, _) = self.theirs.flat();
-        let [wrapped, without_edge] = [controls[2], 0.0].map(|reset| advanced(before, reset, after));
-        let wants = wanted & EOC != 0;
+        let [next, without_edge] = [controls[2], 0.0].map(|reset| advanced(before, reset, after));
+        let (wants, pulse) = (wanted & EOC != 0, samples[Self::PORTS - 1] == 5.0);
         counts.meet([
-            (PULSES, wants && turned(wrapped)),
-            (BACKWARDS, wants && turned(wrapped) && wrapped < 0.0),
-            (UNWANTED, !wants && turned(wrapped)),
-            (CUT_OFF, wants && !turned(wrapped) && turned(without_edge)),
+            (PULSES, pulse),
+            (BACKWARDS, pulse && next < 0.0),
+            (UNWANTED, !wants && turned(next)),
+            (CUT_OFF, wants && !pulse && turned(without_edge)),
         ]);
         mark
     }

@@ -30,11 +30,11 @@ impl Marked for Lfo {
         let (eoc, five) = samples.split_last_mut().unwrap();
         self.body(controls.try_into().unwrap(), wanted, five.try_into().unwrap());
         let (after, _) = self.flat();
-        let wrapped = advanced(before, controls[2], after);
+        let next = advanced(before, controls[2], after);
         if wanted & EOC != 0 {
-            *eoc = if turned(wrapped) { 5.0 } else { 0.0 };
+            *eoc = if turned(next) { 5.0 } else { 0.0 };
         }
-        mark(wanted_of(five, wanted), [], [wrapped], controls)
+        mark(wanted_of(five, wanted), [], [next], controls)
     }
 }
 

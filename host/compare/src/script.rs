@@ -99,7 +99,7 @@ pub struct Counts {
     pub states: u64,
     /// Refused calls, by the number that refused them.
     pub refused: BTreeMap<u32, u64>,
-    /// Calls of the kinds that are an oscillator's own.
+    /// Calls, or ticks, of the kinds that are an oscillator's own.
     pub own: BTreeMap<&'static str, u64>,
 }
 
@@ -108,7 +108,7 @@ impl Counts {
         self.marks.iter().sum()
     }
 
-    /// Counts a call of a kind that is the oscillator's own.
+    /// Counts a call, or a tick, of a kind that is the oscillator's own.
     pub fn met(&mut self, kind: &'static str) {
         *self.own.entry(kind).or_default() += 1;
     }

@@ -1,4 +1,4 @@
-//! The list that the program `replay` runs ends with what the Rust says today.
+//! The list that the program `replay` runs ends with what the Rust says today, and of an Lfo's `eoc` what is computed from that.
 
 #[test]
 #[cfg_attr(not(quiver), ignore = "skipped: QUIVER_SRC not found")]

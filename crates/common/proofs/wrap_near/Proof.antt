@@ -15,24 +15,15 @@ returns c =
 
 returns-2 : tie.Need-returns-2
 returns-2 c =
-    let below = c .before .before .if3 .taken in
     let near = c .before .if4 .taken in
+    let below = c .before .before .if3 .taken in
     let began = c .before .before .before .before in
     let x = began .args .x in
     let t = of-true (fits binary64 x) (began .good .0 .1) in
-    simp (wrap-minus x below near, turned-minus x t below near, c .if5 .taken)
+    simp (c .below-one .ensures, wrap-minus x below near, turned-minus x t below near)
 
 returns-3 : tie.Need-returns-3
-returns-3 c =
-    let below = c .before .before .if3 .taken in
-    let near = c .before .if4 .taken in
-    let began = c .before .before .before .before in
-    let x = began .args .x in
-    let t = of-true (fits binary64 x) (began .good .0 .1) in
-    simp (wrap-minus x below near, turned-minus x t below near, c .if5 .left)
-
-returns-4 : tie.Need-returns-4
-returns-4 c = c .wrap-far .ensures
+returns-3 c = c .wrap-far .ensures
 
 pub wrap-near-spec : {M : Type 1} → statement M
-wrap-near-spec = tie.close (tie.spec (λ c κs. search needs) returns returns-2 returns-3 returns-4)
+wrap-near-spec = tie.close (tie.spec (λ c κs. search needs) (λ c κs. search needs) returns returns-2 returns-3)
