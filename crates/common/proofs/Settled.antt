@@ -7,6 +7,7 @@ settled =
     record {
       voct-to-hz = λ v. laws.settled _;
       wrap-phase = λ x. laws.settled _;
+      wrap-of-several = λ x. laws.settled _;
       polyblep = λ t dt. laws.settled _;
       polyblamp = λ t dt. laws.settled _;
       increment = λ freq rate. laws.settled _;

@@ -24,6 +24,7 @@ use Rattle.common.specs.declared.Crossed.{Crossed}
 pub record Settled : Type 0 where
   pub voct-to-hz : (v : VoltsPerOctave) → Settles (λ (r : Hertz). r ≡ voctToHz v)
   pub wrap-phase : (x : Turns) → Settles (λ (r : Wrapped). r ≡ wrapPhaseOf x)
+  pub wrap-of-several : (x : Turns) → Settles (λ (r : Wrapped). r ≡ wrapPhaseOf x)
   pub polyblep : (t dt : Turns) → Settles (λ (r : Float). r ≡ polyblepOf (t .0) (dt .0))
   pub polyblamp : (t dt : Turns) → Settles (λ (r : Float). r ≡ polyblampOf (t .0) (dt .0))
   pub increment : (freq rate : Hertz) → Settles (λ (r : Turns). r ≡ incrementOf freq rate)

@@ -105,6 +105,21 @@ fn wrap_near(x: f64) -> Wrapped
 pub fn wrap_phase(x: Turns) -> Wrapped
     ensures { λ r. ⌜ r ≡ wrapPhaseOf x ⌝ }
 {
+    if x.0 > 0.0 && x.0 < 1.0 {
+        Wrapped {
+            phase: x,
+            turned: false,
+        }
+    } else {
+        wrap_near(x.0)
+    }
+}
+
+// The same for an oscillator that wraps in several places, where the compiler leaves wrap_phase a call. Of this one it makes a call of the
+// ways that few phases take alone: they are called from two places here, and so don't become part of it.
+pub fn wrap_of_several(x: Turns) -> Wrapped
+    ensures { λ r. ⌜ r ≡ wrapPhaseOf x ⌝ }
+{
     if x.0 > 0.0 {
         if x.0 < 1.0 {
             Wrapped {

@@ -442,7 +442,7 @@ fn sway(
             i,
             &mut *samples,
         );
-        vibrato_phase = common::wrap_phase(next).phase;
+        vibrato_phase = common::wrap_of_several(next).phase;
         i += 1;
     }
     let phase = start.phase;
@@ -467,7 +467,7 @@ fn pulse(start: Turns, samples: &mut [f64], marks: &mut [u32]) -> Turns
         let next = Turns(phase.0 + kept_turns(samples, i).0);
         samples[i] = glottal_pulse(phase);
         marks[i] = flag(numeric::is_finite(next.0));
-        phase = common::wrap_phase(next).phase;
+        phase = common::wrap_of_several(next).phase;
         i += 1;
     }
     phase
@@ -603,7 +603,7 @@ impl FormantOsc {
         // whole of this one is done.
         let vibrato_inc = common::increment(Hertz(VIBRATO_RATE), sample_rate);
         let vibrato_next = Turns(vibrato_phase.0 + vibrato_inc.0);
-        let vibrato_moved = common::wrap_phase(vibrato_next).phase;
+        let vibrato_moved = common::wrap_of_several(vibrato_next).phase;
         let v_oct = c.v_oct;
         let vowel = numeric::clamp(c.vowel, 0.0, 1.0);
         let depth = numeric::clamp(c.vibrato, 0.0, 1.0);
@@ -616,7 +616,7 @@ impl FormantOsc {
         let sum = rung.sum;
         let resonator_state = rung.state;
         let next = Turns(phase.0 + phase_inc.0);
-        let moved = common::wrap_phase(next).phase;
+        let moved = common::wrap_of_several(next).phase;
         let phases = both(
             numeric::is_finite(next.0),
             numeric::is_finite(vibrato_next.0),

@@ -264,8 +264,9 @@ impl Lfo {
         let risen = edge.rising(c.reset);
         let reset_edge = risen.edge;
         let phase = common::restart(old, risen.rising);
-        let step = common::increment(freq, sample_rate);
-        let next = Turns(phase.0 + step.0);
+        let from = phase.0;
+        let by = common::increment(freq, sample_rate).0;
+        let next = Turns(from + by);
         let wrapped = common::wrap_phase(next);
         let moved = wrapped.phase;
         let turned = wrapped.turned;

@@ -347,7 +347,7 @@ impl Supersaw {
             total_mix += Self::MIX_LEVELS[i];
             let next = Turns(phase.0 + dt.0);
             finite = still_finite(finite, next);
-            supersaw.phases[i] = common::wrap_phase(next).phase.0;
+            supersaw.phases[i] = common::wrap_of_several(next).phase.0;
             i += 1;
         }
         let normalized = sum / total_mix;
@@ -355,7 +355,7 @@ impl Supersaw {
         let sub_dt = Self::sub_increment(base_freq, sample_rate);
         let sub = saw(sub_phase, sub_dt);
         let sub_next = Turns(sub_phase.0 + sub_dt.0);
-        let sub_moved = common::wrap_phase(sub_next).phase;
+        let sub_moved = common::wrap_of_several(sub_next).phase;
         supersaw.sub_phase = sub_moved;
         supersaw.freq_memo = freq_memo;
         let volts = answer::volts2(output, sub);

@@ -16,8 +16,5 @@ returns c =
 returns-2 : tie.Need-returns-2
 returns-2 c = c .wrap-near .ensures
 
-returns-3 : tie.Need-returns-3
-returns-3 c = c .wrap-near2 .ensures
-
 pub wrap-phase-spec : {M : Type 1} → statement M
-wrap-phase-spec = tie.close (tie.spec (λ c κs. search needs) (λ c κs. search needs) returns returns-2 returns-3)
+wrap-phase-spec = tie.close (tie.spec (λ c κs. search needs) returns returns-2)

@@ -38,7 +38,7 @@ loop-again c =
     let z = looped .before .before .before .pre in
     let k = fetched .kept-turns .ensures in
     let f = wrapped .before .before .is-finite .ensures in
-    let w = pulse-turn _ _ _ _ _ _ _ _ _ _ (omega arith) (s .3) (s .5) k (wrapped .wrap-phase .ensures) f (wrapped .before .flag .ensures) in (
+    let w = pulse-turn _ _ _ _ _ _ _ _ _ _ (omega arith) (s .3) (s .5) k (wrapped .wrap-of-several .ensures) f (wrapped .before .flag .ensures) in (
       omega arith,
       simp length-set (s .1),
       simp length-set (s .2),

@@ -72,13 +72,13 @@ loop-again c =
     let t = grown .before .tuned .ensures in
     let k = wrapped .before .before .before .keep-turns .ensures in
     let x = stridden _ _ _ _ _ _ _ _ _ t (grown .increment2 .ensures) (s .3) (s .4) in
-    let w = swung _ _ _ _ _ _ _ _ _ _ t (looped .before .before .increment .ensures) (wrapped .wrap-phase .ensures) (s .3) (s .4) in (
+    let w = swung _ _ _ _ _ _ _ _ _ _ t (looped .before .before .increment .ensures) (wrapped .wrap-of-several .ensures) (s .3) (s .4) in (
       omega (arith, more, s .1),
       simp (k, length-set) (s .1),
       rw k (over-more _ _ _ _ _ (omega (arith, more, s .1)) (s .2) (ap (λ (u : Turns). u .0) x)),
       w .0,
       w .1,
-      rw (wrapped .wrap-phase .ensures) (wrap-in _ (add-fits binary64 _ _)),
+      rw (wrapped .wrap-of-several .ensures) (wrap-in _ (add-fits binary64 _ _)),
       still-memo _ _ _ _ _ _ _ (still-tuned _ _ _ _ _ _ _ f (weighed .both .ensures) (p .0) (s .5) (p .1) (s .6)) t (s .6),
     )
 

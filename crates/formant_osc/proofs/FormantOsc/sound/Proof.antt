@@ -18,7 +18,7 @@ returns c =
       c .before .both .ensures,
       c .before .before .is-finite2 .ensures,
       c .before .before .before .is-finite .ensures,
-      moved .wrap-phase2 .ensures,
+      moved .wrap-of-several2 .ensures,
       rung .ring .ensures,
       rung .before .before .recall .ensures,
       pulsed .glottal-pulse .ensures,
@@ -27,7 +27,7 @@ returns c =
       pitched .pitch .ensures,
       pitched .before .clamp2 .ensures,
       pitched .before .before .clamp .ensures,
-      wrapped .wrap-phase .ensures,
+      wrapped .wrap-of-several .ensures,
       wrapped .before .before .before .increment .ensures,
       known .before .before .before .before .before .are-numbers .ensures,
     )

@@ -10,7 +10,7 @@ outputs-requires c κs = c .shared-sine .ensures
 mark-requires : tie.Need-mark-requires
 mark-requires c κs =
     let put-out = c .before .before in
-    let restarted = put-out .before .before .before .before .before .before .before in
+    let restarted = put-out .before .before .before .before .before in
     let known = restarted .before .before .before .before .before in
     let asked = known .before .before .before .before .before in
     sound-finite _ _ _ _ _ _ _ _ (asked .before .pre) (restarted .restart .ensures) (put-out .outputs .ensures) (c .before .is-small .ensures)
@@ -20,18 +20,17 @@ unfolding lfoSoundOf
 returns c =
     let put-out = c .before .before .before in
     let wrapped = put-out .before .before .before in
-    let stepped = wrapped .before .before .before in
-    let edged = stepped .before .before .before in
-    let recalled = edged .before .before in
+    let restarted = wrapped .before .before in
+    let recalled = restarted .before .before .before .before in
     let asked = recalled .before .before .before .before .before .before in
     simp (
       c .mark .ensures,
       c .before .is-finite .ensures,
       put-out .outputs .ensures,
       wrapped .wrap-phase .ensures,
-      stepped .increment .ensures,
-      stepped .before .restart .ensures,
-      edged .rising .ensures,
+      wrapped .before .increment .ensures,
+      restarted .restart .ensures,
+      restarted .before .before .rising .ensures,
       recalled .recall .ensures,
       asked .are-numbers .ensures,
     )

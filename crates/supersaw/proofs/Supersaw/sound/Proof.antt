@@ -32,7 +32,7 @@ loop-again c =
       simp length-set (h .1),
       h .2,
       simp (
-        c .wrap-phase .ensures,
+        c .wrap-of-several .ensures,
         c .before .still-finite .ensures,
         mixed .center .ensures,
         mixed .before .saw .ensures,
@@ -57,7 +57,7 @@ returns c =
       c .before .still-finite2 .ensures,
       asked .are-numbers .ensures,
       output .volts2 .ensures,
-      output .before .before .wrap-phase2 .ensures,
+      output .before .before .wrap-of-several2 .ensures,
       low .saw2 .ensures,
       low .before .sub-increment .ensures,
       l .inv .2,
