@@ -8,15 +8,15 @@ use lib.Dec.{T, eqb, lit<, ltb}
 use lib.Ieee.{Float, nan, inf, fin, binary64, up, down, round, sum, add, sub, mul, div, neg, lt, le, eq, isNan, ofBits}
 use lib.Ieee.Fits.{down-pos}
 use lib.Ieee.Order.{round-mono}
-use lib.Ieee.Positive.{positive}
+use lib.Ieee.Positive.{den, den-pos, num, own-value, positive, value-pos}
 use lib.IntN.{pos, ℤ}
 use borrow.Author.Tests.{le-ltb}
-use Rattle.laws.proofs.Monotone.{mul-le, round-le, unit-law}
-use Rattle.laws.proofs.Number.{Signed, round-signed}
+use Rattle.laws.proofs.Monotone.{div-le, mul-le, round-le, unit-law}
+use Rattle.laws.proofs.Number.{Signed, round-number, round-signed}
 use Rattle.laws.proofs.Order.{below-le, float-le-trans, le-below, neg-neg}
 use Rattle.laws.proofs.Tests.{zero-of}
 use Rattle.laws.proofs.Unique.{round-own}
-use Rattle.laws.proofs.Values.{float-mul-comm, round-neg}
+use Rattle.laws.proofs.Values.{div-round, float-mul-comm, round-neg}
 use Rattle.laws.proofs.Zeros.{times-nought}
 use Rattle.laws.specs.Float.{F64, isFin, zer, one}
 
@@ -174,6 +174,14 @@ times-above k y p h =
     nought : (s : Bool) → T (le zer (fin s 0 (pos 0)))
     nought true = unfold le lt eq ofBits in tt
     nought false = unfold le lt eq ofBits in tt
+
+-- nor is what isn't below 0 over a number above 0
+pub over-above : (k y : Float) → T (positive k) → T (le zer y) → T (le zer (div binary64 y k))
+over-above k y p h =
+    let nought = div-round zer k false 0 1 (num k) (den k) (lit< tt) (den-pos k) (value-pos k (num k) (den k) p (den-pos k) (own-value k p))
+    (unfold ofBits in (refl, refl)) (own-value k p) in
+    float-le-trans zer (div binary64 zer k) (div binary64 y k)
+    (subst (λ (x : Float). T (le zer x)) (sym nought) (plus-above _ (round-plus _ _) (round-number false _ _))) (div-le k p zer y h)
 
 -- nor have 1 less and 1 plus what lies from -1 to 1
 around : (r : Float) → Plus r → T (le r one)

@@ -5,4 +5,5 @@ pub mod Held
 pub mod Pulse
 pub mod Reached
 pub mod Forget
+pub mod Slow
 pub mod Settled

@@ -116,6 +116,10 @@ pub record Beside (a b : LfoTicked) : Type 0 where
 abbrev pub Eoc-beside : Type 0
 Eoc-beside = (s : Lfo) (c : LfoControls) (v w : ℕ) → WantAlike 5 v w → Beside (lfoTickOf s c v) (lfoTickOf s c w)
 
+-- a cycle that a reset cuts off doesn't end: the edge tick of a reached Lfo has no pulse
+abbrev pub Edge-silent : Type 0
+Edge-silent = (s : Lfo) → ReachedLfo s → (c : LfoControls) (wanted : ℕ) → Fit c → taken s c ≡ true → voltsOf (lfoTickOf s c wanted .answer) .p15 ≡ zer
+
 -- ---- bits beyond the outputs do nothing
 abbrev pub Bits-beyond : Type 0
 Bits-beyond = (s : Lfo) (c : LfoControls) (v w : ℕ) → WantAlike nPorts v w → lfoTickOf s c v ≡ lfoTickOf s c w

@@ -10,6 +10,7 @@ pub mod RestLaws
 pub mod TrigLaws
 pub mod SinSign
 pub mod PowerSign
+pub mod PowerBound
 pub mod RangeLaws
 pub mod Laws
 pub mod Settled

@@ -64,7 +64,7 @@ minus-down k h =
     at : (k : ℕ) → k ≤ 1021 → 1074 - suc (1021 - k + 52) ≡ k
     at k h = omega arith
 
-bits-up : (n : ℕ) → n ≤ 1023 → ofBits binary64 ((1023 + n) * 4503599627370496) ≡ fin false 1 (pos n)
+pub bits-up : (n : ℕ) → n ≤ 1023 → ofBits binary64 ((1023 + n) * 4503599627370496) ≡ fin false 1 (pos n)
 bits-up n h = ap (λ (z : ℕ). ofBits binary64 (z * 4503599627370496)) (same n) ∙ bits-pow (1022 + n) (room n h) ∙ ap (λ (z : ℤ). fin false 1 z) (minus-up n)
   where
     same : (n : ℕ) → 1023 + n ≡ suc (1022 + n)

@@ -25,9 +25,12 @@ use Rattle.numeric.proofs.PowerLaws.{bits-pow, scale-at}
 use Rattle.numeric.specs.Power.{biased, exp2Of, expPart, midOf, pow3000Of, scaleOf, scaledOf, sixOf}
 use Rattle.numeric.specs.Promises.{Exp2-number, Pow3000-number}
 
--- ---- the split: t = x + biased is the whole number 1.5 * 2 ^ 52 + F, with F from 1 to 2046 the exponent's field, and x - (t - biased) is from -1 to 1
-abbrev Split : Float → Type 0
-Split x = (F : ℕ) × (1 ≤ F) × (F ≤ 2046) × HasValue (add binary64 x biased) false (6755399441055744 + F) 1
+-- ---- the split: t = x + biased is the whole number 1.5 * 2 ^ 52 + F, with F the exponent's field, here from low to top, and x - (t - biased) is from -1 to 1
+abbrev Field : ℕ → ℕ → ℕ → Type 0
+Field low top N = (F : ℕ) × (low ≤ F) × (F ≤ top) × (N ≡ 6755399441055744 + F)
+
+abbrev Split : ℕ → ℕ → Float → Type 0
+Split low top x = (F : ℕ) × (low ≤ F) × (F ≤ top) × HasValue (add binary64 x biased) false (6755399441055744 + F) 1
     × Within 0 (sub binary64 x (sub binary64 (add binary64 x biased) biased))
 
 biased-value : HasValue biased false 6755399441056767 1
@@ -48,9 +51,9 @@ rest s x k n d K D v h (inr (z, w)) = minus-zero 0 x k false (lit≤ tt) w (s, (
     small : (n d : ℕ) → n * 2 ≤ 0 * d * 2 + d → n ≤ 1 * d
     small n d h = omega arith
 
-split-of : (s : Bool) (m : ℕ) (e : ℤ) (M : ℕ) → M ≤ 2048 → m * up e * 1 ≤ M * down e
-    → ((K N : ℕ) → K ≤ M → Beside s 6755399441056767 K N → (F : ℕ) × (1 ≤ F) × (F ≤ 2046) × (N ≡ 6755399441055744 + F)) → Split (fin s m e)
-split-of s m e M L h field =
+split-of : (low top : ℕ) (s : Bool) (m : ℕ) (e : ℤ) (M : ℕ) → M ≤ 2048 → m * up e * 1 ≤ M * down e
+    → ((K N : ℕ) → K ≤ M → Beside s 6755399441056767 K N → Field low top N) → Split low top (fin s m e)
+split-of low top s m e M L h field =
     let x = fin s m e in
     let l : m * up e ≤ M * down e = le-trans (le-of-eq (sym (mul-one (m * up e)))) h in
     let r = nearest-whole biased 6755399441056767 biased-value (lit≤ tt) (lit≤ tt) s x (m * up e) (down e) (down-pos e)
@@ -64,18 +67,34 @@ split-of s m e M L h field =
     )
 
 -- the field is 1023 and K, or 1023 less K
-field-up : (K N : ℕ) → K ≤ 1023 → N ≡ 6755399441056767 + K → (F : ℕ) × (1 ≤ F) × (F ≤ 2046) × (N ≡ 6755399441055744 + F)
-field-up K N h e = (1023 + K, omega arith, omega arith, omega arith)
+field-up : (low M : ℕ) → low ≤ 1023 → (K N : ℕ) → K ≤ M → N ≡ 6755399441056767 + K → Field low (1023 + M) N
+field-up low M l K N h e = (1023 + K, omega arith, omega arith, omega arith)
 
-field-down : (K N : ℕ) → K ≤ 1022 → 6755399441056767 ≡ N + K → (F : ℕ) × (1 ≤ F) × (F ≤ 2046) × (N ≡ 6755399441055744 + F)
-field-down K N h e = (1023 - K, omega arith, omega arith, omega arith)
+field-down : (top M : ℕ) → M ≤ 1023 → 1023 ≤ top → (K N : ℕ) → K ≤ M → 6755399441056767 ≡ N + K → Field (1023 - M) top N
+field-down top M l t K N h e = (1023 - K, omega arith, omega arith, omega arith)
 
-pub split : (x : Float) → T (le (neg (ofBits binary64 0x408ff00000000000)) x) → T (le x (ofBits binary64 0x408ff80000000000)) → Split x
+pub split : (x : Float) → T (le (neg (ofBits binary64 0x408ff00000000000)) x) → T (le x (ofBits binary64 0x408ff80000000000)) → Split 1 2046 x
 split nan l h = absurd (unfold le lt eq in h)
 split (inf true) l h = absurd (unfold le lt eq neg ofBits in l)
 split (inf false) l h = absurd (unfold le lt eq ofBits in h)
-split (fin false m e) l h = split-of false m e 1023 (lit≤ tt) (le-below false false m 1023 e (pos 0) (unfold ofBits in h)) field-up
-split (fin true m e) l h = split-of true m e 1022 (lit≤ tt) (le-below true true 511 m (pos 1) e (unfold neg ofBits in l)) field-down
+split (fin false m e) l h =
+    split-of 1 2046 false m e 1023 (lit≤ tt) (le-below false false m 1023 e (pos 0) (unfold ofBits in h)) (field-up 1 1023 (lit≤ tt))
+split (fin true m e) l h =
+    split-of 1 2046 true m e 1022 (lit≤ tt) (le-below true true 511 m (pos 1) e (unfold neg ofBits in l)) (field-down 2046 1022 (lit≤ tt) (lit≤ tt))
+
+-- from 0 to 12 the field is 1023 and at most 12 more
+pub split-low : (x : Float) → T (le zer x) → T (le x (ofBits binary64 0x4028000000000000)) → Split 1023 1035 x
+split-low nan l h = absurd (unfold le lt eq in h)
+split-low (inf true) l h = absurd (unfold le lt eq ofBits in l)
+split-low (inf false) l h = absurd (unfold le lt eq ofBits in h)
+split-low (fin false m e) l h =
+    split-of 1023 1035 false m e 12 (lit≤ tt) (le-below false false m 3 e (pos 2) (unfold ofBits in h)) (field-up 1023 12 (lit≤ tt))
+split-low (fin true m e) l h =
+    split-of 1023 1035 true m e 0 (lit≤ tt) (nothing (m * up e) (down e) (le-below false true 0 m (pos 0) e (unfold ofBits in l) .1))
+    (field-down 1035 0 (lit≤ tt) (lit≤ tt))
+  where
+    nothing : (a d : ℕ) → a * 1 ≡ 0 → a * 1 ≤ 0 * d
+    nothing a d h = omega arith
 
 -- ---- the polynomial
 six-within : (z c0 c1 c2 c3 c4 c5 : Float) → Within 0 z → Within 0 c0 → Within 0 c1 → Within 0 c2 → Within 0 c3 → Within 0 c4 → Within 0 c5

@@ -153,7 +153,7 @@ mid-plus x l h =
     mul-plus (expPart f) (scaleOf t) (exp-plus f (k .4))
     (positive-plus (scaleOf t) (scale-positive t (k .0) (k .1) (k .2) (add-fits binary64 x biased) (k .3)))
 
-power-plus : (x : Float) → Plus (exp2Of x)
+pub power-plus : (x : Float) → Plus (exp2Of x)
 unfolding exp2Of
 power-plus x = go (lt x c1023) (le (neg c1022) x) (lt x c1024) (le c1024 x) refl refl refl
   where

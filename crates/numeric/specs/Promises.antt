@@ -104,6 +104,10 @@ Pow3000-nan = pow3000Of nan ≡ nan
 abbrev pub Pow3000-number : Type 0
 Pow3000-number = (r : Float) → T (not (isNan r)) → T (not (isNan (pow3000Of r)))
 
+-- where r is from 0 to 1 it isn't below 0 and is at most 65536: a coarse bound, for at 1 it is 3000
+abbrev pub Pow3000-range : Type 0
+Pow3000-range = (r : Float) → T (le zer r) → T (le r one) → T (le zer (pow3000Of r)) × T (le (pow3000Of r) (ofBits binary64 0x40f0000000000000))
+
 -- ---- the draw
 -- k * 2 ^ -53, nothing lost
 abbrev pub Draw-exact : Type 0
