@@ -115,8 +115,8 @@ pub fn wrap_phase(x: Turns) -> Wrapped
     }
 }
 
-// The same for an oscillator that wraps in several places, where the compiler leaves wrap_phase a call. Of this one it makes a call of the
-// ways that few phases take alone: they are called from two places here, and so don't become part of it.
+// The same for an oscillator that wraps in several places, where the compiler leaves wrap_phase a call. Of this one only the ways that few
+// phases take become a call: two places call them here, so the compiler doesn't make them part of it.
 pub fn wrap_of_several(x: Turns) -> Wrapped
     ensures { λ r. ⌜ r ≡ wrapPhaseOf x ⌝ }
 {
