@@ -1,48 +1,27 @@
--- How long the texts are, and that a text which has room is put whole.
-use Prim.Native.Nat.{ℕ, zero, suc, _+_, _/_, _%_, _^_, _≤_, _<_}
+-- How long the texts are.
+use Prim.Native.Nat.{ℕ, _+_, _≤_}
 use mathlib.Core.Bool.{Bool, true, false, cond}
 use mathlib.Core.List.{List, [], _∷_, _++_}
 use mathlib.Core.Path.{_≡_, refl, ap, _∙_}
-use native.Mathlib.Nat.{pow-succ'}
 use native.Mathlib.Omega.{arith}
-use lib.Dec.{ltb}
-use lib.ListN.{length, length-append, drop, take}
-use lib.Seq.{sets-eq, take-at}
+use lib.ListN.{length, length-append}
 use lib.Ieee.{Float, binary64, toBits}
-use borrow.Author.Tests.{ltb-true, ltb-false}
 use Rattle.line.specs.Bytes.{ascii}
 use Rattle.text.specs.Decimal.{decimalText}
-use Rattle.text.specs.Hex.{glyph, hexFrom, hexText}
-use Rattle.text.specs.Put.{placeOf}
-use Rattle.text.proofs.DecimalLaws.{decimal-small, decimal-large}
+use Rattle.text.specs.Hex.{hexFrom, hexText}
+use Rattle.text.specs.Lines.{wordLine, countLine}
+use Rattle.text.proofs.DecimalLaws.{decimal-short}
 use Rattle.answer.specs.declared.Volts.{Volts}
 use Rattle.answer.specs.declared.Answer.the-variants as answer
 use Rattle.score.specs.declared.Osc.{Osc}
 use Rattle.score.specs.declared.Osc.the-variants.{Vco, Lfo, Supersaw, Formant}
-use Rattle.frame.specs.Frame.{wordLine, countLine, sampleLine, wavesText, outputsText, markedText, frameText}
+use Rattle.frame.specs.Frame.{sampleLine, wavesText, outputsText, markedText, frameText}
 use Rattle.frame.specs.End.{countsText, claimedOf, endText, refusedText}
-use Rattle.frame.specs.Promises.{Put-whole, Short, Frame-length, End-length, Refused-length}
-
-pub put-whole : Put-whole
-unfolding placeOf
-put-whole out t r q (er, eq) h = ap (take r) (eq ∙ sets-eq t out 0 (omega arith)) ∙ take-at t (drop (0 + length t) out) r (omega arith)
+use Rattle.frame.specs.Promises.{Short, Frame-length, End-length, Refused-length}
 
 -- ---- numbers
-digits-by : (d n : ℕ) (b : Bool) → ltb n 10 ≡ b → (10 ≤ n → length (decimalText (n / 10)) ≤ d) → length (decimalText n) ≤ suc d
-digits-by d n true e r = rw (decimal-small n (ltb-true n 10 e)) (omega arith)
-digits-by d n false e r =
-    let l = ltb-false n 10 e in
-    let m = r l in
-    rw (decimal-large n l) (omega (arith, length-append (decimalText (n / 10)) (glyph (n % 10) ∷ [])))
-
-digits-most : (d n : ℕ) → n < 10 ^ suc d → length (decimalText n) ≤ suc d
-digits-most zero n h = rw (decimal-small n h) (omega arith)
-digits-most (suc d) n h =
-    let p = pow-succ' 10 (suc d) in
-    digits-by (suc d) n (ltb n 10) refl (λ l. digits-most d (n / 10) (omega arith))
-
 ten-digits : (n : ℕ) → Short n → length (decimalText n) ≤ 10
-ten-digits n h = digits-most 9 n h
+ten-digits n h = decimal-short 9 n h
 
 hex-length : (x : ℕ) → length (hexText x) ≡ 16
 unfolding hexText hexFrom
@@ -51,20 +30,15 @@ hex-length x = refl
 -- ---- lines
 word-length : (key word : List ℕ) → length (wordLine key word) ≡ length key + length word + 1
 unfolding wordLine
-word-length key word = length-append (key ++ word) (ascii "\n") ∙ ap (λ (n : ℕ). n + 1) (length-append key word)
+word-length key word = length-append (key ++ word) (10 ∷ []) ∙ ap (λ (n : ℕ). n + 1) (length-append key word)
 
 count-length : (key : List ℕ) (n : ℕ) → Short n → length (countLine key n) ≤ length key + 11
 unfolding countLine
-count-length key n h = omega (arith, ten-digits n h, length-append (key ++ decimalText n) (ascii "\n"), length-append key (decimalText n))
+count-length key n h = omega (arith, ten-digits n h, word-length key (decimalText n))
 
 sample-length : (key : List ℕ) (x : Float) → length (sampleLine key x) ≡ length key + 17
 unfolding sampleLine
-sample-length key x = omega (
-  arith,
-  hex-length (toBits binary64 x),
-  length-append (key ++ hexText (toBits binary64 x)) (ascii "\n"),
-  length-append key (hexText (toBits binary64 x)),
-)
+sample-length key x = omega (arith, hex-length (toBits binary64 x), word-length key (hexText (toBits binary64 x)))
 
 -- ---- a frame
 waves-length : (v : Volts) → length (wavesText v) ≡ 84

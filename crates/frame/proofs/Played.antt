@@ -25,7 +25,8 @@ use Rattle.answer.specs.declared.Answer.the-variants as answer
 use Rattle.answer.proofs.Blocks.{joined-length, one-port, two-ports, four-ports, six-ports}
 use Rattle.score.specs.declared.Osc.{Osc}
 use Rattle.score.specs.declared.Osc.the-variants as osc
-use Rattle.frame.specs.Frame.{countLine, wordLine, sampleLine, wavesText, outputsText, markedText, frameText}
+use Rattle.text.specs.Lines.{countLine, wordLine}
+use Rattle.frame.specs.Frame.{sampleLine, wavesText, outputsText, markedText, frameText}
 use Rattle.frame.specs.Frames.{portsIn, outputAt, voltsAt, toldText, toldTexts, areFrames, playedText}
 use Rattle.frame.specs.Promises.{Told-prints}
 

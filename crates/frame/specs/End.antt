@@ -5,7 +5,7 @@ use mathlib.Core.List.{List, _++_}
 use lib.Dec.{eqb}
 use Rattle.line.specs.Bytes.{ascii}
 use Rattle.answer.specs.declared.Tally.{Tally}
-use Rattle.frame.specs.Frame.{wordLine, countLine}
+use Rattle.text.specs.Lines.{wordLine, countLine}
 
 unfoldable pub countsText : Tally → List ℕ
 countsText t =

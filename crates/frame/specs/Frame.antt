@@ -3,24 +3,17 @@ use Prim.Native.Nat.{ℕ}
 use mathlib.Core.List.{List, [], _++_}
 use lib.Ieee.{Float, binary64, toBits}
 use Rattle.line.specs.Bytes.{ascii}
-use Rattle.text.specs.Decimal.{decimalText}
 use Rattle.text.specs.Hex.{hexText}
+use Rattle.text.specs.Lines.{wordLine, countLine}
 use Rattle.answer.specs.declared.Volts.{Volts}
 use Rattle.answer.specs.declared.Answer.{Answer}
 use Rattle.answer.specs.declared.Answer.the-variants as answer
 use Rattle.score.specs.declared.Osc.{Osc}
 use Rattle.score.specs.declared.Osc.the-variants.{Vco, Lfo, Supersaw, Formant}
 
--- a line: its key with the equals sign, its value, a line feed
-unfoldable pub wordLine : List ℕ → List ℕ → List ℕ
-wordLine key word = key ++ word ++ ascii "\n"
-
-unfoldable pub countLine : List ℕ → ℕ → List ℕ
-countLine key n = key ++ decimalText n ++ ascii "\n"
-
 -- the bits of an f64 in hexadecimal; toBits has one pattern for any NaN, 7FF8000000000000
 unfoldable pub sampleLine : List ℕ → Float → List ℕ
-sampleLine key x = key ++ hexText (toBits binary64 x) ++ ascii "\n"
+sampleLine key x = wordLine key (hexText (toBits binary64 x))
 
 -- the outputs, in the Rust's port order and names; of the Lfo then eoc, which is ours
 unfoldable pub wavesText : Volts → List ℕ

@@ -4,7 +4,7 @@ use mathlib.Core.Bool.{Bool, true}
 use mathlib.Core.List.{List}
 use mathlib.Core.Path.{_≡_}
 use lib.Ieee.{Float}
-use lib.ListN.{length, take}
+use lib.ListN.{length}
 use Rattle.laws.specs.Lists.{tab}
 use Rattle.laws.specs.Machine.{Settles}
 use Rattle.text.specs.Promises.{Put}
@@ -16,10 +16,6 @@ use Rattle.score.specs.declared.Osc.{Osc}
 use Rattle.frame.specs.Frame.{frameText}
 use Rattle.frame.specs.Frames.{portsIn, playedText}
 use Rattle.frame.specs.End.{claimedOf, endText, refusedText}
-
--- ---- a text that has room is put whole: the buffer begins with it, up to the place after it
-abbrev pub Put-whole : Type 0
-Put-whole = (out t : List ℕ) (r : ℕ) (q : List ℕ) → Put out 0 t r q → length t ≤ length out → take r q ≡ t
 
 -- ---- what samples and marks tell of accepted ticks prints as their answers
 abbrev pub Told-prints : Type 0

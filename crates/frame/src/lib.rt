@@ -9,28 +9,18 @@ ghost use lib.ListN.{length};
 ghost use lib.Seq.{sets};
 ghost use Rattle.text.specs.Promises.{Put};
 ghost use Rattle.text.specs.Put.{placeOf};
-ghost use Rattle.frame.specs.Frame.{wordLine, countLine, sampleLine, wavesText, outputsText, markedText, frameText};
+ghost use Rattle.text.specs.Lines.{countLine};
+ghost use Rattle.frame.specs.Frame.{sampleLine, wavesText, outputsText, markedText, frameText};
 ghost use Rattle.frame.specs.Frames.{portsIn, outputAt, voltsAt, toldTexts, areFrames, playedText};
 ghost use Rattle.frame.specs.End.{countsText, claimedOf, endText, refusedText};
 
-// ---- a line: its key with the equals sign, its value, a line feed
-
-fn put_word(out: &mut [u8], at: usize, key: &[u8], word: &[u8]) -> usize
-    ensures { λ r. ⌜ r ≡ placeOf (now (out .entry)) at (wordLine (now (key .entry)) (now (word .entry))) ⌝ }
-    ensures { λ r. ⌜ now (out .exit) ≡ sets (now (out .entry)) at (wordLine (now (key .entry)) (now (word .entry))) ⌝ }
-{
-    let a = text::put_text(&mut *out, at, key);
-    let b = text::put_text(&mut *out, a, word);
-    text::put_byte(out, b, b'\n')
-}
+// ---- lines: a count, and a sample, the bits of an f64 in hexadecimal
 
 fn put_count(out: &mut [u8], at: usize, key: &[u8], n: u32) -> usize
     ensures { λ r. ⌜ r ≡ placeOf (now (out .entry)) at (countLine (now (key .entry)) n) ⌝ }
     ensures { λ r. ⌜ now (out .exit) ≡ sets (now (out .entry)) at (countLine (now (key .entry)) n) ⌝ }
 {
-    let a = text::put_text(&mut *out, at, key);
-    let b = text::put_decimal(&mut *out, a, n as u64);
-    text::put_byte(out, b, b'\n')
+    text::put_count(out, at, key, n as u64)
 }
 
 fn put_sample(out: &mut [u8], at: usize, key: &[u8], x: f64) -> usize
@@ -79,7 +69,7 @@ fn put_marked(out: &mut [u8], at: usize, osc: Osc, n: u32, mark: &[u8], v: Volts
     ensures { λ r. ⌜ now (out .exit) ≡ sets (now (out .entry)) at (markedText osc n (now (mark .entry)) v) ⌝ }
 {
     let a = put_count(&mut *out, at, b"n=", n);
-    let b = put_word(&mut *out, a, b"mark=", mark);
+    let b = text::put_word(&mut *out, a, b"mark=", mark);
     put_outputs(out, b, osc, v)
 }
 
@@ -229,9 +219,9 @@ pub fn put_end(out: &mut [u8], at: usize, frames: u32, t: Tally) -> usize
 {
     let a = put_counts(&mut *out, at, t);
     if claimed(frames, t) {
-        put_word(out, a, b"claimed=", b"yes")
+        text::put_word(out, a, b"claimed=", b"yes")
     } else {
-        put_word(out, a, b"claimed=", b"no")
+        text::put_word(out, a, b"claimed=", b"no")
     }
 }
 

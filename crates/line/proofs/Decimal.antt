@@ -5,92 +5,88 @@ use mathlib.Core.List.{List, [], _∷_, _++_, append-assoc, append-nil}
 use mathlib.Core.Bool.{Bool, true, false, cond}
 use native.Mathlib.Omega.{arith}
 use lib.ListN.{length}
-use lib.Dec.{ltb, eqb, lit≤}
-use borrow.Author.Tests.{lt-ltb, le-ltb, ltb-false, eqb-true, eqb-false}
+use lib.Dec.{ltb, eqb}
+use borrow.Author.Tests.{ltb-false, eqb-true, eqb-false}
+use Rattle.text.specs.Decimal.{decimalText}
+use Rattle.text.proofs.DecimalLaws.{decimal-small, decimal-large, glyph-small}
 use Rattle.line.specs.Bytes.{ascii, sameOf}
-use Rattle.line.specs.Number.{digitsFrom, digitsOf, negativeOf, signedOf, numberOf, decimalOf, numberText}
+use Rattle.line.specs.Number.{digitsFrom, digitsOf, negativeOf, signedOf, numberOf, numberText}
 use Rattle.line.specs.Promises.{Number-text}
 use Rattle.line.proofs.Laws.{empty, same-equal}
 use Rattle.line.specs.declared.Number.{Number}
 use Rattle.line.specs.declared.Number.the-variants.{Whole, Nan, Malformed}
 
-small : (k n : ℕ) → n < 10 → decimalOf (suc k) n ≡ (48 + n) ∷ []
-unfolding decimalOf
-small k n h = simp (lt-ltb n 10 h)
+-- ---- a number's digits, by the last of them
+small : (n : ℕ) → n < 10 → decimalText n ≡ (48 + n) ∷ []
+small n h = decimal-small n h ∙ ap (λ (b : ℕ). b ∷ []) (glyph-small n h)
 
-large : (k n : ℕ) → 10 ≤ n → decimalOf (suc k) n ≡ decimalOf k (n / 10) ++ ((48 + n % 10) ∷ [])
-unfolding decimalOf
-large k n h = simp (le-ltb n 10 h)
+large : (n : ℕ) → 10 ≤ n → decimalText n ≡ decimalText (n / 10) ++ ((48 + n % 10) ∷ [])
+large n h = decimal-large n h ∙ ap (λ (b : ℕ). decimalText (n / 10) ++ (b ∷ [])) (glyph-small (n % 10) (omega arith))
 
 -- one more digit at the end
-last : (k m b : ℕ) → 0 < m → 48 ≤ b → b ≤ 57 → decimalOf (suc k) (m * 10 + (b - 48)) ≡ decimalOf k m ++ (b ∷ [])
-last k m b h l g =
+last : (m b : ℕ) → 0 < m → 48 ≤ b → b ≤ 57 → decimalText (m * 10 + (b - 48)) ≡ decimalText m ++ (b ∷ [])
+last m b h l g =
     let e : (m * 10 + (b - 48)) / 10 ≡ m = omega arith in
     let f : 48 + (m * 10 + (b - 48)) % 10 ≡ b = omega arith in
-    large k (m * 10 + (b - 48)) (omega arith) ∙ ap (λ (i : ℕ). decimalOf k i ++ ((48 + (m * 10 + (b - 48)) % 10) ∷ [])) e
-    ∙ ap (λ (i : ℕ). decimalOf k m ++ (i ∷ [])) f
+    large (m * 10 + (b - 48)) (omega arith) ∙ (λ i. decimalText (e i) ++ (f i ∷ []))
 
--- digits read after those of m, of which there are k at most
-data After (k m : ℕ) (xs : List ℕ) : Number → Type 0 where
-  right : (n : ℕ) → decimalOf (k + length xs) n ≡ decimalOf k m ++ xs → After k m xs (Whole false n)
-  wrong : After k m xs Malformed
+-- digits read after those of m
+data After (m : ℕ) (xs : List ℕ) : Number → Type 0 where
+  right : (n : ℕ) → decimalText n ≡ decimalText m ++ xs → After m xs (Whole false n)
+  wrong : After m xs Malformed
 
-module _ (k m b : ℕ) (bs : List ℕ) (h : 0 < m) where
-  digit : {x : Number} → 48 ≤ b → b ≤ 57 → After (suc k) (m * 10 + (b - 48)) bs x → After k m (b ∷ bs) x
-  digit l g (right n e) =
-      let i : k + suc (length bs) ≡ suc k + length bs = omega arith in
-      right n (ap (λ (j : ℕ). decimalOf j n) i ∙ e ∙ ap (λ (l : List ℕ). l ++ bs) (last k m b h l g) ∙ append-assoc (decimalOf k m) (b ∷ []) bs)
+module _ (m b : ℕ) (bs : List ℕ) (h : 0 < m) where
+  digit : {x : Number} → 48 ≤ b → b ≤ 57 → After (m * 10 + (b - 48)) bs x → After m (b ∷ bs) x
+  digit l g (right n e) = right n (e ∙ ap (λ (l : List ℕ). l ++ bs) (last m b h l g) ∙ append-assoc (decimalText m) (b ∷ []) bs)
   digit l g wrong = wrong
 
-  byte : (x : Number) (t u : Bool) → ltb b 48 ≡ t → ltb 57 b ≡ u → After (suc k) (m * 10 + (b - 48)) bs x
-      → After k m (b ∷ bs) (cond t Malformed (cond u Malformed x))
+  byte : (x : Number) (t u : Bool) → ltb b 48 ≡ t → ltb 57 b ≡ u → After (m * 10 + (b - 48)) bs x
+      → After m (b ∷ bs) (cond t Malformed (cond u Malformed x))
   byte x true u et eu r = wrong
   byte x false true et eu r = wrong
   byte x false false et eu r = digit (ltb-false b 48 et) (ltb-false 57 b eu) r
 
-after : (k m : ℕ) (xs : List ℕ) → 0 < m → After k m xs (digitsFrom m xs)
+after : (m : ℕ) (xs : List ℕ) → 0 < m → After m xs (digitsFrom m xs)
 unfolding digitsFrom
-after k m [] h = let i : k + 0 ≡ k = omega arith in right m (ap (λ (j : ℕ). decimalOf j m) i ∙ sym (append-nil (decimalOf k m)))
-after k m (b ∷ bs) h = byte k m b bs h (digitsFrom (m * 10 + (b - 48)) bs) (ltb b 48) (ltb 57 b) refl refl (after (suc k) (m * 10 + (b - 48)) bs (omega arith))
+after m [] h = right m (sym (append-nil (decimalText m)))
+after m (b ∷ bs) h = byte m b bs h (digitsFrom (m * 10 + (b - 48)) bs) (ltb b 48) (ltb 57 b) refl refl (after (m * 10 + (b - 48)) bs (omega arith))
 
 -- a run of digits, and what it reads as
 data Digits (v : List ℕ) : Number → Type 0 where
-  digits : (n : ℕ) → decimalOf 12 n ≡ v → Digits v (Whole false n)
+  digits : (n : ℕ) → decimalText n ≡ v → Digits v (Whole false n)
   none : Digits v Malformed
 
 module _ (b : ℕ) (bs : List ℕ) where
-  -- the first digit isn't 0, and at most 11 follow
-  run : {x : Number} → 48 < b → b ≤ 57 → length bs ≤ 11 → After (suc (11 - length bs)) (0 * 10 + (b - 48)) bs x → Digits (b ∷ bs) x
-  run l g s (right n e) =
-      let i : 12 ≡ suc (11 - length bs) + length bs = omega arith in
+  -- the first digit isn't 0
+  run : {x : Number} → 48 < b → b ≤ 57 → After (0 * 10 + (b - 48)) bs x → Digits (b ∷ bs) x
+  run l g (right n e) =
       let f : 48 + (0 * 10 + (b - 48)) ≡ b = omega arith in
-      digits n (ap (λ (j : ℕ). decimalOf j n) i ∙ e
-      ∙ ap (λ (l : List ℕ). l ++ bs) (small (11 - length bs) (0 * 10 + (b - 48)) (omega arith) ∙ ap (λ (j : ℕ). j ∷ []) f))
-  run l g s wrong = none
+      digits n (e ∙ ap (λ (l : List ℕ). l ++ bs) (small (0 * 10 + (b - 48)) (omega arith) ∙ ap (λ (j : ℕ). j ∷ []) f))
+  run l g wrong = none
 
-  bytes : (t u : Bool) → ltb b 48 ≡ t → ltb 57 b ≡ u → (b ≡ 48 → ⊥) → length bs ≤ 11
+  bytes : (t u : Bool) → ltb b 48 ≡ t → ltb 57 b ≡ u → (b ≡ 48 → ⊥)
       → Digits (b ∷ bs) (cond t Malformed (cond u Malformed (digitsFrom (0 * 10 + (b - 48)) bs)))
-  bytes true u et eu ne s = none
-  bytes false true et eu ne s = none
-  bytes false false et eu ne s =
+  bytes true u et eu ne = none
+  bytes false true et eu ne = none
+  bytes false false et eu ne =
       let l : 48 < b = omega (arith, ltb-false b 48 et, ne) in
-      run l (ltb-false 57 b eu) s (after (suc (11 - length bs)) (0 * 10 + (b - 48)) bs (omega arith))
+      run l (ltb-false 57 b eu) (after (0 * 10 + (b - 48)) bs (omega arith))
 
-  form : (most : ℕ) → most ≤ 12 → (t u w z : Bool) → ltb most (suc (length bs)) ≡ u → eqb b 48 ≡ w → eqb (suc (length bs)) 1 ≡ z
+  form : (t u w z : Bool) → eqb b 48 ≡ w → eqb (suc (length bs)) 1 ≡ z
       → Digits (b ∷ bs) (cond t Malformed (cond u Malformed (cond w (cond z (Whole false 0) Malformed) (digitsFrom 0 (b ∷ bs)))))
-  unfolding digitsFrom decimalOf
-  form most m true u w z eu ew ez = none
-  form most m false true w z eu ew ez = none
-  form most m false false true true eu ew ez =
+  unfolding digitsFrom
+  form true u w z ew ez = none
+  form false true w z ew ez = none
+  form false false true true ew ez =
       let e : length bs ≡ 0 = omega (arith, eqb-true (suc (length bs)) 1 ez) in
-      digits 0 (ap (λ (i : ℕ). i ∷ []) (sym (eqb-true b 48 ew)) ∙ ap (λ (l : List ℕ). b ∷ l) (sym (empty bs e)))
-  form most m false false true false eu ew ez = none
-  form most m false false false z eu ew ez = bytes (ltb b 48) (ltb 57 b) refl refl (eqb-false b 48 ew) (omega (arith, ltb-false most (suc (length bs)) eu))
+      digits 0 (small 0 (omega arith) ∙ ap (λ (i : ℕ). i ∷ []) (sym (eqb-true b 48 ew)) ∙ ap (λ (l : List ℕ). b ∷ l) (sym (empty bs e)))
+  form false false true false ew ez = none
+  form false false false z ew ez = bytes (ltb b 48) (ltb 57 b) refl refl (eqb-false b 48 ew)
 
 digits-of : (v : List ℕ) → Digits v (digitsOf v)
 unfolding digitsOf
 digits-of [] = none
-digits-of (b ∷ bs) = form b bs _ (lit≤ tt) (eqb (suc (length bs)) 0) (ltb _ (suc (length bs))) (eqb b 48) (eqb (suc (length bs)) 1) refl refl refl
+digits-of (b ∷ bs) = form b bs (eqb (suc (length bs)) 0) (ltb _ (suc (length bs))) (eqb b 48) (eqb (suc (length bs)) 1) refl refl
 
 -- a value, and what it reads as
 data Text (v : List ℕ) : Number → Type 0 where
@@ -136,9 +132,10 @@ number-text v h = told (nan-or v (sameOf v (ascii "nan")) refl) h
 
 -- no value is -0
 pub no-minus-zero : (v : List ℕ) → numberOf v ≡ Whole true 0 → ⊥
-unfolding numberOf numberText decimalOf signedOf digitsOf negativeOf sameOf
+unfolding numberOf numberText signedOf digitsOf negativeOf sameOf
 no-minus-zero v p =
-    let e : 45 ∷ 48 ∷ [] ≡ v = ap numberText (sym p) ∙ number-text v (λ q. contradiction (sym p ∙ q)) in
+    let e : 45 ∷ 48 ∷ [] ≡ v =
+    ap (λ (l : List ℕ). 45 ∷ l) (sym (small 0 (omega arith))) ∙ ap numberText (sym p) ∙ number-text v (λ q. contradiction (sym p ∙ q)) in
     contradiction (sym p ∙ ap numberOf (sym e))
   where
     contradiction : Whole true 0 ≡ Malformed → ⊥

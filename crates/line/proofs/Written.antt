@@ -3,14 +3,16 @@ use Prim.Native.Nat.{ℕ, zero, suc, _+_, _-_, _*_, _/_, _%_, _<_, _≤_, _^_}
 use mathlib.Core.Path.{_≡_, refl, ap, sym, subst, _∙_}
 use mathlib.Core.List.{List, [], _∷_, _++_, append-assoc}
 use mathlib.Core.Bool.{Bool, true, false, cond}
-use native.Mathlib.Nat.{pow-succ'}
 use native.Mathlib.Omega.{arith}
-use lib.ListN.{length, length-append}
+use lib.ListN.{length}
 use lib.Dec.{ltb, eqb, lit≤}
-use borrow.Author.Tests.{le-ltb, ltb-true, ltb-false, ne-eqb, eq-eqb}
+use borrow.Author.Tests.{le-ltb, ne-eqb, eq-eqb}
+use Rattle.text.specs.Decimal.{decimalFrom, decimalText}
+use Rattle.text.specs.Hex.{glyph}
+use Rattle.text.proofs.DecimalLaws.{every, glyph-small, decimal-short}
 use Rattle.line.specs.Bytes.{ascii, sameOf, hasOf, untilOf, pastOf}
 use Rattle.line.specs.Line.{lineOf, afterLine, keyOf, valueOf, isLine}
-use Rattle.line.specs.Number.{digitsFrom, digitsOf, negativeOf, signedOf, numberOf, decimalOf, numberText}
+use Rattle.line.specs.Number.{digitsFrom, digitsOf, negativeOf, signedOf, numberOf, numberText}
 use Rattle.line.specs.Promises.{Number-read}
 use Rattle.line.proofs.Laws.{no}
 use Rattle.line.specs.declared.Number.{Number}
@@ -45,43 +47,23 @@ module _ (n d : ℕ) (h : d ≤ 9) where
   more-digits m [] e = one-digit m d h ∙ ap (λ (i : ℕ). Whole false (i * 10 + d)) (same-size e)
   more-digits m (b ∷ bs) e = byte m b bs (ltb b 48) (ltb 57 b) (more-digits (m * 10 + (b - 48)) bs) e
 
--- ---- the digits of a number, by whether it has one alone
-data Decimal (k n : ℕ) : List ℕ → Type 0 where
-  alone : n < 10 → Decimal k n ((48 + n) ∷ [])
-  after : 10 ≤ n → Decimal k n (decimalOf k (n / 10) ++ ((48 + n % 10) ∷ []))
+-- ---- what holds of one digit, and of one more after those of a tenth, holds of every number
+module _ (P : ℕ → List ℕ → Type 0) (one : (n : ℕ) → n < 10 → P n ((48 + n) ∷ []))
+    (more : (n : ℕ) (t : List ℕ) → 10 ≤ n → P (n / 10) t → P n (t ++ ((48 + n % 10) ∷ []))) where
+  each-number : (n : ℕ) → P n (decimalText n)
+  each-number = every P (λ n h. rw (glyph-small n h) (one n h)) (λ n t h p. rw (glyph-small (n % 10) (omega arith)) (more n t h p))
 
-decimal : (k n : ℕ) → Decimal k n (decimalOf (suc k) n)
-unfolding decimalOf
-decimal k n = tests (ltb n 10) refl
-  where
-    tests : (b : Bool) → ltb n 10 ≡ b → Decimal k n (cond b ((48 + n) ∷ []) (decimalOf k (n / 10) ++ ((48 + n % 10) ∷ [])))
-    tests true e = alone (ltb-true n 10 e)
-    tests false e = after (ltb-false n 10 e)
+-- its digits are read as the number
+read-one : (n : ℕ) → n < 10 → digitsFrom 0 ((48 + n) ∷ []) ≡ Whole false n
+read-one n h = let q : 0 * 10 + n ≡ n = omega arith in one-digit 0 n (omega arith) ∙ ap (Whole false) q
 
-tenth : (k n : ℕ) → n < 10 ^ suc k → n / 10 < 10 ^ k
-tenth k n h = let g : n < 10 * 10 ^ k = subst (λ (m : ℕ). n < m) (pow-succ' 10 k) h in omega arith
-
--- they are read as the number
-read-step : {k n : ℕ} {xs : List ℕ} → digitsFrom 0 (decimalOf k (n / 10)) ≡ Whole false (n / 10) → Decimal k n xs → digitsFrom 0 xs ≡ Whole false n
-read-step {k} {n} f (alone l) = let q : 0 * 10 + n ≡ n = omega arith in one-digit 0 n (omega arith) ∙ ap (Whole false) q
-read-step {k} {n} f (after l) =
+read-more : (n : ℕ) (t : List ℕ) → 10 ≤ n → digitsFrom 0 t ≡ Whole false (n / 10) → digitsFrom 0 (t ++ ((48 + n % 10) ∷ [])) ≡ Whole false n
+read-more n t h f =
     let q : n / 10 * 10 + n % 10 ≡ n = omega arith in
-    more-digits (n / 10) (n % 10) (omega arith) 0 (decimalOf k (n / 10)) f ∙ ap (Whole false) q
+    more-digits (n / 10) (n % 10) (omega arith) 0 t f ∙ ap (Whole false) q
 
-decimal-read : (k n : ℕ) → n < 10 ^ k → digitsFrom 0 (decimalOf k n) ≡ Whole false n
-unfolding digitsFrom decimalOf
-decimal-read zero n h = let e : 0 ≡ n = omega arith in ap (Whole false) e
-decimal-read (suc k) n h = read-step (decimal-read k (n / 10) (tenth k n h)) (decimal k n)
-
--- they are few
-short-step : {k n : ℕ} {xs : List ℕ} → length (decimalOf k (n / 10)) ≤ k → Decimal k n xs → length xs ≤ suc k
-short-step f (alone l) = omega arith
-short-step {k} {n} f (after l) = omega (arith, length-append (decimalOf k (n / 10)) ((48 + n % 10) ∷ []))
-
-decimal-short : (k n : ℕ) → length (decimalOf k n) ≤ k
-unfolding decimalOf
-decimal-short zero n = omega arith
-decimal-short (suc k) n = short-step (decimal-short k (n / 10)) (decimal k n)
+decimal-read : (n : ℕ) → digitsFrom 0 (decimalText n) ≡ Whole false n
+decimal-read = each-number (λ n t. digitsFrom 0 t ≡ Whole false n) read-one read-more
 
 -- the first is a digit, and not 0 but of 0
 data First (n : ℕ) : List ℕ → Type 0 where
@@ -90,13 +72,10 @@ data First (n : ℕ) : List ℕ → Type 0 where
 more-after : {m n : ℕ} {xs : List ℕ} (ys : List ℕ) → 0 < m → First m xs → First n (xs ++ ys)
 more-after ys p (first b bs l g f) = first b (bs ++ ys) l g (λ q. f p)
 
-first-step : {k n : ℕ} {xs : List ℕ} → (10 ≤ n → First (n / 10) (decimalOf k (n / 10))) → Decimal k n xs → First n xs
-first-step {k} {n} f (alone l) = first (48 + n) [] (omega arith) (omega arith) (λ p. omega arith)
-first-step {k} {n} f (after l) = more-after ((48 + n % 10) ∷ []) (omega arith) (f l)
-
-decimal-first : (k n : ℕ) → n < 10 ^ suc k → First n (decimalOf (suc k) n)
-decimal-first zero n h = first-step (λ l. absurd (let g : n < 10 = subst (λ (m : ℕ). n < m) (pow-succ' 10 0) h in omega arith)) (decimal zero n)
-decimal-first (suc k) n h = first-step (λ l. decimal-first k (n / 10) (tenth (suc k) n h)) (decimal (suc k) n)
+decimal-first : (n : ℕ) → First n (decimalText n)
+decimal-first =
+    each-number First (λ n h. first (48 + n) [] (omega arith) (omega arith) (λ p. omega arith))
+    (λ n t h f. more-after ((48 + n % 10) ∷ []) (omega arith) f)
 
 -- ---- the promise
 not-nan : (b : ℕ) (bs : List ℕ) → b ≤ 57 → sameOf (b ∷ bs) (ascii "nan") ≡ false
@@ -119,16 +98,16 @@ module _ (n : ℕ) (p : 0 < n) where
   unfolding numberOf signedOf negativeOf
   minus-read v e = simp (not-nan 45 v (lit≤ tt), ne-eqb (suc (length v)) 0 (λ e. omega arith), e, ne-eqb n 0 (λ e. omega arith))
 
-  digits-read : n < 10 ^ 12 → digitsOf (decimalOf 12 n) ≡ Whole false n
-  digits-read h = unsigned (decimal-first 11 n h) (decimal-short 12 n) (decimal-read 12 n h)
+  digits-read : n < 10 ^ 12 → digitsOf (decimalText n) ≡ Whole false n
+  digits-read h = unsigned (decimal-first n) (decimal-short 11 n h) (decimal-read n)
 
   signed-read : (minus : Bool) → n < 10 ^ 12 → numberOf (numberText (Whole minus n)) ≡ Whole minus n
   unfolding numberText
-  signed-read true h = minus-read (decimalOf 12 n) (digits-read h)
-  signed-read false h = plus-read (decimal-first 11 n h) (digits-read h)
+  signed-read true h = minus-read (decimalText n) (digits-read h)
+  signed-read false h = plus-read (decimal-first n) (digits-read h)
 
 zero-read : numberOf (numberText (Whole false 0)) ≡ Whole false 0
-unfolding numberOf numberText decimalOf signedOf digitsOf sameOf
+unfolding numberOf numberText decimalText decimalFrom glyph signedOf digitsOf sameOf
 zero-read = refl
 
 nan-read : numberOf (numberText Nan) ≡ Nan
@@ -142,14 +121,7 @@ number-read (Whole false zero) (h, p) = zero-read
 number-read Nan h = nan-read
 number-read Malformed h = absurd h
 
--- ---- the text of a number has at most 13 bytes, and no line feed
-pub number-short : (x : Number) → length (numberText x) ≤ 13
-unfolding numberText
-number-short (Whole true n) = omega (arith, decimal-short 12 n)
-number-short (Whole false n) = omega (arith, decimal-short 12 n)
-number-short Nan = lit≤ tt
-number-short Malformed = lit≤ tt
-
+-- ---- the text of a number has no line feed
 joined-no : (x : ℕ) (s t : List ℕ) → hasOf x s ≡ false → hasOf x t ≡ false → hasOf x (s ++ t) ≡ false
 unfolding hasOf
 joined-no x [] t p q = q
@@ -164,19 +136,14 @@ digit-no-feed : (d : ℕ) → hasOf 10 ((48 + d) ∷ []) ≡ false
 unfolding hasOf
 digit-no-feed d = simp (ne-eqb (48 + d) 10 (λ e. omega arith))
 
-no-feed-step : {k n : ℕ} {xs : List ℕ} → hasOf 10 (decimalOf k (n / 10)) ≡ false → Decimal k n xs → hasOf 10 xs ≡ false
-no-feed-step {k} {n} f (alone l) = digit-no-feed n
-no-feed-step {k} {n} f (after l) = joined-no 10 (decimalOf k (n / 10)) ((48 + n % 10) ∷ []) f (digit-no-feed (n % 10))
-
-decimal-no-feed : (k n : ℕ) → hasOf 10 (decimalOf k n) ≡ false
-unfolding decimalOf hasOf
-decimal-no-feed zero n = refl
-decimal-no-feed (suc k) n = no-feed-step (decimal-no-feed k (n / 10)) (decimal k n)
+decimal-no-feed : (n : ℕ) → hasOf 10 (decimalText n) ≡ false
+decimal-no-feed =
+    each-number (λ n t. hasOf 10 t ≡ false) (λ n h. digit-no-feed n) (λ n t h f. joined-no 10 t ((48 + n % 10) ∷ []) f (digit-no-feed (n % 10)))
 
 pub number-no-feed : (x : Number) → hasOf 10 (numberText x) ≡ false
 unfolding numberText hasOf
-number-no-feed (Whole true n) = decimal-no-feed 12 n
-number-no-feed (Whole false n) = decimal-no-feed 12 n
+number-no-feed (Whole true n) = decimal-no-feed n
+number-no-feed (Whole false n) = decimal-no-feed n
 number-no-feed Nan = refl
 number-no-feed Malformed = refl
 

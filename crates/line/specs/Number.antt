@@ -1,10 +1,11 @@
 -- The one form of a number: digits with no leading zero, at most 12 of them, and a minus sign before one that isn't 0; or `nan`.
 -- Assumes nothing.
-use Prim.Native.Nat.{ℕ, zero, suc, _+_, _-_, _*_, _/_, _%_}
-use mathlib.Core.List.{List, [], _∷_, _++_}
+use Prim.Native.Nat.{ℕ, _+_, _-_, _*_}
+use mathlib.Core.List.{List, [], _∷_}
 use mathlib.Core.Bool.{true, false, cond}
 use lib.ListN.{length, drop, getD}
 use lib.Dec.{ltb, eqb}
+use Rattle.text.specs.Decimal.{decimalText}
 use Rattle.line.specs.Bytes.{ascii, sameOf}
 use Rattle.line.specs.declared.Number.{Number}
 use Rattle.line.specs.declared.Number.the-variants.{Whole, Nan, Malformed}
@@ -33,13 +34,8 @@ signedOf v = cond (eqb (length v) 0) Malformed (cond (eqb (getD v 0 0) 45) (nega
 unfoldable pub numberOf : List ℕ → Number
 numberOf v = cond (sameOf v (ascii "nan")) Nan (signedOf v)
 
--- the decimal digits of n, at most k of them
-unfoldable pub decimalOf : ℕ → ℕ → List ℕ
-decimalOf zero n = []
-decimalOf (suc k) n = cond (ltb n 10) ((48 + n) ∷ []) (decimalOf k (n / 10) ++ ((48 + n % 10) ∷ []))
-
 -- the text of a number
 unfoldable pub numberText : Number → List ℕ
-numberText (Whole minus size) = cond minus (45 ∷ decimalOf 12 size) (decimalOf 12 size)
+numberText (Whole minus size) = cond minus (45 ∷ decimalText size) (decimalText size)
 numberText Nan = ascii "nan"
 numberText Malformed = []

@@ -22,7 +22,7 @@ use Rattle.answer.proofs.Blocks.{room-left, ticks-keep, block-counts}
 use Rattle.answer.proofs.Laws.{accepted-unrefused}
 use Rattle.score.proofs.Text.{read-valid}
 use Rattle.score.specs.Promises.{Valid}
-use Rattle.score.specs.Text.{ownerOf}
+use Rattle.score.specs.Keys.{ownerOf}
 use Rattle.score.specs.declared.Inputs.{Inputs}
 use Rattle.score.specs.declared.Inputs.the-variants as inputs
 use Rattle.score.specs.declared.Score.{Score}

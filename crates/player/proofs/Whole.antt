@@ -10,7 +10,7 @@ use Rattle.laws.proofs.Over.{length-tab}
 use Rattle.answer.specs.Block.{joined}
 use Rattle.answer.proofs.Blocks.{joined-ext}
 use Rattle.answer.specs.declared.Answer.{Answer}
-use Rattle.score.specs.Text.{ownerOf}
+use Rattle.score.specs.Keys.{ownerOf}
 use Rattle.score.specs.declared.Osc.{Osc}
 use Rattle.score.specs.declared.Score.{Score}
 use Rattle.frame.specs.Frame.{frameText}

@@ -17,7 +17,7 @@ use Rattle.answer.specs.declared.Volts.{Volts}
 use Rattle.common.specs.declared.Hertz.{Hertz}
 use Rattle.score.specs.Control.{voltsOf}
 use Rattle.score.specs.Lines.{oscOf, withinOf, controlOf, oscLine, wholeLine, controlLine}
-use Rattle.score.specs.Score.{osc, whole, control, endOf, vcoOf, headOf, linesOf, scoreOf}
+use Rattle.score.specs.Score.{osc, whole, control, endOf, inputsOf, headOf, linesOf, scoreOf}
 use Rattle.score.specs.declared.Control.the-variants.{Microvolts}
 use Rattle.score.specs.declared.Inputs.the-variants.{Vco}
 use Rattle.score.specs.declared.Osc.the-variants as kind
@@ -28,7 +28,8 @@ use Rattle.vco.specs.Promises.{frameRate, frameControls}
 use Rattle.vco.specs.Vco.{newVco, vcoTickOf}
 use Rattle.vco.specs.declared.VcoControls.{VcoControls}
 use Rattle.vco.proofs.Frame.{first-frame}
-use Rattle.frame.specs.Frame.{wordLine, countLine, sampleLine, wavesText, outputsText, markedText, frameText}
+use Rattle.text.specs.Lines.{wordLine, countLine}
+use Rattle.frame.specs.Frame.{sampleLine, wavesText, outputsText, markedText, frameText}
 use Rattle.frame.specs.End.{countsText, claimedOf, endText}
 use Rattle.player.specs.Begin.{vcoAll, rateOf, vcoControls}
 use Rattle.player.specs.Play.{answers, heardFrom, heardOf, framesText, playOf, printedOf, renderOf}
@@ -54,7 +55,7 @@ volts = volts4 (ofBits binary64 0) (ofBits binary64 0xc014000000000000) (ofBits 
 
 is-read : scoreOf given ≡ Values score
 unfolding given score inputs sameOf hasOf untilOf pastOf lineOf afterLine keyOf valueOf isLine digitsFrom digitsOf negativeOf signedOf numberOf oscOf withinOf
-    controlOf oscLine wholeLine controlLine osc whole control endOf vcoOf headOf linesOf scoreOf
+    controlOf oscLine wholeLine controlLine osc whole control endOf inputsOf headOf linesOf scoreOf
 is-read = refl
 
 rate : rateOf 48000 ≡ frameRate

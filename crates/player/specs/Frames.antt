@@ -8,7 +8,7 @@ use Rattle.answer.specs.Block.{afterTicks, answerAt, portsOf, joined}
 use Rattle.answer.specs.Tally.{tallyAfter}
 use Rattle.answer.specs.declared.Answer.{Answer}
 use Rattle.answer.specs.declared.Tally.{Tally}
-use Rattle.score.specs.Text.{ownerOf}
+use Rattle.score.specs.Keys.{ownerOf}
 use Rattle.score.specs.declared.Score.{Score}
 use Rattle.frame.specs.Frame.{frameText}
 use Rattle.frame.specs.Frames.{portsIn}

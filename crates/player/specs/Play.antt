@@ -8,7 +8,7 @@ use Rattle.score.specs.declared.Osc.{Osc}
 use Rattle.score.specs.declared.Inputs.{Inputs}
 use Rattle.score.specs.declared.Inputs.the-variants.{Vco, Lfo, Supersaw, Formant}
 use Rattle.score.specs.Score.{scoreOf}
-use Rattle.score.specs.Text.{ownerOf}
+use Rattle.score.specs.Keys.{ownerOf}
 use Rattle.score.specs.declared.Score.{Score}
 use Rattle.score.specs.declared.Reading.{Reading}
 use Rattle.score.specs.declared.Reading.the-variants.{Values, Refused}

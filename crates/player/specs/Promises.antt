@@ -16,7 +16,7 @@ use Rattle.common.specs.Tests.{rateOk}
 use Rattle.line.specs.Bytes.{ascii}
 use Rattle.score.specs.Score.{scoreOf}
 use Rattle.score.specs.Promises.{Valid}
-use Rattle.score.specs.Text.{ownerOf}
+use Rattle.score.specs.Keys.{ownerOf}
 use Rattle.score.specs.declared.Control.{Control}
 use Rattle.score.specs.declared.Control.the-variants.{Microvolts, Nan}
 use Rattle.score.specs.declared.Inputs.{Inputs}

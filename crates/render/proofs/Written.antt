@@ -12,7 +12,7 @@ use lib.ListN.{length, take, drop, length-take, length-drop, length-append}
 use lib.Seq.{take-at}
 use borrow.Author.Tests.{leb-true, leb-false}
 use Rattle.text.specs.Promises.{Put}
-use Rattle.text.proofs.PutLaws.{within}
+use Rattle.text.proofs.PutLaws.{within, put-whole}
 use Rattle.answer.specs.Block.{Block, block, joined, afterTicks}
 use Rattle.answer.specs.Tally.{tallyAfter, run, newTally}
 use Rattle.answer.specs.declared.Tally.{Tally}
@@ -20,7 +20,7 @@ use Rattle.laws.specs.Lists.{tab}
 use Rattle.score.proofs.Lines.{not-refused}
 use Rattle.score.proofs.Text.{read-valid}
 use Rattle.score.specs.Score.{scoreOf}
-use Rattle.score.specs.Text.{ownerOf}
+use Rattle.score.specs.Keys.{ownerOf}
 use Rattle.score.specs.declared.Osc.{Osc}
 use Rattle.score.specs.declared.Osc.the-variants as osc
 use Rattle.score.specs.declared.Reading.the-variants.{Values}
@@ -28,7 +28,7 @@ use Rattle.score.specs.declared.Score.{Score}
 use Rattle.frame.specs.Promises.{ShortTally}
 use Rattle.frame.specs.End.{endText, refusedText}
 use Rattle.frame.specs.Frames.{portsIn, playedText}
-use Rattle.frame.proofs.Lengths.{put-whole, end-length, refused-length}
+use Rattle.frame.proofs.Lengths.{end-length, refused-length}
 use Rattle.player.specs.Frames.{playerAt, tallyAt, samplesFrom, marksFrom, textFrom}
 use Rattle.player.specs.Play.{printedOf, renderOf}
 use Rattle.player.specs.Player.{playerOf, playedOf}

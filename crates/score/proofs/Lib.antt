@@ -5,5 +5,6 @@ pub mod LineKinds
 pub mod Lines
 pub mod Text
 pub mod Refusals
+pub mod Longest
 pub mod Written
 pub mod Settled

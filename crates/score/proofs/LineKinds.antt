@@ -6,7 +6,6 @@ use mathlib.Core.Path.{_≡_, refl, ap, sym, _∙_}
 use mathlib.Core.List.{List}
 use mathlib.Core.Bool.{Bool, true, false, cond}
 use native.Mathlib.Omega.{arith}
-use lib.ListN.{length}
 use lib.Dec.{ltb, lit≤}
 use lib.IntN.{pos, negsuc}
 use borrow.Author.Tests.{ltb-false, le-ltb}
@@ -16,11 +15,12 @@ use Rattle.line.specs.declared.Number.{Number}
 use Rattle.line.specs.declared.Number.the-variants.{Whole, Nan, Malformed}
 use Rattle.line.proofs.Laws.{no, same-equal}
 use Rattle.line.proofs.Decimal.{number-text, no-minus-zero}
-use Rattle.line.proofs.Written.{number-read, number-short, number-no-feed}
-use Rattle.score.specs.Control.{signed}
+use Rattle.line.proofs.Written.{number-read, number-no-feed}
+use Rattle.score.specs.Control.{signed, numberIn}
+use Rattle.score.specs.Keys.{nameOf}
 use Rattle.score.specs.Lines.{oscOf, withinOf, controlOf}
 use Rattle.score.specs.Score.{onOsc, onWhole, onControl}
-use Rattle.score.specs.Text.{controlText, wholeText, nameOf}
+use Rattle.score.specs.Text.{controlText, wholeText}
 use Rattle.score.specs.Promises.{ValidInput}
 use Rattle.score.specs.declared.Control.{Control}
 use Rattle.score.specs.declared.Control.the-variants as C
@@ -59,7 +59,6 @@ pub record Lawful (K : Kind) : Type 0 where
   pub stops : (n : ℕ) (k : K .Value → Reading) → K .on (K .refused n) k ≡ Refused n
   pub seen : (v : List ℕ) → Seen K v (K .of v)
   pub again : (x : K .Value) → K .valid x → K .of (K .text x) ≡ K .read x
-  pub short : (x : K .Value) → length (K .text x) ≤ 13
   pub no-feed : (x : K .Value) → hasOf 10 (K .text x) ≡ false
 
 -- either side of a test
@@ -87,12 +86,6 @@ name-again O.Lfo = refl
 name-again O.Supersaw = refl
 name-again O.Formant = refl
 
-name-short : (o : Osc) → length (nameOf o) ≤ 13
-name-short O.Vco = lit≤ tt
-name-short O.Lfo = lit≤ tt
-name-short O.Supersaw = lit≤ tt
-name-short O.Formant = lit≤ tt
-
 name-no-feed : (o : Osc) → hasOf 10 (nameOf o) ≡ false
 unfolding hasOf
 name-no-feed O.Vco = refl
@@ -107,7 +100,6 @@ osc-laws =
       stops = λ n k. refl;
       seen = name-seen;
       again = λ o v. name-again o;
-      short = name-short;
       no-feed = name-no-feed;
     }
 
@@ -160,7 +152,6 @@ module _ (least most : ℕ) where
         stops = λ n k. refl;
         seen = λ v. within-seen v (numberOf v) refl;
         again = whole-again top;
-        short = λ n. number-short (Whole false n);
         no-feed = λ n. number-no-feed (Whole false n);
       }
 
@@ -198,17 +189,6 @@ input-seen v (Whole minus size) e =
 input-seen v Nan e = value C.Nan (number-is v Nan e nan-is-one) tt
 input-seen v Malformed e = none 22 (lit≤ tt, lit≤ tt)
 
--- the number that an input is written as
-abbrev number : Control → Number
-number (C.Microvolts (pos n)) = Whole false n
-number (C.Microvolts (negsuc n)) = Whole true (suc n)
-number C.Nan = Nan
-
-control-number : (c : Control) → controlText c ≡ numberText (number c)
-control-number (C.Microvolts (pos n)) = refl
-control-number (C.Microvolts (negsuc n)) = refl
-control-number C.Nan = refl
-
 control-again : (c : Control) → ValidInput c → controlOf (numberOf (controlText c)) ≡ CL.Read c
 unfolding controlOf
 control-again (C.Microvolts (pos n)) h = simp (number-read (Whole false n) (small n h, λ e. absurd (no e)), le-ltb 10000000 n h)
@@ -222,6 +202,5 @@ control-laws =
       stops = λ n k. refl;
       seen = λ v. input-seen v (numberOf v) refl;
       again = control-again;
-      short = λ c. rw (control-number c) (number-short (number c));
-      no-feed = λ c. rw (control-number c) (number-no-feed (number c));
+      no-feed = λ c. number-no-feed (numberIn c);
     }

@@ -1,22 +1,23 @@
 -- A line and its inversion, over its key and the kind of its value. A reading that begins with a line goes on after it, where the line was accepted, and
 -- is the line's refusal otherwise; a line that was accepted is the text of its value, which is in range; and the text of such a value is accepted.
 -- Assumes nothing.
-use Prim.Native.Nat.{ℕ, _+_, _≤_}
+use Prim.Native.Nat.{ℕ, _≤_}
 use Prim.Native.String.{String}
 use mathlib.Core.Path.{_≡_, ap, sym, subst, _∙_}
 use mathlib.Core.List.{List, [], _∷_, _++_, append-assoc}
 use mathlib.Core.Bool.{true, false, cond}
 use native.Mathlib.Omega.{arith}
-use lib.ListN.{length, length-append}
+use lib.ListN.{length}
 use lib.Dec.{eqb, lit≤}
 use borrow.Author.Tests.{eqb-true}
 use Rattle.line.specs.Bytes.{ascii, hasOf}
 use Rattle.line.specs.Line.{valueOf, isLine, afterLine}
 use Rattle.line.proofs.Laws.{empty, line-split}
 use Rattle.line.proofs.Written.{Key, LineRead, line-read}
+use Rattle.score.specs.Keys.{oscKey, nameOf, WholeKey}
 use Rattle.score.specs.Lines.{oscLine, wholeLine, controlLine}
 use Rattle.score.specs.Score.{osc, whole, control, endOf}
-use Rattle.score.specs.Text.{controlText, wholeText, lineText, nameOf}
+use Rattle.score.specs.Text.{controlText, wholeText, lineText}
 use Rattle.score.specs.Promises.{ValidInput}
 use Rattle.score.proofs.LineKinds.{Kind, ByLine, Seen, value, none, Lawful, tested}
 use Rattle.score.proofs.LineKinds.{osc-laws, whole-laws, control-laws}
@@ -42,25 +43,13 @@ pub said-refused : {P : Score → Type 0} {r : Reading} (n : ℕ) → Says P r �
 said-refused n (values made h) p = absurd (not-refused (sym p))
 said-refused n (refused m h) p = let e : m ≡ n = cc in subst ByLine e h
 
--- ---- a text of at most n bytes, and a reading of it
-pub record Written (n : ℕ) (t : List ℕ) (r : Reading) (score : Score) : Type 0 where
-  pub short : length t ≤ n
-  pub reads : r ≡ Values score
-
--- a key of at most 13 bytes: with such a value the line has at most 28
-pub record ShortKey (key : String) : Type 0 where
-  pub plain : Key (ascii key)
-  pub few : length (ascii key) ≤ 13
-
+-- ---- a line with what stands after it
 module _ (key : String) (v rest : List ℕ) where
-  seam : lineText key v ++ rest ≡ ascii key ++ (61 ∷ (v ++ (10 ∷ rest)))
+  pub seam : lineText key v ++ rest ≡ ascii key ++ (61 ∷ (v ++ (10 ∷ rest)))
   seam = append-assoc (ascii key) (61 ∷ (v ++ (10 ∷ []))) rest ∙ ap (λ (l : List ℕ). ascii key ++ (61 ∷ l)) (append-assoc v (10 ∷ []) rest)
 
-  line-short : ShortKey key → (n : ℕ) → length v ≤ 13 → length rest ≤ n → length (lineText key v ++ rest) ≤ 28 + n
-  line-short k n h g = rw seam (omega (arith, k .few, length-append (ascii key) (61 ∷ (v ++ (10 ∷ rest))), length-append v (10 ∷ rest)))
-
-  line-again : ShortKey key → hasOf 10 v ≡ false → LineRead (ascii key) v rest (lineText key v ++ rest)
-  line-again k n = rw seam (line-read (ascii key) v rest (k .plain) n)
+  line-again : Key (ascii key) → hasOf 10 v ≡ false → LineRead (ascii key) v rest (lineText key v ++ rest)
+  line-again k n = rw seam (line-read (ascii key) v rest k n)
 
 -- ---- the law
 module _ {K : Kind} (laws : Lawful K) (key : String) (k : K .Value → List ℕ → Reading) where
@@ -84,13 +73,8 @@ module _ {K : Kind} (laws : Lawful K) (key : String) (k : K .Value → List ℕ 
       (λ i. K .on (cond (l .asked i) (K .of (l .value i)) (K .refused 21)) (λ (y : K .Value). k y (l .left i)))
       ∙ ap (λ (u : K .Line). K .on u (λ (y : K .Value). k y rest)) (laws .again x v) ∙ laws .goes x _
 
-  line-written : (n : ℕ) (score : Score) (rest : List ℕ) (x : K .Value) → ShortKey key → K .valid x → Written n rest (k x rest) score
-      → Written (28 + n) (lineText key (K .text x) ++ rest) (reads (lineText key (K .text x) ++ rest)) score
-  line-written n score rest x s v w =
-      record {
-        short = line-short key (K .text x) rest s n (laws .short x) (w .short);
-        reads = line-reads rest _ x v (line-again key (K .text x) rest s (laws .no-feed x)) ∙ w .reads;
-      }
+  line-written : (rest : List ℕ) (x : K .Value) → Key (ascii key) → K .valid x → reads (lineText key (K .text x) ++ rest) ≡ k x rest
+  line-written rest x s v = line-reads rest _ x v (line-again key (K .text x) rest s (laws .no-feed x))
 
 -- ---- of each kind
 module _ (P : Score → Type 0) (t : List ℕ) where
@@ -114,19 +98,17 @@ module _ (P : Score → Type 0) (t : List ℕ) where
   end-says made then =
       tested (Says P) (eqb (length t) 0) (λ e. values made (then (empty t (eqb-true (length t) 0 e)))) (λ e. refused 21 (lit≤ tt, lit≤ tt))
 
-module _ (n : ℕ) (score : Score) (rest : List ℕ) where
-  pub osc-written : (o : Osc) (k : Osc → List ℕ → Reading) → ShortKey "osc" → Written n rest (k o rest) score
-      → Written (28 + n) (lineText "osc" (nameOf o) ++ rest) (osc (lineText "osc" (nameOf o) ++ rest) k) score
+module _ (rest : List ℕ) where
+  pub osc-written : (o : Osc) (k : Osc → List ℕ → Reading) → Key (ascii oscKey) → osc (lineText oscKey (nameOf o) ++ rest) k ≡ k o rest
   unfolding osc oscLine
-  osc-written o k s w = line-written osc-laws "osc" k n score rest o s tt w
+  osc-written o k s = line-written osc-laws oscKey k rest o s tt
 
-  pub whole-written : (key : String) (least most m : ℕ) (k : ℕ → List ℕ → Reading) → ShortKey key → most ≤ 10000000 → (least ≤ m) × (m ≤ most)
-      → Written n rest (k m rest) score
-      → Written (28 + n) (lineText key (wholeText m) ++ rest) (whole (ascii key) least most (lineText key (wholeText m) ++ rest) k) score
+  pub whole-written : (w : WholeKey) (m : ℕ) (k : ℕ → List ℕ → Reading) → Key (ascii (w .key)) → w .most ≤ 10000000
+      → (w .least ≤ m) × (m ≤ w .most) → whole (ascii (w .key)) (w .least) (w .most) (lineText (w .key) (wholeText m) ++ rest) k ≡ k m rest
   unfolding whole wholeLine
-  whole-written key least most m k s top v w = line-written (whole-laws least most top) key k n score rest m s v w
+  whole-written w m k s top v = line-written (whole-laws (w .least) (w .most) top) (w .key) k rest m s v
 
-  pub control-written : (key : String) (c : Control) (k : Control → List ℕ → Reading) → ShortKey key → ValidInput c → Written n rest (k c rest) score
-      → Written (28 + n) (lineText key (controlText c) ++ rest) (control (ascii key) (lineText key (controlText c) ++ rest) k) score
+  pub control-written : (key : String) (c : Control) (k : Control → List ℕ → Reading) → Key (ascii key) → ValidInput c
+      → control (ascii key) (lineText key (controlText c) ++ rest) k ≡ k c rest
   unfolding control controlLine
-  control-written key c k s v w = line-written control-laws key k n score rest c s v w
+  control-written key c k s v = line-written control-laws key k rest c s v

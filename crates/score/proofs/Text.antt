@@ -1,12 +1,13 @@
 -- What was accepted, line by line, is the text of its values, which are in range. Assumes nothing.
-use mathlib.Core.Path.{_≡_, refl}
-use mathlib.Core.List.{List}
+use mathlib.Core.Path.{_≡_, refl, ap, _∙_}
+use mathlib.Core.List.{List, _++_}
 use mathlib.Core.Bool.{Bool, true, false, cond}
 use Prim.Native.Nat.{ℕ}
 use lib.ListN.{length}
 use lib.Dec.{ltb, lit≤}
-use Rattle.score.specs.Score.{headOf, vcoOf, lfoOf, supersawOf, formantOf, inputsOf, linesOf, scoreOf}
-use Rattle.score.specs.Text.{ownerOf, headText, inputsText, textOf}
+use Rattle.score.specs.Keys.{oscKey, nameOf, ownerOf}
+use Rattle.score.specs.Score.{headOf, inputsOf, linesOf, scoreOf}
+use Rattle.score.specs.Text.{lineText, headText, inputsText, textOf}
 use Rattle.score.specs.Promises.{ValidHead, ValidInputs, Valid, Score-text, Read-valid}
 use Rattle.score.proofs.Lines.{Says, not-refused, said-values, osc-says, whole-says, control-says, end-says}
 use Rattle.score.specs.declared.Head.{Head}
@@ -36,27 +37,27 @@ module _ (P : Score → Type 0) (head : Head) (t : List ℕ) where
   abbrev Then : Osc → Type 0
   Then o = (i : Inputs) → Tail o t i → P (record { head = head; inputs = i })
 
-  vco-says : Then O.Vco → Says P (vcoOf head t)
-  unfolding vcoOf
+  vco-says : Then O.Vco → Says P (inputsOf O.Vco head t)
+  unfolding inputsOf
   vco-says then =
       control-says P t "voct" _ λ voct e₁ v₁. control-says P _ "fm" _ λ fm e₂ v₂. control-says P _ "pw" _ λ pw e₃ v₃.
       control-says P _ "sync" _ λ sync e₄ v₄. control-says P _ "fm_lin" _ λ lin e₅ v₅.
       end-says P _ _ λ n. then (Vco _) (record { owner = refl; written = cc; valid = (v₁, v₂, v₃, v₄, v₅) })
 
-  lfo-says : Then O.Lfo → Says P (lfoOf head t)
-  unfolding lfoOf
+  lfo-says : Then O.Lfo → Says P (inputsOf O.Lfo head t)
+  unfolding inputsOf
   lfo-says then =
       control-says P t "rate" _ λ rate e₁ v₁. control-says P _ "depth" _ λ depth e₂ v₂. control-says P _ "reset" _ λ reset e₃ v₃.
       end-says P _ _ λ n. then (Lfo _) (record { owner = refl; written = cc; valid = (v₁, v₂, v₃) })
 
-  supersaw-says : Then O.Supersaw → Says P (supersawOf head t)
-  unfolding supersawOf
+  supersaw-says : Then O.Supersaw → Says P (inputsOf O.Supersaw head t)
+  unfolding inputsOf
   supersaw-says then =
       control-says P t "voct" _ λ voct e₁ v₁. control-says P _ "detune" _ λ detune e₂ v₂. control-says P _ "mix" _ λ mix e₃ v₃.
       end-says P _ _ λ n. then (Supersaw _) (record { owner = refl; written = cc; valid = (v₁, v₂, v₃) })
 
-  formant-says : Then O.Formant → Says P (formantOf head t)
-  unfolding formantOf
+  formant-says : Then O.Formant → Says P (inputsOf O.Formant head t)
+  unfolding inputsOf
   formant-says then =
       control-says P t "v_oct" _ λ voct e₁ v₁. control-says P _ "vowel" _ λ vowel e₂ v₂. control-says P _ "formant_shift" _ λ shift e₃ v₃.
       control-says P _ "vibrato" _ λ vibrato e₄ v₄.
@@ -69,11 +70,17 @@ module _ (P : Score → Type 0) (head : Head) (t : List ℕ) where
   inputs-say O.Formant = formant-says
 
 -- ---- all lines
+its-lines : (o : Osc) (head : Head) (i : Inputs) (t : List ℕ) {rest after : List ℕ} → ownerOf i ≡ o → inputsText i ≡ rest → headText head rest ≡ after
+    → lineText oscKey (nameOf o) ++ after ≡ t → lineText oscKey (nameOf (ownerOf i)) ++ headText head (inputsText i) ≡ t
+its-lines o head i t owner written f e =
+    ap (λ (o : Osc). lineText oscKey (nameOf o) ++ headText head (inputsText i)) owner
+    ∙ ap (λ (l : List ℕ). lineText oscKey (nameOf o) ++ headText head l) written ∙ ap (λ (l : List ℕ). lineText oscKey (nameOf o) ++ l) f ∙ e
+
 pub lines-say : (t : List ℕ) → Says (λ (s : Score). (textOf s ≡ t) × Valid s) (linesOf t)
 unfolding linesOf textOf
 lines-say t =
     osc-says _ t _ λ o e. head-says _ _ _ λ head rest f v. inputs-say _ head rest o λ i r.
-    (simp (r .owner, r .written, f, e), record { head = v; inputs = r .valid })
+    (its-lines o head i t (r .owner) (r .written) f e, record { head = v; inputs = r .valid })
 
 -- ---- a text that was accepted was read line by line
 accepted : (t : List ℕ) (s : Score) → scoreOf t ≡ Values s → (textOf s ≡ t) × Valid s

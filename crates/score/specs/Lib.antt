@@ -1,4 +1,5 @@
 pub mod Control
+pub mod Keys
 pub mod Lines
 pub mod Score
 pub mod Places

@@ -11,6 +11,7 @@ use Rattle.line.specs.Number.{numberOf}
 use Rattle.line.specs.declared.Number.{Number}
 use Rattle.line.specs.declared.Number.the-variants.{Whole, Nan, Malformed}
 use Rattle.score.specs.Control.{signed}
+use Rattle.score.specs.Keys.{oscKey, nameOf}
 use Rattle.score.specs.declared.Control.the-variants as C
 use Rattle.score.specs.declared.Osc.the-variants.{Vco, Lfo, Supersaw, Formant}
 use Rattle.score.specs.declared.OscLine.{OscLine}
@@ -23,10 +24,10 @@ use Rattle.score.specs.declared.ControlLine.the-variants as CL
 -- the oscillator that a value names
 unfoldable pub oscOf : List ℕ → OscLine
 oscOf value =
-    cond (sameOf value (ascii "vco")) (OL.Read Vco)
-    (cond (sameOf value (ascii "lfo")) (OL.Read Lfo)
-    (cond (sameOf value (ascii "supersaw")) (OL.Read Supersaw)
-    (cond (sameOf value (ascii "formant")) (OL.Read Formant)
+    cond (sameOf value (nameOf Vco)) (OL.Read Vco)
+    (cond (sameOf value (nameOf Lfo)) (OL.Read Lfo)
+    (cond (sameOf value (nameOf Supersaw)) (OL.Read Supersaw)
+    (cond (sameOf value (nameOf Formant)) (OL.Read Formant)
     (OL.Refused 21))))
 
 -- a whole number from least to most
@@ -44,7 +45,7 @@ controlOf Malformed = CL.Refused 22
 
 -- the first line of a text
 unfoldable pub oscLine : List ℕ → OscLine
-oscLine text = cond (isLine (ascii "osc") text) (oscOf (valueOf text)) (OL.Refused 21)
+oscLine text = cond (isLine (ascii oscKey) text) (oscOf (valueOf text)) (OL.Refused 21)
 
 unfoldable pub wholeLine : List ℕ → ℕ → ℕ → List ℕ → WholeLine
 wholeLine key least most text = cond (isLine key text) (withinOf least most (numberOf (valueOf text))) (WL.Refused 21)

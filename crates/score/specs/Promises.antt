@@ -2,7 +2,7 @@
 use Prim.Native.Nat.{ℕ, _≤_, _<_}
 use mathlib.Core.List.{List}
 use mathlib.Core.Path.{_≡_}
-use lib.IntN.{natAbs}
+use lib.IntN.{negsuc, natAbs}
 use lib.ListN.{length, take}
 use Rattle.score.specs.Score.{scoreOf}
 use Rattle.score.specs.Text.{textOf}
@@ -36,7 +36,7 @@ pub record Valid (s : Score) : Type 0 where
   pub inputs : ValidInputs (s .inputs)
 
 -- ---- the texts that are accepted are those of the valid scores, one text each
--- every valid score is read: its text has at most 1,024 bytes, and reads as its values
+-- every valid score is read: its text reads as its values
 abbrev pub Valid-read : Type 0
 Valid-read = (s : Score) → Valid s → scoreOf (textOf s) ≡ Values s
 
@@ -47,6 +47,18 @@ Read-valid = (text : List ℕ) (s : Score) → scoreOf text ≡ Values s → Val
 -- and a text that is accepted is the text of its values, so no two texts have the same values
 abbrev pub Score-text : Type 0
 Score-text = (text : List ℕ) (score : Score) → scoreOf text ≡ Values score → textOf score ≡ text
+
+-- no valid score's text has more than 110 bytes, and one has 110
+abbrev pub longest : Score
+longest =
+    let low : Control = Microvolts (negsuc 9999999) in
+    record {
+      head = record { hz = 192000; frames = 480000 };
+      inputs = Formant (record { «v_oct» = low; vowel = low; «formant_shift» = low; vibrato = low });
+    }
+
+abbrev pub Longest-text : Type 0
+Longest-text = ((s : Score) → Valid s → length (textOf s) ≤ 110) × Valid longest × (length (textOf longest) ≡ 110)
 
 -- ---- the others are refused by 20 to 23
 abbrev pub Refusals : Type 0

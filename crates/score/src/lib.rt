@@ -1,10 +1,11 @@
 // The score: osc, hz, frames and then the oscillator's inputs, a line each.
 ghost use mathlib.Core.Path.{_≡_};
-ghost use Rattle.score.specs.Control.{voltsOf};
+ghost use Rattle.score.specs.Control.{voltsOf, numberIn};
+ghost use Rattle.score.specs.Keys.{ownerOf};
 ghost use Rattle.score.specs.Lines.{oscOf, withinOf, controlOf};
-ghost use Rattle.score.specs.Score.{whole, control, endOf, headOf, vcoOf, lfoOf, supersawOf, formantOf, inputsOf, scoreOf};
+ghost use Rattle.score.specs.Score.{whole, control, endOf, headOf, inputsOf, scoreOf};
 ghost use Rattle.score.specs.Places.{lineOf, lineAt, oscIn, wholeIn, controlIn, from, Takes};
-ghost use Rattle.score.specs.Text.{ownerOf};
+ghost use Rattle.score.specs.declared.Osc.the-variants as O;
 ghost use Rattle.score.specs.declared.Place.the-variants.{At};
 use line::Number;
 use line::Reader;
@@ -59,11 +60,19 @@ pub enum Inputs {
     Formant(FormantInputs),
 }
 
-// The lines between the oscillator and its inputs.
+// The lines between the oscillator and its inputs, and the ranges of their numbers.
 pub struct Head {
     pub hz: u32,
     pub frames: u32,
 }
+
+pub const HZ_LEAST: u32 = 1000;
+
+pub const HZ_MOST: u32 = 192000;
+
+pub const FRAMES_LEAST: u32 = 1;
+
+pub const FRAMES_MOST: u32 = 480000;
 
 pub struct Score {
     pub head: Head,
@@ -82,6 +91,28 @@ pub fn volts(c: Control) -> f64
     match c {
         Control::Microvolts(n) => n as f64 / 1000000.0,
         Control::Nan => 0.0 / 0.0,
+    }
+}
+
+// The number that an input's line holds: a sign and a size, or nan.
+pub fn number_in(c: Control) -> Number
+    ensures { λ r. ⌜ r ≡ numberIn c ⌝ }
+{
+    match c {
+        Control::Microvolts(n) => {
+            if n < 0 {
+                Number::Whole {
+                    minus: true,
+                    size: (-(n as i64)) as u64,
+                }
+            } else {
+                Number::Whole {
+                    minus: false,
+                    size: n as u64,
+                }
+            }
+        }
+        Control::Nan => Number::Nan,
     }
 }
 
@@ -104,12 +135,12 @@ enum OscLine {
     Refused(u32),
 }
 
-enum WholeLine {
+pub enum WholeLine {
     Read(u32),
     Refused(u32),
 }
 
-enum ControlLine {
+pub enum ControlLine {
     Read(Control),
     Refused(u32),
 }
@@ -132,7 +163,7 @@ fn osc_of(value: &[u8]) -> OscLine
     OscLine::Refused(21)
 }
 
-fn within(n: Number, least: u32, most: u32) -> WholeLine
+pub fn within(n: Number, least: u32, most: u32) -> WholeLine
     ensures { λ r. ⌜ r ≡ withinOf least most n ⌝ }
 {
     match n {
@@ -156,7 +187,7 @@ fn within(n: Number, least: u32, most: u32) -> WholeLine
     }
 }
 
-fn control_of(n: Number) -> ControlLine
+pub fn control_of(n: Number) -> ControlLine
     ensures { λ r. ⌜ r ≡ controlOf n ⌝ }
 {
     match n {
@@ -331,9 +362,9 @@ struct TakenHead {
 fn take_head(text: &[u8], at: usize) -> TakenHead
     ensures { λ r. ⌜ Takes (now (text .entry)) (At at) headOf (r .head) (r .before .place) ⌝ }
 {
-    let hz = take_whole(text, b"hz", 1000, 192000, Place::At(at));
+    let hz = take_whole(text, b"hz", HZ_LEAST, HZ_MOST, Place::At(at));
     let place = hz.place;
-    let frames = take_whole(text, b"frames", 1, 480000, place);
+    let frames = take_whole(text, b"frames", FRAMES_LEAST, FRAMES_MOST, place);
     let place = frames.place;
     TakenHead {
         head: Head {
@@ -350,7 +381,7 @@ fn take_head(text: &[u8], at: usize) -> TakenHead
 // ---- the inputs
 
 fn read_vco(text: &[u8], before: TakenControl, head: Head) -> Reading
-    ensures { λ r. ⌜ r ≡ from (now (text .entry)) (before .place) (vcoOf head) ⌝ }
+    ensures { λ r. ⌜ r ≡ from (now (text .entry)) (before .place) (inputsOf O.Vco head) ⌝ }
 {
     let voct_line = take_control(text, b"voct", before);
     let fm_line = take_control(text, b"fm", voct_line);
@@ -373,7 +404,7 @@ fn read_vco(text: &[u8], before: TakenControl, head: Head) -> Reading
 }
 
 fn read_lfo(text: &[u8], before: TakenControl, head: Head) -> Reading
-    ensures { λ r. ⌜ r ≡ from (now (text .entry)) (before .place) (lfoOf head) ⌝ }
+    ensures { λ r. ⌜ r ≡ from (now (text .entry)) (before .place) (inputsOf O.Lfo head) ⌝ }
 {
     let rate_line = take_control(text, b"rate", before);
     let depth_line = take_control(text, b"depth", rate_line);
@@ -386,7 +417,7 @@ fn read_lfo(text: &[u8], before: TakenControl, head: Head) -> Reading
 }
 
 fn read_supersaw(text: &[u8], before: TakenControl, head: Head) -> Reading
-    ensures { λ r. ⌜ r ≡ from (now (text .entry)) (before .place) (supersawOf head) ⌝ }
+    ensures { λ r. ⌜ r ≡ from (now (text .entry)) (before .place) (inputsOf O.Supersaw head) ⌝ }
 {
     let voct_line = take_control(text, b"voct", before);
     let detune_line = take_control(text, b"detune", voct_line);
@@ -399,7 +430,7 @@ fn read_supersaw(text: &[u8], before: TakenControl, head: Head) -> Reading
 }
 
 fn read_formant(text: &[u8], before: TakenControl, head: Head) -> Reading
-    ensures { λ r. ⌜ r ≡ from (now (text .entry)) (before .place) (formantOf head) ⌝ }
+    ensures { λ r. ⌜ r ≡ from (now (text .entry)) (before .place) (inputsOf O.Formant head) ⌝ }
 {
     let v_oct_line = take_control(text, b"v_oct", before);
     let vowel_line = take_control(text, b"vowel", v_oct_line);

@@ -2,7 +2,8 @@
 use mathlib.Core.Bool.{Bool, true, false}
 use mathlib.Core.List.{List, [], _∷_, _++_}
 use mathlib.Core.Path.{_≡_, refl, sym, ap, _∙_}
-use Prim.Native.Nat.{ℕ, zero, suc, _+_, _-_, _*_, _/_, _%_, _≤_, _<_}
+use Prim.Native.Nat.{ℕ, zero, suc, _+_, _-_, _*_, _/_, _%_, _^_, _≤_, _<_}
+use native.Mathlib.Nat.{pow-succ'}
 use native.Mathlib.Omega.{arith}
 use lib.Dec.{ltb}
 use lib.ListN.{length, getD, List·getD-append, length-append}
@@ -10,7 +11,7 @@ use lib.Seq.{getD-append-seam}
 use borrow.Author.Tests.{lt-ltb, le-ltb, ltb-true, ltb-false}
 use Rattle.text.specs.Decimal.{decimalFrom, decimalText, valueFrom, valueOf}
 use Rattle.text.specs.Hex.{glyph}
-use Rattle.text.specs.Promises.{Decimal-read, Decimal-digits, Decimal-first}
+use Rattle.text.specs.Promises.{Decimal-read, Decimal-digits, Decimal-first, Decimal-short}
 
 from-small : (k n : ℕ) → n < 10 → decimalFrom k n ≡ glyph n ∷ []
 unfolding decimalFrom
@@ -61,11 +62,11 @@ module _ (P : ℕ → List ℕ → Type 0) (one : (n : ℕ) → n < 10 → P n (
   each zero n h = let l : n < 10 = omega arith in rw (from-small zero n l) (one n l)
   each (suc k) n h = by k n (ltb n 10) refl (each k (n / 10) (omega arith))
 
-  every : (n : ℕ) → P n (decimalText n)
+  pub every : (n : ℕ) → P n (decimalText n)
   unfolding decimalText
   every n = each n n (omega arith)
 
-glyph-small : (d : ℕ) → d < 10 → glyph d ≡ 48 + d
+pub glyph-small : (d : ℕ) → d < 10 → glyph d ≡ 48 + d
 unfolding glyph
 glyph-small d h = simp (lt-ltb d 10 h)
 
@@ -133,3 +134,17 @@ first-more n t h (l, f) =
 pub decimal-first : Decimal-first
 unfolding First
 decimal-first n = every First first-one first-more n .1
+
+-- ---- how many digits
+digits-by : (d n : ℕ) (b : Bool) → ltb n 10 ≡ b → (10 ≤ n → length (decimalText (n / 10)) ≤ d) → length (decimalText n) ≤ suc d
+digits-by d n true e r = rw (decimal-small n (ltb-true n 10 e)) (omega arith)
+digits-by d n false e r =
+    let l = ltb-false n 10 e in
+    let m = r l in
+    rw (decimal-large n l) (omega (arith, length-append (decimalText (n / 10)) (glyph (n % 10) ∷ [])))
+
+pub decimal-short : Decimal-short
+decimal-short zero n h = rw (decimal-small n h) (omega arith)
+decimal-short (suc k) n h =
+    let p = pow-succ' 10 (suc k) in
+    digits-by (suc k) n (ltb n 10) refl (λ l. decimal-short k (n / 10) (omega arith))

@@ -6,11 +6,11 @@ use Prim.Native.Nat.{ℕ, suc, _+_, _≤_, _<_, min}
 use native.Mathlib.Nat.{min-eq-left, min-eq-right}
 use native.Mathlib.Omega.{arith}
 use lib.Dec.{leb}
-use lib.ListN.{length, length-append}
-use lib.Seq.{sets, set-out, length-sets}
+use lib.ListN.{length, length-append, drop, take}
+use lib.Seq.{sets, set-out, length-sets, sets-eq, take-at}
 use borrow.Author.Tests.{leb-true, leb-false}
 use Rattle.laws.proofs.Slices.{sets-append}
-use Rattle.text.specs.Promises.{Put, Put-then, Put-within}
+use Rattle.text.specs.Promises.{Put, Put-then, Put-within, Put-whole}
 use Rattle.text.specs.Put.{placeOf}
 
 -- past the end nothing is stored
@@ -55,3 +55,7 @@ put-then out at a b r s p q = after out at a b
 
 pub put-within : Put-within
 put-within out at t r p = within out at t
+
+pub put-whole : Put-whole
+unfolding placeOf
+put-whole out t r q (er, eq) h = ap (take r) (eq ∙ sets-eq t out 0 (omega arith)) ∙ take-at t (drop (0 + length t) out) r (omega arith)

@@ -11,4 +11,6 @@ settled =
       «put_hex» = λ out at x. laws.both _ _;
       «read_hex» = λ t. laws.settled (wordOf t);
       «put_decimal» = λ out at n. laws.both _ _;
+      «put_word» = λ out at key word. laws.both _ _;
+      «put_count» = λ out at key n. laws.both _ _;
     }

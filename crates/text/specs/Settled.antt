@@ -5,6 +5,7 @@ use Prim.Native.Nat.{ℕ}
 use Rattle.laws.specs.Machine.{Settles}
 use Rattle.text.specs.Decimal.{decimalText}
 use Rattle.text.specs.Hex.{hexText, wordOf}
+use Rattle.text.specs.Lines.{wordLine, countLine}
 use Rattle.text.specs.Promises.{Put}
 use Rattle.text.specs.declared.Word.{Word}
 
@@ -18,3 +19,5 @@ pub record Settled : Type 0 where
   pub «put_hex» : (out : List ℕ) (at x : ℕ) → Put-settles out at (hexText x)
   pub «read_hex» : (t : List ℕ) → Settles (λ (r : Word). r ≡ wordOf t)
   pub «put_decimal» : (out : List ℕ) (at n : ℕ) → Put-settles out at (decimalText n)
+  pub «put_word» : (out : List ℕ) (at : ℕ) (key word : List ℕ) → Put-settles out at (wordLine key word)
+  pub «put_count» : (out : List ℕ) (at : ℕ) (key : List ℕ) (n : ℕ) → Put-settles out at (countLine key n)

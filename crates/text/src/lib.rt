@@ -7,6 +7,7 @@ ghost use lib.Seq.{sets};
 ghost use Rattle.text.specs.Put.{placeOf};
 ghost use Rattle.text.specs.Hex.{glyph, hexText, nibbleOf, wordOf};
 ghost use Rattle.text.specs.Decimal.{decimalText};
+ghost use Rattle.text.specs.Lines.{wordLine, countLine};
 
 // ---- bytes
 
@@ -124,4 +125,24 @@ pub fn put_decimal(out: &mut [u8], at: usize, n: u64) -> usize
         let to = put_decimal(&mut *out, at, n / 10);
         put_byte(out, to, digit(n % 10))
     }
+}
+
+// ---- a line: its key with the equals sign, its value, a line feed
+
+pub fn put_word(out: &mut [u8], at: usize, key: &[u8], word: &[u8]) -> usize
+    ensures { λ r. ⌜ r ≡ placeOf (now (out .entry)) at (wordLine (now (key .entry)) (now (word .entry))) ⌝ }
+    ensures { λ r. ⌜ now (out .exit) ≡ sets (now (out .entry)) at (wordLine (now (key .entry)) (now (word .entry))) ⌝ }
+{
+    let a = put_text(&mut *out, at, key);
+    let b = put_text(&mut *out, a, word);
+    put_byte(out, b, b'\n')
+}
+
+pub fn put_count(out: &mut [u8], at: usize, key: &[u8], n: u64) -> usize
+    ensures { λ r. ⌜ r ≡ placeOf (now (out .entry)) at (countLine (now (key .entry)) n) ⌝ }
+    ensures { λ r. ⌜ now (out .exit) ≡ sets (now (out .entry)) at (countLine (now (key .entry)) n) ⌝ }
+{
+    let a = put_text(&mut *out, at, key);
+    let b = put_decimal(&mut *out, a, n);
+    put_byte(out, b, b'\n')
 }

@@ -1,12 +1,13 @@
 -- `frame::put_sample`: three texts, one after the other.
 use Rattle.text.proofs.PutLaws.{after}
+use Rattle.text.specs.Lines.{wordLine}
 use Rattle.frame.specs.Frame.{sampleLine}
 use borrow.Author.Needs.{needs}
 use Rattle.frame.proofs.put_sample.Statement.{statement}
 use Rattle.frame.proofs.put_sample.Tie as tie
 
 returns : tie.Need-returns
-unfolding sampleLine
+unfolding sampleLine wordLine
 returns c =
     let put-byte = c .before .before in
     let put-hex = put-byte .before .before .before .before in

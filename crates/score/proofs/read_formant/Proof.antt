@@ -1,12 +1,12 @@
 -- `score::read_formant` meets its contract, line by line. Assumes nothing.
 use mathlib.Core.Path.{sym, _∙_}
-use Rattle.score.specs.Score.{formantOf}
+use Rattle.score.specs.Score.{inputsOf}
 use borrow.Author.Needs.{needs}
 use Rattle.score.proofs.read_formant.Statement.{statement}
 use Rattle.score.proofs.read_formant.Tie as tie
 
 returns : tie.Need-returns
-unfolding formantOf
+unfolding inputsOf
 returns c =
     let vibrato = c .before in
     let formant-shift = vibrato .before .before in

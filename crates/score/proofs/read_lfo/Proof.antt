@@ -1,12 +1,12 @@
 -- `score::read_lfo` meets its contract, line by line. Assumes nothing.
 use mathlib.Core.Path.{sym, _∙_}
-use Rattle.score.specs.Score.{lfoOf}
+use Rattle.score.specs.Score.{inputsOf}
 use borrow.Author.Needs.{needs}
 use Rattle.score.proofs.read_lfo.Statement.{statement}
 use Rattle.score.proofs.read_lfo.Tie as tie
 
 returns : tie.Need-returns
-unfolding lfoOf
+unfolding inputsOf
 returns c =
     let reset = c .before in
     let depth = reset .before .before in

@@ -1,12 +1,12 @@
 -- `score::read_supersaw` meets its contract, line by line. Assumes nothing.
 use mathlib.Core.Path.{sym, _∙_}
-use Rattle.score.specs.Score.{supersawOf}
+use Rattle.score.specs.Score.{inputsOf}
 use borrow.Author.Needs.{needs}
 use Rattle.score.proofs.read_supersaw.Statement.{statement}
 use Rattle.score.proofs.read_supersaw.Tie as tie
 
 returns : tie.Need-returns
-unfolding supersawOf
+unfolding inputsOf
 returns c =
     let mix = c .before in
     let detune = mix .before .before in

@@ -1,12 +1,12 @@
 -- `score::read_vco` meets its contract, line by line. Assumes nothing.
 use mathlib.Core.Path.{sym, _∙_}
-use Rattle.score.specs.Score.{vcoOf}
+use Rattle.score.specs.Score.{inputsOf}
 use borrow.Author.Needs.{needs}
 use Rattle.score.proofs.read_vco.Statement.{statement}
 use Rattle.score.proofs.read_vco.Tie as tie
 
 returns : tie.Need-returns
-unfolding vcoOf
+unfolding inputsOf
 returns c =
     let fm-lin = c .before in
     let sync = fm-lin .before .before in

@@ -1,9 +1,9 @@
--- `frame::put_word`: three texts, one after the other.
+-- `text::put_word`: three texts, one after the other.
 use Rattle.text.proofs.PutLaws.{after}
-use Rattle.frame.specs.Frame.{wordLine}
+use Rattle.text.specs.Lines.{wordLine}
 use borrow.Author.Needs.{needs}
-use Rattle.frame.proofs.put_word.Statement.{statement}
-use Rattle.frame.proofs.put_word.Tie as tie
+use Rattle.text.proofs.put_word.Statement.{statement}
+use Rattle.text.proofs.put_word.Tie as tie
 
 returns : tie.Need-returns
 unfolding wordLine
