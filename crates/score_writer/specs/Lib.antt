@@ -1,0 +1,4 @@
+pub mod Writing
+pub mod Examples
+pub mod Promises
+pub mod Settled
