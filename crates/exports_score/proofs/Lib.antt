@@ -1,1 +1,4 @@
+pub mod Cells
+pub mod Saved
+pub mod Examples
 pub mod Settled

@@ -1,3 +1,4 @@
 pub mod Cells
 pub mod Calls
+pub mod Examples
 pub mod Promises

@@ -1,3 +1,5 @@
+-- `lfo_ports`: the inputs as they stand.
+use mathlib.Core.Path.{refl}
 use Rattle.exports_score.specs.Cells.{portsOf}
 use borrow.Author.Needs.{needs}
 use Rattle.exports_score.proofs.lfo_ports.Statement.{statement}
@@ -5,7 +7,7 @@ use Rattle.exports_score.proofs.lfo_ports.Tie as tie
 
 returns : tie.Need-returns
 unfolding portsOf
-returns c = simp (c .volts3 .ensures, c .before .volts2 .ensures, c .before .before .volts .ensures)
+returns c = refl
 
 pub lfo-ports-spec : {M : Type 1} → statement M
-lfo-ports-spec = tie.close (tie.spec (λ c κs. search needs) (λ c κs. search needs) (λ c κs. search needs) returns)
+lfo-ports-spec = tie.close (tie.spec returns)

@@ -1,3 +1,4 @@
+-- `put_reading`: the volts and the wholes of what was read.
 use Rattle.exports_score.specs.Calls.{keptOf}
 use borrow.Author.Needs.{needs}
 use Rattle.exports_score.proofs.put_reading.Statement.{statement}
@@ -6,8 +7,9 @@ use Rattle.exports_score.proofs.put_reading.Tie as tie
 returns : tie.Need-returns
 unfolding keptOf
 returns c =
-    let stored = c .before .before .before .before in
-    simp (stored .before .before .before .before .r .given .1, stored .store .ensures .0, stored .store .ensures .1)
+    let wholes = c .before .before in
+    let floats = wholes .before .before .before .before in
+    simp (floats .before .before .before .r .given .1, floats .put-floats .ensures, wholes .put-wholes .ensures)
 
 returns-2 : tie.Need-returns-2
 unfolding keptOf
@@ -18,6 +20,7 @@ put-reading-spec =
     tie.close
     (tie.spec
     (λ c. search needs)
+    (λ c κs. search needs)
     (λ c κs. search needs)
     (λ c. search needs)
     (λ c. search needs)
