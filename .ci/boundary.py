@@ -10,7 +10,7 @@ from texts import blanked
 
 HEADER = "host/c/gruttisol.h"
 HOST = "host/gruttisol/src/"
-KINDS = {"double": "f64", "uint8_t": "u8", "uint32_t": "u32", "uint64_t": "u64", "bool": "bool"}
+KINDS = {"double": "f64", "uint8_t": "u8", "int32_t": "i32", "uint32_t": "u32", "uint64_t": "u64", "bool": "bool"}
 LACKS = " without a length"
 
 
@@ -73,6 +73,8 @@ CONSTANTS = [
     ("COUNTS", "boundary", "COUNTS"),
     ("BANK", "wavetable", "BANK_SIZE"),
     ("TABLE", "wavetable", "PART_SIZE"),
+    ("SCORE_MICROVOLTS", "exports_score", "MICROVOLTS"),
+    ("SCORE_LONGEST", "score_writer", "LONGEST"),
     *((mark, "answer", f"TOLD_{mark}") for mark in ("CLEARED", "NOTFINITE", "LOST", "CLEAN", "STEERED")),
 ]
 # and that another place says: the text with the number
@@ -81,7 +83,7 @@ SAID = [
     *((f"OSC_{osc.upper()}", "exports_score", rf"\bfn {osc}_ports\b(?s:.*?)\bosc: (\d+)") for osc in ("vco", "lfo", "supersaw", "formant")),
 ]
 # Numbers that no one place of the crates says: refusals, and what is enough for a string at every rate and for every tick of noise
-NOWHERE = r"BAD_\w+|SHORT_LINE|FEW_DRAWS|LONG_SCORE|OUT_OF_RANGE|KARPLUS_STRONG_(?:LINE|DRAWS)|NOISE_GENERATOR_DRAWS"
+NOWHERE = r"BAD_\w+|SHORT_LINE|SHORT_TEXT|FEW_DRAWS|LONG_SCORE|OUT_OF_RANGE|KARPLUS_STRONG_(?:LINE|DRAWS)|NOISE_GENERATOR_DRAWS"
 
 
 def constant(sources, crate, name):

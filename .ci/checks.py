@@ -555,6 +555,8 @@ CHECKS = {
         header("gruttisol_sin(double x)", "gruttisol_sin(double y)"),
         header("GRUTTISOL_VCO_FLOATS 4", "GRUTTISOL_VCO_FLOATS 3"),
         header("GRUTTISOL_CLEAN = 14", "GRUTTISOL_CLEAN = 13"),
+        header("GRUTTISOL_SCORE_LONGEST 110", "GRUTTISOL_SCORE_LONGEST 109"),
+        header("(const int32_t *microvolts", "(const uint32_t *microvolts"),
         header("#define GRUTTISOL_COUNTS 6", ""),
         header("#define GRUTTISOL_COUNTS 6", "#define GRUTTISOL_COUNTS 6\n#define GRUTTISOL_MORE 5"),
         {"host/gruttisol/src/more.rs": 'unsafe extern "C" {\n'},

@@ -1,5 +1,5 @@
 /* Renders a vowel of 480 samples twice, once with a broken control value, and shows what is finished; plucks strings; renders noise; counts
- * the turns of an Lfo; then reads a score:
+ * the turns of an Lfo; then reads a score, changes it and writes it back:
  *
  *     tools/library ../target/gruttisol
  *     cc -I c c/example.c ../target/gruttisol/libgruttisol.a -o ../target/example && ../target/example
@@ -132,6 +132,25 @@ static void read_score(const char *score, size_t length)
                (unsigned)said[1], (unsigned)said[2], volts[0]);
 }
 
+/* A score with another second input, an Lfo's depth. A text of GRUTTISOL_SCORE_LONGEST bytes has room for every score. */
+static int deepen(const char *score, size_t length, int32_t depth)
+{
+    int32_t microvolts[GRUTTISOL_SCORE_MICROVOLTS];
+    uint64_t said[GRUTTISOL_SCORE_WHOLES], written;
+    uint8_t text[GRUTTISOL_SCORE_LONGEST];
+
+    uint32_t refused = gruttisol_score_values((const uint8_t *)score, length, microvolts, GRUTTISOL_SCORE_MICROVOLTS,
+                                              said, GRUTTISOL_SCORE_WHOLES);
+    if (refused == 0) {
+        microvolts[1] = depth;
+        refused = gruttisol_score_write(microvolts, GRUTTISOL_SCORE_MICROVOLTS, said, GRUTTISOL_SCORE_WHOLES,
+                                        text, GRUTTISOL_SCORE_LONGEST, &written, 1);
+    }
+    if (refused)
+        return printf("another score: refused=%u\n", refused);
+    return printf("another score, of %u bytes:\n%.*s", (unsigned)written, (int)written, (const char *)text);
+}
+
 int main(void)
 {
     static const char score[] = "osc=lfo\nhz=48000\nframes=480\nrate=500000\ndepth=5000000\nreset=0\n";
@@ -150,5 +169,8 @@ int main(void)
     printf("a rate of 999.5 Hz: refused=%u\n", gruttisol_vco_new(999.5, floats, GRUTTISOL_VCO_FLOATS, wholes, GRUTTISOL_VCO_WHOLES));
     read_score(score, sizeof score - 1);
     read_score(score, sizeof score - 2); /* without its last line feed */
+    deepen(score, sizeof score - 1, -2500000);
+    deepen(score, sizeof score - 1, GRUTTISOL_SCORE_NAN);
+    deepen(score, sizeof score - 1, 10000001);
     return 0;
 }

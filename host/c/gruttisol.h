@@ -1,4 +1,4 @@
-/* Gruttisol: seven proved oscillators, their tally and the reader of scores, for C and C++.
+/* Gruttisol: seven proved oscillators, their tally and the reader and writer of scores, for C and C++.
  *
  * Every function takes any numbers and any memory of the lengths that it is told: it ends, reads and writes inside the lent
  * memory alone and keeps none of it. A lent array is two arguments, its first cell and its length; arrays lent to one
@@ -11,8 +11,8 @@
  * A call answers a number:
  *   0         done, and so is a block
  *   11 to 15  an accepted tick, a gruttisol_mark: cleared, notfinite, lost, clean, steered; only 14, clean, is finished
- *   1 to 7    refused, and so is a score by 20 to 23; see gruttisol_refusal below
- *   50 to 53  an array of another length: floats, wholes, samples, counts
+ *   1 to 7    refused, and so is a score by 20 to 24; see gruttisol_refusal below
+ *   50 to 55  an array of another length: floats, wholes, samples, counts, microvolts, written
  * A refused call leaves every array as it stood.
  *
  * Arrays come in one order: floats, wholes, what an oscillator is lent beside its state (bank; line, draws; draws), then of a
@@ -24,6 +24,9 @@
  * room for all of its ticks it is refused by 7, though so many single ticks would go on until the tally is full.
  *
  * What a host must change that was written for an earlier header:
+ *   - nothing for scores that can be written now: every older call, length and number is what it was. Three numbers are new, 24, 54 and 55, by
+ *     which gruttisol_score_values and gruttisol_score_write alone answer. A HOST THAT SAVED SCORES BY VOLTS AND A TEXT OF ITS OWN MUST GO BY
+ *     MICROVOLTS, by these two calls: not every score comes back from volts that are multiplied and cut to whole numbers;
  *   - AN LFO HAS SIX SAMPLES: eoc, a pulse at the end of each turn, is the last. A tick is lent six, and a block six for each mark, where
  *     an Lfo's tick stands every six samples and no longer every five. Five are refused by 52, so a host that lends five notices; A HOST
  *     THAT TAKES ITS LENGTHS FROM GRUTTISOL_LFO_SAMPLES ISN'T REFUSED, and must look for strides of 5 of its own. BIT 5 OF AN LFO'S
@@ -62,17 +65,18 @@ enum gruttisol_mark {
 };
 
 enum gruttisol_refusal {
-    GRUTTISOL_BAD_RATE = 1,     /* a rate not from 1,000 to 192,000 */
-    GRUTTISOL_BAD_STATE = 2,    /* a state that is no oscillator's */
-    GRUTTISOL_SHORT_LINE = 3,   /* a line too short for its rate */
-    GRUTTISOL_BAD_BANK = 4,     /* a bank, part or table of another size or number */
-    GRUTTISOL_FEW_DRAWS = 5,    /* too few draws for a trigger or for noise */
-    GRUTTISOL_BAD_DRAW = 6,     /* a draw of 2^53 or more among those that a trigger or noise needs */
-    GRUTTISOL_BAD_TALLY = 7,    /* counts that don't add up, or a full tally */
-    GRUTTISOL_LONG_SCORE = 20,  /* a score of more than 1,024 bytes */
-    GRUTTISOL_BAD_LINE = 21,    /* a wrong, missing or extra line, or an oscillator that isn't known */
-    GRUTTISOL_BAD_NUMBER = 22,  /* no number as a score writes it */
-    GRUTTISOL_OUT_OF_RANGE = 23 /* a number out of its range */
+    GRUTTISOL_BAD_RATE = 1,      /* a rate not from 1,000 to 192,000 */
+    GRUTTISOL_BAD_STATE = 2,     /* a state that is no oscillator's */
+    GRUTTISOL_SHORT_LINE = 3,    /* a line too short for its rate */
+    GRUTTISOL_BAD_BANK = 4,      /* a bank, part or table of another size or number */
+    GRUTTISOL_FEW_DRAWS = 5,     /* too few draws for a trigger or for noise */
+    GRUTTISOL_BAD_DRAW = 6,      /* a draw of 2^53 or more among those that a trigger or noise needs */
+    GRUTTISOL_BAD_TALLY = 7,     /* counts that don't add up, or a full tally */
+    GRUTTISOL_LONG_SCORE = 20,   /* a score of more than 1,024 bytes */
+    GRUTTISOL_BAD_LINE = 21,     /* a wrong, missing or extra line, or an oscillator that isn't known */
+    GRUTTISOL_BAD_NUMBER = 22,   /* no number as a score writes it */
+    GRUTTISOL_OUT_OF_RANGE = 23, /* a number out of its range, or values that no score has */
+    GRUTTISOL_SHORT_TEXT = 24    /* a buffer too short for the score's text */
 };
 
 /* ---- the tally: counts are begun, finished, cleared, notfinite, lost, steered; a new one is six zeros */
@@ -255,6 +259,22 @@ enum gruttisol_osc {
 
 uint32_t gruttisol_score_read(const uint8_t *text, size_t text_len, double *floats, size_t floats_len,
                               uint64_t *wholes, size_t wholes_len);
+
+/* The same in whole numbers, to change and save a score: microvolts are those of the inputs in port order, GRUTTISOL_SCORE_NAN where one is
+ * `nan` and 0 past the last one; wholes are as above. */
+#define GRUTTISOL_SCORE_MICROVOLTS 5
+#define GRUTTISOL_SCORE_NAN INT32_MIN /* no score's microvolts */
+
+uint32_t gruttisol_score_values(const uint8_t *text, size_t text_len, int32_t *microvolts, size_t microvolts_len,
+                                uint64_t *wholes, size_t wholes_len);
+
+/* Writes the one text that is read as these values, and its length to written, which is one cell; bytes past it stay. Values that no text
+ * is read as are refused by 23: another osc, a number out of its range, a cell past the last input that isn't 0. Last comes 24, which a
+ * text of GRUTTISOL_SCORE_LONGEST bytes never gets. */
+#define GRUTTISOL_SCORE_LONGEST 110
+
+uint32_t gruttisol_score_write(const int32_t *microvolts, size_t microvolts_len, const uint64_t *wholes, size_t wholes_len,
+                               uint8_t *text, size_t text_len, uint64_t *written, size_t written_len);
 
 /* ---- functions of numbers alone: sine and cosine of radians, 2^x and 3000^r; the small functions as Rust has them, any NaN being
  *      7FF8000000000000; k * 2^-53 and twice it less 1; the oscillators' pitch, phase and residuals, in volts, hertz and turns. wrap_turned

@@ -6,7 +6,7 @@
 use gruttisol::answer::Refused;
 use gruttisol::formant_osc::FormantOsc;
 use gruttisol::lfo::Lfo;
-use gruttisol::score::{self, Inputs, Score};
+use gruttisol::score::{Controls, Score};
 use gruttisol::supersaw::Supersaw;
 use gruttisol::tally::{Tally, NAMES};
 use gruttisol::vco::Vco;
@@ -28,10 +28,10 @@ fn main() -> ExitCode {
             return ExitCode::FAILURE;
         }
     };
-    match score::read(&text).and_then(|score| render(&score).map(|rendered| (score, rendered))) {
+    match Score::parse(&text).and_then(|score| render(&score).map(|rendered| (score, rendered))) {
         Ok((score, (loudest, tally))) => {
             let [begun, finished, ..] = *tally.counts();
-            let claimed = if finished == begun && begun == score.frames { "yes" } else { "no" };
+            let claimed = if finished == begun && begun == score.frames() { "yes" } else { "no" };
             println!("loudest={loudest}");
             for (name, count) in NAMES.iter().zip(tally.counts()) {
                 println!("{name}={count}");
@@ -48,21 +48,21 @@ fn main() -> ExitCode {
 
 /// The loudest finite sample of the first output, and the tally of all frames.
 pub fn render(score: &Score) -> Result<(f64, Tally), Refused> {
-    let rate = f64::from(score.hz);
-    match &score.inputs {
-        Inputs::Vco(c) => {
+    let rate = f64::from(score.hz());
+    match &score.controls() {
+        Controls::Vco(c) => {
             let mut vco = Vco::new(rate)?;
             blocks(score, 4, |tally, samples, marks| vco.block(c, Vco::WANT_ALL, tally, samples, marks))
         }
-        Inputs::Lfo(c) => {
+        Controls::Lfo(c) => {
             let mut lfo = Lfo::new(rate)?;
             blocks(score, 6, |tally, samples, marks| lfo.block(c, Lfo::WANT_ALL, tally, samples, marks))
         }
-        Inputs::Supersaw(c) => {
+        Controls::Supersaw(c) => {
             let mut supersaw = Supersaw::new(rate)?;
             blocks(score, 2, |tally, samples, marks| supersaw.block(c, tally, samples, marks))
         }
-        Inputs::Formant(c) => {
+        Controls::Formant(c) => {
             let mut formant = FormantOsc::new(rate)?;
             blocks(score, 1, |tally, samples, marks| formant.block(c, tally, samples, marks))
         }
@@ -76,7 +76,7 @@ fn blocks(
 ) -> Result<(f64, Tally), Refused> {
     let (mut samples, mut marks) = (vec![0.0; ports * BLOCK], [0; BLOCK]);
     let (mut tally, mut loudest) = (Tally::new(), 0.0);
-    let mut left = score.frames as usize;
+    let mut left = score.frames() as usize;
     while left > 0 {
         let n = left.min(BLOCK);
         block(&mut tally, &mut samples[..ports * n], &mut marks[..n])?;

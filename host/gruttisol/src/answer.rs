@@ -19,7 +19,8 @@ impl fmt::Display for Refused {
             21 => "a line of the score is wrong, missing or one too many, or its oscillator isn't known",
             22 => "a number of the score isn't written as one",
             23 => "a number of the score is out of its range",
-            50..=53 => "a slice of another length than the boundary takes",
+            24 => "the lent text is too short for the score",
+            50..=55 => "a slice of another length than the boundary takes",
             _ => "a number that no call refuses by",
         };
         write!(f, "refused by {}: {why}", self.0)

@@ -78,6 +78,8 @@ lent! {
     fn tally_take(code: u32; counts: mut u32);
 
     fn score_read(; text: const u8, floats: mut f64, wholes: mut u64);
+    fn score_values(; text: const u8, microvolts: mut i32, wholes: mut u64);
+    fn score_write(; microvolts: const i32, wholes: const u64, text: mut u8, written: mut u64);
 }
 
 /// An oscillator whose state alone is lent to making, reset and rate change.
@@ -132,6 +134,15 @@ mod tests {
     const UNTOUCHED: u64 = 0x7ff8_0bad_0bad_0bad;
     const NO_RATE: f64 = 0.0;
 
+    /// The right length of a slice and wrong ones; of none, which has the length 0, that alone.
+    fn lengths(right: usize) -> Vec<usize> {
+        if right == 0 {
+            vec![0]
+        } else {
+            vec![0, right - 1, right, right + 1, 64]
+        }
+    }
+
     /// Makes a call with slices of many lengths: by its first wrong length it is refused, by 50, 51 or 52, and where all
     /// are right by `last`; 0 says that then nothing refuses it. Not a bit may change. A call without samples says that it takes none.
     fn refuses_by(
@@ -139,7 +150,6 @@ mod tests {
         [floats, wholes, samples]: [usize; 3],
         call: impl Fn(&mut [f64], &mut [u64], &mut [f64]) -> u32,
     ) {
-        let lengths = |right: usize| if right == 0 { vec![0] } else { vec![0, right - 1, right, right + 1, 64] };
         for f in lengths(floats) {
             for w in lengths(wholes) {
                 for s in lengths(samples) {
@@ -316,15 +326,14 @@ mod tests {
         }
     }
 
+    /// Texts that are no scores, and what they are refused by.
+    fn no_scores() -> [(u32, String); 4] {
+        [(20, "x".repeat(1025)), (21, "osc=\n".into()), (22, "osc=lfo\nhz=x\n".into()), (23, "osc=lfo\nhz=1\n".into())]
+    }
+
     #[test]
     fn score() {
-        let texts = [
-            (20, "x".repeat(1025)),
-            (21, "osc=\n".into()),
-            (22, "osc=lfo\nhz=x\n".into()),
-            (23, "osc=lfo\nhz=1\n".into()),
-        ];
-        for (number, text) in texts {
+        for (number, text) in no_scores() {
             refuses_by(number, [5, 3, 0], |f, w, _| score_read(text.as_bytes(), f, w));
         }
     }
@@ -339,5 +348,96 @@ mod tests {
         floats[2] = 1.0;
         assert_eq!(floats.map(f64::to_bits), [0.5, -1e-6, 1.0, 0.0, 0.0].map(f64::to_bits));
         assert_eq!(wholes, [1, 48000, 7]);
+    }
+
+    /// In whole numbers: microvolts of another length by 54, then wholes by 51, then by what the text is refused by.
+    #[test]
+    fn score_in_whole_numbers() {
+        for (number, text) in no_scores() {
+            for m in lengths(5) {
+                for w in lengths(3) {
+                    let (mut microvolts, mut wholes) = (vec![7; m], vec![UNTOUCHED; w]);
+                    let number = match (m == 5, w == 3) {
+                        (false, _) => 54,
+                        (_, false) => 51,
+                        _ => number,
+                    };
+                    assert_eq!(score_values(text.as_bytes(), &mut microvolts, &mut wholes), number, "of {m} and {w}");
+                    assert!(microvolts.iter().all(|&n| n == 7));
+                    assert!(wholes.iter().all(|&n| n == UNTOUCHED));
+                }
+            }
+        }
+    }
+
+    /// The mark of `nan` is this number, and cells past the last input are written too.
+    #[test]
+    fn score_that_is_read_in_whole_numbers() {
+        let (mut microvolts, mut wholes) = ([7; 5], [UNTOUCHED; 3]);
+        let text = b"osc=supersaw\nhz=192000\nframes=480000\nvoct=-10000000\ndetune=nan\nmix=1\n";
+        assert_eq!(score_values(text, &mut microvolts, &mut wholes), 0);
+        assert_eq!(microvolts, [-10_000_000, i32::MIN, 1, 0, 0]);
+        assert_eq!(wholes, [2, 192_000, 480_000]);
+    }
+
+    /// A writing into a text of so many bytes: what it answers. A refused one may change nothing.
+    fn writes(microvolts: &[i32], wholes: &[u64], room: usize, cells: usize) -> u32 {
+        let (mut text, mut written) = (vec![b'~'; room], vec![UNTOUCHED; cells]);
+        let answer = score_write(microvolts, wholes, &mut text, &mut written);
+        if answer != 0 {
+            assert!(text.iter().all(|&byte| byte == b'~'), "{microvolts:?} {wholes:?}");
+            assert!(written.iter().all(|&n| n == UNTOUCHED), "{microvolts:?} {wholes:?}");
+        }
+        answer
+    }
+
+    /// Microvolts of another length by 54, then wholes by 51, then the cell for the text's length by 55; then values by 23, and last of
+    /// all a text without room by 24.
+    #[test]
+    fn order_of_what_refuses_a_writing() {
+        for (hz, last) in [(u64::MAX, 23), (48000, 24)] {
+            for m in lengths(5) {
+                for w in lengths(3) {
+                    for cells in lengths(1) {
+                        let number = match (m == 5, w == 3, cells == 1) {
+                            (false, ..) => 54,
+                            (_, false, _) => 51,
+                            (_, _, false) => 55,
+                            _ => last,
+                        };
+                        let wholes: Vec<u64> = [1, hz, 480].into_iter().cycle().take(w).collect();
+                        assert_eq!(writes(&vec![0; m], &wholes, 0, cells), number, "of {m}, {w} and {cells}");
+                    }
+                }
+            }
+        }
+    }
+
+    /// What the safe functions can't hand over: numbers of no oscillator, wholes of more than 32 bits, whose low ones would do,
+    /// and cells past the last input, of which the mark isn't 0 either.
+    #[test]
+    fn values_of_no_score() {
+        const HIGH: u64 = 1 << 32;
+        let refused = |microvolts: [i32; 5], wholes: [u64; 3]| writes(&microvolts, &wholes, 110, 1) == 23;
+        for osc in 0..4 {
+            assert_eq!(writes(&[0; 5], &[osc, 48000, 480], 110, 1), 0, "{osc}");
+            for hz in [48000 + HIGH, 48000 + (1 << 63), u64::MAX] {
+                assert!(refused([0; 5], [osc, hz, 480]), "{osc}, {hz} Hz");
+            }
+            for frames in [480 + HIGH, 480 + (1 << 63), u64::MAX] {
+                assert!(refused([0; 5], [osc, 48000, frames]), "{osc}, {frames} frames");
+            }
+            let inputs = [5, 3, 3, 4][osc as usize];
+            for past in inputs..5 {
+                for cell in [1, -1, 500_000, i32::MIN, i32::MAX] {
+                    let mut microvolts = [0; 5];
+                    microvolts[past] = cell;
+                    assert!(refused(microvolts, [osc, 48000, 480]), "{osc}, cell {past} is {cell}");
+                }
+            }
+        }
+        for osc in [4, 5, 255, HIGH, HIGH + 3, u64::MAX] {
+            assert!(refused([0; 5], [osc, 48000, 480]), "{osc}");
+        }
     }
 }

@@ -31,6 +31,11 @@ fn the_example_shows_what_is_finished() {
          an lfo of 480 samples, 0 V deep: 14 turns, the last ends with sample 466, finished=480\n\
          a rate of 999.5 Hz: refused=1\n\
          a score: lfo, 48000 Hz, frames=480, first input 0.5 V\n\
-         a score: refused=21\n"
+         a score: refused=21\n\
+         another score, of 63 bytes:\n\
+         osc=lfo\nhz=48000\nframes=480\nrate=500000\ndepth=-2500000\nreset=0\n\
+         another score, of 58 bytes:\n\
+         osc=lfo\nhz=48000\nframes=480\nrate=500000\ndepth=nan\nreset=0\n\
+         another score: refused=23\n"
     );
 }

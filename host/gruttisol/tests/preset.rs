@@ -1,5 +1,5 @@
 //! The example program: it renders each preset, and claims what the presets' table says of it.
-use gruttisol::score;
+use gruttisol::score::Score;
 use std::fs;
 use std::path::Path;
 
@@ -14,10 +14,10 @@ fn each_preset_is_claimed_as_described() {
     let mut rows = 0;
     for row in table.lines().filter_map(|line| line.strip_prefix("| `")) {
         let name = row.split('`').next().unwrap();
-        let score = score::read(&fs::read(presets.join(name).with_extension("score")).unwrap()).unwrap();
+        let score = Score::parse(&fs::read(presets.join(name).with_extension("score")).unwrap()).unwrap();
         let (loudest, tally) = preset::render(&score).unwrap();
         let [begun, finished, ..] = *tally.counts();
-        assert_eq!(begun, score.frames, "{name}");
+        assert_eq!(begun, score.frames(), "{name}");
         assert_eq!(row.contains("`claimed=yes`"), finished == begun, "{name}");
         assert!(loudest <= 5.0, "{name}: {loudest}");
         rows += 1;
