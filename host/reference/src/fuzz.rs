@@ -1,76 +1,160 @@
-//! Drawn texts given to the proved reader of scores and to the reference's own, which must find the same.
-use crate::score::{read, Refusal, Score, FORMANT, LFO, SUPERSAW, VCO};
-use crate::scores;
+//! Drawn texts and values given to the proved reader and writer of scores and to the reference's own, which must find the same.
+use crate::score::{read, write, Refusal, Score, FRAMES, HZ, MICROVOLTS};
+use crate::{ours, scores};
 use compare::draw::Draw;
 use compare::script::alike;
 use gruttisol::answer::Refused;
-use gruttisol::score::Inputs;
+use gruttisol::score::Score as Ours;
 use std::fmt;
 
-/// What was compared.
-#[derive(Clone, Default, Debug)]
-pub struct Counts {
-    /// Texts that are scores.
-    pub read: u64,
-    /// Texts refused by 20, 21, 22 and 23.
-    pub refused: [u64; 4],
+/// So many of something drawn from a seed. The error is the first difference.
+pub type Run = fn(u64, u64) -> Result<Counts, String>;
+
+/// What is of a kind, and how it is called.
+type Kind<T> = (&'static str, fn(&T) -> bool);
+
+/// How much of each kind was compared.
+pub struct Counts(Vec<(&'static str, u64)>);
+
+impl Counts {
+    fn of<T>(kinds: &[Kind<T>]) -> Self {
+        Counts(kinds.iter().map(|&(name, _)| (name, 0)).collect())
+    }
+
+    fn take<T>(&mut self, kinds: &[Kind<T>], it: &T) {
+        for ((_, n), (_, is)) in self.0.iter_mut().zip(kinds) {
+            *n += u64::from(is(it));
+        }
+    }
+
+    /// The kinds that were never met.
+    pub fn unmet(&self) -> Vec<&'static str> {
+        self.0.iter().filter(|(_, n)| *n == 0).map(|(name, _)| *name).collect()
+    }
 }
 
 impl fmt::Display for Counts {
     fn fmt(&self, f: &mut fmt::Formatter<'_>) -> fmt::Result {
-        let Counts { read, refused: [a, b, c, d] } = self;
-        let all = read + a + b + c + d;
-        write!(f, "{all} texts: {read} read, refused by 20 {a}, by 21 {b}, by 22 {c}, by 23 {d}")
+        let counts: Vec<String> = self.0.iter().map(|(name, n)| format!("{n} {name}")).collect();
+        f.write_str(&counts.join(", "))
     }
 }
 
-impl Counts {
-    /// What was never met: a score, or a refusal.
-    pub fn unmet(&self) -> Vec<String> {
-        let refused = (20..).zip(self.refused).map(|(number, n)| (format!("refused={number}"), n));
-        let met = [("a score".to_string(), self.read)].into_iter().chain(refused);
-        met.filter(|&(_, n)| n == 0).map(|(what, _)| what).collect()
-    }
-}
-
-/// What the proved reader finds, as the reference says it.
-fn ours(text: &[u8]) -> Result<Score, u32> {
-    let score = gruttisol::score::read(text).map_err(|Refused(number)| number)?;
-    let (osc, controls) = match score.inputs {
-        Inputs::Vco(c) => (&VCO, vec![c.voct, c.fm, c.pw, c.sync, c.fm_lin]),
-        Inputs::Lfo(c) => (&LFO, vec![c.rate, c.depth, c.reset]),
-        Inputs::Supersaw(c) => (&SUPERSAW, vec![c.voct, c.detune, c.mix]),
-        Inputs::Formant(c) => (&FORMANT, vec![c.v_oct, c.vowel, c.formant_shift, c.vibrato]),
-    };
-    Ok(Score { osc, hz: score.hz, frames: score.frames, controls })
-}
-
-/// Whether both found the same: the same number, or the same values to the last bit.
-fn agree(ours: &Result<Score, u32>, theirs: &Result<Score, Refusal>) -> bool {
-    match (ours, theirs) {
-        (Ok(a), Ok(b)) => {
-            (a.osc, a.hz, a.frames, a.controls.len()) == (b.osc, b.hz, b.frames, b.controls.len())
-                && a.controls.iter().zip(&b.controls).all(|(&x, &y)| alike(x, y))
+/// A run of the gate. It prints what was compared.
+#[track_caller]
+pub fn gate(run: Run, n: u64) {
+    match run(1, n) {
+        Ok(counts) => {
+            println!("{counts}; no difference");
+            assert_eq!(counts.unmet(), [""; 0], "never met");
         }
-        (Err(number), Err(refusal)) => *number == *refusal as u32,
-        _ => false,
+        Err(difference) => panic!("{difference}"),
     }
 }
 
-/// Runs so many texts from a seed. The error is the first difference.
-pub fn run(seed: u64, texts: u64) -> Result<Counts, String> {
-    let mut draw = Draw::new(seed);
-    let mut counts = Counts::default();
+/// By what the reference reads.
+const TEXTS: [Kind<Result<Score, Refusal>>; 6] = [
+    ("texts", |_| true),
+    ("read and written back", |read| read.is_ok()),
+    ("refused by 20", |read| *read == Err(Refusal::Long)),
+    ("by 21", |read| *read == Err(Refusal::Line)),
+    ("by 22", |read| *read == Err(Refusal::Form)),
+    ("by 23", |read| *read == Err(Refusal::Range)),
+];
+
+/// Drawn texts: both read the same of each, and what ours read it writes back as the same bytes.
+pub fn texts(seed: u64, texts: u64) -> Result<Counts, String> {
+    let (mut draw, mut counts) = (Draw::new(seed), Counts::of(&TEXTS));
     for _ in 0..texts {
         let text = scores::any(&mut draw);
-        let (ours, theirs) = (ours(&text), read(&text));
-        if !agree(&ours, &theirs) {
+        let (ours, theirs) = (Ours::parse(&text), read(&text));
+        let same = match (&ours, &theirs) {
+            (Ok(ours), Ok(theirs)) => says(ours, theirs) && ours.to_string().as_bytes() == text,
+            (Err(Refused(number)), Err(refusal)) => *number == *refusal as u32,
+            _ => false,
+        };
+        if !same {
             return Err(format!("text {}: {ours:?}, and the reference has {theirs:?}", text.escape_ascii()));
         }
-        match theirs {
-            Ok(_) => counts.read += 1,
-            Err(refusal) => counts.refused[refusal as usize - Refusal::Long as usize] += 1,
-        }
+        counts.take(&TEXTS, &theirs);
     }
     Ok(counts)
+}
+
+/// Whether ours says the same: whole numbers, and volts to the last bit.
+fn says(ours: &Ours, theirs: &Score) -> bool {
+    let volts = ours::volts(ours).into_iter().zip(theirs.controls());
+    ours::values(ours) == *theirs && volts.into_iter().all(|(a, b)| alike(a, b))
+}
+
+/// Drawn values, and what came of them.
+struct Tried {
+    values: Score,
+    written: bool,
+    in_every_room: bool,
+}
+
+impl Tried {
+    fn is_of(&self, osc: &str) -> bool {
+        self.written && self.values.osc.name == osc
+    }
+
+    /// Whether this holds of one of its numbers, given between the ends of its range.
+    fn one(&self, holds: impl Fn(i64, i64, i64) -> bool) -> bool {
+        let inputs = self.values.microvolts.iter().flatten().map(|&n| (MICROVOLTS, n.into()));
+        let mut numbers = [(HZ, self.values.hz.into()), (FRAMES, self.values.frames.into())].into_iter().chain(inputs);
+        numbers.any(|(range, n)| holds(*range.start(), n, *range.end()))
+    }
+}
+
+const VALUES: [Kind<Tried>; 18] = [
+    ("values", |_| true),
+    ("written", |tried| tried.written),
+    ("of vco", |tried| tried.is_of("vco")),
+    ("of lfo", |tried| tried.is_of("lfo")),
+    ("of supersaw", |tried| tried.is_of("supersaw")),
+    ("of formant", |tried| tried.is_of("formant")),
+    ("with nan", |tried| tried.written && tried.values.microvolts.contains(&None)),
+    ("with an end of a range", |tried| tried.written && tried.one(|lo, n, hi| n == lo || n == hi)),
+    ("in texts of every length", |tried| tried.written && tried.in_every_room),
+    ("refused by 23", |tried| !tried.written),
+    ("with hz out of range", |tried| !HZ.contains(&tried.values.hz.into())),
+    ("with frames", |tried| !FRAMES.contains(&tried.values.frames.into())),
+    ("with microvolts", |tried| tried.values.microvolts.iter().flatten().any(|&n| !MICROVOLTS.contains(&n.into()))),
+    ("one past an end", |tried| tried.one(|lo, n, hi| n == lo - 1 || n == hi + 1)),
+    ("farther out", |tried| tried.one(|lo, n, hi| n < lo - 1 || n > hi + 1)),
+    ("of i32::MIN", |tried| tried.values.microvolts.contains(&Some(i32::MIN))),
+    ("of i32::MAX", |tried| tried.values.microvolts.contains(&Some(i32::MAX))),
+    ("of u32::MAX", |tried| [tried.values.hz, tried.values.frames].contains(&u32::MAX)),
+];
+
+/// Drawn values: both refuse the same and write all others as the same text, which both read as these values. For some, texts of every
+/// length are lent.
+pub fn values(seed: u64, values: u64) -> Result<Counts, String> {
+    let (mut draw, mut counts) = (Draw::new(seed), Counts::of(&VALUES));
+    for _ in 0..values {
+        let (values, in_every_room) = (scores::values(&mut draw), draw.one_in(32));
+        let written = tried(&values, in_every_room).map_err(|difference| format!("{values:?}: {difference}"))?;
+        counts.take(&VALUES, &Tried { values, written, in_every_room });
+    }
+    Ok(counts)
+}
+
+/// Whether the values are written; else both refuse them by 23.
+fn tried(values: &Score, in_every_room: bool) -> Result<bool, String> {
+    match (ours::of(values), write(values)) {
+        (Ok(ours), Ok(text)) => {
+            let written = ours.to_string();
+            let (our_values, their_values) = (Ours::parse(text.as_bytes()), read(text.as_bytes()));
+            if written != text || our_values != Ok(ours) || their_values.as_ref() != Ok(values) {
+                return Err(format!("{written:?}, and the reference has {text:?}: {our_values:?}, {their_values:?}"));
+            }
+            if in_every_room {
+                ours::written_in_every_room(&ours, &text)?;
+            }
+            Ok(true)
+        }
+        (Err(Refused(23)), Err(Refusal::Range)) => Ok(false),
+        (ours, theirs) => Err(format!("{ours:?}, and the reference has {theirs:?}")),
+    }
 }

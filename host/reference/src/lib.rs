@@ -3,6 +3,7 @@
 //! Nothing here is taken from the proved program, so that a difference between the two is a fault of one of them. The Rust
 //! runs over the proved sine, cosine and powers, so that both can agree to the last bit. Where its source isn't found,
 //! scores are read and not played.
+pub mod ours;
 pub mod score;
 
 #[cfg(quiver)]

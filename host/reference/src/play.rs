@@ -34,11 +34,11 @@ fn voice(score: &Score) -> Box<dyn Marked> {
 }
 
 fn play(score: &Score, out: &mut impl Write) -> io::Result<()> {
-    let mut voice = voice(score);
+    let (mut voice, controls) = (voice(score), score.controls());
     let mut samples = vec![0.0; score.osc.outputs.len()];
     let mut marks = Marks::default();
     for n in 0..score.frames {
-        let mark = voice.marked_tick(&score.controls, u32::MAX, &mut samples);
+        let mark = voice.marked_tick(&controls, u32::MAX, &mut samples);
         marks.take(mark);
         writeln!(out, "n={n}\nmark={}", mark.word())?;
         for (name, sample) in score.osc.outputs.iter().zip(&samples) {

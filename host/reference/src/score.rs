@@ -1,4 +1,5 @@
 //! A score: `osc`, `hz`, `frames` and the oscillator's inputs, a line each.
+use std::ops::RangeInclusive;
 use Refusal::{Form, Line, Long, Range};
 
 /// Bytes that a score may have.
@@ -6,6 +7,11 @@ pub const LIMIT: usize = 1024;
 
 /// Microvolts either way that an input may have.
 pub const LARGEST: i64 = 10_000_000;
+
+/// What numbers may be.
+pub const HZ: RangeInclusive<i64> = 1000..=192_000;
+pub const FRAMES: RangeInclusive<i64> = 1..=480_000;
+pub const MICROVOLTS: RangeInclusive<i64> = -LARGEST..=LARGEST;
 
 /// Why a score is refused, by the scope's numbers.
 #[derive(Clone, Copy, PartialEq, Eq, Debug)]
@@ -39,13 +45,21 @@ pub const FORMANT: Osc =
 /// The oscillators that a score can name.
 pub static ALL: [Osc; 4] = [VCO, LFO, SUPERSAW, FORMANT];
 
-#[derive(PartialEq, Debug)]
+#[derive(Clone, PartialEq, Debug)]
 pub struct Score {
     pub osc: &'static Osc,
     pub hz: u32,
     pub frames: u32,
+    /// In the order of the inputs; none where one is `nan`.
+    pub microvolts: Vec<Option<i32>>,
+}
+
+impl Score {
     /// Volts, in the order of the inputs.
-    pub controls: Vec<f64>,
+    pub fn controls(&self) -> Vec<f64> {
+        let volts = |microvolts| f64::from(microvolts) / 1_000_000.0;
+        self.microvolts.iter().map(|input| input.map_or(f64::NAN, volts)).collect()
+    }
 }
 
 /// Reads a score. The first line that is wrong decides the refusal.
@@ -56,14 +70,28 @@ pub fn read(text: &[u8]) -> Result<Score, Refusal> {
     let mut lines = Lines(text);
     let name = lines.value("osc")?;
     let osc = ALL.iter().find(|osc| osc.name.as_bytes() == name).ok_or(Line)?;
-    let hz = within(1000, number(lines.value("hz")?)?, 192_000)? as u32;
-    let frames = within(1, number(lines.value("frames")?)?, 480_000)? as u32;
-    let controls = osc.inputs.iter().map(|key| volts(lines.value(key)?)).collect::<Result<_, _>>()?;
+    let hz = within(HZ, number(lines.value("hz")?)?)? as u32;
+    let frames = within(FRAMES, number(lines.value("frames")?)?)? as u32;
+    let microvolts = osc.inputs.iter().map(|key| microvolts(lines.value(key)?)).collect::<Result<_, _>>()?;
     if lines.0.is_empty() {
-        Ok(Score { osc, hz, frames, controls })
+        Ok(Score { osc, hz, frames, microvolts })
     } else {
         Err(Line)
     }
+}
+
+/// The text that is read as a score. A number out of its range is refused.
+pub fn write(score: &Score) -> Result<String, Refusal> {
+    let (hz, frames) = (within(HZ, score.hz.into())?, within(FRAMES, score.frames.into())?);
+    let mut text = format!("osc={}\nhz={hz}\nframes={frames}\n", score.osc.name);
+    for (key, input) in score.osc.inputs.iter().zip(&score.microvolts) {
+        let value = match *input {
+            Some(microvolts) => within(MICROVOLTS, microvolts.into())?.to_string(),
+            None => "nan".into(),
+        };
+        text += &format!("{key}={value}\n");
+    }
+    Ok(text)
 }
 
 /// What is left of a score.
@@ -92,8 +120,8 @@ fn number(value: &[u8]) -> Result<i64, Refusal> {
     Ok(sign * digits.iter().fold(0, |n, digit| 10 * n + i64::from(digit - b'0')))
 }
 
-fn within(lo: i64, n: i64, hi: i64) -> Result<i64, Refusal> {
-    if (lo..=hi).contains(&n) {
+fn within(range: RangeInclusive<i64>, n: i64) -> Result<i64, Refusal> {
+    if range.contains(&n) {
         Ok(n)
     } else {
         Err(Range)
@@ -101,10 +129,10 @@ fn within(lo: i64, n: i64, hi: i64) -> Result<i64, Refusal> {
 }
 
 /// An input: microvolts, or `nan`.
-fn volts(value: &[u8]) -> Result<f64, Refusal> {
+fn microvolts(value: &[u8]) -> Result<Option<i32>, Refusal> {
     if value == b"nan" {
-        return Ok(f64::NAN);
+        return Ok(None);
     }
-    let microvolts = within(-LARGEST, number(value)?, LARGEST)?;
-    Ok(microvolts as f64 / 1_000_000.0)
+    let microvolts = within(MICROVOLTS, number(value)?)?;
+    Ok(Some(microvolts as i32))
 }

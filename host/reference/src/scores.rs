@@ -1,25 +1,25 @@
-//! Scores drawn from a seed: good ones, damaged ones, and texts that are hardly scores.
-use crate::score::{ALL, LARGEST, LIMIT};
+//! Scores drawn from a seed: good ones, damaged ones, and texts that are hardly scores; and values for scores, good and out of range.
+use crate::score::{write, Score, ALL, FRAMES, HZ, LARGEST, LIMIT, MICROVOLTS};
 use compare::draw::Draw;
-use std::fmt::Write;
+use std::ops::RangeInclusive;
 
 /// A whole number from `lo` to `hi`.
 fn whole(draw: &mut Draw, lo: i64, hi: i64) -> i64 {
     lo + draw.below((hi - lo + 1) as u64) as i64
 }
 
-/// An input's value: mostly a number from a usual range, else a place where some rule changes, or none.
-fn control(draw: &mut Draw) -> String {
+/// An input: mostly a number from a usual range, else a place where some rule changes, or `nan`.
+fn control(draw: &mut Draw) -> Option<i32> {
     let corners = [0, 1, -1, 50_000, 500_000, 950_000, 1_000_000, 2_500_000, 2_500_001, 5_000_000, LARGEST];
     let microvolts = match draw.below(12) {
-        0 => return "nan".into(),
+        0 => return None,
         1..=3 => draw.of(&corners),
         4 => -draw.of(&corners),
         5..=7 => whole(draw, 0, 1_000_000),
         8 => whole(draw, -1_000_000, 1_000_000),
         _ => whole(draw, -LARGEST, LARGEST),
     };
-    microvolts.to_string()
+    Some(microvolts as i32)
 }
 
 /// A score that isn't refused: mostly of few frames, now and then of some thousand.
@@ -41,11 +41,36 @@ fn of_frames(frames: i64, draw: &mut Draw) -> Vec<u8> {
         3 => 48_000,
         _ => whole(draw, 1000, 192_000),
     };
-    let mut text = format!("osc={}\nhz={hz}\nframes={frames}\n", osc.name);
-    for key in osc.inputs {
-        writeln!(text, "{key}={}", control(draw)).unwrap();
+    let microvolts = osc.inputs.iter().map(|_| control(draw)).collect();
+    let score = Score { osc, hz: hz as u32, frames: frames as u32, microvolts };
+    write(&score).expect("numbers in their ranges").into_bytes()
+}
+
+/// Values for a score, of which most are in their ranges.
+pub fn values(draw: &mut Draw) -> Score {
+    let osc = &ALL[draw.below(4) as usize];
+    let unsigned = u32::MIN.into()..=u32::MAX.into();
+    let hz = odd(HZ, &unsigned, draw) as u32;
+    let frames = odd(FRAMES, &unsigned, draw) as u32;
+    let mut input = || {
+        let microvolts = odd(MICROVOLTS, &(i32::MIN.into()..=i32::MAX.into()), draw) as i32;
+        (!draw.one_in(8)).then_some(microvolts)
+    };
+    let microvolts = osc.inputs.iter().map(|_| input()).collect();
+    Score { osc, hz, frames, microvolts }
+}
+
+/// A number: mostly in its range, now and then of few digits, or an end of it; else one past an end, or any that its type can hold.
+fn odd(range: RangeInclusive<i64>, of_type: &RangeInclusive<i64>, draw: &mut Draw) -> i64 {
+    let ((lo, hi), (least, most)) = (range.into_inner(), of_type.clone().into_inner());
+    match draw.below(40) {
+        0 => draw.of(&[lo - 1, hi + 1]),
+        1 => draw.of(&[least, 0, most]),
+        2 => whole(draw, least, most),
+        3..=8 => draw.of(&[lo, hi]),
+        9..=20 => (whole(draw, lo, hi) / 10_i64.pow(draw.below(8) as u32)).clamp(lo, hi),
+        _ => whole(draw, lo, hi),
     }
-    text.into_bytes()
 }
 
 /// A score of one frame with some damage, mostly at one place. A few are good all the same.

@@ -1,14 +1,8 @@
-//! The proved reader of scores against the reference's, number and values, on drawn texts of every kind.
+//! The proved reader of scores against the reference's, number and values, on drawn texts of every kind; what it read is written back.
 
 #[test]
 #[cfg_attr(not(quiver), ignore = "skipped: QUIVER_SRC not found")]
 fn drawn_texts() {
     #[cfg(quiver)]
-    match reference::fuzz::run(1, 200_000) {
-        Ok(counts) => {
-            println!("{counts}; no difference");
-            assert_eq!(counts.unmet(), [""; 0], "never met");
-        }
-        Err(difference) => panic!("{difference}"),
-    }
+    reference::fuzz::gate(reference::fuzz::texts, 200_000);
 }
