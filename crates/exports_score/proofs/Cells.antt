@@ -31,7 +31,7 @@ use Rattle.score.specs.declared.Reading.the-variants.{Values, Refused}
 use Rattle.score.proofs.LineKinds.{tested}
 use Rattle.score.proofs.Lines.{not-refused}
 use Rattle.exports_score.specs.Cells.{oscNumber, none, portsOf, wholesOf, floatsOf, cellOf, microvoltsOf, controlAt, cellsAt, isZero, zeros}
-use Rattle.exports_score.specs.Cells.{valuesAt, inputsAt, scoreAt}
+use Rattle.exports_score.specs.Cells.{valuesAt, inputsAt, headAt, scoreAt}
 
 -- ---- one cell
 pub cell-back : (c : Control) → ValidInput c → controlAt (cellOf c) ≡ c
@@ -94,14 +94,9 @@ inputs-back head (Supersaw i) (a, b, c) = simp (cell-back (i .voct) a, cell-back
 inputs-back head (Formant i) (a, b, c, d) =
     simp (cell-back (i .«v_oct») a, cell-back (i .vowel) b, cell-back (i .«formant_shift») c, cell-back (i .vibrato) d)
 
-u32 : (n : ℕ) → n ≤ 480000 → ltb 4294967295 n ≡ false
-u32 n h = le-ltb 4294967295 n (omega arith)
-
 pub score-back : (s : Score) → Valid s → scoreAt (microvoltsOf s) (wholesOf s) ≡ Values s
 unfolding scoreAt wholesOf
-score-back s v =
-    let hz-most = v .head .hz-most in
-    simp (u32 (s .head .hz) (omega arith), u32 (s .head .frames) (v .head .frames-most)) (inputs-back (s .head) (s .inputs) (v .inputs))
+score-back s v = inputs-back (s .head) (s .inputs) (v .inputs)
 
 -- ---- and the cells of the score of cells are the cells
 zero-is : (n : ℤ) → isZero n ≡ true → n ≡ pos 0
@@ -176,21 +171,20 @@ wholes-are : (w : List ℕ) → length w ≡ 3 → w ≡ getD w 0 0 ∷ getD w 1
 unfolding tab
 wholes-are w h = by-cells 0 (λ (i : ℕ). getD w i 0) 3 w h (λ i l. refl)
 
-abbrev headIn : List ℕ → Head
-headIn w = record { hz = getD w 1 0; frames = getD w 2 0 }
-
 pub cells-back : (m : List ℤ) (w : List ℕ) (s : Score) → length m ≡ 5 → length w ≡ 3 → scoreAt m w ≡ Values s
     → (microvoltsOf s ≡ m) × (wholesOf s ≡ w)
 unfolding scoreAt
-cells-back m w s hm hw p = go (ltb 4294967295 (getD w 1 0)) (ltb 4294967295 (getD w 2 0)) p
+cells-back m w s hm hw p =
+    let (cells, wholes) = said-back (getD w 0 0) (headAt w) m s (inputs-said (getD w 0 0) (headAt w) m) p in
+    (cells ∙ sym (cells-are m hm), wholes ∙ sym (wholes-are w hw))
+
+pub head-back : (m : List ℤ) (w : List ℕ) (s : Score) → scoreAt m w ≡ Values s → headAt w ≡ s .head
+unfolding scoreAt
+head-back m w s p = go (inputs-said (getD w 0 0) (headAt w) m) p
   where
-    go : (a b : Bool) → cond a (Refused 23) (cond b (Refused 23) (inputsAt (getD w 0 0) (headIn w) m)) ≡ Values s
-        → (microvoltsOf s ≡ m) × (wholesOf s ≡ w)
-    go true b p = absurd (not-refused p)
-    go false true p = absurd (not-refused p)
-    go false false p =
-        let (cells, wholes) = said-back (getD w 0 0) (headIn w) m s (inputs-said (getD w 0 0) (headIn w) m) p in
-        (cells ∙ sym (cells-are m hm), wholes ∙ sym (wholes-are w hw))
+    go : {x : Reading} → Said (getD w 0 0) (headAt w) m x → x ≡ Values s → headAt w ≡ s .head
+    go (values o e z) p = let same : made (getD w 0 0) (headAt w) m o ≡ s = cc in ap (λ (k : Score). k .head) same
+    go refused p = absurd (not-refused p)
 
 -- what no reader gives is refused by 23
 said-refused : {osc : ℕ} {head : Head} {m : List ℤ} {x : Reading} (k : ℕ) → Said osc head m x → x ≡ Refused k → k ≡ 23
@@ -199,12 +193,7 @@ said-refused k refused p = cc
 
 pub refused-by : (m : List ℤ) (w : List ℕ) (k : ℕ) → scoreAt m w ≡ Refused k → k ≡ 23
 unfolding scoreAt
-refused-by m w k p = go (ltb 4294967295 (getD w 1 0)) (ltb 4294967295 (getD w 2 0)) p
-  where
-    go : (a b : Bool) → cond a (Refused 23) (cond b (Refused 23) (inputsAt (getD w 0 0) (headIn w) m)) ≡ Refused k → k ≡ 23
-    go true b p = cc
-    go false true p = cc
-    go false false p = said-refused k (inputs-said (getD w 0 0) (headIn w) m) p
+refused-by m w k p = said-refused k (inputs-said (getD w 0 0) (headAt w) m) p
 
 -- ---- the volts of a valid score are those of its cells
 control-volts : (c : Control) → ValidInput c → voltsOf c ≡ voltsOf (controlAt (cellOf c))

@@ -2,16 +2,17 @@
 use Prim.Native.Nat.{ℕ, _≤_, _<_}
 use mathlib.Core.Bool.{Bool, true, false, cond}
 use mathlib.Core.List.{List, [], _∷_, _++_, map}
-use mathlib.Core.Path.{_≡_, refl, sym, ap, _∙_}
+use mathlib.Core.Path.{_≡_, refl, sym, ap, subst, _∙_}
 use native.Mathlib.Omega.{arith}
 use lib.Dec.{ltb, eqb}
 use lib.Ieee.{Float}
 use lib.IntN.{ℤ}
-use lib.ListN.{length, take, drop}
+use lib.ListN.{length, getD, take, drop}
 use borrow.Author.Tests.{eq-eqb, eqb-true, ltb-true, ltb-false}
 use Rattle.boundary.specs.Flat.{sizesOf, kept, keptSized}
 use Rattle.score.specs.Control.{voltsOf}
 use Rattle.score.specs.Score.{scoreOf}
+use Rattle.score.specs.Promises.{ValidHead}
 use Rattle.score.proofs.Text.{read-valid, score-text}
 use Rattle.score.proofs.Refusals.{refusals}
 use Rattle.score.proofs.LineKinds.{tested}
@@ -24,11 +25,12 @@ use Rattle.score_writer.proofs.Texts as writer
 use Rattle.score_writer.proofs.Texts.{write-read, read-write}
 use Rattle.score_writer.specs.declared.Writing.{Writing}
 use Rattle.score_writer.specs.declared.Writing.the-variants as W
-use Rattle.exports_score.specs.Cells.{floatsOf, wholesOf, microvoltsOf, controlAt, scoreAt}
+use Rattle.exports_score.specs.Cells.{floatsOf, wholesOf, microvoltsOf, controlAt, headAt, scoreAt}
+use Rattle.exports_score.specs.Shortcuts.{heldAt}
 use Rattle.exports_score.specs.Calls.{keptOf, scoreReadAt, Told, told, toldOf, scoreValuesAt, Saved, saved, savedBy, savedOf, scoreWriteAt}
 use Rattle.exports_score.specs.Examples.{blank, none}
 use Rattle.exports_score.specs.Promises.{Tells, Volts-agree, Read-written, Written-read, Short-refused, Enough-room, Unread-refused, Left}
-use Rattle.exports_score.proofs.Cells.{score-back, cells-back, refused-by, volts-back}
+use Rattle.exports_score.proofs.Cells.{score-back, cells-back, head-back, refused-by, volts-back}
 
 -- ---- what was read
 record Known (text : List ℕ) (m : List ℤ) (w : List ℕ) : Type 0 where
@@ -188,6 +190,27 @@ module _ (m : List ℤ) (w t : List ℕ) (l : ℕ) (five : length m ≡ 5) (thre
 
 pub unread-refused : Unread-refused
 unread-refused m w t l five three = (untold-refused m w t l five three, refused-untold m w t l five three)
+
+-- ---- what no u32 holds is out of range
+module _ (m : List ℤ) (w t l : List ℕ) where
+  out-score : (ValidHead (headAt w) → ⊥) → (r : Reading) → scoreAt m w ≡ r → savedOf r t l ≡ saved 23 t l
+  unfolding savedOf
+  out-score f (Values s) e =
+      let refused = writer.unread-refused s (length t) .0 (λ text p. f (subst ValidHead (sym (head-back m w s e)) (read-valid text s p .head))) in
+      let left = writer.refused-left s t 23 refused in
+      (λ i. savedBy (refused i) (left i) l)
+  out-score f (Refused n) e = ap (λ (k : ℕ). saved k t l) (refused-by m w n e)
+
+  out-saved : (ValidHead (headAt w) → ⊥) → saved 23 t l ≡ savedOf (scoreAt m w) t l
+  out-saved f = sym (out-score f (scoreAt m w) refl)
+
+  pub held-saved : savedOf (heldAt m w) t l ≡ savedOf (scoreAt m w) t l
+  unfolding heldAt savedOf
+  held-saved =
+      tested (λ (r : Reading). savedOf r t l ≡ savedOf (scoreAt m w) t l) (ltb 4294967295 (getD w 1 0))
+      (λ e. out-saved (λ v. let h = v .hz-most in omega (arith, ltb-true 4294967295 (getD w 1 0) e))) (λ _.
+      tested (λ (r : Reading). savedOf r t l ≡ savedOf (scoreAt m w) t l) (ltb 4294967295 (getD w 2 0))
+      (λ e. out-saved (λ v. let h = v .frames-most in omega (arith, ltb-true 4294967295 (getD w 2 0) e))) (λ _. refl))
 
 -- ---- what isn't done leaves every slice
 told-left : (r : Reading) (m : List ℤ) (w : List ℕ) → (toldOf r m w .code ≡ 0 → ⊥) → toldOf r m w ≡ told (toldOf r m w .code) m w

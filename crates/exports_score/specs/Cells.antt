@@ -2,7 +2,7 @@
 use mathlib.Core.Bool.{Bool, true, false, cond}
 use mathlib.Core.List.{List, [], _∷_, map}
 use Prim.Native.Nat.{ℕ}
-use lib.Dec.{ltb, eqb}
+use lib.Dec.{eqb}
 use lib.Ieee.{Float}
 use lib.IntN.{ℤ, pos, negsuc}
 use lib.ListN.{length, getD, drop}
@@ -55,7 +55,7 @@ cellOf Nan = negsuc 2147483647
 unfoldable pub microvoltsOf : Score → List ℤ
 microvoltsOf s = map cellOf (fiveOf s)
 
--- ---- the score of a host's cells; 23 where they are none's. Whether its numbers are in range the writer asks
+-- ---- the score of a host's cells, as the reader would give it; 23 where they are none's. Whether its numbers are in range the writer asks
 unfoldable pub controlAt : ℤ → Control
 controlAt (pos n) = Microvolts (pos n)
 controlAt (negsuc n) = cond (eqb n 2147483647) Nan (Microvolts (negsuc n))
@@ -88,11 +88,8 @@ inputsAt osc head m =
     (cond (eqb osc (oscNumber O.Formant)) (valuesAt O.Formant head m)
     (Refused 23))))
 
--- a number that no u32 is is no hz, and no frames: 23
+abbrev pub headAt : List ℕ → Head
+headAt w = record { hz = getD w 1 0; frames = getD w 2 0 }
+
 unfoldable pub scoreAt : List ℤ → List ℕ → Reading
-scoreAt m w =
-    let hz = getD w 1 0 in
-    let frames = getD w 2 0 in
-    cond (ltb 4294967295 hz) (Refused 23)
-    (cond (ltb 4294967295 frames) (Refused 23)
-    (inputsAt (getD w 0 0) (record { hz = hz; frames = frames }) m))
+scoreAt m w = inputsAt (getD w 0 0) (headAt w) m

@@ -1,4 +1,5 @@
 pub mod Cells
+pub mod Shortcuts
 pub mod Calls
 pub mod Examples
 pub mod Promises

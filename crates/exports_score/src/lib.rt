@@ -22,7 +22,8 @@ ghost use Rattle.boundary.specs.Flat.{kept};
 ghost use Rattle.score.specs.declared.Inputs.the-variants as I;
 ghost use Rattle.score.specs.declared.Osc.the-variants as O;
 ghost use Rattle.exports_score.specs.Cells.{portsOf, floatsOf, wholesOf, cellOf, microvoltsOf, controlAt, cellsAt, isZero, zeros};
-ghost use Rattle.exports_score.specs.Cells.{valuesAt, inputsAt, scoreAt};
+ghost use Rattle.exports_score.specs.Cells.{valuesAt, inputsAt};
+ghost use Rattle.exports_score.specs.Shortcuts.{heldAt};
 ghost use Rattle.exports_score.specs.Calls.{keptOf, scoreReadAt, told, toldOf, scoreValuesAt, saved, savedOf, scoreWriteAt};
 
 // How many floats, wholes, microvolts and lengths a host lends.
@@ -359,10 +360,10 @@ fn inputs_at(osc: u64, head: Head, microvolts: &[i32]) -> Reading
     Reading::Refused(23)
 }
 
-// What no u32 holds is no hz and no frames.
+// What no u32 holds is out of range as hz and as frames.
 fn score_at(microvolts: &[i32], wholes: &[u64]) -> Reading
     requires { ⌜ (length (now microvolts) ≡ 5) × (length (now wholes) ≡ 3) ⌝ }
-    ensures { λ r. ⌜ r ≡ scoreAt (now (microvolts .entry)) (now (wholes .entry)) ⌝ }
+    ensures { λ r. ⌜ r ≡ heldAt (now (microvolts .entry)) (now (wholes .entry)) ⌝ }
 {
     let hz = wholes[1];
     let frames = wholes[2];

@@ -10,6 +10,7 @@ use native.Mathlib.Omega.{arith}
 use lib.ListN.{length}
 use lib.Dec.{eqb, lit≤}
 use borrow.Author.Tests.{eqb-true}
+use Rattle.text.specs.Lines.{wordLine}
 use Rattle.line.specs.Bytes.{ascii, hasOf}
 use Rattle.line.specs.Line.{valueOf, isLine, afterLine}
 use Rattle.line.proofs.Laws.{empty, line-split}
@@ -46,7 +47,10 @@ said-refused n (refused m h) p = let e : m ≡ n = cc in subst ByLine e h
 -- ---- a line with what stands after it
 module _ (key : String) (v rest : List ℕ) where
   pub seam : lineText key v ++ rest ≡ ascii key ++ (61 ∷ (v ++ (10 ∷ rest)))
-  seam = append-assoc (ascii key) (61 ∷ (v ++ (10 ∷ []))) rest ∙ ap (λ (l : List ℕ). ascii key ++ (61 ∷ l)) (append-assoc v (10 ∷ []) rest)
+  unfolding wordLine
+  seam =
+      append-assoc ((ascii key ++ (61 ∷ [])) ++ v) (10 ∷ []) rest ∙ append-assoc (ascii key ++ (61 ∷ [])) v (10 ∷ rest)
+      ∙ append-assoc (ascii key) (61 ∷ []) (v ++ (10 ∷ rest))
 
   line-again : Key (ascii key) → hasOf 10 v ≡ false → LineRead (ascii key) v rest (lineText key v ++ rest)
   line-again k n = rw seam (line-read (ascii key) v rest k n)

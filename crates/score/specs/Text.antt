@@ -3,6 +3,7 @@ use Prim.Native.Nat.{ℕ}
 use Prim.Native.String.{String}
 use mathlib.Core.List.{List, [], _∷_, _++_}
 use mathlib.Core.Bool.{false}
+use Rattle.text.specs.Lines.{wordLine}
 use Rattle.line.specs.Bytes.{ascii}
 use Rattle.line.specs.Number.{numberText}
 use Rattle.line.specs.declared.Number.the-variants.{Whole}
@@ -22,7 +23,7 @@ wholeText n = numberText (Whole false n)
 
 -- key, equals sign, value, line feed
 abbrev pub lineText : String → List ℕ → List ℕ
-lineText key value = ascii key ++ (61 ∷ (value ++ (10 ∷ [])))
+lineText key value = wordLine (ascii key ++ (61 ∷ [])) value
 
 -- a line for each key with its value; after those of the head goes on what stands behind it
 abbrev pub wholesText : List WholeKey → List ℕ → List ℕ → List ℕ

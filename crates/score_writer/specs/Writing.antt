@@ -38,6 +38,7 @@ controlRefusal c = ofControl (controlOf (numberIn c))
 unfoldable pub firstOf : ℕ → ℕ → ℕ
 firstOf a b = cond (eqb a 0) b a
 
+-- of the head's lines, and of those behind them
 abbrev pub wholesRefusal : List WholeKey → List ℕ → ℕ → ℕ
 wholesRefusal (w ∷ ws) (n ∷ ns) rest = firstOf (wholeRefusal (w .least) (w .most) n) (wholesRefusal ws ns rest)
 wholesRefusal [] ns rest = rest

@@ -2,6 +2,7 @@
 use mathlib.Core.Path.{_∙_}
 use borrow.Author.Tests.{ne-eqb, eq-eqb}
 use Rattle.exports_score.specs.Calls.{scoreWriteAt}
+use Rattle.exports_score.proofs.Saved.{held-saved}
 use borrow.Author.Needs.{needs}
 use Rattle.exports_score.proofs.gruttisol_score_write.Statement.{statement}
 use Rattle.exports_score.proofs.gruttisol_score_write.Tie as tie
@@ -30,7 +31,7 @@ returns-4 c =
       eq-eqb _ _ (sized .before .if2 .left),
       eq-eqb _ _ (sized .if3 .left),
       said .score-at .ensures,
-    )
+    ) (held-saved _ _ _ _)
 
 pub gruttisol-score-write-spec : {M : Type 1} → statement M
 gruttisol-score-write-spec =

@@ -1,5 +1,4 @@
 -- `score_writer::put_formant`: four lines, one after the other.
-use Rattle.text.specs.Lines.{wordLine}
 use Rattle.text.proofs.PutLaws.{after}
 use Rattle.score_writer.proofs.Put.{ended}
 use borrow.Author.Needs.{needs}
@@ -7,16 +6,15 @@ use Rattle.score_writer.proofs.put_formant.Statement.{statement}
 use Rattle.score_writer.proofs.put_formant.Tie as tie
 
 returns : tie.Need-returns
-unfolding wordLine
 returns c =
-    let put-4 = c .before .before in
-    let put-3 = put-4 .before .before .before .before .before in
-    let put-2 = put-3 .before .before .before .before .before in
-    let put-1 = put-2 .before .before .before .before .before in
-    after _ _ _ _ (put-1 .put-control .ensures)
-    (after _ _ _ _ (put-2 .put-control2 .ensures)
-    (after _ _ _ _ (put-3 .put-control3 .ensures)
-    (ended _ _ _ (put-4 .put-control4 .ensures))))
+    let vibrato = c .before .before in
+    let formant-shift = vibrato .before .before .before .before .before in
+    let vowel = formant-shift .before .before .before .before .before in
+    let v-oct = vowel .before .before .before .before .before in
+    after _ _ _ _ (v-oct .put-control .ensures)
+    (after _ _ _ _ (vowel .put-control2 .ensures)
+    (after _ _ _ _ (formant-shift .put-control3 .ensures)
+    (ended _ _ _ (vibrato .put-control4 .ensures))))
 
 pub put-formant-spec : {M : Type 1} → statement M
 put-formant-spec =

@@ -1,5 +1,4 @@
 -- `score_writer::put_lfo`: three lines, one after the other.
-use Rattle.text.specs.Lines.{wordLine}
 use Rattle.text.proofs.PutLaws.{after}
 use Rattle.score_writer.proofs.Put.{ended}
 use borrow.Author.Needs.{needs}
@@ -7,14 +6,13 @@ use Rattle.score_writer.proofs.put_lfo.Statement.{statement}
 use Rattle.score_writer.proofs.put_lfo.Tie as tie
 
 returns : tie.Need-returns
-unfolding wordLine
 returns c =
-    let put-3 = c .before .before in
-    let put-2 = put-3 .before .before .before .before .before in
-    let put-1 = put-2 .before .before .before .before .before in
-    after _ _ _ _ (put-1 .put-control .ensures)
-    (after _ _ _ _ (put-2 .put-control2 .ensures)
-    (ended _ _ _ (put-3 .put-control3 .ensures)))
+    let reset = c .before .before in
+    let depth = reset .before .before .before .before .before in
+    let rate = depth .before .before .before .before .before in
+    after _ _ _ _ (rate .put-control .ensures)
+    (after _ _ _ _ (depth .put-control2 .ensures)
+    (ended _ _ _ (reset .put-control3 .ensures)))
 
 pub put-lfo-spec : {M : Type 1} → statement M
 put-lfo-spec =

@@ -1,29 +1,24 @@
 -- `score_writer::put_osc`: the name of each.
-use Rattle.text.specs.Lines.{wordLine}
 use borrow.Author.Needs.{needs}
 use Rattle.score_writer.proofs.put_osc.Statement.{statement}
 use Rattle.score_writer.proofs.put_osc.Tie as tie
 
 returns : tie.Need-returns
-unfolding wordLine
 returns c =
     let put = c .before .before in
     rw (put .before .before .before .before .enum-told .given .1) (put .put-word .ensures)
 
 returns-2 : tie.Need-returns-2
-unfolding wordLine
 returns-2 c =
     let put = c .before .before in
     rw (put .before .before .before .before .enum-told2 .given .1) (put .put-word2 .ensures)
 
 returns-3 : tie.Need-returns-3
-unfolding wordLine
 returns-3 c =
     let put = c .before .before in
     rw (put .before .before .before .before .enum-told3 .given .1) (put .put-word3 .ensures)
 
 returns-4 : tie.Need-returns-4
-unfolding wordLine
 returns-4 c =
     let put = c .before .before in
     rw (put .before .before .before .before .enum-told4 .given .1) (put .put-word4 .ensures)

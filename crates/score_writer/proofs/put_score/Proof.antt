@@ -1,5 +1,5 @@
 -- `score_writer::put_score`: osc, hz, frames, and then the inputs.
-use Rattle.text.specs.Lines.{wordLine, countLine}
+use Rattle.text.specs.Lines.{countLine}
 use Rattle.text.proofs.PutLaws.{after}
 use Rattle.line.specs.Number.{numberText}
 use Rattle.score.specs.Text.{textOf}
@@ -8,7 +8,7 @@ use Rattle.score_writer.proofs.put_score.Statement.{statement}
 use Rattle.score_writer.proofs.put_score.Tie as tie
 
 returns : tie.Need-returns
-unfolding textOf numberText wordLine countLine
+unfolding textOf numberText countLine
 returns c =
     let inputs = c .before .before in
     let frames = inputs .before .before .before .before in

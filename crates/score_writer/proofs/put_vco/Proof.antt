@@ -1,5 +1,4 @@
 -- `score_writer::put_vco`: five lines, one after the other.
-use Rattle.text.specs.Lines.{wordLine}
 use Rattle.text.proofs.PutLaws.{after}
 use Rattle.score_writer.proofs.Put.{ended}
 use borrow.Author.Needs.{needs}
@@ -7,18 +6,17 @@ use Rattle.score_writer.proofs.put_vco.Statement.{statement}
 use Rattle.score_writer.proofs.put_vco.Tie as tie
 
 returns : tie.Need-returns
-unfolding wordLine
 returns c =
-    let put-5 = c .before .before in
-    let put-4 = put-5 .before .before .before .before .before in
-    let put-3 = put-4 .before .before .before .before .before in
-    let put-2 = put-3 .before .before .before .before .before in
-    let put-1 = put-2 .before .before .before .before .before in
-    after _ _ _ _ (put-1 .put-control .ensures)
-    (after _ _ _ _ (put-2 .put-control2 .ensures)
-    (after _ _ _ _ (put-3 .put-control3 .ensures)
-    (after _ _ _ _ (put-4 .put-control4 .ensures)
-    (ended _ _ _ (put-5 .put-control5 .ensures)))))
+    let fm-lin = c .before .before in
+    let sync = fm-lin .before .before .before .before .before in
+    let pw = sync .before .before .before .before .before in
+    let fm = pw .before .before .before .before .before in
+    let voct = fm .before .before .before .before .before in
+    after _ _ _ _ (voct .put-control .ensures)
+    (after _ _ _ _ (fm .put-control2 .ensures)
+    (after _ _ _ _ (pw .put-control3 .ensures)
+    (after _ _ _ _ (sync .put-control4 .ensures)
+    (ended _ _ _ (fm-lin .put-control5 .ensures)))))
 
 pub put-vco-spec : {M : Type 1} → statement M
 put-vco-spec =
