@@ -2,7 +2,7 @@
 use Prim.Native.Nat.{ℕ, suc, _-_, _<_, _≤_}
 use mathlib.Core.Bool.{Bool, true, false, cond}
 use mathlib.Core.List.{List, [], _∷_, map}
-use mathlib.Core.Path.{_≡_, refl, sym, ap, _∙_}
+use mathlib.Core.Path.{_≡_, refl, sym, ap, subst, _∙_}
 use native.Mathlib.Omega.{arith}
 use lib.Dec.{ltb, eqb, lit≤}
 use lib.IntN.{ℤ, pos, negsuc}
@@ -30,8 +30,20 @@ use Rattle.score.specs.declared.Reading.{Reading}
 use Rattle.score.specs.declared.Reading.the-variants.{Values, Refused}
 use Rattle.score.proofs.LineKinds.{tested}
 use Rattle.score.proofs.Lines.{not-refused}
-use Rattle.exports_score.specs.Cells.{oscNumber, none, portsOf, wholesOf, floatsOf, cellOf, microvoltsOf, controlAt, cellsAt, isZero, zeros}
+use Rattle.exports_score.specs.Cells.{oscNumber, none, portsOf, wholesOf, floatsOf, cellOf, microvoltsOf, controlAt, isZero, zeros}
 use Rattle.exports_score.specs.Cells.{valuesAt, inputsAt, headAt, scoreAt}
+
+-- ---- five cells, by their places
+abbrev pub cellsAt : List ℤ → List ℤ
+cellsAt m = getD m 0 (pos 0) ∷ getD m 1 (pos 0) ∷ getD m 2 (pos 0) ∷ getD m 3 (pos 0) ∷ getD m 4 (pos 0) ∷ []
+
+pub cells-are : (m : List ℤ) → length m ≡ 5 → m ≡ cellsAt m
+unfolding tab
+cells-are m h = by-cells (pos 0) (λ (i : ℕ). getD m i (pos 0)) 5 m h (λ i l. refl)
+
+-- what holds of five cells by their places holds of them
+pub by-places : (P : List ℤ → Type 0) (m : List ℤ) → length m ≡ 5 → P (cellsAt m) → P m
+by-places P m h p = subst P (sym (cells-are m h)) p
 
 -- ---- one cell
 pub cell-back : (c : Control) → ValidInput c → controlAt (cellOf c) ≡ c
@@ -79,9 +91,25 @@ stored-cells l a b c d e fa fb fc fd fe h =
     stored l (map (λ (z : ℤ). toZ w32 (ofZ w32 z)) (a ∷ b ∷ c ∷ d ∷ e ∷ [])) h ∙ (λ i. pa i ∷ pb i ∷ pc i ∷ pd i ∷ pe i ∷ [])
 
 -- of one cell the test decides
-pub one-zero : (b : Bool) → b ≡ cond b true false
+one-zero : (b : Bool) → cond b true false ≡ b
 one-zero true = refl
 one-zero false = refl
+
+-- ---- five cells, as the code asks them one by one
+module _ (m : List ℤ) (h : length m ≡ 5) where
+  pub no-spare : zeros (drop 5 m) ≡ true
+  no-spare = by-places (λ (l : List ℤ). zeros (drop 5 l) ≡ true) m h refl
+
+  pub one-spare : zeros (drop 4 m) ≡ isZero (getD m 4 (pos 0))
+  one-spare = by-places (λ (l : List ℤ). zeros (drop 4 l) ≡ isZero (getD l 4 (pos 0))) m h (one-zero _)
+
+  pub two-spare : zeros (drop 3 m) ≡ cond (isZero (getD m 3 (pos 0))) (isZero (getD m 4 (pos 0))) false
+  two-spare =
+      by-places (λ (l : List ℤ). zeros (drop 3 l) ≡ cond (isZero (getD l 3 (pos 0))) (isZero (getD l 4 (pos 0))) false) m h
+      (ap (λ (b : Bool). cond (isZero (getD m 3 (pos 0))) b false) (one-zero _))
+
+  pub controls-are : map controlAt m ≡ map controlAt (cellsAt m)
+  controls-are = ap (map controlAt) (cells-are m h)
 
 -- ---- the score of a valid score's cells is the score
 inputs-back : (head : Head) (i : Inputs) → ValidInputs i
@@ -112,14 +140,17 @@ zeros-are n ns e = go (isZero n) refl e
 
 -- what cells say
 data Said (osc : ℕ) (head : Head) (m : List ℤ) : Reading → Type 0 where
-  values : (o : Osc) → osc ≡ oscNumber o → zeros (drop (length (inputKeys o)) (cellsAt m)) ≡ true
-      → Said osc head m (Values (record { head = head; inputs = inputsFrom o (map controlAt (cellsAt m)) }))
+  values : (o : Osc) → osc ≡ oscNumber o → zeros (drop (length (inputKeys o)) m) ≡ true
+      → Said osc head m (Values (record { head = head; inputs = inputsFrom o (map controlAt m) }))
   refused : Said osc head m (Refused 23)
+
+abbrev made : Head → List ℤ → Osc → Score
+made head m o = record { head = head; inputs = inputsFrom o (map controlAt m) }
 
 module _ (osc : ℕ) (head : Head) (m : List ℤ) where
   values-said : (o : Osc) → osc ≡ oscNumber o → Said osc head m (valuesAt o head m)
   unfolding valuesAt
-  values-said o e = tested (Said osc head m) (zeros (drop (length (inputKeys o)) (cellsAt m))) (values o e) (λ _. refused)
+  values-said o e = tested (Said osc head m) (zeros (drop (length (inputKeys o)) m)) (values o e) (λ _. refused)
 
   inputs-said : Said osc head m (inputsAt osc head m)
   unfolding inputsAt
@@ -129,43 +160,43 @@ module _ (osc : ℕ) (head : Head) (m : List ℤ) where
       tested (Said osc head m) (eqb osc 2) (λ e. values-said O.Supersaw (eqb-true osc 2 e)) (λ _.
       tested (Said osc head m) (eqb osc 3) (λ e. values-said O.Formant (eqb-true osc 3 e)) (λ _. refused))))
 
-  abbrev made : Osc → Score
-  made o = record { head = head; inputs = inputsFrom o (map controlAt (cellsAt m)) }
+-- of five cells: a to e
+module _ (head : Head) (a b c d e : ℤ) where
+  abbrev five : List ℤ
+  five = a ∷ b ∷ c ∷ d ∷ e ∷ []
 
-  three-made : zeros (drop 3 (cellsAt m)) ≡ true → getD m 0 (pos 0) ∷ getD m 1 (pos 0) ∷ getD m 2 (pos 0) ∷ pos 0 ∷ pos 0 ∷ [] ≡ cellsAt m
-  three-made e =
-      let (a, f) = zeros-are (getD m 3 (pos 0)) (getD m 4 (pos 0) ∷ []) e in
-      let p = sym a in
-      let q = sym (zeros-are (getD m 4 (pos 0)) [] f .0) in
-      (λ i. getD m 0 (pos 0) ∷ getD m 1 (pos 0) ∷ getD m 2 (pos 0) ∷ p i ∷ q i ∷ [])
+  three-made : zeros (d ∷ e ∷ []) ≡ true → a ∷ b ∷ c ∷ pos 0 ∷ pos 0 ∷ [] ≡ five
+  three-made z =
+      let (p, f) = zeros-are d (e ∷ []) z in
+      let to-d = sym p in
+      let to-e = sym (zeros-are e [] f .0) in
+      (λ i. a ∷ b ∷ c ∷ to-d i ∷ to-e i ∷ [])
 
-  cells-made : (o : Osc) → zeros (drop (length (inputKeys o)) (cellsAt m)) ≡ true → microvoltsOf (made o) ≡ cellsAt m
+  five-made : (o : Osc) → zeros (drop (length (inputKeys o)) five) ≡ true → microvoltsOf (made head five o) ≡ five
   unfolding microvoltsOf portsOf cellOf
-  cells-made O.Vco e = simp control-back
-  cells-made O.Lfo e = simp control-back (three-made e)
-  cells-made O.Supersaw e = simp control-back (three-made e)
-  cells-made O.Formant e =
-      let p = sym (zeros-are (getD m 4 (pos 0)) [] e .0) in
-      simp control-back (λ i. getD m 0 (pos 0) ∷ getD m 1 (pos 0) ∷ getD m 2 (pos 0) ∷ getD m 3 (pos 0) ∷ p i ∷ [])
+  five-made O.Vco z = simp control-back
+  five-made O.Lfo z = simp control-back (three-made z)
+  five-made O.Supersaw z = simp control-back (three-made z)
+  five-made O.Formant z = let to-e = sym (zeros-are e [] z .0) in simp control-back (λ i. a ∷ b ∷ c ∷ d ∷ to-e i ∷ [])
 
-  number-made : (o : Osc) → portsOf (made o .inputs) .osc ≡ oscNumber o
-  unfolding portsOf
-  number-made O.Vco = refl
-  number-made O.Lfo = refl
-  number-made O.Supersaw = refl
-  number-made O.Formant = refl
+cells-made : (head : Head) (m : List ℤ) (o : Osc) → length m ≡ 5 → zeros (drop (length (inputKeys o)) m) ≡ true → microvoltsOf (made head m o) ≡ m
+cells-made head m o h =
+    by-places (λ (l : List ℤ). zeros (drop (length (inputKeys o)) l) ≡ true → microvoltsOf (made head l o) ≡ l) m h (five-made head _ _ _ _ _ o)
 
-  said-back : {x : Reading} (s : Score) → Said osc head m x → x ≡ Values s
-      → (microvoltsOf s ≡ cellsAt m) × (wholesOf s ≡ osc ∷ head .hz ∷ head .frames ∷ [])
-  unfolding wholesOf
-  said-back s (values o e z) p =
-      let same : made o ≡ s = cc in
-      rw (← same) (cells-made o z, ap (λ (n : ℕ). n ∷ head .hz ∷ head .frames ∷ []) (number-made o ∙ sym e))
-  said-back s refused p = absurd (not-refused p)
+number-made : (head : Head) (m : List ℤ) (o : Osc) → portsOf (made head m o .inputs) .osc ≡ oscNumber o
+unfolding portsOf
+number-made head m O.Vco = refl
+number-made head m O.Lfo = refl
+number-made head m O.Supersaw = refl
+number-made head m O.Formant = refl
 
-cells-are : (m : List ℤ) → length m ≡ 5 → m ≡ cellsAt m
-unfolding tab
-cells-are m h = by-cells (pos 0) (λ (i : ℕ). getD m i (pos 0)) 5 m h (λ i l. refl)
+said-back : (osc : ℕ) (head : Head) (m : List ℤ) {x : Reading} (s : Score) → length m ≡ 5 → Said osc head m x → x ≡ Values s
+    → (microvoltsOf s ≡ m) × (wholesOf s ≡ osc ∷ head .hz ∷ head .frames ∷ [])
+unfolding wholesOf
+said-back osc head m s h (values o e z) p =
+    let same : made head m o ≡ s = cc in
+    rw (← same) (cells-made head m o h z, ap (λ (n : ℕ). n ∷ head .hz ∷ head .frames ∷ []) (number-made head m o ∙ sym e))
+said-back osc head m s h refused p = absurd (not-refused p)
 
 wholes-are : (w : List ℕ) → length w ≡ 3 → w ≡ getD w 0 0 ∷ getD w 1 0 ∷ getD w 2 0 ∷ []
 unfolding tab
@@ -175,15 +206,15 @@ pub cells-back : (m : List ℤ) (w : List ℕ) (s : Score) → length m ≡ 5 �
     → (microvoltsOf s ≡ m) × (wholesOf s ≡ w)
 unfolding scoreAt
 cells-back m w s hm hw p =
-    let (cells, wholes) = said-back (getD w 0 0) (headAt w) m s (inputs-said (getD w 0 0) (headAt w) m) p in
-    (cells ∙ sym (cells-are m hm), wholes ∙ sym (wholes-are w hw))
+    let (cells, wholes) = said-back (getD w 0 0) (headAt w) m s hm (inputs-said (getD w 0 0) (headAt w) m) p in
+    (cells, wholes ∙ sym (wholes-are w hw))
 
 pub head-back : (m : List ℤ) (w : List ℕ) (s : Score) → scoreAt m w ≡ Values s → headAt w ≡ s .head
 unfolding scoreAt
 head-back m w s p = go (inputs-said (getD w 0 0) (headAt w) m) p
   where
     go : {x : Reading} → Said (getD w 0 0) (headAt w) m x → x ≡ Values s → headAt w ≡ s .head
-    go (values o e z) p = let same : made (getD w 0 0) (headAt w) m o ≡ s = cc in ap (λ (k : Score). k .head) same
+    go (values o e z) p = let same : made (headAt w) m o ≡ s = cc in ap (λ (k : Score). k .head) same
     go refused p = absurd (not-refused p)
 
 -- what no reader gives is refused by 23

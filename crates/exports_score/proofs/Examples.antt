@@ -14,4 +14,4 @@ pub cell-examples : Cell-examples
 unfolding sameOf hasOf untilOf pastOf lineOf afterLine keyOf valueOf isLine digitsFrom digitsOf negativeOf signedOf numberOf oscOf withinOf controlOf
     oscLine wholeLine controlLine osc whole control endOf inputsOf headOf linesOf scoreOf wholeRefusal controlRefusal firstOf refusalOf writingOf writtenOf
     portsOf wholesOf cellOf microvoltsOf controlAt valuesAt inputsAt scoreAt toldOf scoreValuesAt savedOf scoreWriteAt
-cell-examples = (refl, refl)
+cell-examples = (refl, refl, refl)

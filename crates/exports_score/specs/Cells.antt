@@ -60,10 +60,6 @@ unfoldable pub controlAt : ℤ → Control
 controlAt (pos n) = Microvolts (pos n)
 controlAt (negsuc n) = cond (eqb n 2147483647) Nan (Microvolts (negsuc n))
 
--- the five cells
-abbrev pub cellsAt : List ℤ → List ℤ
-cellsAt m = getD m 0 (pos 0) ∷ getD m 1 (pos 0) ∷ getD m 2 (pos 0) ∷ getD m 3 (pos 0) ∷ getD m 4 (pos 0) ∷ []
-
 abbrev pub isZero : ℤ → Bool
 isZero (pos n) = eqb n 0
 isZero (negsuc n) = false
@@ -75,8 +71,8 @@ zeros (n ∷ ns) = cond (isZero n) (zeros ns) false
 -- the cells past an oscillator's last input are 0
 unfoldable pub valuesAt : Osc → Head → List ℤ → Reading
 valuesAt o head m =
-    cond (zeros (drop (length (inputKeys o)) (cellsAt m)))
-    (Values (record { head = head; inputs = inputsFrom o (map controlAt (cellsAt m)) }))
+    cond (zeros (drop (length (inputKeys o)) m))
+    (Values (record { head = head; inputs = inputsFrom o (map controlAt m) }))
     (Refused 23)
 
 -- an oscillator that isn't known is 23 too: it is no line that could be wrong

@@ -35,6 +35,25 @@ texts =
     (pos 0 ∷ negsuc 2147483647 ∷ pos 3 ∷ negsuc 3 ∷ pos 0 ∷ []) (3 ∷ 44100 ∷ 480000 ∷ [])
     ∷ []
 
+-- what a text is read into, of which the first refusal decides
+pub record Lent : Type 0 where
+  pub text : String
+  pub microvolts : List ℤ
+  pub wholes : List ℕ
+  pub by : ℕ
+
+abbrev lent : String → List ℤ → List ℕ → ℕ → Lent
+lent text microvolts wholes by = record { text = text; microvolts = microvolts; wholes = wholes; by = by }
+
+abbrev pub unread : List Lent
+unread =
+    lent "osc=vco\n" blank none 21
+    ∷ lent "osc=vco\nhz=1\n" blank none 23
+    -- lengths, before all
+    ∷ lent "" [] [] 54
+    ∷ lent "" blank [] 51
+    ∷ []
+
 -- what is handed over to be written into a buffer of three x's, of which the first refusal decides
 pub record Handed : Type 0 where
   pub microvolts : List ℤ
@@ -70,4 +89,6 @@ xs = 120 ∷ 120 ∷ 120 ∷ []
 abbrev pub Cell-examples : Type 0
 Cell-examples =
     (map (λ (r : Row). scoreValuesAt (ascii (r .text)) blank none) texts ≡ map (λ (r : Row). told 0 (r .microvolts) (r .wholes)) texts)
+    × (map (λ (r : Lent). scoreValuesAt (ascii (r .text)) (r .microvolts) (r .wholes)) unread
+    ≡ map (λ (r : Lent). told (r .by) (r .microvolts) (r .wholes)) unread)
     × (map (λ (h : Handed). scoreWriteAt (h .microvolts) (h .wholes) xs (h .written)) refusals ≡ map (λ (h : Handed). saved (h .by) xs (h .written)) refusals)

@@ -21,7 +21,7 @@ ghost use lib.ListN.{length, getD, drop};
 ghost use Rattle.boundary.specs.Flat.{kept};
 ghost use Rattle.score.specs.declared.Inputs.the-variants as I;
 ghost use Rattle.score.specs.declared.Osc.the-variants as O;
-ghost use Rattle.exports_score.specs.Cells.{portsOf, floatsOf, wholesOf, cellOf, microvoltsOf, controlAt, cellsAt, isZero, zeros};
+ghost use Rattle.exports_score.specs.Cells.{portsOf, floatsOf, wholesOf, cellOf, microvoltsOf, controlAt, isZero, zeros};
 ghost use Rattle.exports_score.specs.Cells.{valuesAt, inputsAt};
 ghost use Rattle.exports_score.specs.Shortcuts.{heldAt};
 ghost use Rattle.exports_score.specs.Calls.{keptOf, scoreReadAt, told, toldOf, scoreValuesAt, saved, savedOf, scoreWriteAt};
@@ -269,7 +269,7 @@ fn zero_at(microvolts: &[i32], i: usize) -> bool
 // Whether the cells past the third are 0.
 fn only_three(microvolts: &[i32]) -> bool
     requires { ⌜ length (now microvolts) ≡ 5 ⌝ }
-    ensures { λ r. ⌜ r ≡ zeros (drop 3 (cellsAt (now (microvolts .entry)))) ⌝ }
+    ensures { λ r. ⌜ r ≡ zeros (drop 3 (now (microvolts .entry))) ⌝ }
 {
     if zero_at(microvolts, 3) {
         zero_at(microvolts, 4)

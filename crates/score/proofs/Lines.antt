@@ -18,11 +18,12 @@ use Rattle.line.proofs.Written.{Key, LineRead, line-read}
 use Rattle.score.specs.Keys.{oscKey, nameOf, WholeKey}
 use Rattle.score.specs.Lines.{oscLine, wholeLine, controlLine}
 use Rattle.score.specs.Score.{osc, whole, control, endOf}
-use Rattle.score.specs.Text.{controlText, wholeText, lineText}
+use Rattle.score.specs.Text.{controlText, wholeText, lineText, headText}
 use Rattle.score.specs.Promises.{ValidInput}
 use Rattle.score.proofs.LineKinds.{Kind, ByLine, Seen, value, none, Lawful, tested}
 use Rattle.score.proofs.LineKinds.{osc-laws, whole-laws, control-laws}
 use Rattle.score.specs.declared.Control.{Control}
+use Rattle.score.specs.declared.Head.{Head}
 use Rattle.score.specs.declared.Osc.{Osc}
 use Rattle.score.specs.declared.Score.{Score}
 use Rattle.score.specs.declared.Reading.{Reading}
@@ -54,6 +55,14 @@ module _ (key : String) (v rest : List ℕ) where
 
   line-again : Key (ascii key) → hasOf 10 v ≡ false → LineRead (ascii key) v rest (lineText key v ++ rest)
   line-again k n = rw seam (line-read (ascii key) v rest k n)
+
+-- the head's two lines with what stands after them
+pub head-lines : (h : Head) (rest : List ℕ)
+    → headText h ++ rest ≡ lineText "hz" (wholeText (h .hz)) ++ (lineText "frames" (wholeText (h .frames)) ++ rest)
+head-lines h rest =
+    let hz = lineText "hz" (wholeText (h .hz)) in
+    let frames = lineText "frames" (wholeText (h .frames)) in
+    append-assoc hz (frames ++ []) rest ∙ ap (λ (l : List ℕ). hz ++ l) (append-assoc frames [] rest)
 
 -- ---- the law
 module _ {K : Kind} (laws : Lawful K) (key : String) (k : K .Value → List ℕ → Reading) where

@@ -46,15 +46,14 @@ unfolding numberText
 whole-short n h = decimal-short 5 n (omega arith)
 
 -- ---- lines
-head-short : (h : Head) (rest : List ℕ) → ValidHead h → length (headText h rest) ≤ 24 + length rest
-head-short h rest v =
+head-short : (h : Head) → ValidHead h → length (headText h) ≤ 24
+head-short h v =
     let hz-most = v .hz-most in
-    let after = lineText "frames" (wholeText (h .frames)) ++ rest in
     omega (
       arith,
-      line-length "hz" (wholeText (h .hz)) after,
+      line-length "hz" (wholeText (h .hz)) (lineText "frames" (wholeText (h .frames)) ++ []),
       whole-short (h .hz) (omega arith),
-      line-length "frames" (wholeText (h .frames)) rest,
+      line-length "frames" (wholeText (h .frames)) [],
       whole-short (h .frames) (v .frames-most),
     )
 
@@ -99,8 +98,9 @@ text-short s v =
     let inputs = inputsText (s .inputs) in
     omega (
       arith,
-      line-length oscKey (nameOf o) (headText (s .head) inputs),
-      head-short (s .head) inputs (v .head),
+      line-length oscKey (nameOf o) (headText (s .head) ++ inputs),
+      length-append (headText (s .head)) inputs,
+      head-short (s .head) (v .head),
       controls-short (inputKeys o) (controlsOf (s .inputs)) (valid-all (s .inputs) (v .inputs)),
       owned o,
     )

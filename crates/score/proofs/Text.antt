@@ -7,9 +7,9 @@ use lib.ListN.{length}
 use lib.Dec.{ltb, lit≤}
 use Rattle.score.specs.Keys.{oscKey, nameOf, ownerOf}
 use Rattle.score.specs.Score.{headOf, inputsOf, linesOf, scoreOf}
-use Rattle.score.specs.Text.{lineText, headText, inputsText, textOf}
+use Rattle.score.specs.Text.{wholeText, lineText, headText, inputsText, textOf}
 use Rattle.score.specs.Promises.{ValidHead, ValidInputs, Valid, Score-text, Read-valid}
-use Rattle.score.proofs.Lines.{Says, not-refused, said-values, osc-says, whole-says, control-says, end-says}
+use Rattle.score.proofs.Lines.{head-lines, Says, not-refused, said-values, osc-says, whole-says, control-says, end-says}
 use Rattle.score.specs.declared.Head.{Head}
 use Rattle.score.specs.declared.Osc.{Osc}
 use Rattle.score.specs.declared.Osc.the-variants as O
@@ -21,11 +21,12 @@ use Rattle.score.specs.declared.Reading.the-variants.{Values, Refused}
 
 -- ---- the head
 head-says : (P : Score → Type 0) (t : List ℕ) (k : Head → List ℕ → Reading)
-    → ((h : Head) (rest : List ℕ) → headText h rest ≡ t → ValidHead h → Says P (k h rest)) → Says P (headOf t k)
+    → ((h : Head) (rest : List ℕ) → headText h ++ rest ≡ t → ValidHead h → Says P (k h rest)) → Says P (headOf t k)
 unfolding headOf
 head-says P t k then =
     whole-says P t "hz" _ _ (lit≤ tt) _ λ hz e₁ v₁. whole-says P _ "frames" _ _ (lit≤ tt) _ λ frames e₂ v₂.
-    then _ _ (simp (e₂, e₁)) (record { hz-least = v₁ .0; hz-most = v₁ .1; frames-least = v₂ .0; frames-most = v₂ .1 })
+    then _ _ (head-lines _ _ ∙ ap (λ (l : List ℕ). lineText "hz" (wholeText hz) ++ l) e₂ ∙ e₁)
+    (record { hz-least = v₁ .0; hz-most = v₁ .1; frames-least = v₂ .0; frames-most = v₂ .1 })
 
 -- ---- the input lines, of which the last is the last of the text
 record Tail (o : Osc) (t : List ℕ) (i : Inputs) : Type 0 where
@@ -70,11 +71,12 @@ module _ (P : Score → Type 0) (head : Head) (t : List ℕ) where
   inputs-say O.Formant = formant-says
 
 -- ---- all lines
-its-lines : (o : Osc) (head : Head) (i : Inputs) (t : List ℕ) {rest after : List ℕ} → ownerOf i ≡ o → inputsText i ≡ rest → headText head rest ≡ after
-    → lineText oscKey (nameOf o) ++ after ≡ t → lineText oscKey (nameOf (ownerOf i)) ++ headText head (inputsText i) ≡ t
+its-lines : (o : Osc) (head : Head) (i : Inputs) (t : List ℕ) {rest after : List ℕ} → ownerOf i ≡ o → inputsText i ≡ rest
+    → headText head ++ rest ≡ after → lineText oscKey (nameOf o) ++ after ≡ t
+    → lineText oscKey (nameOf (ownerOf i)) ++ (headText head ++ inputsText i) ≡ t
 its-lines o head i t owner written f e =
-    ap (λ (o : Osc). lineText oscKey (nameOf o) ++ headText head (inputsText i)) owner
-    ∙ ap (λ (l : List ℕ). lineText oscKey (nameOf o) ++ headText head l) written ∙ ap (λ (l : List ℕ). lineText oscKey (nameOf o) ++ l) f ∙ e
+    ap (λ (o : Osc). lineText oscKey (nameOf o) ++ (headText head ++ inputsText i)) owner
+    ∙ ap (λ (l : List ℕ). lineText oscKey (nameOf o) ++ (headText head ++ l)) written ∙ ap (λ (l : List ℕ). lineText oscKey (nameOf o) ++ l) f ∙ e
 
 pub lines-say : (t : List ℕ) → Says (λ (s : Score). (textOf s ≡ t) × Valid s) (linesOf t)
 unfolding linesOf textOf

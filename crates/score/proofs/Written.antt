@@ -1,8 +1,8 @@
 -- The text of a valid score is read, line by line, as it was written. Assumes nothing.
 use Prim.Native.Nat.{ℕ, _≤_}
 use Prim.Native.String.{String}
-use mathlib.Core.Path.{_≡_, refl, _∙_}
-use mathlib.Core.List.{List, [], _∷_}
+use mathlib.Core.Path.{_≡_, refl, ap, _∙_}
+use mathlib.Core.List.{List, [], _∷_, _++_}
 use mathlib.Core.Bool.{cond}
 use native.Mathlib.Omega.{arith}
 use lib.ListN.{length}
@@ -14,7 +14,7 @@ use Rattle.score.specs.Keys.{hzKey, framesKey, inputKeys, ownerOf, contr
 use Rattle.score.specs.Score.{endOf, headOf, controls, inputsOf, linesOf, scoreOf}
 use Rattle.score.specs.Text.{controlsText, headText, inputsText, textOf}
 use Rattle.score.specs.Promises.{ValidInput, ValidHead, ValidInputs, Valid, Valid-read}
-use Rattle.score.proofs.Lines.{osc-written, whole-written, control-written}
+use Rattle.score.proofs.Lines.{head-lines, osc-written, whole-written, control-written}
 use Rattle.score.proofs.Longest.{text-short}
 use Rattle.score.specs.declared.Control.{Control}
 use Rattle.score.specs.declared.Head.{Head}
@@ -25,10 +25,11 @@ use Rattle.score.specs.declared.Reading.{Reading}
 use Rattle.score.specs.declared.Reading.the-variants.{Values, Refused}
 
 -- ---- the head
-head-written : (h : Head) (rest : List ℕ) (k : Head → List ℕ → Reading) → ValidHead h → headOf (headText h rest) k ≡ k h rest
+head-written : (h : Head) (rest : List ℕ) (k : Head → List ℕ → Reading) → ValidHead h → headOf (headText h ++ rest) k ≡ k h rest
 unfolding headOf hasOf
 head-written h rest k v =
-    whole-written _ hzKey (h .hz) _ (refl, refl) (lit≤ tt) (v .hz-least, v .hz-most)
+    ap (λ (t : List ℕ). headOf t k) (head-lines h rest)
+    ∙ whole-written _ hzKey (h .hz) _ (refl, refl) (lit≤ tt) (v .hz-least, v .hz-most)
     ∙ whole-written _ framesKey (h .frames) _ (refl, refl) (lit≤ tt) (v .frames-least, v .frames-most)
 
 -- ---- the inputs: each key with its value

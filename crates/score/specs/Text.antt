@@ -25,24 +25,23 @@ wholeText n = numberText (Whole false n)
 abbrev pub lineText : String → List ℕ → List ℕ
 lineText key value = wordLine (ascii key ++ (61 ∷ [])) value
 
--- a line for each key with its value; after those of the head goes on what stands behind it
-abbrev pub wholesText : List WholeKey → List ℕ → List ℕ → List ℕ
-wholesText (w ∷ ws) (n ∷ ns) rest = lineText (w .key) (wholeText n) ++ wholesText ws ns rest
-wholesText [] ns rest = rest
-wholesText (w ∷ ws) [] rest = rest
+-- a line for each key with its value
+abbrev pub wholesText : List WholeKey → List ℕ → List ℕ
+wholesText (w ∷ ws) (n ∷ ns) = lineText (w .key) (wholeText n) ++ wholesText ws ns
+wholesText [] ns = []
+wholesText (w ∷ ws) [] = []
 
 abbrev pub controlsText : List String → List Control → List ℕ
 controlsText (key ∷ keys) (c ∷ cs) = lineText key (controlText c) ++ controlsText keys cs
 controlsText [] cs = []
 controlsText (key ∷ keys) [] = []
 
--- the head, and what stands behind it; the inputs
-abbrev pub headText : Head → List ℕ → List ℕ
-headText h rest = wholesText headKeys (headWholes h) rest
+abbrev pub headText : Head → List ℕ
+headText h = wholesText headKeys (headWholes h)
 
 abbrev pub inputsText : Inputs → List ℕ
 inputsText i = controlsText (inputKeys (ownerOf i)) (controlsOf i)
 
 -- osc, the head, the inputs
 unfoldable pub textOf : Score → List ℕ
-textOf s = lineText oscKey (nameOf (ownerOf (s .inputs))) ++ headText (s .head) (inputsText (s .inputs))
+textOf s = lineText oscKey (nameOf (ownerOf (s .inputs))) ++ (headText (s .head) ++ inputsText (s .inputs))

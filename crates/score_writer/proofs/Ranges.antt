@@ -7,16 +7,17 @@ use native.Mathlib.Omega.{arith}
 use lib.Dec.{ltb, eqb}
 use lib.IntN.{pos, negsuc}
 use borrow.Author.Tests.{ltb-true, ltb-false, eqb-true}
-use Rattle.score.specs.Keys.{controlsOf}
+use Rattle.score.specs.Keys.{headKeys, headWholes, controlsOf}
 use Rattle.score.specs.Lines.{withinOf, controlOf}
-use Rattle.score.specs.Promises.{ValidInput, ValidInputs, Valid}
+use Rattle.score.specs.Promises.{ValidInput, ValidHead, Valid}
 use Rattle.score.proofs.Longest.{ValidAll, valid-all, all-valid}
 use Rattle.score.specs.declared.Control.{Control}
 use Rattle.score.specs.declared.Control.the-variants as C
 use Rattle.score.specs.declared.ControlLine.the-variants as CL
 use Rattle.score.specs.declared.WholeLine.the-variants as WL
+use Rattle.score.specs.declared.Head.{Head}
 use Rattle.score.specs.declared.Score.{Score}
-use Rattle.score_writer.specs.Writing.{ofWhole, ofControl, wholeRefusal, controlRefusal, firstOf, controlsRefusal, refusalOf}
+use Rattle.score_writer.specs.Writing.{ofWhole, ofControl, wholeRefusal, controlRefusal, firstOf, wholesRefusal, controlsRefusal, refusalOf}
 
 -- 0 where P holds, 23 where it doesn't
 pub data By (P : Type 0) : ℕ → Type 0 where
@@ -53,22 +54,29 @@ both-by (taken p) (taken q) = taken (p, q)
 both-by (taken p) (refused g) = refused (λ (x, y). g y)
 both-by (refused f) q = refused (λ (x, y). f x)
 
+no-line : By (Unit {0}) 0
+no-line = taken tt
+
 controls-by : (cs : List Control) → By (ValidAll cs) (controlsRefusal cs)
-controls-by [] = taken tt
+controls-by [] = no-line
 controls-by (c ∷ cs) = both-by (control-by c) (controls-by cs)
 
 same-by : {P Q : Type 0} {n : ℕ} → (P → Q) → (Q → P) → By P n → By Q n
 same-by to from (taken p) = taken (to p)
 same-by to from (refused f) = refused (λ q. f (from q))
 
+head-by : (h : Head) → By (ValidHead h) (wholesRefusal headKeys (headWholes h))
+head-by h =
+    same-by
+    (λ ((a, b), ((c, d), _)). record { hz-least = a; hz-most = b; frames-least = c; frames-most = d })
+    (λ v. ((v .hz-least, v .hz-most), ((v .frames-least, v .frames-most), tt)))
+    (both-by (whole-by _ _ (h .hz)) (both-by (whole-by _ _ (h .frames)) no-line))
+
 pub score-by : (s : Score) → By (Valid s) (refusalOf s)
 unfolding refusalOf
 score-by s =
-    same-by
-    (λ ((a, b), ((c, d), i)).
-    record { head = record { hz-least = a; hz-most = b; frames-least = c; frames-most = d }; inputs = all-valid (s .inputs) i })
-    (λ v. ((v .head .hz-least, v .head .hz-most), ((v .head .frames-least, v .head .frames-most), valid-all (s .inputs) (v .inputs))))
-    (both-by (whole-by _ _ (s .head .hz)) (both-by (whole-by _ _ (s .head .frames)) (controls-by (controlsOf (s .inputs)))))
+    same-by (λ (h, i). record { head = h; inputs = all-valid (s .inputs) i }) (λ v. (v .head, valid-all (s .inputs) (v .inputs)))
+    (both-by (head-by (s .head)) (controls-by (controlsOf (s .inputs))))
 
 pub in-range : (s : Score) → refusalOf s ≡ 0 → Valid s
 in-range s e = go (score-by s) e

@@ -38,18 +38,17 @@ controlRefusal c = ofControl (controlOf (numberIn c))
 unfoldable pub firstOf : ℕ → ℕ → ℕ
 firstOf a b = cond (eqb a 0) b a
 
--- of the head's lines, and of those behind them
-abbrev pub wholesRefusal : List WholeKey → List ℕ → ℕ → ℕ
-wholesRefusal (w ∷ ws) (n ∷ ns) rest = firstOf (wholeRefusal (w .least) (w .most) n) (wholesRefusal ws ns rest)
-wholesRefusal [] ns rest = rest
-wholesRefusal (w ∷ ws) [] rest = rest
+abbrev pub wholesRefusal : List WholeKey → List ℕ → ℕ
+wholesRefusal (w ∷ ws) (n ∷ ns) = firstOf (wholeRefusal (w .least) (w .most) n) (wholesRefusal ws ns)
+wholesRefusal [] ns = 0
+wholesRefusal (w ∷ ws) [] = 0
 
 abbrev pub controlsRefusal : List Control → ℕ
 controlsRefusal [] = 0
 controlsRefusal (c ∷ cs) = firstOf (controlRefusal c) (controlsRefusal cs)
 
 unfoldable pub refusalOf : Score → ℕ
-refusalOf s = wholesRefusal headKeys (headWholes (s .head)) (controlsRefusal (controlsOf (s .inputs)))
+refusalOf s = firstOf (wholesRefusal headKeys (headWholes (s .head))) (controlsRefusal (controlsOf (s .inputs)))
 
 -- ---- writing into a buffer of `room` bytes: the length of the text, or the refusal; 24, last, where the text has no room
 unfoldable pub writingOf : Score → ℕ → Writing

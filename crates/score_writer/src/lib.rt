@@ -4,6 +4,7 @@ use line::Number;
 use score::Control;
 use score::ControlLine;
 use score::FormantInputs;
+use score::Head;
 use score::Inputs;
 use score::LfoInputs;
 use score::Osc;
@@ -18,10 +19,11 @@ ghost use lib.Seq.{sets};
 ghost use Rattle.text.specs.Put.{placeOf};
 ghost use Rattle.text.specs.Lines.{wordLine};
 ghost use Rattle.line.specs.Number.{numberText};
-ghost use Rattle.score.specs.Keys.{oscKey, nameOf, controlsOf};
-ghost use Rattle.score.specs.Text.{controlText, lineText, inputsText, textOf};
+ghost use Rattle.score.specs.Keys.{oscKey, nameOf, headKeys, headWholes, controlsOf};
+ghost use Rattle.score.specs.Text.{controlText, lineText, headText, inputsText, textOf};
 ghost use Rattle.score.specs.declared.Inputs.the-variants as I;
-ghost use Rattle.score_writer.specs.Writing.{wholeRefusal, controlRefusal, firstOf, controlsRefusal, refusalOf, writingOf, writtenOf};
+ghost use Rattle.score_writer.specs.Writing.{wholeRefusal, controlRefusal, firstOf, wholesRefusal, controlsRefusal};
+ghost use Rattle.score_writer.specs.Writing.{refusalOf, writingOf, writtenOf};
 
 // The length of the text that was written, or the number of the refusal.
 pub enum Writing {
@@ -128,18 +130,21 @@ fn inputs_refusal(inputs: Inputs) -> u32
     }
 }
 
+fn head_refusal(head: Head) -> u32
+    ensures { λ r. ⌜ r ≡ wholesRefusal headKeys (headWholes head) ⌝ }
+{
+    first(
+        whole_refusal(head.hz, score::HZ_LEAST, score::HZ_MOST),
+        whole_refusal(head.frames, score::FRAMES_LEAST, score::FRAMES_MOST),
+    )
+}
+
 fn refusal(score: Score) -> u32
     ensures { λ r. ⌜ r ≡ refusalOf score ⌝ }
 {
     let head = score.head;
     let inputs = score.inputs;
-    first(
-        whole_refusal(head.hz, score::HZ_LEAST, score::HZ_MOST),
-        first(
-            whole_refusal(head.frames, score::FRAMES_LEAST, score::FRAMES_MOST),
-            inputs_refusal(inputs),
-        ),
-    )
+    first(head_refusal(head), inputs_refusal(inputs))
 }
 
 // ---- lines
@@ -180,6 +185,14 @@ fn put_osc(out: &mut [u8], at: usize, osc: Osc) -> usize
         Osc::Supersaw => text::put_word(out, at, b"osc=", b"supersaw"),
         Osc::Formant => text::put_word(out, at, b"osc=", b"formant"),
     }
+}
+
+fn put_head(out: &mut [u8], at: usize, head: Head) -> usize
+    ensures { λ r. ⌜ r ≡ placeOf (now (out .entry)) at (headText head) ⌝ }
+    ensures { λ r. ⌜ now (out .exit) ≡ sets (now (out .entry)) at (headText head) ⌝ }
+{
+    let a = text::put_count(&mut *out, at, b"hz=", head.hz as u64);
+    text::put_count(out, a, b"frames=", head.frames as u64)
 }
 
 // ---- the inputs, in the Rust's port order and names
@@ -259,9 +272,8 @@ fn put_score(out: &mut [u8], score: Score) -> usize
     let head = score.head;
     let inputs = score.inputs;
     let a = put_osc(&mut *out, 0, score::owner_of(inputs));
-    let b = text::put_count(&mut *out, a, b"hz=", head.hz as u64);
-    let c = text::put_count(&mut *out, b, b"frames=", head.frames as u64);
-    put_inputs(out, c, inputs)
+    let b = put_head(&mut *out, a, head);
+    put_inputs(out, b, inputs)
 }
 
 // The text is put together in a buffer of its own and only then copied to `out`, so a refusal writes nothing there.
