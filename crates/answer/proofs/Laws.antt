@@ -151,13 +151,13 @@ mark-sounds v w zeroed sums phases numbers e =
       mark = λ h. ap (λ (u : Volts). markNumber (markOf u zeroed sums phases false)) e ∙ clean-steered w zeroed sums phases numbers h;
     }
 
-pub tick-sounds : {T : Type 0} (told : T → Answer) (n : ℕ) (x u y : T) → Sounds-as (told x) (told u) → told y ≡ answer.Refused n
+pub tick-sounds : {T : Type 0} (told : T → Answer) (n : ℕ) (x u y : T) → (n ≡ 0 → Sounds-as (told x) (told u)) → told y ≡ answer.Refused n
     → Sounds-as (told (cond (eqb n 0) x y)) (told (cond (eqb n 0) u y))
-tick-sounds told n x u y h e = go (eqb n 0)
+tick-sounds told n x u y h e = go (eqb n 0) (eqb-true n 0)
   where
-    go : (b : Bool) → Sounds-as (told (cond b x y)) (told (cond b u y))
-    go true = h
-    go false = record { volts = refl; mark = λ c. absurd (unclean (sym (ap markNumber e) ∙ c)) }
+    go : (b : Bool) → (b ≡ true → n ≡ 0) → Sounds-as (told (cond b x y)) (told (cond b u y))
+    go true z = h (z refl)
+    go false z = record { volts = refl; mark = λ c. absurd (unclean (sym (ap markNumber e) ∙ c)) }
       where
         unclean : markNumber (answer.Refused n) ≡ clean → ⊥
         unclean c = unfold markNumber in omega arith

@@ -5,7 +5,8 @@ use answer::Tallied;
 use answer::Tally;
 use common::EdgeDetector;
 ghost use mathlib.Core.Path.{_≡_};
-ghost use lib.ListN.{length};
+ghost use lib.Ieee.{nan};
+ghost use lib.ListN.{length, getD, set};
 ghost use lib.Seq.{sets};
 ghost use Rattle.boundary.specs.Flat.{sizesOf, tickSizesOf, tallyFrom, tallySized, countsOutcome, countsPut};
 ghost use Rattle.boundary.specs.Edge.{edgeAt, edgeFloats};
@@ -92,25 +93,38 @@ pub fn put_counts(tally: Tally, counts: &mut [u32]) -> Outcome
 }
 
 // How many floats of a state an edge record is.
-pub const EDGE_FLOATS: usize = 1;
+pub const EDGE_FLOATS: usize = 2;
 
-// The edge record that a part of a state's floats is; a float that isn't there is a NaN. The part has as many by its ends, so no test is left.
-pub fn edge_of(part: &[f64]) -> EdgeDetector
-    ensures { λ r. ⌜ r ≡ edgeAt (now (part .entry)) 0 ⌝ }
+// A float of a part of a state; one that isn't there is a NaN. The part has as many by its ends, so no test is left.
+fn float_at(part: &[f64], i: usize) -> f64
+    ensures { λ r. ⌜ r ≡ getD (now (part .entry)) i nan ⌝ }
 {
-    if part.len() < EDGE_FLOATS {
-        EdgeDetector { prev: 0.0 / 0.0 }
-    } else {
-        EdgeDetector { prev: part[0] }
-    }
+    if i < part.len() { part[i] } else { 0.0 / 0.0 }
 }
 
 // And back. What has no place in the part is left out.
+fn put_float(x: f64, i: usize, part: &mut [f64])
+    ensures { λ _. ⌜ now (part .exit) ≡ set (now (part .entry)) i x ⌝ }
+{
+    if i < part.len() {
+        part[i] = x;
+    }
+}
+
+// The edge record that a part of a state's floats is.
+pub fn edge_of(part: &[f64]) -> EdgeDetector
+    ensures { λ r. ⌜ r ≡ edgeAt (now (part .entry)) 0 ⌝ }
+{
+    EdgeDetector {
+        prev: float_at(part, 0),
+        threshold: float_at(part, 1),
+    }
+}
+
+// And back.
 pub fn put_edge(e: EdgeDetector, part: &mut [f64])
     ensures { λ _. ⌜ now (part .exit) ≡ sets (now (part .entry)) 0 (edgeFloats e) ⌝ }
 {
-    if part.len() < EDGE_FLOATS {
-        return;
-    }
-    part[0] = e.prev;
+    put_float(e.prev, 0, &mut *part);
+    put_float(e.threshold, 1, part);
 }

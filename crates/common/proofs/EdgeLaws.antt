@@ -1,16 +1,46 @@
--- An edge for any previous sample is one for a new detector like it, whose previous sample is 0; and no edge comes twice.
+-- An edge for any previous sample is one for a new detector like it, whose previous sample is 0; and no edge comes twice. All of it over any
+-- threshold that isn't below 0, as neither of the two is.
 use mathlib.Core.Bool.{Bool, _&&_, true, false}
 use mathlib.Core.Path.{_≡_, refl}
 use lib.Dec.{T}
-use lib.Ieee.{lt, le, ofBits, eq}
+use lib.Ieee.{Float, lt, le, neg, ofBits, eq}
 use lib.Ieee.Bits.{is-true}
-use Rattle.laws.specs.Float.{zer}
-use Rattle.laws.proofs.Order.{le-false, lt-false, lt-nan}
-use Rattle.laws.proofs.Tests.{of-true}
-use Rattle.common.specs.Edge.{thresholdOf, resetOf, risesAbove, risingAboveOf, risingOf, crossedAboveOf, crossedOf}
+use Rattle.laws.specs.Float.{zer, one}
+use Rattle.laws.proofs.Order.{eq-ge, eq-le, float-le-trans, le-false, le-lt-trans, lt-false, lt-nan}
+use Rattle.laws.proofs.Tests.{of-true, or-case}
+use Rattle.common.specs.Consts.{gateThreshold, lowGateThreshold, five}
+use Rattle.common.specs.Edge.{resetOf, risesAbove, risingAboveOf, risingOf, crossedAboveOf, crossedOf}
+use Rattle.common.specs.Promises.{Thresholds, Reachable, Threshold-in, Kept, Threshold-kept}
 use Rattle.common.specs.Promises.{Rises-new, Rises-once, Rising-like, Crossed-is, Rising-once, Rising-comes, Rising-not, Rising-nan}
+use Rattle.common.specs.Tests.{thresholdOk}
 use Rattle.common.specs.declared.EdgeDetector.{EdgeDetector}
 
+-- ---- the thresholds
+pub thresholds : Thresholds
+unfolding thresholdOk eq neg ofBits
+thresholds = record { first = refl; second = refl; of-nan = refl; of-zero = refl; of-minus = refl }
+
+-- what equals a number from 0 to below 5 is one itself
+between : (t c : Float) → T (le zer c) → lt c five ≡ true → T (eq t c) → Reachable t
+between t c l h e =
+    record {
+      above = float-le-trans zer c t l (eq-ge t c e);
+      below = is-true (lt t five) (le-lt-trans t c five (eq-le t c e) (of-true (lt c five) h));
+    }
+
+pub threshold-in : Threshold-in
+unfolding thresholdOk
+threshold-in t h =
+    or-case (eq t gateThreshold) (eq t lowGateThreshold)
+    (between t gateThreshold (unfold le lt eq ofBits in tt) (unfold lt ofBits in refl))
+    (between t lowGateThreshold (unfold le lt eq ofBits in tt) (unfold lt ofBits in refl))
+    (of-true (thresholdOk t) h)
+
+pub threshold-kept : Threshold-kept
+unfolding risingOf risingAboveOf crossedOf crossedAboveOf resetOf
+threshold-kept e v = record { rising = refl; crossed = refl; reset = refl }
+
+-- ---- the edges
 rises-left : (a b c : Bool) → (a && b) ≡ true → c ≡ true → (a && c) ≡ true
 rises-left true b c h e = e
 rises-left false b c h e = h
@@ -19,14 +49,9 @@ pub rises-new : Rises-new
 unfolding risesAbove
 rises-new threshold prev v t h = rises-left (lt threshold v) (le prev threshold) (le zer threshold) h (is-true (le zer threshold) t)
 
--- no detector's threshold is below 0
-above : (e : EdgeDetector) → T (le zer (thresholdOf e))
-unfolding thresholdOf le lt eq ofBits
-above e = tt
-
 pub rising-like : Rising-like
-unfolding risingOf risingAboveOf resetOf thresholdOf
-rising-like e v h = simp (h, rises-new (thresholdOf e) (e .prev) v (above e) h)
+unfolding risingOf risingAboveOf resetOf
+rising-like e v t h = simp (h, rises-new (e .threshold) (e .prev) v t h)
 
 pub crossed-is : Crossed-is
 unfolding risingOf risingAboveOf crossedOf crossedAboveOf
@@ -41,17 +66,17 @@ rises-once threshold v = go (lt threshold v) refl
     go false e = refl
 
 pub rising-once : Rising-once
-unfolding risingOf risingAboveOf thresholdOf
+unfolding risingOf risingAboveOf
 rising-once e v = simp rises-once
 
 pub rising-comes : Rising-comes
-unfolding risingOf risingAboveOf risesAbove thresholdOf
-rising-comes e v h = rw h (unfold lt ofBits in refl)
+unfolding risingOf risingAboveOf risesAbove
+rising-comes e v w h k = simp (h, k)
 
 pub rising-not : Rising-not
 unfolding risingOf risingAboveOf risesAbove
-rising-not e v h = simp (lt-false (thresholdOf e) v (of-true (le v (thresholdOf e)) h))
+rising-not e v h = simp (lt-false (e .threshold) v (of-true (le v (e .threshold)) h))
 
 pub rising-nan : Rising-nan
-unfolding risingOf risingAboveOf risesAbove thresholdOf
-rising-nan e = (simp (lt-nan (thresholdOf e)), rising-not e zer (unfold le lt eq ofBits in refl))
+unfolding risingOf risingAboveOf risesAbove
+rising-nan e = simp (lt-nan (e .threshold))

@@ -12,7 +12,7 @@ use lib.Ieee.Fits.{down-pos}
 use lib.Ieee.Order.{le-of-values}
 use borrow.Author.Tests.{lt-ltb, le-ltb, eq-eqb, ne-eqb}
 use Rattle.laws.proofs.Order.{finite-between, le-of-lt-true, lt-false, lt-le-trans, lt-of-le-not-ge, neg-neg, le-false}
-use Rattle.laws.proofs.Tests.{eqb-iff, of-true, of-false, zero-of}
+use Rattle.laws.proofs.Tests.{both-true, eqb-iff, of-true, of-false, zero-of}
 use Rattle.laws.specs.Float.{zer, one, two, F64, isFin}
 use Rattle.numeric.proofs.FloorLaws.{floor-rest, floor-whole}
 use Rattle.numeric.proofs.SmallFloor.{floor-zero, floor-one, floor-minus, pos-sub-zer, rest-below}
@@ -167,3 +167,11 @@ pub accepted-state : (rate phase : Bool) → _≡_ {A = ℕ} (cond rate (cond ph
 accepted-state true true h = (refl, refl)
 accepted-state true false h = absurd (omega arith)
 accepted-state false phase h = absurd (omega arith)
+
+-- and one with a gate a good threshold
+pub accepted-gate : (rate phase threshold : Bool) → _≡_ {A = ℕ} (cond rate (cond (phase && threshold) 0 2) 1) 0
+    → (rate ≡ true) × (phase ≡ true) × (threshold ≡ true)
+accepted-gate rate phase threshold h =
+    let s = accepted-state rate (phase && threshold) h in
+    let b = both-true phase threshold (s .1) in
+    (s .0, b .0, b .1)

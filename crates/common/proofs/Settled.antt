@@ -19,7 +19,7 @@ settled =
       memo3-new = laws.settled _;
       memo3-hits = λ m x y z. laws.settled _;
       memo3-filled = λ x y z v. laws.settled _;
-      edge-new = laws.settled _;
+      edge-new = λ t. laws.settled _;
       edge-rising = λ e v. laws.settled _;
       edge-rising-above = λ e v t. laws.settled _;
       edge-rising-frac = λ e v. laws.settled _;
@@ -28,5 +28,6 @@ settled =
       out = λ want x. laws.settled _;
       rate-ok = λ r. laws.settled _;
       phase-ok = λ p. laws.settled _;
+      threshold-ok = λ t. laws.settled _;
       draws-refusal = λ n draws. laws.settled _;
     }

@@ -1,4 +1,4 @@
--- The Rust's constants, by their bits.
+-- The Rust's constants, by their bits, and one of ours.
 use lib.Ieee.{Float, binary64, ofBits}
 
 -- C4_HZ: 261.6255653005986
@@ -8,6 +8,10 @@ c4 = ofBits binary64 0x40705a0250c2b956
 -- GATE_THRESHOLD_V: 2.5
 abbrev pub gateThreshold : Float
 gateThreshold = ofBits binary64 0x4004000000000000
+
+-- and of banks from issue 2 on, by request CR 7: 1.0
+abbrev pub lowGateThreshold : Float
+lowGateThreshold = ofBits binary64 0x3ff0000000000000
 
 -- MAX_ABS_VOCT: 32
 abbrev pub maxVoct : Float

@@ -3,13 +3,13 @@ use mathlib.Core.Path.{_≡_}
 use mathlib.Core.Bool.{true, false, cond, not, _&&_}
 use mathlib.Core.Logic.{_⊎_}
 use lib.Dec.{T}
-use lib.Ieee.{Float, nan, le}
-use Rattle.laws.specs.Float.{zer, F64, isFin}
+use lib.Ieee.{Float, nan, lt, le, neg}
+use Rattle.laws.specs.Float.{zer, one, F64, isFin}
 use Rattle.common.specs.Phase.{turns, wrapOf, turnedOf}
 use Rattle.common.specs.Memo.{filled1, filled3, recall1, recall3}
-use Rattle.common.specs.Consts.{five}
-use Rattle.common.specs.Edge.{thresholdOf, resetOf, risesAbove, fracAbove, risingOf, crossedOf}
-use Rattle.common.specs.Tests.{phaseOk}
+use Rattle.common.specs.Consts.{gateThreshold, lowGateThreshold, five}
+use Rattle.common.specs.Edge.{resetOf, risesAbove, fracAbove, risingOf, crossedOf}
+use Rattle.common.specs.Tests.{phaseOk, thresholdOk}
 use Rattle.common.specs.declared.EdgeDetector.{EdgeDetector}
 use Rattle.common.specs.declared.Crossing.the-variants.{Nowhere, At}
 use Rattle.common.specs.declared.Hertz.{Hertz}
@@ -39,30 +39,56 @@ abbrev pub Recall3-is : Type 0
 Recall3-is =
     (f : Float → Float → Float → Hertz) (m : Memo3) → Coherent3 f m → (x y z : Float) → F64 x → F64 y → F64 z → recall3 f m x y z ≡ filled3 x y z (f x y z)
 
+-- of the thresholds that refusal 2 lets pass there are the two, and neither NaN nor 0.0 nor -1.0
+pub record Thresholds : Type 0 where
+  pub first : thresholdOk gateThreshold ≡ true
+  pub second : thresholdOk lowGateThreshold ≡ true
+  pub of-nan : thresholdOk nan ≡ false
+  pub of-zero : thresholdOk zer ≡ false
+  pub of-minus : thresholdOk (neg one) ≡ false
+
+-- and each of them is a number that isn't below 0, which is all that the laws below ask, and is below 5 V, so that a gate can rise above it
+pub record Reachable (threshold : Float) : Type 0 where
+  pub above : T (le zer threshold)
+  pub below : lt threshold five ≡ true
+
+abbrev pub Threshold-in : Type 0
+Threshold-in = (threshold : Float) → thresholdOk threshold ≡ true → Reachable threshold
+
+-- a detector keeps its threshold
+pub record Kept (e : EdgeDetector) (v : Float) : Type 0 where
+  pub rising : risingOf e v .edge .threshold ≡ e .threshold
+  pub crossed : crossedOf e v .edge .threshold ≡ e .threshold
+  pub reset : resetOf e .threshold ≡ e .threshold
+
+abbrev pub Threshold-kept : Type 0
+Threshold-kept = (e : EdgeDetector) (v : Float) → Kept e v
+
+-- ---- an edge, over any threshold
 -- an edge is one for a new detector too, whose previous sample is 0, where the threshold isn't below 0
 abbrev pub Rises-new : Type 0
 Rises-new = (threshold prev v : Float) → T (le zer threshold) → risesAbove threshold prev v ≡ true → risesAbove threshold zer v ≡ true
 
 -- and a detector that takes one is then as a new one like it is
 abbrev pub Rising-like : Type 0
-Rising-like = (e : EdgeDetector) (v : Float) → risingOf e v .rising ≡ true → risingOf (resetOf e) v ≡ risingOf e v
+Rising-like = (e : EdgeDetector) (v : Float) → T (le zer (e .threshold)) → risingOf e v .rising ≡ true → risingOf (resetOf e) v ≡ risingOf e v
 
 -- a crossing is an edge, at its fraction
 abbrev pub Crossed-is : Type 0
 Crossed-is = (e : EdgeDetector) (v : Float)
-    → crossedOf e v ≡ record { edge = risingOf e v .edge; at = cond (risingOf e v .rising) (At (fracAbove (thresholdOf e) (e .prev) v)) Nowhere }
+    → crossedOf e v ≡ record { edge = risingOf e v .edge; at = cond (risingOf e v .rising) (At (fracAbove (e .threshold) (e .prev) v)) Nowhere }
 
--- after a sample that isn't above the threshold, 5 V are an edge
+-- after a sample that isn't above the threshold, one above it is an edge
 abbrev pub Rising-comes : Type 0
-Rising-comes = (e : EdgeDetector) (v : Float) → le v (thresholdOf e) ≡ true → risingOf (risingOf e v .edge) five .rising ≡ true
+Rising-comes = (e : EdgeDetector) (v w : Float) → le v (e .threshold) ≡ true → lt (e .threshold) w ≡ true → risingOf (risingOf e v .edge) w .rising ≡ true
 
 -- such a sample is none itself
 abbrev pub Rising-not : Type 0
-Rising-not = (e : EdgeDetector) (v : Float) → le v (thresholdOf e) ≡ true → risingOf e v .rising ≡ false
+Rising-not = (e : EdgeDetector) (v : Float) → le v (e .threshold) ≡ true → risingOf e v .rising ≡ false
 
--- nor is a NaN, or 0.0
+-- nor is a NaN
 abbrev pub Rising-nan : Type 0
-Rising-nan = (e : EdgeDetector) → (risingOf e nan .rising ≡ false) × (risingOf e zer .rising ≡ false)
+Rising-nan = (e : EdgeDetector) → risingOf e nan .rising ≡ false
 
 -- a sample that stands still gives no second edge
 abbrev pub Rises-once : Type 0

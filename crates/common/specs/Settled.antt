@@ -10,7 +10,7 @@ use Rattle.common.specs.Phase.{wrapPhaseOf, polyblepOf, polyblampOf, inc
 use Rattle.common.specs.Memo.{newMemo1, hits1, filled1, recall1, voctToHzAt, newMemo3, hits3, filled3}
 use Rattle.common.specs.Edge.{newEdge, risingAboveOf, risingOf, crossedAboveOf, crossedOf, resetOf}
 use Rattle.common.specs.Ports.{outOf}
-use Rattle.common.specs.Tests.{rateOk, phaseOk, drawsRefusalOf}
+use Rattle.common.specs.Tests.{rateOk, phaseOk, thresholdOk, drawsRefusalOf}
 use Rattle.common.specs.declared.Hertz.{Hertz}
 use Rattle.common.specs.declared.Turns.{Turns}
 use Rattle.common.specs.declared.Wrapped.{Wrapped}
@@ -36,7 +36,7 @@ pub record Settled : Type 0 where
   pub memo3-new : Settles (λ (r : Memo3). r ≡ newMemo3)
   pub memo3-hits : (m : Memo3) (x y z : Float) → Settles (λ (r : Bool). r ≡ hits3 m x y z)
   pub memo3-filled : (x y z : Float) (v : Hertz) → Settles (λ (r : Memo3). r ≡ filled3 x y z v)
-  pub edge-new : Settles (λ (r : EdgeDetector). r ≡ newEdge)
+  pub edge-new : (t : Float) → Settles (λ (r : EdgeDetector). r ≡ newEdge t)
   pub edge-rising : (e : EdgeDetector) (v : Float) → Settles (λ (r : Risen). r ≡ risingOf e v)
   pub edge-rising-above : (e : EdgeDetector) (v t : Float) → Settles (λ (r : Risen). r ≡ risingAboveOf e v t)
   pub edge-rising-frac : (e : EdgeDetector) (v : Float) → Settles (λ (r : Crossed). r ≡ crossedOf e v)
@@ -45,4 +45,5 @@ pub record Settled : Type 0 where
   pub out : (want : Bool) (x : Float) → Settles (λ (r : Float). r ≡ outOf want x)
   pub rate-ok : (r : Hertz) → Settles (λ (b : Bool). b ≡ rateOk r)
   pub phase-ok : (p : Turns) → Settles (λ (b : Bool). b ≡ phaseOk p)
+  pub threshold-ok : (t : Float) → Settles (λ (b : Bool). b ≡ thresholdOk t)
   pub draws-refusal : (n : ℕ) (draws : List ℕ) → Settles (λ (r : ℕ). r ≡ drawsRefusalOf n draws)

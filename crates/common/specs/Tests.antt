@@ -1,12 +1,12 @@
 -- The tests behind the scope's refusals 1, 2, 5 and 6.
-use mathlib.Core.Bool.{Bool, true, cond, _&&_}
+use mathlib.Core.Bool.{Bool, true, cond, _&&_, _||_}
 use mathlib.Core.List.{List}
 use Prim.Native.Nat.{ℕ, zero, suc}
 use lib.Dec.{leb, ltb}
-use lib.Ieee.{lt, le}
+use lib.Ieee.{Float, lt, le, eq}
 use lib.ListN.{length, getD}
 use Rattle.laws.specs.Float.{zer, one}
-use Rattle.common.specs.Consts.{rateLow, rateHigh}
+use Rattle.common.specs.Consts.{gateThreshold, lowGateThreshold, rateLow, rateHigh}
 use Rattle.common.specs.declared.Hertz.{Hertz}
 use Rattle.common.specs.declared.Turns.{Turns}
 
@@ -17,6 +17,10 @@ rateOk r = le rateLow (r .0) && le (r .0) rateHigh
 -- 2: a phase in [0, 1)
 unfoldable pub phaseOk : Turns → Bool
 phaseOk p = le zer (p .0) && lt (p .0) one
+
+-- 2: a gate's threshold, which is 2.5 or 1.0 by its value
+unfoldable pub thresholdOk : Float → Bool
+thresholdOk t = eq t gateThreshold || eq t lowGateThreshold
 
 -- each of the first n draws is below 2 ^ 53
 unfoldable pub drawsOk : List ℕ → ℕ → Bool

@@ -9,9 +9,9 @@ ghost use Rattle.laws.specs.Float.{zer, one};
 ghost use Rattle.common.specs.Pitch.{voctToHz};
 ghost use Rattle.common.specs.Phase.{turns, wrapOf, turnedOf, wrapPhaseOf, polyblepOf, polyblampOf, incrementOf, restartOf};
 ghost use Rattle.common.specs.Memo.{newMemo1, hits1, filled1, newMemo3, hits3, filled3, recall1, voctToHzAt};
-ghost use Rattle.common.specs.Edge.{newEdge, thresholdOf, risingAboveOf, risingOf, crossedAboveOf, crossedOf, resetOf};
+ghost use Rattle.common.specs.Edge.{newEdge, seenOf, risingAboveOf, risingOf, crossedAboveOf, crossedOf, resetOf};
 ghost use Rattle.common.specs.Ports.{outOf};
-ghost use Rattle.common.specs.Tests.{rateOk, phaseOk, drawsOk, drawsRefusalOf};
+ghost use Rattle.common.specs.Tests.{rateOk, phaseOk, thresholdOk, drawsOk, drawsRefusalOf};
 
 // A pitch: 0 is middle C, one more is an octave up.
 pub struct VoltsPerOctave(pub f64);
@@ -25,8 +25,11 @@ pub struct Turns(pub f64);
 // Frequency of middle C, the 0 V of a pitch.
 const C4_HZ: f64 = 261.6255653005986;
 
-// Where a gate counts as high.
-const GATE_THRESHOLD_V: f64 = 2.5;
+// Above this a gate counts as high: in banks of issue 1, and always in the Rust.
+pub const GATE_THRESHOLD_V: f64 = 2.5;
+
+// And in banks from issue 2 on, which is ours.
+pub const LOW_GATE_THRESHOLD_V: f64 = 1.0;
 
 // The widest pitch that voct_to_hz takes.
 const MAX_ABS_VOCT: f64 = 32.0;
@@ -299,9 +302,10 @@ impl Memo3 {
     }
 }
 
-// Tells when a gate rises: from not above a threshold to above it.
+// Tells when a gate rises: from not above its threshold to above it. The Rust's has no threshold, for there it is GATE_THRESHOLD_V.
 pub struct EdgeDetector {
     pub prev: f64,
+    pub threshold: f64,
 }
 
 // What the Rust's `rising` says, with the detector after it.
@@ -323,29 +327,35 @@ pub struct Crossed {
 }
 
 impl EdgeDetector {
-    pub fn new() -> Self
-        ensures { λ r. ⌜ r ≡ newEdge ⌝ }
+    pub fn new(threshold: f64) -> Self
+        ensures { λ r. ⌜ r ≡ newEdge threshold ⌝ }
     {
-        EdgeDetector { prev: 0.0 }
+        EdgeDetector {
+            prev: 0.0,
+            threshold,
+        }
     }
 
-    // The threshold that it goes by.
-    fn threshold(self) -> f64
-        ensures { λ r. ⌜ r ≡ thresholdOf self ⌝ }
+    // This one with v as its previous sample.
+    fn seen(self, v: f64) -> Self
+        ensures { λ r. ⌜ r ≡ seenOf self v ⌝ }
     {
-        GATE_THRESHOLD_V
+        EdgeDetector {
+            prev: v,
+            threshold: self.threshold,
+        }
     }
 
     pub fn rising(self, v: f64) -> Risen
         ensures { λ r. ⌜ r ≡ risingOf self v ⌝ }
     {
-        self.rising_above(v, self.threshold())
+        self.rising_above(v, self.threshold)
     }
 
     pub fn rising_above(self, v: f64, threshold: f64) -> Risen
         ensures { λ r. ⌜ r ≡ risingAboveOf self v threshold ⌝ }
     {
-        let next = EdgeDetector { prev: v };
+        let next = self.seen(v);
         Risen {
             edge: next,
             rising: v > threshold && self.prev <= threshold,
@@ -355,7 +365,7 @@ impl EdgeDetector {
     pub fn rising_frac(self, v: f64) -> Crossed
         ensures { λ r. ⌜ r ≡ crossedOf self v ⌝ }
     {
-        self.rising_frac_above(v, self.threshold())
+        self.rising_frac_above(v, self.threshold)
     }
 
     // Where the straight line from the previous sample to v meets the threshold. The clamp lets a NaN pass.
@@ -363,7 +373,7 @@ impl EdgeDetector {
         ensures { λ r. ⌜ r ≡ crossedAboveOf self v threshold ⌝ }
     {
         let prev = self.prev;
-        let next = EdgeDetector { prev: v };
+        let next = self.seen(v);
         if v > threshold {
             if prev <= threshold {
                 let denom = v - prev;
@@ -393,11 +403,11 @@ impl EdgeDetector {
         }
     }
 
-    // A new one like this.
+    // A new one like this: of the same threshold.
     pub fn reset(self) -> Self
         ensures { λ r. ⌜ r ≡ resetOf self ⌝ }
     {
-        EdgeDetector::new()
+        EdgeDetector::new(self.threshold)
     }
 }
 
@@ -420,6 +430,13 @@ pub fn phase_ok(phase: Turns) -> bool
     ensures { λ r. ⌜ r ≡ phaseOk phase ⌝ }
 {
     phase.0 >= 0.0 && phase.0 < 1.0
+}
+
+// And this: a gate's threshold is one of the two, which a NaN isn't.
+pub fn threshold_ok(threshold: f64) -> bool
+    ensures { λ r. ⌜ r ≡ thresholdOk threshold ⌝ }
+{
+    threshold == GATE_THRESHOLD_V || threshold == LOW_GATE_THRESHOLD_V
 }
 
 // Whether each of the first n draws is below 2^53: all their digits together are.

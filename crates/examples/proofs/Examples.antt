@@ -4,7 +4,7 @@ use lib.Ieee.{sub, mul, div, neg, le, eq, ne, isNan, ofInt, toUnsigned, ofBits}
 use Rattle.numeric.specs.Basic.{fabsOf, clampOf, minOf, maxOf}
 use Rattle.numeric.specs.Draw.{drawOf, bipolarOf}
 use Rattle.numeric.specs.Floor.{floorOf}
-use Rattle.common.specs.Edge.{thresholdOf, risesAbove, risingAboveOf, risingOf, fracAbove, crossedAboveOf, crossedOf}
+use Rattle.common.specs.Edge.{risesAbove, risingAboveOf, risingOf, fracAbove, crossedAboveOf, crossedOf}
 use Rattle.common.specs.Phase.{wrapOf, turnedOf, polyblepOf}
 use Rattle.wavetable.specs.Harmonics.{maxHarmonic}
 use Rattle.wavetable.specs.Reads.{allowedOf, levelFrom, selectLevel, tablePosOf, tableIndexOf, blendOf}
@@ -14,7 +14,7 @@ use Rattle.player.proofs.Worked.{worked}
 use Rattle.examples.specs.Table.{Examples, _also_, none}
 
 pub examples : Examples
-unfolding wrapOf turnedOf floorOf polyblepOf drawOf bipolarOf thresholdOf risesAbove risingAboveOf risingOf fracAbove crossedAboveOf crossedOf maxLenOf
+unfolding wrapOf turnedOf floorOf polyblepOf drawOf bipolarOf risesAbove risingAboveOf risingOf fracAbove crossedAboveOf crossedOf maxLenOf
     maxHarmonic allowedOf levelFrom selectLevel offsetOne offsetTwo tablePosOf tableIndexOf blendOf fabsOf clampOf minOf maxOf sub mul div neg le eq ne
     isNan ofInt toUnsigned ofBits
 examples =
@@ -30,4 +30,5 @@ examples =
     also worked
     also refl also refl also refl also refl also refl
     also refl also refl also refl also refl also refl also refl
+    also refl also refl also refl also refl also refl
     also none

@@ -8,8 +8,10 @@ use mathlib.Core.Path.{_≡_}
 use lib.Ieee.{Float, binary64, ofBits}
 use Rattle.numeric.specs.Basic.{realOf}
 use Rattle.numeric.specs.Draw.{bipolarOf}
+use Rattle.common.specs.Consts.{gateThreshold, lowGateThreshold}
 use Rattle.common.specs.Edge.{risingOf, crossedOf}
 use Rattle.common.specs.Phase.{wrapOf, turnedOf, polyblepOf}
+use Rattle.common.specs.declared.EdgeDetector.{EdgeDetector}
 use Rattle.common.specs.declared.Risen.{Risen}
 use Rattle.common.specs.declared.Crossed.{Crossed}
 use Rattle.common.specs.declared.Crossing.{Crossing}
@@ -25,7 +27,7 @@ pub data Row : Type 0 where
   wrap : (x wrapped : Float) → Row
   polyblep : (t dt residual : Float) → Row
   draw : (k : ℕ) (bipolar : Float) → Row
-  edge : (prev v : Float) (at : Crossing) → Row
+  edge : (threshold prev v : Float) (at : Crossing) → Row
   maxLen : (hz cells : ℕ) → Row
   level : (n : ℕ) (inc : Float) (selected : ℕ) → Row
   offsets : (len delay one two : ℕ) → Row
@@ -66,9 +68,9 @@ table =
     ∷ draw 4503599627370496 (f64 0)
     ∷ draw 9007199254740991 (f64 0x3feffffffffffffe)
     -- 5. Previous 0, v 5: edge, fraction 0.5. Previous 0, v 2.5: none. Previous NaN, v 5: none.
-    ∷ edge (f64 0) (f64 0x4014000000000000) (At (f64 0x3fe0000000000000))
-    ∷ edge (f64 0) (f64 0x4004000000000000) Nowhere
-    ∷ edge (f64 0x7ff8000000000000) (f64 0x4014000000000000) Nowhere
+    ∷ edge gateThreshold (f64 0) (f64 0x4014000000000000) (At (f64 0x3fe0000000000000))
+    ∷ edge gateThreshold (f64 0) (f64 0x4004000000000000) Nowhere
+    ∷ edge gateThreshold (f64 0x7ff8000000000000) (f64 0x4014000000000000) Nowhere
     -- 6. max_len at 1000, 44100, 48000: 60, 2215, 2410.
     ∷ maxLen 1000 60
     ∷ maxLen 44100 2215
@@ -101,6 +103,12 @@ table =
     ∷ turn (f64 0x7ff0000000000000) false
     ∷ turn (f64 0xfff0000000000000) false
     ∷ turn (f64 0x7ff8000000000000) false
+    -- Request CR 7, gates at 1.0 V. Previous 0, v 5: edge, fraction 0.2. Previous 0, v 1.0: none. Previous 1.0, v 1.5: edge, fraction 0; none at 2.5 V.
+    ∷ edge lowGateThreshold (f64 0) (f64 0x4014000000000000) (At (f64 0x3fc999999999999a))
+    ∷ edge lowGateThreshold (f64 0) (f64 0x3ff0000000000000) Nowhere
+    ∷ edge lowGateThreshold (f64 0x7ff8000000000000) (f64 0x4014000000000000) Nowhere
+    ∷ edge lowGateThreshold (f64 0x3ff0000000000000) (f64 0x3ff8000000000000) (At (f64 0))
+    ∷ edge gateThreshold (f64 0x3ff0000000000000) (f64 0x3ff8000000000000) Nowhere
     ∷ []
 
 -- whether there is an edge
@@ -113,10 +121,10 @@ abbrev pub Holds : Row → Type 0
 Holds (wrap x wrapped) = wrapOf x ≡ wrapped
 Holds (polyblep t dt residual) = polyblepOf t dt ≡ residual
 Holds (draw k bipolar) = bipolarOf k ≡ bipolar
-Holds (edge prev v at) =
-    _≡_ {A = Risen × Crossed}
-    (risingOf (record { prev = prev }) v, crossedOf (record { prev = prev }) v)
-    (record { edge = record { prev = v }; rising = isEdge at }, record { edge = record { prev = v }; at = at })
+Holds (edge threshold prev v at) =
+    let before : EdgeDetector = record { prev = prev; threshold = threshold } in
+    let after : EdgeDetector = record { prev = v; threshold = threshold } in
+    _≡_ {A = Risen × Crossed} (risingOf before v, crossedOf before v) (record { edge = after; rising = isEdge at }, record { edge = after; at = at })
 Holds (maxLen hz cells) = maxLenOf (record { 0 = realOf hz }) ≡ cells
 Holds (level n inc selected) = selectLevel n inc ≡ selected
 Holds (offsets len delay one two) = _≡_ {A = ℕ × ℕ} (offsetOne len delay, offsetTwo len delay) (one, two)

@@ -12,7 +12,7 @@ pub settled : Settled
 settled =
     record {
       cells = λ rate. laws.settled _;
-      new = λ rate f w l. laws.settled _;
+      new = λ rate threshold f w l. laws.settled _;
       tick = λ voct trigger damping brightness stretch f w l draws o. laws.settled _;
       block = λ voct trigger damping brightness stretch f w l draws k o m. laws.settled _;
       reset = λ f w l. laws.settled _;

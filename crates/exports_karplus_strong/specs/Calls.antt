@@ -42,8 +42,8 @@ unfoldable pub leftSized : Making → List Float → List ℕ → List Float →
 leftSized m f w l =
     left (keptSized nFloats nWholes (keptOf (m .out) f w) f w) (lineSized (sizesOf nFloats nWholes (length f) (length w)) (m .line) l)
 
-unfoldable pub karplusStrongNewAt : Float → List Float → List ℕ → List Float → Left
-karplusStrongNewAt rate f w l = leftSized (karplusStrongNewOf (record { 0 = rate }) l) f w l
+unfoldable pub karplusStrongNewAt : Float → Float → List Float → List ℕ → List Float → Left
+karplusStrongNewAt rate threshold f w l = leftSized (karplusStrongNewOf (record { 0 = rate }) threshold l) f w l
 
 unfoldable pub karplusStrongResetAt : List Float → List ℕ → List Float → Left
 karplusStrongResetAt f w l = leftSized (karplusStrongResetOf (stateOf f w) l) f w l

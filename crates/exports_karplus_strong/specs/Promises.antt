@@ -16,7 +16,7 @@ Read-back = (s : KarplusStrong) → stateOf (floatsOf s) (wholesOf s) ≡ s
 -- each contract settles the number and every lent slice at exit
 pub record Settled : Type 0 where
   pub cells : (rate : Float) → Settles (λ (n : ℕ). n ≡ karplusStrongCellsAt rate)
-  pub new : (rate : Float) (f : List Float) (w : List ℕ) (l : List Float) → Settles (λ (k : Left). k ≡ karplusStrongNewAt rate f w l)
+  pub new : (rate threshold : Float) (f : List Float) (w : List ℕ) (l : List Float) → Settles (λ (k : Left). k ≡ karplusStrongNewAt rate threshold f w l)
   pub tick : (voct trigger damping brightness stretch : Float) (f : List Float) (w : List ℕ) (l : List Float) (draws : List ℕ) (o : List Float)
       → Settles (λ (h : Sounded). h ≡ karplusStrongTickAt voct trigger damping brightness stretch f w l draws o)
   pub block : (voct trigger damping brightness stretch : Float) (f : List Float) (w : List ℕ) (l : List Float) (draws k : List ℕ) (o : List Float) (m : List ℕ)

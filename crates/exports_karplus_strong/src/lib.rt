@@ -1,4 +1,4 @@
-// The KarplusStrong for hosts, over lent slices. A state is floats [sample_rate, lp_state, ap_x1, ap_y1, trigger_edge.prev,
+// The KarplusStrong for hosts, over lent slices. A state is floats [sample_rate, lp_state, ap_x1, ap_y1, trigger_edge.prev, trigger_edge.threshold,
 // freq_memo.val] and wholes [len, write_pos, freq_memo.key, freq_memo.valid], the last 0 or not; samples are [out].
 // Each call but `cells` answers a number: 0 done; of an accepted tick what its mark is told by; of a refused call 1 to 7 as the
 // scope has them, or 50, 51, 52, 53 where floats, wholes, samples or counts have another length. A refused call writes nothing. A
@@ -117,16 +117,21 @@ pub extern "C" fn gruttisol_karplus_strong_cells(sample_rate: f64) -> u64
 #[no_mangle]
 pub extern "C" fn gruttisol_karplus_strong_new(
     sample_rate: f64,
+    threshold: f64,
     floats: &mut [f64],
     wholes: &mut [u64],
     line: &mut [f64],
 ) -> u32
     ensures { λ r. ⌜ left (kept r (now (floats .exit)) (now (wholes .exit))) (now (line .exit))
-        ≡ karplusStrongNewAt «sample_rate» (now (floats .entry)) (now (wholes .entry)) (now (line .entry)) ⌝ }
+        ≡ karplusStrongNewAt «sample_rate» threshold (now (floats .entry)) (now (wholes .entry)) (now (line .entry)) ⌝ }
 {
     let n = boundary::sizes(FLOATS, WHOLES, floats, wholes);
     if n == 0 {
-        put_made(KarplusStrong::new(Hertz(sample_rate), line), floats, wholes)
+        put_made(
+            KarplusStrong::new(Hertz(sample_rate), threshold, line),
+            floats,
+            wholes,
+        )
     } else {
         n
     }

@@ -13,8 +13,8 @@ use Rattle.lfo.specs.declared.LfoMade.{LfoMade}
 abbrev pub keptOf : LfoMade → List Float → List ℕ → Kept
 keptOf m f w = keptBy floatsOf wholesOf (m .outcome) (m .lfo) f w
 
-unfoldable pub lfoNewAt : Float → List Float → List ℕ → Kept
-lfoNewAt rate f w = keptSized nFloats nWholes (keptOf (lfoNewOf (record { 0 = rate })) f w) f w
+unfoldable pub lfoNewAt : Float → Float → List Float → List ℕ → Kept
+lfoNewAt rate threshold f w = keptSized nFloats nWholes (keptOf (lfoNewOf (record { 0 = rate }) threshold) f w) f w
 
 unfoldable pub lfoResetAt : List Float → List ℕ → Kept
 lfoResetAt f w = keptSized nFloats nWholes (keptOf (lfoResetOf (stateOf f w)) f w) f w

@@ -15,7 +15,7 @@ Read-back = (s : Lfo) → stateOf (floatsOf s) (wholesOf s) ≡ s
 
 -- each contract settles the number and every lent slice at exit
 pub record Settled : Type 0 where
-  pub new : (rate : Float) (f : List Float) (w : List ℕ) → Settles (λ (k : Kept). k ≡ lfoNewAt rate f w)
+  pub new : (rate threshold : Float) (f : List Float) (w : List ℕ) → Settles (λ (k : Kept). k ≡ lfoNewAt rate threshold f w)
   pub tick : (rate depth reset : Float) (wanted : ℕ) (f : List Float) (w : List ℕ) (o : List Float)
       → Settles (λ (h : Heard). h ≡ lfoTickAt rate depth reset wanted f w o)
   pub block : (rate depth reset : Float) (wanted : ℕ) (f : List Float) (w k : List ℕ) (o : List Float) (m : List ℕ)

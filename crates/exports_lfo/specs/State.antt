@@ -19,7 +19,7 @@ nWholes = 2
 abbrev pub nSamples : ℕ
 nSamples = 6
 
--- floats [phase, sample_rate, reset_edge.prev, freq_memo.val], wholes [freq_memo.key, freq_memo.valid]
+-- floats [phase, sample_rate, reset_edge.prev, reset_edge.threshold, freq_memo.val], wholes [freq_memo.key, freq_memo.valid]
 unfoldable pub stateOf : List Float → List ℕ → Lfo
 stateOf f w =
     record {

@@ -1,4 +1,4 @@
-// The Lfo for hosts, over lent slices. A state is floats [phase, sample_rate, reset_edge.prev, freq_memo.val] and
+// The Lfo for hosts, over lent slices. A state is floats [phase, sample_rate, reset_edge.prev, reset_edge.threshold, freq_memo.val] and
 // wholes [freq_memo.key, freq_memo.valid], the last 0 or not; samples are [sin, tri, saw, sqr, sin_uni, eoc].
 // Each call answers a number: 0 done; of an accepted tick what its mark is told by; of a refused call 1 to 7 as the scope has
 // them, or 50, 51, 52, 53 where floats, wholes, samples or counts have another length. A refused call writes nothing. A block
@@ -89,12 +89,17 @@ fn put_made(m: LfoMade, floats: &mut [f64], wholes: &mut [u64]) -> u32
 }
 
 #[no_mangle]
-pub extern "C" fn gruttisol_lfo_new(sample_rate: f64, floats: &mut [f64], wholes: &mut [u64]) -> u32
-    ensures { λ r. ⌜ kept r (now (floats .exit)) (now (wholes .exit)) ≡ lfoNewAt «sample_rate» (now (floats .entry)) (now (wholes .entry)) ⌝ }
+pub extern "C" fn gruttisol_lfo_new(
+    sample_rate: f64,
+    threshold: f64,
+    floats: &mut [f64],
+    wholes: &mut [u64],
+) -> u32
+    ensures { λ r. ⌜ kept r (now (floats .exit)) (now (wholes .exit)) ≡ lfoNewAt «sample_rate» threshold (now (floats .entry)) (now (wholes .entry)) ⌝ }
 {
     let n = boundary::sizes(FLOATS, WHOLES, floats, wholes);
     if n == 0 {
-        put_made(Lfo::new(Hertz(sample_rate)), floats, wholes)
+        put_made(Lfo::new(Hertz(sample_rate), threshold), floats, wholes)
     } else {
         n
     }

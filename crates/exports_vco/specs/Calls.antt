@@ -13,8 +13,8 @@ use Rattle.vco.specs.declared.VcoMade.{VcoMade}
 abbrev pub keptOf : VcoMade → List Float → List ℕ → Kept
 keptOf m f w = keptBy floatsOf wholesOf (m .outcome) (m .vco) f w
 
-unfoldable pub vcoNewAt : Float → List Float → List ℕ → Kept
-vcoNewAt rate f w = keptSized nFloats nWholes (keptOf (vcoNewOf (record { 0 = rate })) f w) f w
+unfoldable pub vcoNewAt : Float → Float → List Float → List ℕ → Kept
+vcoNewAt rate threshold f w = keptSized nFloats nWholes (keptOf (vcoNewOf (record { 0 = rate }) threshold) f w) f w
 
 unfoldable pub vcoResetAt : List Float → List ℕ → Kept
 vcoResetAt f w = keptSized nFloats nWholes (keptOf (vcoResetOf (stateOf f w)) f w) f w

@@ -16,7 +16,7 @@ Read-back = (s : Vco) → stateOf (floatsOf s) (wholesOf s) ≡ s
 
 -- each contract settles the number and every lent slice at exit
 pub record Settled : Type 0 where
-  pub new : (rate : Float) (f : List Float) (w : List ℕ) → Settles (λ (k : Kept). k ≡ vcoNewAt rate f w)
+  pub new : (rate threshold : Float) (f : List Float) (w : List ℕ) → Settles (λ (k : Kept). k ≡ vcoNewAt rate threshold f w)
   pub tick : (c : VcoControls) (wanted : ℕ) (f : List Float) (w : List ℕ) (o : List Float) → Settles (λ (h : Heard). h ≡ vcoTickAt c wanted f w o)
   pub block : (c : VcoControls) (wanted : ℕ) (f : List Float) (w k : List ℕ) (o : List Float) (m : List ℕ)
       → Settles (λ (p : Played). p ≡ vcoBlockAt c wanted f w k o m)

@@ -19,7 +19,7 @@ nWholes = 4
 abbrev pub nSamples : ℕ
 nSamples = 4
 
--- floats [phase, sample_rate, sync_edge.prev, freq_memo.val], wholes [freq_memo.key0, key1, key2, valid]
+-- floats [phase, sample_rate, sync_edge.prev, sync_edge.threshold, freq_memo.val], wholes [freq_memo.key0, key1, key2, valid]
 unfoldable pub stateOf : List Float → List ℕ → Vco
 stateOf f w =
     record {

@@ -1,4 +1,4 @@
-// The Vco for hosts, over lent slices. A state is floats [phase, sample_rate, sync_edge.prev, freq_memo.val] and
+// The Vco for hosts, over lent slices. A state is floats [phase, sample_rate, sync_edge.prev, sync_edge.threshold, freq_memo.val] and
 // wholes [freq_memo.key0, key1, key2, valid], the last 0 or not; samples are [sin, tri, saw, sqr].
 // Each call answers a number: 0 done; of an accepted tick what its mark is told by; of a refused call 1 to 7 as the scope has
 // them, or 50, 51, 52, 53 where floats, wholes, samples or counts have another length. A refused call writes nothing. A block
@@ -134,12 +134,17 @@ fn put_block(b: VcoBlock, floats: &mut [f64], wholes: &mut [u64], counts: &mut [
 }
 
 #[no_mangle]
-pub extern "C" fn gruttisol_vco_new(sample_rate: f64, floats: &mut [f64], wholes: &mut [u64]) -> u32
-    ensures { λ r. ⌜ kept r (now (floats .exit)) (now (wholes .exit)) ≡ vcoNewAt «sample_rate» (now (floats .entry)) (now (wholes .entry)) ⌝ }
+pub extern "C" fn gruttisol_vco_new(
+    sample_rate: f64,
+    threshold: f64,
+    floats: &mut [f64],
+    wholes: &mut [u64],
+) -> u32
+    ensures { λ r. ⌜ kept r (now (floats .exit)) (now (wholes .exit)) ≡ vcoNewAt «sample_rate» threshold (now (floats .entry)) (now (wholes .entry)) ⌝ }
 {
     let n = boundary::sizes(FLOATS, WHOLES, floats, wholes);
     if n == 0 {
-        put_made(Vco::new(Hertz(sample_rate)), floats, wholes)
+        put_made(Vco::new(Hertz(sample_rate), threshold), floats, wholes)
     } else {
         n
     }

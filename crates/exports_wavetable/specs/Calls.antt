@@ -15,8 +15,8 @@ use Rattle.wavetable.specs.declared.WavetableMade.{WavetableMade}
 abbrev pub keptOf : WavetableMade → List Float → List ℕ → Kept
 keptOf m f w = keptBy floatsOf wholesOf (m .outcome) (m .wavetable) f w
 
-unfoldable pub wavetableNewAt : Float → List Float → List ℕ → Kept
-wavetableNewAt rate f w = keptSized nFloats nWholes (keptOf (wavetableNewOf (record { 0 = rate })) f w) f w
+unfoldable pub wavetableNewAt : Float → Float → List Float → List ℕ → Kept
+wavetableNewAt rate threshold f w = keptSized nFloats nWholes (keptOf (wavetableNewOf (record { 0 = rate }) threshold) f w) f w
 
 unfoldable pub wavetableResetAt : List Float → List ℕ → Kept
 wavetableResetAt f w = keptSized nFloats nWholes (keptOf (wavetableResetOf (stateOf f w)) f w) f w

@@ -16,7 +16,7 @@ Read-back = (s : Wavetable) → stateOf (floatsOf s) (wholesOf s) ≡ s
 
 -- each contract settles the number and every lent slice at exit
 pub record Settled : Type 0 where
-  pub new : (rate : Float) (f : List Float) (w : List ℕ) → Settles (λ (k : Kept). k ≡ wavetableNewAt rate f w)
+  pub new : (rate threshold : Float) (f : List Float) (w : List ℕ) → Settles (λ (k : Kept). k ≡ wavetableNewAt rate threshold f w)
   pub tick : (v table morph sync : Float) (l f : List Float) (w : List ℕ) (o : List Float)
       → Settles (λ (h : Heard). h ≡ wavetableTickAt v table morph sync l f w o)
   pub block : (v table morph sync : Float) (l f : List Float) (w k : List ℕ) (o : List Float) (m : List ℕ)

@@ -20,13 +20,14 @@ nWholes = 2
 abbrev pub nSamples : ℕ
 nSamples = 1
 
--- floats [phase, sample_rate, prev_sync, freq_memo.val], wholes [freq_memo.key, freq_memo.valid]
+-- floats [phase, sample_rate, prev_sync, threshold, freq_memo.val], wholes [freq_memo.key, freq_memo.valid]
 unfoldable pub stateOf : List Float → List ℕ → Wavetable
 stateOf f w =
     record {
       phase = record { 0 = getD f 0 nan };
       «sample_rate» = record { 0 = getD f 1 nan };
       «prev_sync» = edgeAt f 2 .prev;
+      threshold = edgeAt f 2 .threshold;
       «freq_memo» = record { key = getD w 0 0; val = record { 0 = getD f (2 + nEdge) nan }; valid = not (eqb (getD w 1 0) 0) };
     }
 

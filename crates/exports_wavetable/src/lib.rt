@@ -1,4 +1,4 @@
-// The Wavetable for hosts, over lent slices. A state is floats [phase, sample_rate, prev_sync, freq_memo.val] and
+// The Wavetable for hosts, over lent slices. A state is floats [phase, sample_rate, prev_sync, threshold, freq_memo.val] and
 // wholes [freq_memo.key, freq_memo.valid], the last 0 or not; samples are [out]. The bank is 16,384 numbers.
 // Each call answers a number: 0 done; of an accepted tick what its mark is told by; of a refused call 1 to 7 as the scope has
 // them, or 50, 51, 52, 53 where floats, wholes, samples or counts have another length. A refused call writes nothing. A block
@@ -54,6 +54,7 @@ fn state(floats: &[f64], wholes: &[u64]) -> Wavetable
     Wavetable {
         phase,
         prev_sync: edge.prev,
+        threshold: edge.threshold,
         sample_rate,
         freq_memo,
     }
@@ -65,7 +66,10 @@ fn store(s: Wavetable, floats: &mut [f64], wholes: &mut [u64])
 {
     let phase = s.phase;
     let sample_rate = s.sample_rate;
-    let edge = EdgeDetector { prev: s.prev_sync };
+    let edge = EdgeDetector {
+        prev: s.prev_sync,
+        threshold: s.threshold,
+    };
     let memo = s.freq_memo;
     let val = memo.val;
     floats[0] = phase.0;
@@ -95,14 +99,19 @@ fn put_made(m: WavetableMade, floats: &mut [f64], wholes: &mut [u64]) -> u32
 #[no_mangle]
 pub extern "C" fn gruttisol_wavetable_new(
     sample_rate: f64,
+    threshold: f64,
     floats: &mut [f64],
     wholes: &mut [u64],
 ) -> u32
-    ensures { λ r. ⌜ kept r (now (floats .exit)) (now (wholes .exit)) ≡ wavetableNewAt «sample_rate» (now (floats .entry)) (now (wholes .entry)) ⌝ }
+    ensures { λ r. ⌜ kept r (now (floats .exit)) (now (wholes .exit)) ≡ wavetableNewAt «sample_rate» threshold (now (floats .entry)) (now (wholes .entry)) ⌝ }
 {
     let n = boundary::sizes(FLOATS, WHOLES, floats, wholes);
     if n == 0 {
-        put_made(Wavetable::new(Hertz(sample_rate)), floats, wholes)
+        put_made(
+            Wavetable::new(Hertz(sample_rate), threshold),
+            floats,
+            wholes,
+        )
     } else {
         n
     }

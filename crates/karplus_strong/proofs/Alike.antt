@@ -89,6 +89,7 @@ turned-sound s l u w a = record {
   most = rw (w .len, w .keeps .rate) (a .most);
   place = w .place (a .place);
   value = rw (w .keeps .memo) (a .value);
+  threshold = rw (w .keeps .edge) (a .threshold);
 }
 
 -- ---- the passes

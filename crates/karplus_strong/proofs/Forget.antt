@@ -8,7 +8,7 @@ use lib.Dec.{eqb}
 use lib.ListN.{length}
 use lib.Ieee.{Float}
 use Rattle.laws.specs.Float.{zer}
-use Rattle.common.proofs.EdgeLaws.{rising-like}
+use Rattle.common.proofs.EdgeLaws.{threshold-in, rising-like}
 use Rattle.common.proofs.MemoLaws.{recall1-is}
 use Rattle.common.specs.Edge.{resetOf, risingOf}
 use Rattle.common.specs.Memo.{recall1, voctToHzAt}
@@ -112,7 +112,8 @@ module _ (x : Strung) (h : ReachedKarplusStrong x) (c : KarplusStrongControls) (
   -- its detector is a new one like this
   en : risingOf (s .«trigger_edge») (c .trigger) ≡ risingOf (y .string .«trigger_edge») (c .trigger)
   unfolding resetOf
-  en = sym (ap (λ (u : Strung). risingOf (u .string .«trigger_edge») (c .trigger)) (w .is-new) ∙ rising-like (s .«trigger_edge») (c .trigger) (z .edge))
+  en = sym (ap (λ (u : Strung). risingOf (u .string .«trigger_edge») (c .trigger)) (w .is-new)
+      ∙ rising-like (s .«trigger_edge») (c .trigger) (threshold-in _ (g .sound .threshold) .above) (z .edge))
 
   heard : Alike-heard s (y .string) c
   heard = record { rate = same-rate; memo = em; risen = en; edge = z .edge }

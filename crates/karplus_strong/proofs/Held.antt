@@ -14,7 +14,7 @@ use Rattle.laws.specs.Lists.{tab}
 use Rattle.common.specs.Edge.{risingOf}
 use Rattle.common.specs.Memo.{recall1, voctToHzAt}
 use Rattle.common.specs.Tests.{drawsRefusalOf}
-use Rattle.common.proofs.EdgeLaws.{rising-once}
+use Rattle.common.proofs.EdgeLaws.{threshold-kept, rising-once}
 use Rattle.common.proofs.MemoLaws.{recall1-again}
 use Rattle.common.specs.declared.Memo1.{Memo1}
 use Rattle.common.specs.declared.Risen.{Risen}
@@ -137,7 +137,13 @@ struck-held s c draws l a h =
     let heard = heardString s (risingOf (s .«trigger_edge») (c .trigger) .edge) (memoAt s c) in
     let k = strike-keeps heard (periodAt s c) (brightnessOf c) draws l (taken s c) in
     let size = strike-size heard (periodAt s c) (brightnessOf c) draws l (taken s c) (struck-fits s c a (length l) h) in
-    record { sound = struck-sound s c a (taken s c) _ (brightnessOf c) draws l; room = rw (size, k .rate) h; rate = k .rate; edge = k .edge; memo = k .memo }
+    record {
+      sound = struck-sound s c a (taken s c) _ (brightnessOf c) draws l (threshold-kept (s .«trigger_edge») (c .trigger) .rising);
+      room = rw (size, k .rate) h;
+      rate = k .rate;
+      edge = k .edge;
+      memo = k .memo;
+    }
 
 -- a tick that is a turn
 told : (t : Tuning) (x : Strung) (u : Ticking) → u ≡ turnOf (x .string) t (x .line) → u .out .answer ≡ heldAnswer t x

@@ -25,7 +25,7 @@ use Rattle.common.specs.Consts.{c4, rateLow, rateHigh, half, maxVoct}
 use Rattle.common.specs.Edge.{resetOf, risingOf}
 use Rattle.common.specs.Memo.{hits1, filled1, recall1, voctToHzAt}
 use Rattle.common.specs.Pitch.{voctToHz}
-use Rattle.common.specs.Tests.{rateOk, drawsRefusalOf}
+use Rattle.common.specs.Tests.{rateOk, thresholdOk, drawsRefusalOf}
 use Rattle.common.specs.declared.EdgeDetector.{EdgeDetector}
 use Rattle.common.specs.declared.Hertz.{Hertz}
 use Rattle.common.specs.declared.Memo1.{Memo1}
@@ -43,7 +43,7 @@ use Rattle.karplus_strong.specs.Step.{filterCoefOf, apCoefOf, filterDela
 use Rattle.karplus_strong.specs.Step.{tapOf, filteredOf, stretchedOf, heardOf, restOf, Ticking, wroteOf, clearedOf, stepOf}
 use Rattle.karplus_strong.specs.Shortcuts.{tuningOf, tapAt, turnOf}
 use Rattle.karplus_strong.specs.KarplusStrong.{maxLenOf, stringOf, noString, Strung, strung, lineOk, roomOf, karplusStrongRefusalOf}
-use Rattle.karplus_strong.specs.KarplusStrong.{karplusStrongRateRefusalOf, Making, making, madeUnless, karplusStrongNewOf}
+use Rattle.karplus_strong.specs.KarplusStrong.{karplusStrongRateRefusalOf, Making, making, madeUnless, karplusStrongNewRefusalOf, karplusStrongNewOf}
 use Rattle.karplus_strong.specs.KarplusStrong.{karplusStrongResetOf, placeOf, karplusStrongSetSampleRateOf, finiteOr, periodOf}
 use Rattle.karplus_strong.specs.KarplusStrong.{struckLen, strikeOf, strikeIf, heardString, refusedTick, tickUnless, karplusStrongSoundOf}
 use Rattle.karplus_strong.specs.KarplusStrong.{karplusStrongTickOf, dampingOf, brightnessOf, stretchOf, controlsOf, memoAt, periodAt, triggerRefusalOf}
@@ -237,6 +237,7 @@ pub record Sound (s : KarplusStrong) : Type 0 where
   pub most : s .len ≤ maxLenOf (s .«sample_rate») + 1
   pub place : s .«write_pos» < s .len
   pub value : T (not (isNan (s .«freq_memo» .val .0)))
+  pub threshold : thresholdOk (s .«trigger_edge» .threshold) ≡ true
 
 line-sound : (s : KarplusStrong) → rateOk (s .«sample_rate») ≡ true → lineOk s (maxLenOf (s .«sample_rate»)) ≡ true → Sound s
 unfolding lineOk
@@ -244,7 +245,7 @@ line-sound s e h =
     go (leb 4 (s .len)) (leb (s .len) (maxLenOf (s .«sample_rate») + 1)) (ltb (s .«write_pos») (s .len)) (isNan (s .«freq_memo» .val .0)) refl refl refl refl h
   where
     go : (a b c d : Bool) → leb 4 (s .len) ≡ a → leb (s .len) (maxLenOf (s .«sample_rate») + 1) ≡ b → ltb (s .«write_pos») (s .len) ≡ c
-        → isNan (s .«freq_memo» .val .0) ≡ d → (a && (b && (c && not d))) ≡ true → Sound s
+        → isNan (s .«freq_memo» .val .0) ≡ d → (a && (b && (c && (not d && thresholdOk (s .«trigger_edge» .threshold))))) ≡ true → Sound s
     go false b c d p q t u w = absurd (true≢false (sym w))
     go true false c d p q t u w = absurd (true≢false (sym w))
     go true true false d p q t u w = absurd (true≢false (sym w))
@@ -255,6 +256,7 @@ line-sound s e h =
       most = leb-true (s .len) (maxLenOf (s .«sample_rate») + 1) q;
       place = ltb-true (s .«write_pos») (s .len) t;
       value = of-false (isNan (s .«freq_memo» .val .0)) u;
+      threshold = w;
     }
 
 pub sound-line : (s : KarplusStrong) → Sound s → lineOk s (maxLenOf (s .«sample_rate»)) ≡ true
@@ -264,6 +266,7 @@ sound-line s a = simp (
   le-leb (s .len) (maxLenOf (s .«sample_rate») + 1) (a .most),
   lt-ltb (s .«write_pos») (s .len) (a .place),
   is-false (isNan (s .«freq_memo» .val .0)) (a .value),
+  a .threshold,
 )
 
 -- what a tick of such a string hears is a number, and a length that its line can take
@@ -280,17 +283,19 @@ module _ (s : KarplusStrong) (c : KarplusStrongControls) (a : Sound s) where
   pub struck-fits : (n : ℕ) → maxLenOf (s .«sample_rate») + 2 ≤ n → struckLen (periodAt s c) ≤ n
   struck-fits n h = omega (arith, struck-range .1)
 
-  pub struck-sound : (rising : Bool) (edge : EdgeDetector) (b : Float) (d : List ℕ) (l : List Float)
+  pub struck-sound : (rising : Bool) (edge : EdgeDetector) (b : Float) (d : List ℕ) (l : List Float) → edge .threshold ≡ s .«trigger_edge» .threshold
       → Sound (strikeIf rising (heardString s edge (memoAt s c)) (periodAt s c) b d l .string)
   unfolding strikeIf strikeOf
-  struck-sound true edge b d l = record {
+  struck-sound true edge b d l k = record {
     rate = a .rate;
     least = struck-range .0;
     most = struck-range .1;
     place = omega (arith, struck-range .0);
     value = heard-number;
+    threshold = rw k (a .threshold);
   }
-  struck-sound false edge b d l = record { rate = a .rate; least = a .least; most = a .most; place = a .place; value = heard-number }
+  struck-sound false edge b d l k =
+      record { rate = a .rate; least = a .least; most = a .most; place = a .place; value = heard-number; threshold = rw k (a .threshold) }
 
 pub room-of : (r : Hertz) (n : ℕ) → roomOf r n ≡ 0 → maxLenOf r + 2 ≤ n
 unfolding roomOf
@@ -353,19 +358,38 @@ pub made-says : (k : ℕ) (x y : Strung) → outcomeNumber (madeUnless k x y .ou
 unfolding outcomeNumber
 made-says k x y = made-either (λ m. outcomeNumber (m .out .outcome) ≡ k) k x y sym (λ n. refl)
 
-module _ (r : Hertz) (l : List Float) (t : KarplusStrong) (n : ℕ) (et : t ≡ stringOf r n) where
-  pub new-rate : rateOk r ≡ false → n ≡ 0 → refused 1 t l ≡ karplusStrongNewOf r l
+-- what new asks
+module _ (r : Hertz) (v : Float) (n : ℕ) where
+  pub new-rate : rateOk r ≡ false → 1 ≡ karplusStrongNewRefusalOf r v n
+  unfolding karplusStrongNewRefusalOf
+  new-rate e = rw e
+
+  pub new-threshold : rateOk r ≡ true → thresholdOk v ≡ false → 2 ≡ karplusStrongNewRefusalOf r v n
+  unfolding karplusStrongNewRefusalOf
+  new-threshold e f = rw (e, f)
+
+  pub new-room : (k : ℕ) → rateOk r ≡ true → thresholdOk v ≡ true → k ≡ roomOf r n → k ≡ karplusStrongNewRefusalOf r v n
+  unfolding karplusStrongNewRefusalOf
+  new-room k e f q = rw (e, f) q
+
+  pub new-taken : karplusStrongNewRefusalOf r v n ≡ 0 → (rateOk r ≡ true) × (thresholdOk v ≡ true) × (maxLenOf r + 2 ≤ n)
+  unfolding karplusStrongNewRefusalOf
+  new-taken e = go (rateOk r) (thresholdOk v) refl refl e
+    where
+      go : (a b : Bool) → rateOk r ≡ a → thresholdOk v ≡ b → _≡_ {A = ℕ} (cond a (cond b (roomOf r n) 2) 1) 0
+          → (rateOk r ≡ true) × (thresholdOk v ≡ true) × (maxLenOf r + 2 ≤ n)
+      go true true p q h = (p, q, room-of r n h)
+      go true false p q h = absurd (omega arith)
+      go false b p q h = absurd (omega arith)
+
+module _ (r : Hertz) (v : Float) (l : List Float) (t : KarplusStrong) (n k : ℕ) (et : t ≡ stringOf r v n) (q : k ≡ karplusStrongNewRefusalOf r v (length l)) where
+  pub new-no : (k ≡ 0 → ⊥) → n ≡ 0 → refused k t l ≡ karplusStrongNewOf r v l
+  unfolding karplusStrongNewOf
+  new-no h en = rw (← q, et, en) (made-no k (strung (noString r v) l) _ h)
+
+  pub new-made : k ≡ 0 → n ≡ maxLenOf r → (x : List Float) → x ≡ blankOf 0 n l → done t x ≡ karplusStrongNewOf r v l
   unfolding karplusStrongNewOf madeUnless
-  new-rate e en = rw (e, et, en)
-
-  module _ (k : ℕ) (e : rateOk r ≡ true) (q : k ≡ roomOf r (length l)) where
-    pub new-room : (k ≡ 0 → ⊥) → n ≡ 0 → refused k t l ≡ karplusStrongNewOf r l
-    unfolding karplusStrongNewOf
-    new-room h en = rw (e, ← q, et, en) (made-no k (strung (noString r) l) _ h)
-
-    pub new-made : k ≡ 0 → n ≡ maxLenOf r → (x : List Float) → x ≡ blankOf 0 n l → done t x ≡ karplusStrongNewOf r l
-    unfolding karplusStrongNewOf madeUnless
-    new-made h en x ex = rw (e, ← q, h, et, ex, en)
+  new-made h en x ex = rw (← q, h, et, ex, en)
 
 module _ (s : KarplusStrong) (l : List Float) (k : ℕ) (e : k ≡ karplusStrongRefusalOf s (length l)) where
   pub reset-no : (k ≡ 0 → ⊥) → refused k s l ≡ karplusStrongResetOf s l

@@ -9,29 +9,33 @@ use lib.Dec.{eqb, leb}
 use lib.Ieee.{Float, le, low}
 use lib.ListN.{length}
 use Rattle.common.proofs.DrawLaws.{draws-less, draws-taken}
+use Rattle.common.proofs.EdgeLaws as law
 use Rattle.common.proofs.EdgeLaws.{rising-comes, rising-not}
 use Rattle.answer.specs.Answer.{refusalOf, accepted}
 use Rattle.answer.specs.Block.{blockRefusalOf}
 use Rattle.answer.specs.declared.Tally.{Tally}
-use Rattle.answer.proofs.Blocks.{block-refusal, held-accepted, all-taken}
-use Rattle.common.specs.Edge.{thresholdOf, risingOf}
-use Rattle.common.specs.Tests.{rateOk, drawsOk}
+use Rattle.answer.proofs.Blocks.{block-keeps, block-refusal, held-accepted, all-taken}
+use Rattle.common.specs.Edge.{risingOf}
+use Rattle.common.specs.Tests.{rateOk, thresholdOk, drawsOk}
 use Rattle.karplus_strong.proofs.Alike.{length-blank, Keeps, strike-keeps, stepped}
-use Rattle.karplus_strong.proofs.Parts.{made-says, max-len-range, Sound, struck-range, sound-line, turn-is}
+use Rattle.karplus_strong.proofs.Parts.{made-either, made-says, max-len-range, Sound, struck-range, sound-line, turn-is}
 use Rattle.karplus_strong.proofs.Reached.{Good, after-good, reached-good}
 use Rattle.karplus_strong.proofs.Ticks.{numbersOf, step-heard, heard-none, heard-accepted, struckStep, struck-heard, unless-number}
 use Rattle.karplus_strong.proofs.Ticks.{twice-heard, twice-left, tick-is, good-refusal, good-room, good-none, good-first, good-tick}
 use Rattle.karplus_strong.proofs.Held.{tuneOf, holds, first-none}
 use Rattle.karplus_strong.specs.Shortcuts.{heldAnswer}
-use Rattle.karplus_strong.specs.Calls.{First, ReachedKarplusStrong, after, reply, Tick, Reset, SetSampleRate, Told}
+use Rattle.karplus_strong.specs.Calls.{First, ReachedKarplusStrong, strungAfter, after, reply, Tick, Play, Reset, SetSampleRate, Lend, Told}
 use Rattle.karplus_strong.specs.Consts.{nPorts}
 use Rattle.karplus_strong.specs.KarplusStrong.{newStrung, triggerRefusalOf, karplusStrongBlockOf, maxLenOf, roomOf}
 use Rattle.karplus_strong.specs.KarplusStrong.{karplusStrongCellsOf, karplusStrongRefusalOf, karplusStrongRateRefusalOf}
-use Rattle.karplus_strong.specs.KarplusStrong.{madeUnless, karplusStrongNewOf, karplusStrongResetOf, karplusStrongSetSampleRateOf}
-use Rattle.karplus_strong.specs.KarplusStrong.{struckLen, heardString, tickUnless, karplusStrongTickOf, Strung, newLike, memoAt, periodAt}
+use Rattle.karplus_strong.specs.KarplusStrong.{madeUnless, karplusStrongNewRefusalOf, karplusStrongNewOf, karplusStrongResetOf, karplusStrongSetSampleRateOf}
+use Rattle.karplus_strong.specs.KarplusStrong.{struckLen, heardString, tickUnless, karplusStrongTickOf, karplusStrongNextOf, Strung, newLike}
+use Rattle.karplus_strong.specs.KarplusStrong.{memoAt, periodAt}
 use Rattle.karplus_strong.specs.Promises.{taken, Never-refused, New-accepts, New-there, Cells-enough, Edge-comes}
-use Rattle.karplus_strong.specs.Promises.{Finite-or-cleared, Refused-leaves, Keeps-rate, Block-accepts, Block-tallies}
+use Rattle.karplus_strong.specs.Promises.{Finite-or-cleared, Refused-leaves, Keeps-rate, Threshold-kept, Block-accepts, Block-tallies}
+use Rattle.laws.specs.Float.{zer}
 use Rattle.karplus_strong.specs.Step.{Ticking}
+use Rattle.common.specs.declared.EdgeDetector.{EdgeDetector}
 use Rattle.common.specs.declared.Hertz.{Hertz}
 use Rattle.karplus_strong.specs.declared.KarplusStrong.{KarplusStrong}
 use Rattle.karplus_strong.specs.declared.KarplusStrongControls.{KarplusStrongControls}
@@ -66,6 +70,7 @@ pub never-refused : Never-refused
 never-refused x h = record {
   state = λ n. good-refusal (x .string) (length (x .line)) n g;
   room = good-room (x .string) (length (x .line)) g;
+  threshold = g .sound .threshold;
   tick = λ c draws. good-number (x .string) c draws (x .line) g;
   play = λ c draws t o m. good-block x c draws t o m g;
   reset = reset-says;
@@ -88,10 +93,11 @@ never-refused x h = record {
         ap Told (made-says _ x _ ∙ simp (g .sound .rate, sound-line (x .string) (g .sound)) (both (rateOk r) (roomOf r (length (x .line)))))
 
 pub new-accepts : New-accepts
-new-accepts rate l = (unfold karplusStrongNewOf in made-says _ _ _, first)
+new-accepts rate threshold l = (unfold karplusStrongNewOf karplusStrongNewRefusalOf in made-says _ _ _, first)
   where
-    first : rateOk rate ≡ true → roomOf rate (length l) ≡ 0 → First (newStrung rate l)
-    first e h = record { rate = rate; lent = l; is-new = unfold karplusStrongNewOf madeUnless in simp (e, h) }
+    first : rateOk rate ≡ true → thresholdOk threshold ≡ true → roomOf rate (length l) ≡ 0 → First (newStrung rate threshold l)
+    first e k h =
+        record { rate = rate; threshold = threshold; lent = l; is-new = unfold karplusStrongNewOf karplusStrongNewRefusalOf madeUnless in simp (e, k, h) }
 
 pub like-size : (x : Strung) → ReachedKarplusStrong x → (l : List Float) → length l ≡ length (x .line) → length (newLike x l .line) ≡ length (x .line)
 like-size x h l e = let r = reached-good x h .room in length-blank 0 (maxLenOf (x .string .«sample_rate»)) l (omega arith) ∙ e
@@ -99,14 +105,19 @@ like-size x h l e = let r = reached-good x h .room in length-blank 0 (maxLenOf (
 pub new-there : New-there
 new-there x h y w =
     let g = reached-good x h in
-    rw (w .is-new) (new-accepts (x .string .«sample_rate») (w .lent) .1 (g .sound .rate) (rw (w .size) (good-room (x .string) (length (x .line)) g)))
+    rw (w .is-new)
+    (new-accepts (x .string .«sample_rate») (x .string .«trigger_edge» .threshold) (w .lent) .1 (g .sound .rate) (g .sound .threshold)
+    (rw (w .size) (good-room (x .string) (length (x .line)) g)))
 
 -- ---- a line of enough cells
 pub cells-enough : Cells-enough
-unfolding karplusStrongNewOf karplusStrongCellsOf
-cells-enough rate l = made-says _ _ _ ∙ go (rateOk rate)
+unfolding karplusStrongNewOf karplusStrongNewRefusalOf karplusStrongCellsOf
+cells-enough rate threshold l = made-says _ _ _ ∙ go (rateOk rate)
   where
-    go : (b : Bool) → _≡_ {A = ℕ} (cond b (roomOf rate (length l)) 1) (cond b (cond (leb (cond b (maxLenOf rate + 2) 0) (length l)) 0 3) 1)
+    ok : Bool
+    ok = thresholdOk threshold
+
+    go : (b : Bool) → _≡_ {A = ℕ} (cond b (cond ok (roomOf rate (length l)) 2) 1) (cond b (cond ok (cond (leb (cond b (maxLenOf rate + 2) 0) (length l)) 0 3) 2) 1)
     go true = unfold roomOf in refl
     go false = refl
 
@@ -127,16 +138,43 @@ struck-step-keeps s c draws l =
     let b = strike-keeps _ _ _ draws l _ in
     record { rate = a .rate ∙ b .rate; edge = a .edge ∙ b .edge; memo = a .memo ∙ b .memo }
 
-twice-rate : (k j : ℕ) (s : KarplusStrong) (l : List Float) (t : Ticking) → t .out .«karplus_strong» .«sample_rate» ≡ s .«sample_rate»
-    → tickUnless k s l (tickUnless j s l t) .out .«karplus_strong» .«sample_rate» ≡ s .«sample_rate»
+-- and what it keeps the tick keeps, be it refused
+twice-kept : {A : Type 0} (part : KarplusStrong → A) (k j : ℕ) (s : KarplusStrong) (l : List Float) (t : Ticking) → part (t .out .«karplus_strong») ≡ part s
+    → part (tickUnless k s l (tickUnless j s l t) .out .«karplus_strong») ≡ part s
 unfolding tickUnless
-twice-rate zero zero s l t h = h
-twice-rate zero (suc j) s l t h = refl
-twice-rate (suc k) j s l t h = refl
+twice-kept part zero zero s l t h = h
+twice-kept part zero (suc j) s l t h = refl
+twice-kept part (suc k) j s l t h = refl
+
+tick-kept : {A : Type 0} (part : KarplusStrong → A) (s : KarplusStrong) (c : KarplusStrongControls) (draws : List ℕ) (l : List Float)
+    → part (struckStep s c draws l .out .«karplus_strong») ≡ part s → part (karplusStrongTickOf s c draws l .out .«karplus_strong») ≡ part s
+tick-kept part s c draws l h =
+    rw (tick-is s c draws l) (twice-kept part (karplusStrongRefusalOf s (length l)) (triggerRefusalOf s c draws) s l (struckStep s c draws l) h)
 
 pub keeps-rate : Keeps-rate
-keeps-rate s c draws l = rw (tick-is s c draws l)
-    (twice-rate (karplusStrongRefusalOf s (length l)) (triggerRefusalOf s c draws) s l (struckStep s c draws l) (struck-step-keeps s c draws l .rate))
+keeps-rate s c draws l = tick-kept (λ (u : KarplusStrong). u .«sample_rate») s c draws l (struck-step-keeps s c draws l .rate)
+
+-- ---- the threshold stays
+abbrev gateOf : KarplusStrong → Float
+gateOf s = s .«trigger_edge» .threshold
+
+tick-gate : (c : KarplusStrongControls) (draws : List ℕ) (x : Strung) → gateOf (karplusStrongNextOf c draws x .string) ≡ gateOf (x .string)
+tick-gate c draws x =
+    let s = x .string in
+    let edge = ap (λ (d : EdgeDetector). d .threshold) (struck-step-keeps s c draws (x .line) .edge) in
+    tick-kept gateOf s c draws (x .line) (edge ∙ law.threshold-kept (s .«trigger_edge») (c .trigger) .rising)
+
+made-gate : (k : ℕ) (x y : Strung) → gateOf (y .string) ≡ gateOf (x .string) → gateOf (strungAfter (madeUnless k x y) .string) ≡ gateOf (x .string)
+made-gate k x y h = made-either (λ m. gateOf (m .out .«karplus_strong») ≡ gateOf (x .string)) k x y (λ e. h) (λ n. refl)
+
+pub threshold-kept : Threshold-kept
+unfolding after karplusStrongBlockOf karplusStrongResetOf karplusStrongSetSampleRateOf
+threshold-kept x (Tick c draws) = tick-gate c draws x
+threshold-kept x (Play c draws t o m) =
+    block-keeps nPorts _ _ _ (λ (y : Strung). gateOf (y .string) ≡ gateOf (x .string)) (λ y h. tick-gate c draws y ∙ h) x refl t o m
+threshold-kept x Reset = made-gate _ x _ (law.threshold-kept (x .string .«trigger_edge») zer .reset)
+threshold-kept x (SetSampleRate r) = made-gate _ x _ refl
+threshold-kept x (Lend l) = refl
 
 good-edge : (s : KarplusStrong) (c : KarplusStrongControls) (draws : List ℕ) (l : List Float) → Good s (length l) → triggerRefusalOf s c draws ≡ 0
     → karplusStrongTickOf s c draws l .out .«karplus_strong» .«trigger_edge» ≡ risingOf (s .«trigger_edge») (c .trigger) .edge
@@ -145,7 +183,7 @@ good-edge s c draws l g e =
     ap (λ (t : Ticking). t .out .«karplus_strong» .«trigger_edge») (good-tick s c draws l g ∙ ap (λ (k : ℕ). tickUnless k s l (struckStep s c draws l)) e)
     ∙ struck-step-keeps s c draws l .edge
 
-low-sounds : (s : KarplusStrong) (c : KarplusStrongControls) (draws : List ℕ) → le (c .trigger) (thresholdOf (s .«trigger_edge»)) ≡ true
+low-sounds : (s : KarplusStrong) (c : KarplusStrongControls) (draws : List ℕ) → le (c .trigger) (s .«trigger_edge» .threshold) ≡ true
     → triggerRefusalOf s c draws ≡ 0
 unfolding triggerRefusalOf
 low-sounds s c draws e = simp (rising-not (s .«trigger_edge») (c .trigger) e)
@@ -183,7 +221,7 @@ edge-comes x h low high none draws f el eh n ok = (
     edge = unfold after in good-edge (x .string) low none (x .line) g r
 
     e : taken (y .string) high ≡ true
-    e = (λ i. risingOf (edge i) (eh i) .rising) ∙ rising-comes (x .string .«trigger_edge») (low .trigger) el
+    e = ap (λ (d : EdgeDetector). risingOf d (high .trigger) .rising) edge ∙ rising-comes (x .string .«trigger_edge») (low .trigger) (high .trigger) el eh
 
 -- ---- and no tick of a block is refused whose first isn't
 turn-accepted : (s : KarplusStrong) (c : KarplusStrongControls) (x : Strung) → accepted (heldAnswer (tuneOf s c) x) ≡ true

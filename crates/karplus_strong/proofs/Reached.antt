@@ -15,11 +15,12 @@ use Rattle.laws.specs.Float.{zer, F64}
 use Rattle.answer.specs.Mark.{allNumbers}
 use Rattle.answer.proofs.Blocks.{block-keeps}
 use Rattle.answer.specs.Answer.{outcomeNumber}
+use Rattle.common.proofs.EdgeLaws.{threshold-kept}
 use Rattle.common.proofs.MemoLaws.{recalled1}
 use Rattle.common.specs.Edge.{risingOf}
 use Rattle.common.specs.Memo.{voctToHzAt}
 use Rattle.common.specs.Promises.{Coherent1}
-use Rattle.common.specs.Tests.{rateOk}
+use Rattle.common.specs.Tests.{rateOk, thresholdOk}
 use Rattle.common.specs.declared.Hertz.{Hertz}
 use Rattle.karplus_strong.specs.Consts.{nPorts}
 use Rattle.karplus_strong.specs.Line.{blankOf}
@@ -34,7 +35,7 @@ use Rattle.karplus_strong.specs.Calls.{takenLine, after, Fit, FitCall, F
 use Rattle.karplus_strong.specs.Promises.{taken}
 use Rattle.karplus_strong.specs.declared.KarplusStrong.{KarplusStrong}
 use Rattle.karplus_strong.specs.declared.KarplusStrongControls.{KarplusStrongControls}
-use Rattle.karplus_strong.proofs.Parts.{done, made-either, Sound, rate-accepted, max-len-range, struck-fits, struck-sound, room-of}
+use Rattle.karplus_strong.proofs.Parts.{done, made-either, Sound, rate-accepted, max-len-range, struck-fits, struck-sound, room-of, new-taken}
 use Rattle.karplus_strong.proofs.Alike.{length-blank, Keeps, strike-keeps, strike-size, stepped, turned-sound}
 
 pub record Good (s : KarplusStrong) (n : ℕ) : Type 0 where
@@ -83,7 +84,7 @@ sound-good s c draws l g f = go (triggerRefusalOf s c draws)
 
     struck : Good (x .string) (length (x .line))
     struck = record {
-      sound = struck-sound s c (g .sound) (taken s c) _ (brightnessOf c) draws l;
+      sound = struck-sound s c (g .sound) (taken s c) _ (brightnessOf c) draws l (threshold-kept (s .«trigger_edge») (c .trigger) .rising);
       room = rw (size, kept .rate) (g .room);
       memo = rw (kept .memo) (recalled1 voctToHzAt (s .«freq_memo») (g .memo) (finiteOr (c .voct .0) zer) (fits-or (c .voct .0) f));
     }
@@ -109,12 +110,13 @@ made-good : (k : ℕ) (x y : Strung) → Good (x .string) (length (x .line)) →
     → let z = strungAfter (madeUnless k x y) in Good (z .string) (length (z .line))
 made-good k x y g h = made-either (λ m. Good (m .out .«karplus_strong») (length (m .line))) k x y h (λ n. g)
 
-pub new-good : (r : Hertz) (l : List Float) → rateOk r ≡ true → maxLenOf r + 2 ≤ length l → Good (newKarplusStrong r) (length (blankOf 0 (maxLenOf r) l))
-new-good r l e h =
+pub new-good : (r : Hertz) (v : Float) (l : List Float) → rateOk r ≡ true → thresholdOk v ≡ true → maxLenOf r + 2 ≤ length l
+    → Good (newKarplusStrong r v) (length (blankOf 0 (maxLenOf r) l))
+new-good r v l e k h =
     let m = max-len-range r e in
     let z : length (blankOf 0 (maxLenOf r) l) ≡ length l = length-blank 0 (maxLenOf r) l (omega arith) in
     record {
-      sound = record { rate = e; least = omega arith; most = omega arith; place = omega arith; value = unfold isNan ofBits in tt };
+      sound = record { rate = e; least = omega arith; most = omega arith; place = omega arith; value = unfold isNan ofBits in tt; threshold = k };
       room = omega arith;
       memo = inl refl;
     }
@@ -126,7 +128,18 @@ reset-good s l g =
     let r = a .most in
     let h = g .room in
     let z : length (blankOf 0 (s .len) l) ≡ length l = length-blank 0 (s .len) l (omega arith) in
-    record { sound = record { rate = a .rate; least = q; most = r; place = omega arith; value = a .value }; room = omega arith; memo = g .memo }
+    record {
+      sound = record {
+        rate = a .rate;
+        least = q;
+        most = r;
+        place = omega arith;
+        value = a .value;
+        threshold = rw (threshold-kept (s .«trigger_edge») zer .reset) (a .threshold);
+      };
+      room = omega arith;
+      memo = g .memo;
+    }
 
 place-in : (i n : ℕ) → 0 < n → placeOf i n < n
 unfolding placeOf
@@ -149,6 +162,7 @@ rate-good s r l g e h =
         most = omega arith;
         place = place-in (s .«write_pos») (maxLenOf r) (omega arith);
         value = a .value;
+        threshold = a .threshold;
       };
       room = omega arith;
       memo = g .memo;
@@ -176,23 +190,24 @@ made-new k x y s l =
     (λ z e. (z, sym (ap (λ (m : Making). m .out .«karplus_strong») e), sym (ap (λ (m : Making). m .line) e)))
     (λ n e. absurd (n (ap (λ (m : Making). outcomeNumber (m .out .outcome)) e)))
 
-pub new-taken : (r : Hertz) (n : ℕ) → _≡_ {A = ℕ} (cond (rateOk r) (roomOf r n) 1) 0 → (rateOk r ≡ true) × (maxLenOf r + 2 ≤ n)
-new-taken r n e = go (rateOk r) refl e
-  where
-    go : (b : Bool) → rateOk r ≡ b → _≡_ {A = ℕ} (cond b (roomOf r n) 1) 0 → (rateOk r ≡ true) × (maxLenOf r + 2 ≤ n)
-    go true p h = (p, room-of r n h)
-    go false p h = absurd (omega arith)
+pub record Made (x : Strung) (f : First x) : Type 0 where
+  pub rate : rateOk (f .rate) ≡ true
+  pub threshold : thresholdOk (f .threshold) ≡ true
+  pub room : maxLenOf (f .rate) + 2 ≤ length (f .lent)
+  pub string : x .string ≡ newKarplusStrong (f .rate) (f .threshold)
+  pub line : x .line ≡ blankOf 0 (maxLenOf (f .rate)) (f .lent)
 
-pub first-is : (x : Strung) (f : First x) → (rateOk (f .rate) ≡ true) × (maxLenOf (f .rate) + 2 ≤ length (f .lent))
-    × (x .string ≡ newKarplusStrong (f .rate)) × (x .line ≡ blankOf 0 (maxLenOf (f .rate)) (f .lent))
+pub first-is : (x : Strung) (f : First x) → Made x f
 unfolding karplusStrongNewOf
 first-is x f =
-    let m = made-new _ _ (newStrung (f .rate) (f .lent)) (x .string) (x .line) (f .is-new) in
-    let t = new-taken (f .rate) (length (f .lent)) (m .0) in
-    (t .0, t .1, m .1, m .2)
+    let m = made-new _ _ (newStrung (f .rate) (f .threshold) (f .lent)) (x .string) (x .line) (f .is-new) in
+    let t = new-taken (f .rate) (f .threshold) (length (f .lent)) (m .0) in
+    record { rate = t .0; threshold = t .1; room = t .2; string = m .1; line = m .2 }
 
 pub first-good : (x : Strung) → First x → Good (x .string) (length (x .line))
-first-good x f = let i = first-is x f in rw (i .2, i .3) (new-good (f .rate) (f .lent) (i .0) (i .1))
+first-good x f =
+    let i = first-is x f in
+    rw (i .string, i .line) (new-good (f .rate) (f .threshold) (f .lent) (i .rate) (i .threshold) (i .room))
 
 pub after-good : (x : Strung) (c : Call) → Good (x .string) (length (x .line)) → FitCall c → Good (after x c .string) (length (after x c .line))
 unfolding after karplusStrongResetOf karplusStrongSetSampleRateOf

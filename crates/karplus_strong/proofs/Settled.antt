@@ -17,7 +17,7 @@ pub settled : Settled
 settled =
     record {
       cells = λ rate. laws.settled (karplusStrongCellsOf rate);
-      new = λ rate l. making (karplusStrongNewOf rate l);
+      new = λ rate threshold l. making (karplusStrongNewOf rate threshold l);
       tick = λ s c draws l. ticking (karplusStrongTickOf s c draws l);
       block = λ x c draws t o m. laws.settled (karplusStrongBlockOf x c draws t o m);
       reset = λ s l. making (karplusStrongResetOf s l);

@@ -397,8 +397,8 @@ first-calm : (x : Strung) → First x → Calm (x .string) (x .line)
 first-calm x f =
     let i = first-is x f in
     rw (
-      i .2,
-      i .3,
+      i .string,
+      i .line,
     ) (record {
       cells = blank-within 0 (maxLenOf (f .rate)) (f .lent) (λ j q. absurd (not-suc-le-zero q));
       lp = zero-within;

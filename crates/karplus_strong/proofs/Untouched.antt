@@ -27,10 +27,9 @@ use Rattle.answer.specs.Mark.{allNumbers}
 use Rattle.karplus_strong.specs.Promises.{taken, SamePast, Past-untouched, Only-its-draws}
 use Rattle.karplus_strong.specs.declared.KarplusStrong.{KarplusStrong}
 use Rattle.karplus_strong.specs.declared.KarplusStrongControls.{KarplusStrongControls}
-use Rattle.karplus_strong.proofs.Parts.{made-either, Sound, struck-fits, accepted, rate-accepted, turn-is, step-either}
+use Rattle.karplus_strong.proofs.Parts.{made-either, Sound, struck-fits, accepted, rate-accepted, turn-is, step-either, new-taken}
 use Rattle.karplus_strong.proofs.Alike.{stepped}
 use Rattle.karplus_strong.proofs.Held.{Held, tuneOf, struckBy, holds, turned-ready, first-none}
-use Rattle.karplus_strong.proofs.Reached.{new-taken}
 use Rattle.karplus_strong.proofs.Ticks.{struckStep, tick-is}
 
 -- ---- cells
@@ -205,9 +204,9 @@ past-made k n x y h = made-either (λ m. SamePast n (x .line) (m .line)) k x y h
 pub past-untouched : Past-untouched
 past-untouched =
     record {
-      new = λ rate l. unfold karplusStrongNewOf in
-          past-made _ (maxLenOf rate) (strung (noString rate) l) _
-          (λ e. let h = new-taken rate (length l) e .1 in past-blank 0 (maxLenOf rate) l (omega arith));
+      new = λ rate threshold l. unfold karplusStrongNewOf in
+          past-made _ (maxLenOf rate) (strung (noString rate threshold) l) _
+          (λ e. let h = new-taken rate threshold (length l) e .2 in past-blank 0 (maxLenOf rate) l (omega arith));
       tick = past-tick;
       block = past-block;
       reset = λ s l. unfold karplusStrongResetOf in

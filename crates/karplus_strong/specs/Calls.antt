@@ -79,8 +79,9 @@ FitCall (Lend l) = Unit
 -- a string that new made in some line
 pub record First (x : Strung) : Type 0 where
   pub rate : Hertz
+  pub threshold : Float
   pub lent : List Float
-  pub is-new : karplusStrongNewOf rate lent ≡ making (record { outcome = outcome.Done; «karplus_strong» = x .string }) (x .line)
+  pub is-new : karplusStrongNewOf rate threshold lent ≡ making (record { outcome = outcome.Done; «karplus_strong» = x .string }) (x .line)
 
 abbrev pub ReachedKarplusStrong : Strung → Type 0
 ReachedKarplusStrong = Reached First FitCall after

@@ -10,7 +10,7 @@ use Rattle.numeric.specs.Basic.{clampOf, wholeOf, realOf}
 use Rattle.common.specs.Consts.{half}
 use Rattle.common.specs.Edge.{newEdge, resetOf, risingOf}
 use Rattle.common.specs.Memo.{newMemo1, recall1, voctToHzAt}
-use Rattle.common.specs.Tests.{rateOk, drawsRefusalOf}
+use Rattle.common.specs.Tests.{rateOk, thresholdOk, drawsRefusalOf}
 use Rattle.common.specs.declared.EdgeDetector.{EdgeDetector}
 use Rattle.common.specs.declared.Hertz.{Hertz}
 use Rattle.common.specs.declared.Memo1.{Memo1}
@@ -32,9 +32,9 @@ use Rattle.karplus_strong.specs.declared.KarplusStrongMade.{KarplusStron
 unfoldable pub maxLenOf : Hertz → ℕ
 maxLenOf rate = wholeOf (div binary64 (rate .0) twenty) + 10
 
--- at rest, and of so many cells
-abbrev pub stringOf : Hertz → ℕ → KarplusStrong
-stringOf rate n =
+-- at rest, of this threshold and of so many cells
+abbrev pub stringOf : Hertz → Float → ℕ → KarplusStrong
+stringOf rate threshold n =
     record {
       len = n;
       «write_pos» = 0;
@@ -42,16 +42,16 @@ stringOf rate n =
       «lp_state» = zer;
       «ap_x1» = zer;
       «ap_y1» = zer;
-      «trigger_edge» = newEdge;
+      «trigger_edge» = newEdge threshold;
       «freq_memo» = newMemo1;
     }
 
-abbrev pub newKarplusStrong : Hertz → KarplusStrong
-newKarplusStrong rate = stringOf rate (maxLenOf rate)
+abbrev pub newKarplusStrong : Hertz → Float → KarplusStrong
+newKarplusStrong rate threshold = stringOf rate threshold (maxLenOf rate)
 
 -- what a refused new hands out: a string without cells. Every call refuses it, by 1 where its rate is at fault and else by 2
-abbrev pub noString : Hertz → KarplusStrong
-noString rate = stringOf rate 0
+abbrev pub noString : Hertz → Float → KarplusStrong
+noString rate threshold = stringOf rate threshold 0
 
 -- a string with its line
 pub record Strung : Type 0 where
@@ -61,18 +61,22 @@ pub record Strung : Type 0 where
 abbrev pub strung : KarplusStrong → List Float → Strung
 strung s l = record { string = s; line = l }
 
-abbrev pub newStrung : Hertz → List Float → Strung
-newStrung rate l = strung (newKarplusStrong rate) (blankOf 0 (maxLenOf rate) l)
+abbrev pub newStrung : Hertz → Float → List Float → Strung
+newStrung rate threshold l = strung (newKarplusStrong rate threshold) (blankOf 0 (maxLenOf rate) l)
 
 -- a new one like this, in another line
 abbrev pub newLike : Strung → List Float → Strung
-newLike x l = newStrung (x .string .«sample_rate») l
+newLike x l = newStrung (x .string .«sample_rate») (x .string .«trigger_edge» .threshold) l
 
 -- ---- refusals 1, 2 and 3
--- 2: a length from 4 to max_len + 1, a write position below it, and a memo's value that is no NaN
+-- 2: a length from 4 to max_len + 1, a write position below it, a memo's value that is no NaN, and a gate's threshold
 unfoldable pub lineOk : KarplusStrong → ℕ → Bool
 lineOk s maxLen =
-    leb 4 (s .len) && (leb (s .len) (maxLen + 1) && (ltb (s .«write_pos») (s .len) && not (isNan (s .«freq_memo» .val .0))))
+    leb 4 (s .len)
+    && (leb (s .len) (maxLen + 1)
+    && (ltb (s .«write_pos») (s .len)
+    && (not (isNan (s .«freq_memo» .val .0))
+    && thresholdOk (s .«trigger_edge» .threshold))))
 
 -- 3: a lent line of max_len + 2 cells or more
 unfoldable pub roomOf : Hertz → ℕ → ℕ
@@ -107,8 +111,13 @@ madeUnless n old new =
     (making (record { outcome = outcome.Done; «karplus_strong» = new .string }) (new .line))
     (making (record { outcome = outcome.Refused n; «karplus_strong» = old .string }) (old .line))
 
-unfoldable pub karplusStrongNewOf : Hertz → List Float → Making
-karplusStrongNewOf rate l = madeUnless (cond (rateOk rate) (roomOf rate (length l)) 1) (strung (noString rate) l) (newStrung rate l)
+-- 1 on the rate, 2 on the threshold, 3 on the lent line
+unfoldable pub karplusStrongNewRefusalOf : Hertz → Float → ℕ → ℕ
+karplusStrongNewRefusalOf rate threshold n = cond (rateOk rate) (cond (thresholdOk threshold) (roomOf rate n) 2) 1
+
+unfoldable pub karplusStrongNewOf : Hertz → Float → List Float → Making
+karplusStrongNewOf rate threshold l =
+    madeUnless (karplusStrongNewRefusalOf rate threshold (length l)) (strung (noString rate threshold) l) (newStrung rate threshold l)
 
 -- ---- the tick
 unfoldable pub finiteOr : Float → Float → Float

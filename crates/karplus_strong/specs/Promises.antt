@@ -6,12 +6,11 @@ use mathlib.Core.Path.{_≡_}
 use Prim.Native.Nat.{ℕ, _*_, _≤_, _<_, min}
 use lib.Dec.{eqb, leb}
 use lib.ListN.{length, getD}
-use lib.Ieee.{Float, nan, eq, le}
+use lib.Ieee.{Float, nan, eq, lt, le}
 use Rattle.laws.specs.Float.{zer, isFin}
 use Rattle.laws.specs.Machine.{Reached, replies, Settles}
-use Rattle.common.specs.Consts.{five}
-use Rattle.common.specs.Edge.{thresholdOf, risingOf}
-use Rattle.common.specs.Tests.{rateOk, drawsOk}
+use Rattle.common.specs.Edge.{risingOf}
+use Rattle.common.specs.Tests.{rateOk, thresholdOk, drawsOk}
 use Rattle.common.specs.declared.Hertz.{Hertz}
 use Rattle.answer.specs.Answer.{volts1, cleared, steered, clean, markNumber, voltsOf, refusalOf, accepted, outcomeNumber}
 use Rattle.answer.specs.Block.{Block, blockRefusalOf, answerAt}
@@ -28,11 +27,12 @@ use Rattle.karplus_strong.specs.Calls.{Call, Tick, Play, Reset, SetSampl
 use Rattle.karplus_strong.specs.declared.KarplusStrong.{KarplusStrong}
 use Rattle.karplus_strong.specs.declared.KarplusStrongControls.{KarplusStrongControls}
 
--- ---- new refuses a bad rate and a line without room alone: at each other rate, in each other line, there is a first string
+-- ---- new refuses a bad rate, a bad threshold and a line without room alone: at each other rate, of each threshold, in each other line, there is a
+-- first string
 abbrev pub New-accepts : Type 0
-New-accepts = (rate : Hertz) (l : List Float)
-    → (outcomeNumber (karplusStrongNewOf rate l .out .outcome) ≡ cond (rateOk rate) (roomOf rate (length l)) 1)
-    × (rateOk rate ≡ true → roomOf rate (length l) ≡ 0 → First (newStrung rate l))
+New-accepts = (rate : Hertz) (threshold : Float) (l : List Float)
+    → (outcomeNumber (karplusStrongNewOf rate threshold l .out .outcome) ≡ cond (rateOk rate) (cond (thresholdOk threshold) (roomOf rate (length l)) 2) 1)
+    × (rateOk rate ≡ true → thresholdOk threshold ≡ true → roomOf rate (length l) ≡ 0 → First (newStrung rate threshold l))
 
 -- ---- no call refuses but for its own input
 -- whether a tick with these controls takes the trigger's edge
@@ -45,6 +45,7 @@ taken s c = risingOf (s .«trigger_edge») (c .trigger) .rising
 pub record Accepts (x : Strung) : Type 0 where
   pub state : (n : ℕ) → karplusStrongRefusalOf (x .string) n ≡ roomOf (x .string .«sample_rate») n
   pub room : roomOf (x .string .«sample_rate») (length (x .line)) ≡ 0
+  pub threshold : thresholdOk (x .string .«trigger_edge» .threshold) ≡ true
   pub tick : (c : KarplusStrongControls) (draws : List ℕ)
       → refusalOf (karplusStrongToldOf c draws x) ≡ triggerRefusalOf (x .string) c draws
   pub play : (c : KarplusStrongControls) (draws : List ℕ) (t : Tally) (o : List Float) (m : List ℕ)
@@ -99,10 +100,11 @@ Block-forgets = (x : Strung) → ReachedKarplusStrong x → (c : KarplusStrongCo
 abbrev pub New-there : Type 0
 New-there = (x : Strung) → ReachedKarplusStrong x → (y : Strung) → Fresh x y → First y
 
--- and such a tick: after one whose trigger is not above the threshold, one with 5.0 V and enough draws
+-- and such a tick: after one whose trigger is not above the threshold, one with more, as 5 V are of both, and enough draws
 abbrev pub Edge-comes : Type 0
 Edge-comes = (x : Strung) → ReachedKarplusStrong x → (low high : KarplusStrongControls) (none draws : List ℕ)
-    → Fit low → le (low .trigger) (thresholdOf (x .string .«trigger_edge»)) ≡ true → high .trigger ≡ five → 9611 ≤ length draws → drawsOk draws 9611 ≡ true
+    → Fit low → le (low .trigger) (x .string .«trigger_edge» .threshold) ≡ true → lt (x .string .«trigger_edge» .threshold) (high .trigger) ≡ true
+    → 9611 ≤ length draws → drawsOk draws 9611 ≡ true
     → (accepted (karplusStrongToldOf low none x) ≡ true) × Strikes (after x (Tick low none)) high draws
 
 -- ---- only the cells below the length count
@@ -137,7 +139,7 @@ pub record SamePast (n : ℕ) (l m : List Float) : Type 0 where
 
 -- n being the length after the call
 pub record Past-untouched : Type 0 where
-  pub new : (rate : Hertz) (l : List Float) → SamePast (maxLenOf rate) l (karplusStrongNewOf rate l .line)
+  pub new : (rate : Hertz) (threshold : Float) (l : List Float) → SamePast (maxLenOf rate) l (karplusStrongNewOf rate threshold l .line)
   pub tick : (s : KarplusStrong) (c : KarplusStrongControls) (draws : List ℕ) (l : List Float)
       → SamePast (karplusStrongTickOf s c draws l .out .«karplus_strong» .len) l (karplusStrongTickOf s c draws l .line)
   pub block : (x : Strung) (c : KarplusStrongControls) (draws : List ℕ) (t : Tally) (o : List Float) (m : List ℕ)
@@ -201,6 +203,10 @@ abbrev pub Keeps-rate : Type 0
 Keeps-rate = (s : KarplusStrong) (c : KarplusStrongControls) (draws : List ℕ) (l : List Float)
     → karplusStrongTickOf s c draws l .out .«karplus_strong» .«sample_rate» ≡ s .«sample_rate»
 
+-- ---- no call changes the threshold
+abbrev pub Threshold-kept : Type 0
+Threshold-kept = (x : Strung) (c : Call) → after x c .string .«trigger_edge» .threshold ≡ x .string .«trigger_edge» .threshold
+
 -- ---- no tick of a block is refused whose first isn't: its trigger and pitch stand still. And a tally with room takes each of their answers
 abbrev pub Block-accepts : Type 0
 Block-accepts = (x : Strung) (c : KarplusStrongControls) (draws : List ℕ) (n : ℕ) → 0 < n → firstRefusalOf (x .string) c draws (length (x .line)) n ≡ 0
@@ -212,13 +218,14 @@ Block-tallies = (x : Strung) (c : KarplusStrongControls) (draws : List ℕ) (n :
 
 -- ---- a line of so many cells is enough, and a shorter one isn't
 abbrev pub Cells-enough : Type 0
-Cells-enough = (rate : Hertz) (l : List Float)
-    → outcomeNumber (karplusStrongNewOf rate l .out .outcome) ≡ cond (rateOk rate) (cond (leb (karplusStrongCellsOf rate) (length l)) 0 3) 1
+Cells-enough = (rate : Hertz) (threshold : Float) (l : List Float) → outcomeNumber (karplusStrongNewOf rate threshold l .out .outcome)
+    ≡ cond (rateOk rate) (cond (thresholdOk threshold) (cond (leb (karplusStrongCellsOf rate) (length l)) 0 3) 2) 1
 
 -- ---- each contract settles the answer and the line, and a block's its samples and marks
 pub record Settled : Type 0 where
   pub cells : (rate : Hertz) → Settles (λ (n : ℕ). n ≡ karplusStrongCellsOf rate)
-  pub new : (rate : Hertz) (l : List Float) → Settles (λ (r : Making). (r .out ≡ karplusStrongNewOf rate l .out) × (r .line ≡ karplusStrongNewOf rate l .line))
+  pub new : (rate : Hertz) (threshold : Float) (l : List Float)
+      → Settles (λ (r : Making). (r .out ≡ karplusStrongNewOf rate threshold l .out) × (r .line ≡ karplusStrongNewOf rate threshold l .line))
   pub tick : (s : KarplusStrong) (c : KarplusStrongControls) (draws : List ℕ) (l : List Float)
       → Settles (λ (r : Ticking). (r .out ≡ karplusStrongTickOf s c draws l .out) × (r .line ≡ karplusStrongTickOf s c draws l .line))
   pub block : (x : Strung) (c : KarplusStrongControls) (draws : List ℕ) (t : Tally) (o : List Float) (m : List ℕ)

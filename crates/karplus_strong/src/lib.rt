@@ -21,7 +21,8 @@ ghost use Rattle.karplus_strong.specs.Consts.{nPorts};
 ghost use Rattle.karplus_strong.specs.Line.{blankOf, pulseOf, excitedOf, sumTo, levelOf, struckOf};
 ghost use Rattle.karplus_strong.specs.Step.{filterCoefOf, apCoefOf, targetDelayOf, stepOf};
 ghost use Rattle.karplus_strong.specs.KarplusStrong.{maxLenOf, stringOf, lineOk, roomOf, karplusStrongRefusalOf, karplusStrongRateRefusalOf};
-ghost use Rattle.karplus_strong.specs.KarplusStrong.{karplusStrongCellsOf, karplusStrongNewOf, finiteOr, controlsOf, periodOf, struckLen, strikeOf};
+ghost use Rattle.karplus_strong.specs.KarplusStrong.{karplusStrongCellsOf, karplusStrongNewRefusalOf, karplusStrongNewOf, finiteOr, controlsOf};
+ghost use Rattle.karplus_strong.specs.KarplusStrong.{periodOf, struckLen, strikeOf};
 ghost use Rattle.karplus_strong.specs.KarplusStrong.{strikeIf, karplusStrongSoundOf, karplusStrongTickOf, karplusStrongToldOf};
 ghost use Rattle.karplus_strong.specs.KarplusStrong.{karplusStrongNextOf, triggerRefusalOf, firstRefusalOf, karplusStrongBlockOf};
 ghost use Rattle.karplus_strong.specs.KarplusStrong.{karplusStrongResetOf, placeOf, karplusStrongSetSampleRateOf, strung};
@@ -290,10 +291,10 @@ fn period_of(sample_rate: Hertz, freq: Hertz) -> f64
 }
 
 // A string at rest, of so many cells.
-fn string_of(sample_rate: Hertz, len: usize) -> KarplusStrong
-    ensures { λ r. ⌜ r ≡ stringOf «sample_rate» len ⌝ }
+fn string_of(sample_rate: Hertz, threshold: f64, len: usize) -> KarplusStrong
+    ensures { λ r. ⌜ r ≡ stringOf «sample_rate» threshold len ⌝ }
 {
-    let trigger_edge = EdgeDetector::new();
+    let trigger_edge = EdgeDetector::new(threshold);
     let freq_memo = Memo1::new();
     KarplusStrong {
         len,
@@ -365,6 +366,7 @@ impl KarplusStrong {
     {
         let memo = self.freq_memo;
         let val = memo.val;
+        let edge = self.trigger_edge;
         if self.len < 4 {
             false
         } else if self.len > max_len + 1 {
@@ -372,7 +374,7 @@ impl KarplusStrong {
         } else if self.write_pos >= self.len {
             false
         } else {
-            val.0 == val.0
+            val.0 == val.0 && common::threshold_ok(edge.threshold)
         }
     }
 
@@ -392,29 +394,38 @@ impl KarplusStrong {
         }
     }
 
-    pub fn new(sample_rate: Hertz, line: &mut [f64]) -> KarplusStrongMade
-        ensures { λ r. ⌜ (r ≡ karplusStrongNewOf «sample_rate» (now (line .entry)) .out)
-            × (now (line .exit) ≡ karplusStrongNewOf «sample_rate» (now (line .entry)) .line) ⌝ }
+    // Refusals 1 to 3 of making a string in a lent line of n cells, or 0.
+    fn new_refusal(sample_rate: Hertz, threshold: f64, n: usize) -> u32
+        ensures { λ r. ⌜ r ≡ karplusStrongNewRefusalOf «sample_rate» threshold n ⌝ }
     {
         if common::rate_ok(sample_rate) {
-            let refused = KarplusStrong::room(sample_rate, line.len());
-            if refused == 0 {
-                let max_len = KarplusStrong::max_len_for(sample_rate);
-                blank(line, 0, max_len);
-                KarplusStrongMade {
-                    outcome: Outcome::Done,
-                    karplus_strong: string_of(sample_rate, max_len),
-                }
+            if common::threshold_ok(threshold) {
+                KarplusStrong::room(sample_rate, n)
             } else {
-                KarplusStrongMade {
-                    outcome: Outcome::Refused(refused),
-                    karplus_strong: string_of(sample_rate, 0),
-                }
+                2
+            }
+        } else {
+            1
+        }
+    }
+
+    // Of a rate and of the threshold that its gate goes by.
+    pub fn new(sample_rate: Hertz, threshold: f64, line: &mut [f64]) -> KarplusStrongMade
+        ensures { λ r. ⌜ (r ≡ karplusStrongNewOf «sample_rate» threshold (now (line .entry)) .out)
+            × (now (line .exit) ≡ karplusStrongNewOf «sample_rate» threshold (now (line .entry)) .line) ⌝ }
+    {
+        let refused = KarplusStrong::new_refusal(sample_rate, threshold, line.len());
+        if refused == 0 {
+            let max_len = KarplusStrong::max_len_for(sample_rate);
+            blank(line, 0, max_len);
+            KarplusStrongMade {
+                outcome: Outcome::Done,
+                karplus_strong: string_of(sample_rate, threshold, max_len),
             }
         } else {
             KarplusStrongMade {
-                outcome: Outcome::Refused(1),
-                karplus_strong: string_of(sample_rate, 0),
+                outcome: Outcome::Refused(refused),
+                karplus_strong: string_of(sample_rate, threshold, 0),
             }
         }
     }

@@ -14,7 +14,7 @@ use lib.Ieee.Positive.{through}
 use lib.IntN.{pos, ℤ}
 use borrow.Author.Tests.{lt-ltb, ltb-false}
 use Rattle.laws.proofs.Number.{le-numbers}
-use Rattle.laws.proofs.Tests.{and-true, or-left, or-case, eqb-iff, ltb-iff, zero-of}
+use Rattle.laws.proofs.Tests.{and-true, or-left, or-right, or-case, eqb-iff, ltb-iff, zero-of}
 use Rattle.laws.specs.Float.{zer, isFin}
 
 -- ---- values of one sign compare as their fractions do
@@ -203,6 +203,30 @@ lt-of-le-not-ge x y h n = go (lt x y) refl
     go : (b : Bool) → lt x y ≡ b → T b
     go true e = tt
     go false e = let k = le-numbers x y h in T-not (le y x) n (le-of-lt-false x y (k .0) (k .1) e)
+
+-- equal numbers are at most each other, each way
+level-back : (s t : Bool) (A B : ℕ) → T (level s A t B) → Below t B s A
+level-back false false A B h = le-of-eq (sym (eqb→eq A B (and-l (eqb A B) true h)))
+level-back false true A B h = tt
+level-back true false A B h = let z : A ≡ 0 = eqb→eq A 0 (and-r (eqb A B) (eqb A 0) h) in (sym (eqb→eq A B (and-l (eqb A B) (eqb A 0) h)) ∙ z, z)
+level-back true true A B h = le-of-eq (eqb→eq A B (and-l (eqb A B) true h))
+
+pub eq-ge : (x y : Float) → T (eq x y) → T (le y x)
+unfolding le lt eq
+eq-ge nan y h = absurd h
+eq-ge (inf s) nan h = absurd h
+eq-ge (inf true) (inf true) h = tt
+eq-ge (inf true) (inf false) h = absurd h
+eq-ge (inf false) (inf true) h = absurd h
+eq-ge (inf false) (inf false) h = tt
+eq-ge (inf s) (fin t n d) h = absurd h
+eq-ge (fin s m e) nan h = absurd h
+eq-ge (fin s m e) (inf t) h = absurd h
+eq-ge (fin s m e) (fin t n d) h = below-le t s n m d e (level-back s t (m * up e * down d) (n * up d * down e) h)
+
+pub eq-le : (x y : Float) → T (eq x y) → T (le x y)
+unfolding le
+eq-le x y h = or-right (lt x y) (eq x y) h
 
 pub values-le : (x y : Float) (a c b d : ℕ) → 0 < c → 0 < d → HasValue x false a c → HasValue y false b d → T (le x y) → a * d ≤ b * c
 values-le x y a c b d C D p q h = ltb-false (b * c) (a * d) (sym (lt-by-values y x b d a c D C q p) ∙ lt-false y x h)

@@ -1,5 +1,5 @@
 -- Tests on Bools and whole numbers, and what they say.
-use mathlib.Core.Bool.{Bool, _&&_, _||_, false, false≢true, not, true, true≢false}
+use mathlib.Core.Bool.{Bool, _&&_, _||_, cond, false, false≢true, not, true, true≢false}
 use mathlib.Core.Path.{_≡_, refl}
 use Prim.Native.Nat.{_*_, _<_, _≤_, suc, zero, ℕ}
 use native.Mathlib.Nat.{lt-of-not-le, mul-pos, not-le-of-lt, zero-lt-suc}
@@ -21,9 +21,21 @@ pub both-true : (a b : Bool) → (a && b) ≡ true → (a ≡ true) × (b ≡ tr
 both-true true b h = (refl, h)
 both-true false b h = absurd (false≢true h)
 
+-- what x has where no number refuses, and y
+pub unless-refused : {X : Type 0} (P : X → Type 0) (n : ℕ) (x y : X) → (n ≡ 0 → P x) → P y → P (cond (eqb n 0) x y)
+unless-refused P n x y p q = go (eqb n 0) (eqb→eq n 0)
+  where
+    go : (b : Bool) → (T b → n ≡ 0) → P (cond b x y)
+    go true z = p (z tt)
+    go false z = q
+
 pub or-left : (a b : Bool) → T a → T (a || b)
 or-left true b t = tt
 or-left false b t = absurd t
+
+pub or-right : (a b : Bool) → T b → T (a || b)
+or-right true b h = tt
+or-right false b h = h
 
 pub or-case : (a b : Bool) {X : Type 0} → (T a → X) → (T b → X) → T (a || b) → X
 or-case true b f g t = f tt

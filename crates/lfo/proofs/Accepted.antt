@@ -5,13 +5,13 @@ use Prim.Native.Nat.{ℕ}
 use lib.Dec.{eqb}
 use lib.Ieee.{Float, binary64, div}
 use borrow.Author.Tests.{eqb-true}
-use Rattle.common.proofs.PhaseLaws.{accepted-state, restart-in}
+use Rattle.common.proofs.PhaseLaws.{accepted-gate, restart-in}
 use Rattle.answer.proofs.Laws.{mark-says}
 use Rattle.answer.specs.Answer.{voltsOf, accepted}
 use Rattle.answer.specs.Mark.{allFinite}
 use Rattle.common.specs.Edge.{risingOf}
 use Rattle.common.specs.Phase.{restartOf}
-use Rattle.common.specs.Tests.{rateOk, phaseOk}
+use Rattle.common.specs.Tests.{rateOk, phaseOk, thresholdOk}
 use Rattle.lfo.proofs.Small.{outputs-finite}
 use Rattle.lfo.specs.Consts.{ten}
 use Rattle.lfo.specs.Lfo.{lfoRefusalOf, lfoOutputsOf, lfoSoundOf, lfoTickOf}
@@ -23,10 +23,11 @@ use Rattle.answer.specs.declared.Volts.{Volts}
 use Rattle.lfo.specs.declared.Lfo.{Lfo}
 use Rattle.lfo.specs.declared.LfoControls.{LfoControls}
 
--- no number refuses it: its rate and its phase are good
-pub accepts : (s : Lfo) → lfoRefusalOf s ≡ 0 → (rateOk (s .«sample_rate») ≡ true) × (phaseOk (s .phase) ≡ true)
+-- no number refuses it: its rate, its phase and its threshold are good
+pub accepts : (s : Lfo) → lfoRefusalOf s ≡ 0
+    → (rateOk (s .«sample_rate») ≡ true) × (phaseOk (s .phase) ≡ true) × (thresholdOk (s .«reset_edge» .threshold) ≡ true)
 unfolding lfoRefusalOf
-accepts s h = accepted-state (rateOk (s .«sample_rate»)) (phaseOk (s .phase)) h
+accepts s h = accepted-gate (rateOk (s .«sample_rate»)) (phaseOk (s .phase)) (thresholdOk (s .«reset_edge» .threshold)) h
 
 -- its tick is the Rust's
 pub sounds : (s : Lfo) (c : LfoControls) (wanted : ℕ) → lfoRefusalOf s ≡ 0 → lfoTickOf s c wanted ≡ lfoSoundOf s c wanted

@@ -4,7 +4,8 @@ use mathlib.Core.Path.{_≡_, refl, ap, _∙_}
 use Prim.Native.Nat.{ℕ, _+_}
 use native.Mathlib.Numerals.{add-one}
 use lib.Dec.{lit<}
-use lib.Ieee.{Float, nan, binary64, add, div}
+use lib.Ieee.{Float, nan, binary64, add, div, le}
+use lib.Ieee.Bits.{is-true}
 use lib.Ieee.Fits.{add-fits}
 use Rattle.answer.specs.Answer.{refusalOf}
 use Rattle.answer.specs.Block.{afterTicks, answerAt}
@@ -18,7 +19,7 @@ use Rattle.common.specs.Phase.{turns, wrapPhaseOf, incrementOf, restartOf}
 use Rattle.common.specs.Edge.{risingOf}
 use Rattle.common.specs.Memo.{recall1}
 use Rattle.common.specs.Tests.{phaseOk}
-use Rattle.common.proofs.EdgeLaws.{rising-once, rising-nan}
+use Rattle.common.proofs.EdgeLaws.{threshold-in, threshold-kept, rising-once, rising-not, rising-nan}
 use Rattle.common.proofs.MemoLaws.{recall1-again}
 use Rattle.common.proofs.PhaseLaws.{wrap-in, restart-in}
 use Rattle.common.specs.declared.Turns.{Turns}
@@ -68,7 +69,7 @@ stateOf s c p = record { phase = p; «sample_rate» = s .«sample_rate»; «rese
 
 state-accepted : (s : Lfo) (c : LfoControls) (p : Turns) → lfoRefusalOf s ≡ 0 → phaseOk p ≡ true → lfoRefusalOf (stateOf s c p) ≡ 0
 unfolding lfoRefusalOf
-state-accepted s c p h k = simp (accepts s h .0, k)
+state-accepted s c p h k = simp (accepts s h .0, k, threshold-kept (s .«reset_edge») (c .reset) .rising, accepts s h .2)
 
 -- in such a state a tick takes no edge and finds its rate in the memo
 held-sound : (s : Lfo) (c : LfoControls) (wanted : ℕ) (p : Turns)
@@ -107,12 +108,12 @@ unfolding lfoTickOf lfoSoundOf
 nan-steers s c wanted = tick-steers (λ (t : LfoTicked). t .answer) (controlsOf c) (lfoRefusalOf s) _ _ (mark-steers _ _ _ _ (controlsOf c)) refl
 
 -- a reset that is NaN takes no edge, and neither does 0 V
-module _ (s : Lfo) (c : LfoControls) (wanted : ℕ) (h : c .reset ≡ nan) where
+module _ (s : Lfo) (c : LfoControls) (wanted : ℕ) (h : c .reset ≡ nan) (a : lfoRefusalOf s ≡ 0) where
   nan-still : risingOf (s .«reset_edge») (c .reset) .rising ≡ false
-  nan-still = rw h (rising-nan (s .«reset_edge») .0)
+  nan-still = rw h (rising-nan (s .«reset_edge»))
 
   low-still : risingOf (s .«reset_edge») zer .rising ≡ false
-  low-still = rising-nan (s .«reset_edge») .1
+  low-still = rising-not (s .«reset_edge») zer (is-true (le zer (s .«reset_edge» .threshold)) (threshold-in _ (accepts s a .2) .above))
 
   reset-sounds : Sounds-as (lfoSoundOf s c wanted .answer) (lfoSoundOf s (lowReset c) wanted .answer)
   unfolding lfoSoundOf

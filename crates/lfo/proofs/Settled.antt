@@ -5,7 +5,7 @@ use Rattle.laws.proofs.Settled as laws
 pub settled : Settled
 settled =
     record {
-      new = λ r. laws.settled _;
+      new = λ r t. laws.settled _;
       tick = λ s c wanted. laws.settled _;
       block = λ s c wanted t o m. laws.settled _;
       reset = λ s. laws.settled _;

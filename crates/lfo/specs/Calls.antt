@@ -53,7 +53,7 @@ reply s (SetSampleRate r) = Told (outcomeNumber (lfoSetSampleRateOf s r .outcome
 
 -- an accepted new one
 abbrev pub First : Lfo → Type 0
-First s = (r : Hertz) × (lfoNewOf r ≡ record { outcome = outcome.Done; lfo = s })
+First s = (r : Hertz) × (t : Float) × (lfoNewOf r t ≡ record { outcome = outcome.Done; lfo = s })
 
 abbrev pub ReachedLfo : Lfo → Type 0
 ReachedLfo = Reached First FitCall after

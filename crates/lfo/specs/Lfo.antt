@@ -1,5 +1,5 @@
 -- The Lfo's calls, written from oscillators.rs, with the scope's refusals and marks.
-use mathlib.Core.Bool.{Bool, true, false, cond}
+use mathlib.Core.Bool.{Bool, true, false, cond, _&&_}
 use mathlib.Core.List.{List, [], _∷_}
 use Prim.Native.Nat.{ℕ}
 use lib.Dec.{eqb}
@@ -12,7 +12,7 @@ use Rattle.common.specs.Edge.{newEdge, resetOf, risingOf}
 use Rattle.common.specs.Memo.{newMemo1, recall1}
 use Rattle.common.specs.Phase.{turns, wrapPhaseOf, incrementOf, restartOf}
 use Rattle.common.specs.Ports.{wants}
-use Rattle.common.specs.Tests.{rateOk, phaseOk}
+use Rattle.common.specs.Tests.{rateOk, phaseOk, thresholdOk}
 use Rattle.laws.specs.Float.{zer, isFin}
 use Rattle.lfo.specs.Consts.{ten, nPorts}
 use Rattle.lfo.specs.Waves.{rateToHz, sineOf, sinWave, triWave, sawWave, sqrWave, sinUniWave, eocWave}
@@ -27,17 +27,17 @@ use Rattle.lfo.specs.declared.LfoControls.{LfoControls}
 use Rattle.lfo.specs.declared.LfoTicked.{LfoTicked}
 use Rattle.lfo.specs.declared.LfoMade.{LfoMade}
 
--- Lfo::new
-unfoldable pub newLfo : Hertz → Lfo
-newLfo r = record { phase = turns zer; «sample_rate» = r; «reset_edge» = newEdge; «freq_memo» = newMemo1 }
+-- Lfo::new, and the threshold of its gate
+unfoldable pub newLfo : Hertz → Float → Lfo
+newLfo r t = record { phase = turns zer; «sample_rate» = r; «reset_edge» = newEdge t; «freq_memo» = newMemo1 }
 
 -- a new one like this
 unfoldable pub newLike : Lfo → Lfo
-newLike s = newLfo (s .«sample_rate»)
+newLike s = newLfo (s .«sample_rate») (s .«reset_edge» .threshold)
 
--- 0, or what refuses a state: 1 its rate, 2 its phase
+-- 0, or what refuses a state: 1 its rate, 2 its phase or its gate's threshold
 unfoldable pub lfoRefusalOf : Lfo → ℕ
-lfoRefusalOf s = cond (rateOk (s .«sample_rate»)) (cond (phaseOk (s .phase)) 0 2) 1
+lfoRefusalOf s = cond (rateOk (s .«sample_rate»)) (cond (phaseOk (s .phase) && thresholdOk (s .«reset_edge» .threshold)) 0 2) 1
 
 -- and a rate change: 1 on the new rate and on the old, then 2
 unfoldable pub lfoRateRefusalOf : Lfo → Hertz → ℕ
@@ -47,9 +47,9 @@ lfoRateRefusalOf s r = cond (rateOk r) (lfoRefusalOf s) 1
 unfoldable pub madeUnless : ℕ → Lfo → Lfo → LfoMade
 madeUnless n old new = cond (eqb n 0) (record { outcome = outcome.Done; lfo = new }) (record { outcome = outcome.Refused n; lfo = old })
 
--- 1 on the rate: refused, the state has it, and so refuses every call
-unfoldable pub lfoNewOf : Hertz → LfoMade
-lfoNewOf r = madeUnless (cond (rateOk r) 0 1) (newLfo r) (newLfo r)
+-- refused by what refuses its state, 1 and 2: a refused one refuses every call
+unfoldable pub lfoNewOf : Hertz → Float → LfoMade
+lfoNewOf r t = let s = newLfo r t in madeUnless (lfoRefusalOf s) s s
 
 -- the outputs of tick_wanted, each where it is wanted; and after them eoc, which the Rust hasn't: whether the tick passes a whole turn
 unfoldable pub lfoOutputsOf : ℕ → Float → Float → Bool → Volts

@@ -4,18 +4,18 @@ use mathlib.Core.List.{List, _∷_, []}
 use mathlib.Core.Path.{_≡_}
 use Prim.Native.Nat.{ℕ, _*_, _<_}
 use lib.Dec.{eqb}
-use lib.Ieee.{Float, nan, binary64, le, ne, add, div}
+use lib.Ieee.{Float, nan, binary64, lt, le, ne, add, div}
 use lib.ListN.{length}
 use Rattle.answer.specs.Answer.{voltsOf, accepted, outcomeNumber, markNumber, hostNumber, lost}
 use Rattle.answer.specs.Block.{Block, blockRefusalOf, portsOf}
 use Rattle.answer.specs.Promises.{Steers, Sounds-as, AllAccepted, AllTaken}
 use Rattle.answer.specs.Mark.{allFinite}
 use Rattle.common.specs.Consts.{five}
-use Rattle.common.specs.Edge.{risingOf, thresholdOf}
+use Rattle.common.specs.Edge.{risingOf}
 use Rattle.common.specs.Memo.{recall1}
 use Rattle.common.specs.Phase.{turns, incrementOf, restartOf}
 use Rattle.common.specs.Ports.{wants, WantAlike}
-use Rattle.common.specs.Tests.{rateOk, phaseOk}
+use Rattle.common.specs.Tests.{rateOk, phaseOk, thresholdOk}
 use Rattle.laws.specs.Float.{zer, isFin}
 use Rattle.numeric.specs.Floor.{floorOf}
 use Rattle.laws.specs.Machine.{replies, Settles}
@@ -32,13 +32,15 @@ use Rattle.lfo.specs.declared.LfoControls.{LfoControls}
 use Rattle.lfo.specs.declared.LfoTicked.{LfoTicked}
 use Rattle.lfo.specs.declared.LfoMade.{LfoMade}
 
--- ---- `new` refuses a bad rate alone: at each other one there is a first state
+-- ---- `new` refuses a bad rate, and then a bad threshold, alone: at each other rate there is a first state of each threshold
 abbrev pub New-accepts : Type 0
-New-accepts = (r : Hertz) → (outcomeNumber (lfoNewOf r .outcome) ≡ cond (rateOk r) 0 1) × (rateOk r ≡ true → First (newLfo r))
+New-accepts = (r : Hertz) (t : Float) → (outcomeNumber (lfoNewOf r t .outcome) ≡ cond (rateOk r) (cond (thresholdOk t) 0 2) 1)
+    × (rateOk r ≡ true → thresholdOk t ≡ true → First (newLfo r t))
 
 -- ---- a reached state refuses no call but for the call's own input
 pub record Accepts (s : Lfo) : Type 0 where
   pub phase : phaseOk (s .phase) ≡ true
+  pub threshold : thresholdOk (s .«reset_edge» .threshold) ≡ true
   pub tick : (c : LfoControls) (wanted : ℕ) → accepted (lfoTickOf s c wanted .answer) ≡ true
   -- by its buffers' 52 and its tally's 7 alone
   pub play : (c : LfoControls) (wanted : ℕ) (t : Tally) (o : List Float) (m : List ℕ)
@@ -49,6 +51,10 @@ pub record Accepts (s : Lfo) : Type 0 where
 abbrev pub Never-refused : Type 0
 Never-refused = (s : Lfo) → ReachedLfo s → Accepts s
 
+-- ---- no call changes the threshold
+abbrev pub Threshold-kept : Type 0
+Threshold-kept = (s : Lfo) (c : Call) → after s c .«reset_edge» .threshold ≡ s .«reset_edge» .threshold
+
 -- ---- demand 3
 -- whether a tick with these controls takes the reset edge
 abbrev pub taken : Lfo → LfoControls → Bool
@@ -56,7 +62,7 @@ taken s c = risingOf (s .«reset_edge») (c .reset) .rising
 
 -- a new one like it is to be had; fed this tick it is left in the same state, and fed this tick and then any calls it answers the same
 pub record Forgotten (s : Lfo) (c : LfoControls) (wanted : ℕ) : Type 0 where
-  pub new : lfoNewOf (s .«sample_rate») ≡ record { outcome = outcome.Done; lfo = newLike s }
+  pub new : lfoNewOf (s .«sample_rate») (s .«reset_edge» .threshold) ≡ record { outcome = outcome.Done; lfo = newLike s }
   pub state : after s (Tick c wanted) ≡ after (newLike s) (Tick c wanted)
   pub same : (cs : List Call) → replies after reply s (Tick c wanted ∷ cs) ≡ replies after reply (newLike s) (Tick c wanted ∷ cs)
 
@@ -70,9 +76,10 @@ Block-forgets = (s : Lfo) → ReachedLfo s → (c : LfoControls) (wanted : ℕ) 
     → lfoBlockOf s c wanted t o m .refused ≡ 0 → 0 < length m → taken s c ≡ true
     → lfoBlockOf s c wanted t o m ≡ lfoBlockOf (newLike s) c wanted t o m
 
--- and such a tick is always to be had: after one with reset not above the threshold, one with reset at 5 V
+-- and such a tick is always to be had: after one with reset not above the threshold, one with reset above it, as 5 V are of both
 abbrev pub Edge-comes : Type 0
-Edge-comes = (s : Lfo) → ReachedLfo s → (c d : LfoControls) (v w : ℕ) → Fit c → le (c .reset) (thresholdOf (s .«reset_edge»)) ≡ true → d .reset ≡ five
+Edge-comes = (s : Lfo) → ReachedLfo s → (c d : LfoControls) (v w : ℕ) → Fit c → le (c .reset) (s .«reset_edge» .threshold) ≡ true
+    → lt (s .«reset_edge» .threshold) (d .reset) ≡ true
     → (accepted (lfoTickOf (after s (Tick c v)) d w .answer) ≡ true) × (taken (after s (Tick c v)) d ≡ true)
 
 -- ---- no tick is clean with a control that is NaN, and none is steered without one
@@ -133,7 +140,7 @@ Block-tallies = (s : Lfo) (c : LfoControls) (wanted : ℕ) → lfoRefusalOf s �
 
 -- ---- each contract settles its answer
 pub record Settled : Type 0 where
-  pub new : (r : Hertz) → Settles (λ (m : LfoMade). m ≡ lfoNewOf r)
+  pub new : (r : Hertz) (t : Float) → Settles (λ (m : LfoMade). m ≡ lfoNewOf r t)
   pub tick : (s : Lfo) (c : LfoControls) (wanted : ℕ) → Settles (λ (t : LfoTicked). t ≡ lfoTickOf s c wanted)
   pub block : (s : Lfo) (c : LfoControls) (wanted : ℕ) (t : Tally) (o : List Float) (m : List ℕ) → Settles (λ (b : Block Lfo). b ≡ lfoBlockOf s c wanted t o m)
   pub reset : (s : Lfo) → Settles (λ (m : LfoMade). m ≡ lfoResetOf s)

@@ -170,23 +170,25 @@ impl LfoControls {
 }
 
 impl Lfo {
-    pub fn new(sample_rate: Hertz) -> LfoMade
-        ensures { λ r. ⌜ r ≡ lfoNewOf «sample_rate» ⌝ }
+    // Of a rate and of the threshold that its gate goes by.
+    pub fn new(sample_rate: Hertz, threshold: f64) -> LfoMade
+        ensures { λ r. ⌜ r ≡ lfoNewOf «sample_rate» threshold ⌝ }
     {
         let lfo = Lfo {
             phase: Turns(0.0),
             sample_rate,
-            reset_edge: EdgeDetector::new(),
+            reset_edge: EdgeDetector::new(threshold),
             freq_memo: Memo1::new(),
         };
-        if common::rate_ok(sample_rate) {
+        let refused = lfo.refusal();
+        if refused == 0 {
             LfoMade {
                 outcome: Outcome::Done,
                 lfo,
             }
         } else {
             LfoMade {
-                outcome: Outcome::Refused(1),
+                outcome: Outcome::Refused(refused),
                 lfo,
             }
         }
@@ -235,14 +237,19 @@ impl Lfo {
         )
     }
 
-    // 0, or what refuses this state: 1 its rate, 2 its phase.
+    // 0, or what refuses this state: 1 its rate, 2 its phase or its gate's threshold.
     fn refusal(self) -> u32
         ensures { λ r. ⌜ r ≡ lfoRefusalOf self ⌝ }
     {
         let sample_rate = self.sample_rate;
         let phase = self.phase;
+        let edge = self.reset_edge;
         if common::rate_ok(sample_rate) {
-            if common::phase_ok(phase) { 0 } else { 2 }
+            if common::phase_ok(phase) {
+                if common::threshold_ok(edge.threshold) { 0 } else { 2 }
+            } else {
+                2
+            }
         } else {
             1
         }

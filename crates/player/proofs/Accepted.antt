@@ -1,8 +1,9 @@
 -- No frame of a score with a good rate is refused: each tick's oscillator is reached from a new one.
 use Prim.Native.Nat.{ℕ}
-use mathlib.Core.Bool.{true}
+use mathlib.Core.Bool.{Bool, true, false, cond}
 use mathlib.Core.Path.{_≡_}
-use lib.Ieee.{binary64}
+use lib.Dec.{ltb}
+use lib.Ieee.{Float, binary64}
 use lib.Ieee.Fits.{nan-fits, div-fits, ofInt-fits}
 use lib.IntN.{pos}
 use Rattle.laws.specs.Float.{F64}
@@ -12,10 +13,14 @@ use Rattle.answer.specs.Block.{answerAt}
 use Rattle.answer.specs.Promises.{AllAccepted}
 use Rattle.answer.specs.declared.Answer.{Answer}
 use Rattle.answer.proofs.Blocks.{ticks-keep}
-use Rattle.common.specs.Tests.{rateOk}
+use Rattle.common.specs.Consts.{gateThreshold, lowGateThreshold}
+use Rattle.common.specs.Tests.{rateOk, thresholdOk}
+use Rattle.common.proofs.EdgeLaws.{thresholds}
 use Rattle.score.specs.Control.{voltsOf}
 use Rattle.score.specs.declared.Control.{Control}
 use Rattle.score.specs.declared.Control.the-variants.{Microvolts, Nan}
+use Rattle.score.specs.declared.Gate.{Gate}
+use Rattle.score.specs.declared.Gate.the-variants.{Absent, Issue}
 use Rattle.score.specs.declared.VcoInputs.{VcoInputs}
 use Rattle.score.specs.declared.LfoInputs.{LfoInputs}
 use Rattle.score.specs.declared.FormantInputs.{FormantInputs}
@@ -39,7 +44,7 @@ use Rattle.formant_osc.specs.FormantOsc.{newFormantOsc, formantOscTickOf}
 use Rattle.formant_osc.specs.Calls as formant
 use Rattle.formant_osc.specs.declared.FormantOsc.{FormantOsc}
 use Rattle.formant_osc.proofs.Reached as formants
-use Rattle.player.specs.Begin.{vcoAll, lfoAll, rateOf, vcoControls, lfoControls, supersawControls, formantControls}
+use Rattle.player.specs.Begin.{vcoAll, lfoAll, rateOf, thresholdOf, vcoControls, lfoControls, supersawControls, formantControls}
 use Rattle.player.specs.Frames.{heardAt}
 use Rattle.player.specs.Player.{controlsOf, playerFrom, answerBy, nextBy}
 use Rattle.player.proofs.Carried.{accepted-carried, vco-carries, lfo-carries, supersaw-carries, formant-carries}
@@ -77,25 +82,36 @@ formant-next : (i : FormantInputs) (s : FormantOsc) → formant.ReachedFormantOs
 unfolding formant.after formantControls
 formant-next i s h = more h (formant.Tick (formantControls i)) (volts-fit (i .vowel), volts-fit (i .«formant_shift»))
 
-all-accepted : (i : Inputs) (hz : ℕ) → rateOk (rateOf hz) ≡ true → AllAccepted (answerBy (controlsOf i)) (nextBy (controlsOf i)) (playerFrom i hz)
+all-accepted : (i : Inputs) (hz : ℕ) (t : Float) → rateOk (rateOf hz) ≡ true → thresholdOk t ≡ true
+    → AllAccepted (answerBy (controlsOf i)) (nextBy (controlsOf i)) (playerFrom i hz t)
 unfolding controlsOf playerFrom
-all-accepted (inputs.Vco i) hz ok =
-    accepted-carried (vco-carries (playerFrom (inputs.Vco i) hz) (vcoControls i)) _
+all-accepted (inputs.Vco i) hz t ok gate =
+    accepted-carried (vco-carries (playerFrom (inputs.Vco i) hz t) (vcoControls i)) _
     (always _ _ vco.ReachedVco (λ s h. vcos.never-refused s h .tick (vcoControls i) vcoAll) (vco-next i) _
-    (begun (newVco (rateOf hz)) (vcos.new-accepts (rateOf hz) .1 ok)))
-all-accepted (inputs.Lfo i) hz ok =
-    accepted-carried (lfo-carries (playerFrom (inputs.Lfo i) hz) (lfoControls i)) _
+    (begun (newVco (rateOf hz) t) (vcos.new-accepts (rateOf hz) t .1 ok gate)))
+all-accepted (inputs.Lfo i) hz t ok gate =
+    accepted-carried (lfo-carries (playerFrom (inputs.Lfo i) hz t) (lfoControls i)) _
     (always _ _ lfo.ReachedLfo (λ s h. lfos.never-refused s h .tick (lfoControls i) lfoAll) (lfo-next i) _
-    (begun (newLfo (rateOf hz)) (lfos.new-accepts (rateOf hz) .1 ok)))
-all-accepted (inputs.Supersaw i) hz ok =
-    accepted-carried (supersaw-carries (playerFrom (inputs.Supersaw i) hz) (supersawControls i)) _
+    (begun (newLfo (rateOf hz) t) (lfos.new-accepts (rateOf hz) t .1 ok gate)))
+all-accepted (inputs.Supersaw i) hz t ok gate =
+    accepted-carried (supersaw-carries (playerFrom (inputs.Supersaw i) hz t) (supersawControls i)) _
     (always _ _ supersaw.ReachedSupersaw (λ s h. supersaws.never-refused s h .tick (supersawControls i)) (supersaw-next (supersawControls i)) _
     (begun (newSupersaw (rateOf hz)) (supersaws.new-accepts (rateOf hz) .1 ok)))
-all-accepted (inputs.Formant i) hz ok =
-    accepted-carried (formant-carries (playerFrom (inputs.Formant i) hz) (formantControls i)) _
+all-accepted (inputs.Formant i) hz t ok gate =
+    accepted-carried (formant-carries (playerFrom (inputs.Formant i) hz t) (formantControls i)) _
     (always _ _ formant.ReachedFormantOsc (λ s h. formants.never-refused s h .tick (formantControls i)) (formant-next i) _
     (begun (newFormantOsc (rateOf hz)) (formants.new-accepts (rateOf hz) .1 ok (rate-fits hz))))
 
+-- the threshold of every issue is one of the two
+either-good : (b : Bool) → thresholdOk (cond b gateThreshold lowGateThreshold) ≡ true
+either-good true = thresholds .first
+either-good false = thresholds .second
+
+gate-good : (g : Gate) → thresholdOk (thresholdOf g) ≡ true
+unfolding thresholdOf
+gate-good Absent = thresholds .first
+gate-good (Issue n) = either-good (ltb n 2)
+
 pub heard-accepted : (s : Score) → rateOk (rateOf (s .head .hz)) ≡ true → (k : ℕ) → accepted (heardAt s k) ≡ true
 unfolding heardAt
-heard-accepted s ok = all-accepted (s .inputs) (s .head .hz) ok
+heard-accepted s ok = all-accepted (s .inputs) (s .head .hz) (thresholdOf (s .head .gate)) ok (gate-good (s .head .gate))

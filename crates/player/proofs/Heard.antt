@@ -2,6 +2,7 @@
 use Prim.Native.Nat.{ℕ, zero, suc}
 use mathlib.Core.List.{List, [], _∷_, _++_}
 use mathlib.Core.Path.{_≡_, refl, sym, ap, subst, _∙_}
+use lib.Ieee.{Float}
 use lib.ListN.{length}
 use Rattle.laws.specs.Lists.{tab}
 use Rattle.laws.proofs.Over.{length-tab, tab-ext}
@@ -10,7 +11,7 @@ use Rattle.answer.specs.declared.Answer.{Answer}
 use Rattle.score.specs.declared.Inputs.{Inputs}
 use Rattle.score.specs.declared.Inputs.the-variants as inputs
 use Rattle.score.specs.declared.Score.{Score}
-use Rattle.player.specs.Begin.{vcoControls, lfoControls, supersawControls, formantControls}
+use Rattle.player.specs.Begin.{thresholdOf, vcoControls, lfoControls, supersawControls, formantControls}
 use Rattle.player.specs.Frames.{heardAt}
 use Rattle.player.specs.Play.{answers, heardFrom, heardOf}
 use Rattle.player.specs.Player.{controlsOf, playerFrom, answerBy, nextBy}
@@ -36,20 +37,21 @@ module _ {S : Type 0} (a : S → Answer) (n : S → S) where
   answers-tab (suc k) s = answers-last k s ∙ ap (λ (l : List Answer). l ++ (answerAt a n s k ∷ [])) (answers-tab k s)
 
 -- the player answers as the score's own oscillator does
-heard-from : (i : Inputs) (hz n : ℕ) → heardFrom i hz n ≡ tab (answerAt (answerBy (controlsOf i)) (nextBy (controlsOf i)) (playerFrom i hz)) n
+heard-from : (i : Inputs) (hz : ℕ) (t : Float) (n : ℕ)
+    → heardFrom i hz t n ≡ tab (answerAt (answerBy (controlsOf i)) (nextBy (controlsOf i)) (playerFrom i hz t)) n
 unfolding heardFrom controlsOf playerFrom
-heard-from (inputs.Vco i) hz n =
-    answers-tab _ _ n _ ∙ tab-ext _ _ n (λ k h. sym (answer-carried (vco-carries (playerFrom (inputs.Vco i) hz) (vcoControls i)) _ k))
-heard-from (inputs.Lfo i) hz n =
-    answers-tab _ _ n _ ∙ tab-ext _ _ n (λ k h. sym (answer-carried (lfo-carries (playerFrom (inputs.Lfo i) hz) (lfoControls i)) _ k))
-heard-from (inputs.Supersaw i) hz n =
-    answers-tab _ _ n _ ∙ tab-ext _ _ n (λ k h. sym (answer-carried (supersaw-carries (playerFrom (inputs.Supersaw i) hz) (supersawControls i)) _ k))
-heard-from (inputs.Formant i) hz n =
-    answers-tab _ _ n _ ∙ tab-ext _ _ n (λ k h. sym (answer-carried (formant-carries (playerFrom (inputs.Formant i) hz) (formantControls i)) _ k))
+heard-from (inputs.Vco i) hz t n =
+    answers-tab _ _ n _ ∙ tab-ext _ _ n (λ k h. sym (answer-carried (vco-carries (playerFrom (inputs.Vco i) hz t) (vcoControls i)) _ k))
+heard-from (inputs.Lfo i) hz t n =
+    answers-tab _ _ n _ ∙ tab-ext _ _ n (λ k h. sym (answer-carried (lfo-carries (playerFrom (inputs.Lfo i) hz t) (lfoControls i)) _ k))
+heard-from (inputs.Supersaw i) hz t n =
+    answers-tab _ _ n _ ∙ tab-ext _ _ n (λ k h. sym (answer-carried (supersaw-carries (playerFrom (inputs.Supersaw i) hz t) (supersawControls i)) _ k))
+heard-from (inputs.Formant i) hz t n =
+    answers-tab _ _ n _ ∙ tab-ext _ _ n (λ k h. sym (answer-carried (formant-carries (playerFrom (inputs.Formant i) hz t) (formantControls i)) _ k))
 
 pub heard-tab : (s : Score) → heardOf s ≡ tab (heardAt s) (s .head .frames)
 unfolding heardOf heardAt
-heard-tab s = heard-from (s .inputs) (s .head .hz) (s .head .frames)
+heard-tab s = heard-from (s .inputs) (s .head .hz) (thresholdOf (s .head .gate)) (s .head .frames)
 
 pub frames-heard : (s : Score) → length (heardOf s) ≡ s .head .frames
 frames-heard s = ap length (heard-tab s) ∙ length-tab (heardAt s) (s .head .frames)

@@ -8,4 +8,5 @@ pub mod Unclaimed
 pub mod Rendered
 pub mod Whole
 pub mod On
+pub mod Gates
 pub mod Worked

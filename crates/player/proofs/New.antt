@@ -1,8 +1,9 @@
--- What `new` hands out is the new state, also where it refuses the rate.
+-- What `new` hands out is the new state, also where it refuses the rate or the threshold.
 use mathlib.Core.Bool.{Bool, true, false, cond}
 use mathlib.Core.Path.{_≡_, refl}
 use Prim.Native.Nat.{ℕ}
 use lib.Dec.{eqb}
+use lib.Ieee.{Float}
 use Rattle.answer.specs.declared.Outcome.the-variants as outcome
 use Rattle.common.specs.Tests.{rateOk}
 use Rattle.common.specs.declared.Hertz.{Hertz}
@@ -10,13 +11,13 @@ use Rattle.formant_osc.specs.FormantOsc as formant
 use Rattle.formant_osc.specs.FormantOsc.{newFormantOsc, formantOscNewOf}
 use Rattle.formant_osc.specs.declared.FormantOscMade.{FormantOscMade}
 use Rattle.lfo.specs.Lfo as lfo
-use Rattle.lfo.specs.Lfo.{newLfo, lfoNewOf}
+use Rattle.lfo.specs.Lfo.{newLfo, lfoRefusalOf, lfoNewOf}
 use Rattle.lfo.specs.declared.LfoMade.{LfoMade}
 use Rattle.supersaw.specs.Supersaw as supersaw
 use Rattle.supersaw.specs.Supersaw.{newSupersaw, supersawNewOf}
 use Rattle.supersaw.specs.declared.SupersawMade.{SupersawMade}
 use Rattle.vco.specs.Vco as vco
-use Rattle.vco.specs.Vco.{newVco, vcoNewOf}
+use Rattle.vco.specs.Vco.{newVco, vcoRefusalOf, vcoNewOf}
 use Rattle.vco.specs.declared.VcoMade.{VcoMade}
 
 -- done or refused
@@ -24,19 +25,19 @@ either : {M S : Type 0} (of : M → S) (b : Bool) (x y : M) (s : S) → of x ≡
 either of true x y s p q = p
 either of false x y s p q = q
 
-pub vco-new : (r : Hertz) → vcoNewOf r .vco ≡ newVco r
+pub vco-new : (r : Hertz) (t : Float) → vcoNewOf r t .vco ≡ newVco r t
 unfolding vcoNewOf vco.madeUnless
-vco-new r =
-    let n : ℕ = cond (rateOk r) 0 1 in
-    either (λ (m : VcoMade). m .vco) (eqb n 0) (record { outcome = outcome.Done; vco = newVco r }) (record { outcome = outcome.Refused n; vco = newVco r })
-    (newVco r) refl refl
+vco-new r t =
+    let s = newVco r t in
+    let n : ℕ = vcoRefusalOf s in
+    either (λ (m : VcoMade). m .vco) (eqb n 0) (record { outcome = outcome.Done; vco = s }) (record { outcome = outcome.Refused n; vco = s }) s refl refl
 
-pub lfo-new : (r : Hertz) → lfoNewOf r .lfo ≡ newLfo r
+pub lfo-new : (r : Hertz) (t : Float) → lfoNewOf r t .lfo ≡ newLfo r t
 unfolding lfoNewOf lfo.madeUnless
-lfo-new r =
-    let n : ℕ = cond (rateOk r) 0 1 in
-    either (λ (m : LfoMade). m .lfo) (eqb n 0) (record { outcome = outcome.Done; lfo = newLfo r }) (record { outcome = outcome.Refused n; lfo = newLfo r })
-    (newLfo r) refl refl
+lfo-new r t =
+    let s = newLfo r t in
+    let n : ℕ = lfoRefusalOf s in
+    either (λ (m : LfoMade). m .lfo) (eqb n 0) (record { outcome = outcome.Done; lfo = s }) (record { outcome = outcome.Refused n; lfo = s }) s refl refl
 
 pub supersaw-new : (r : Hertz) → supersawNewOf r .supersaw ≡ newSupersaw r
 unfolding supersawNewOf supersaw.madeUnless

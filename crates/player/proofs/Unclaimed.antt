@@ -33,18 +33,18 @@ numbers-only (Microvolts n ∷ xs) h = numbers-only xs (both-true (not (isNan (v
 numbers-only (Nan ∷ xs) h = absurd (false≢true (unfold voltsOf isNan in h))
 
 -- a first frame that is clean
-first-clean : (i : Inputs) (hz n : ℕ) → 1 ≤ n → Every Clean (heardFrom i hz n) → someNan (inputsIn i) ≡ false
+first-clean : (i : Inputs) (hz : ℕ) (t : Float) (n : ℕ) → 1 ≤ n → Every Clean (heardFrom i hz t n) → someNan (inputsIn i) ≡ false
 unfolding heardFrom answers Every volts vcoControls lfoControls supersawControls formantControls
-first-clean i hz zero z e = absurd (omega arith)
-first-clean (inputs.Vco i) hz (suc n) z e = numbers-only (inputsIn (inputs.Vco i)) (vco.nan-steers _ _ _ .when-clean (e .0))
-first-clean (inputs.Lfo i) hz (suc n) z e = numbers-only (inputsIn (inputs.Lfo i)) (lfo.nan-steers _ _ _ .when-clean (e .0))
-first-clean (inputs.Supersaw i) hz (suc n) z e = numbers-only (inputsIn (inputs.Supersaw i)) (supersaw.nan-steers _ _ .when-clean (e .0))
-first-clean (inputs.Formant i) hz (suc n) z e = numbers-only (inputsIn (inputs.Formant i)) (formant.nan-steers _ _ .when-clean (e .0))
+first-clean i hz t zero z e = absurd (omega arith)
+first-clean (inputs.Vco i) hz t (suc n) z e = numbers-only (inputsIn (inputs.Vco i)) (vco.nan-steers _ _ _ .when-clean (e .0))
+first-clean (inputs.Lfo i) hz t (suc n) z e = numbers-only (inputsIn (inputs.Lfo i)) (lfo.nan-steers _ _ _ .when-clean (e .0))
+first-clean (inputs.Supersaw i) hz t (suc n) z e = numbers-only (inputsIn (inputs.Supersaw i)) (supersaw.nan-steers _ _ .when-clean (e .0))
+first-clean (inputs.Formant i) hz t (suc n) z e = numbers-only (inputsIn (inputs.Formant i)) (formant.nan-steers _ _ .when-clean (e .0))
 
 pub nan-unclaimed : Nan-unclaimed
 unfolding heardOf
 nan-unclaimed s some few h = go (claims s) refl
   where
     go : (b : Bool) → claims s ≡ b → b ≡ false
-    go true e = absurd (true≢false (sym h ∙ first-clean (s .inputs) (s .head .hz) (s .head .frames) some (claimed-clean s few .only e)))
+    go true e = absurd (true≢false (sym h ∙ first-clean (s .inputs) (s .head .hz) _ (s .head .frames) some (claimed-clean s few .only e)))
     go false e = refl

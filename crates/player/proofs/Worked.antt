@@ -17,13 +17,15 @@ use Rattle.answer.specs.declared.Volts.{Volts}
 use Rattle.common.specs.declared.Hertz.{Hertz}
 use Rattle.score.specs.Control.{voltsOf}
 use Rattle.score.specs.Lines.{oscOf, withinOf, controlOf, oscLine, wholeLine, controlLine}
-use Rattle.score.specs.Score.{osc, whole, control, endOf, inputsOf, headOf, linesOf, scoreOf}
+use Rattle.score.specs.Score.{osc, whole, control, endOf, inputsOf, gate, headOf, linesOf, scoreOf}
 use Rattle.score.specs.declared.Control.the-variants.{Microvolts}
+use Rattle.score.specs.declared.Gate.the-variants.{Absent}
 use Rattle.score.specs.declared.Inputs.the-variants.{Vco}
 use Rattle.score.specs.declared.Osc.the-variants as kind
 use Rattle.score.specs.declared.Reading.the-variants.{Values}
 use Rattle.score.specs.declared.Score.{Score}
 use Rattle.score.specs.declared.VcoInputs.{VcoInputs}
+use Rattle.common.specs.Consts.{gateThreshold}
 use Rattle.vco.specs.Promises.{frameRate, frameControls}
 use Rattle.vco.specs.Vco.{newVco, vcoTickOf}
 use Rattle.vco.specs.declared.VcoControls.{VcoControls}
@@ -31,7 +33,7 @@ use Rattle.vco.proofs.Frame.{first-frame}
 use Rattle.text.specs.Lines.{wordLine, countLine}
 use Rattle.frame.specs.Frame.{sampleLine, wavesText, outputsText, markedText, frameText}
 use Rattle.frame.specs.End.{countsText, claimedOf, endText}
-use Rattle.player.specs.Begin.{vcoAll, rateOf, vcoControls}
+use Rattle.player.specs.Begin.{vcoAll, rateOf, thresholdOf, vcoControls}
 use Rattle.player.specs.Play.{answers, heardFrom, heardOf, framesText, playOf, printedOf, renderOf}
 use Rattle.player.specs.Promises.{Worked}
 
@@ -48,14 +50,14 @@ inputs = record {
 }
 
 score : Score
-score = record { head = record { hz = 48000; frames = 1 }; inputs = Vco inputs }
+score = record { head = record { hz = 48000; gate = Absent; frames = 1 }; inputs = Vco inputs }
 
 volts : Volts
 volts = volts4 (ofBits binary64 0) (ofBits binary64 0xc014000000000000) (ofBits binary64 0xc014000000000000) (ofBits binary64 0x4014000000000000)
 
 is-read : scoreOf given ≡ Values score
 unfolding given score inputs sameOf hasOf untilOf pastOf lineOf afterLine keyOf valueOf isLine digitsFrom digitsOf negativeOf signedOf numberOf oscOf withinOf
-    controlOf oscLine wholeLine controlLine osc whole control endOf inputsOf headOf linesOf scoreOf
+    controlOf oscLine wholeLine controlLine osc whole control endOf inputsOf gate headOf linesOf scoreOf
 is-read = refl
 
 rate : rateOf 48000 ≡ frameRate
@@ -67,11 +69,11 @@ unfolding inputs vcoControls voltsOf div ofInt ofBits neg
 controls = refl
 
 is-heard : heardOf score ≡ answer.Clean volts ∷ []
-unfolding heardOf heardFrom answers score volts
+unfolding heardOf heardFrom answers score volts thresholdOf
 is-heard =
     ap (λ (a : Answer). a ∷ [])
-    (ap (λ (r : Hertz). vcoTickOf (newVco r) (vcoControls inputs) vcoAll .answer) rate
-    ∙ ap (λ (c : VcoControls). vcoTickOf (newVco frameRate) c vcoAll .answer) controls ∙ first-frame)
+    (ap (λ (r : Hertz). vcoTickOf (newVco r gateThreshold) (vcoControls inputs) vcoAll .answer) rate
+    ∙ ap (λ (c : VcoControls). vcoTickOf (newVco frameRate gateThreshold) c vcoAll .answer) controls ∙ first-frame)
 
 printed : List Answer → List ℕ
 printed xs = framesText kind.Vco 0 xs ++ endText 1 (tallyAfter xs)

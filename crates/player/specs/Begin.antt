@@ -1,9 +1,14 @@
--- What a score's lines hand to its oscillator: the rate in hertz, the inputs in volts.
+-- What a score's lines hand to its oscillator: the rate in hertz, its gate's threshold and the inputs in volts.
+use mathlib.Core.Bool.{cond}
 use Prim.Native.Nat.{ℕ}
 use lib.IntN.{pos}
-use lib.Ieee.{binary64, ofInt}
+use lib.Dec.{ltb}
+use lib.Ieee.{Float, binary64, ofInt}
+use Rattle.common.specs.Consts.{gateThreshold, lowGateThreshold}
 use Rattle.common.specs.declared.Hertz.{Hertz}
 use Rattle.score.specs.Control.{voltsOf}
+use Rattle.score.specs.declared.Gate.{Gate}
+use Rattle.score.specs.declared.Gate.the-variants.{Absent, Issue}
 use Rattle.score.specs.declared.VcoInputs.{VcoInputs}
 use Rattle.score.specs.declared.LfoInputs.{LfoInputs}
 use Rattle.score.specs.declared.SupersawInputs.{SupersawInputs}
@@ -22,6 +27,11 @@ lfoAll = 63
 
 unfoldable pub rateOf : ℕ → Hertz
 rateOf hz = record { 0 = ofInt binary64 (pos hz) }
+
+-- where a gate counts as high: at 1.0 V in banks from issue 2 on, and at 2.5 V in issue 1, which holds where no line says one
+unfoldable pub thresholdOf : Gate → Float
+thresholdOf Absent = gateThreshold
+thresholdOf (Issue n) = cond (ltb n 2) gateThreshold lowGateThreshold
 
 unfoldable pub vcoControls : VcoInputs → VcoControls
 vcoControls i =

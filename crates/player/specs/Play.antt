@@ -2,6 +2,7 @@
 -- oscillator with the same inputs and all outputs wanted; the tally is given each answer.
 use Prim.Native.Nat.{ℕ, zero, suc}
 use mathlib.Core.List.{List, [], _∷_, _++_}
+use lib.Ieee.{Float}
 use Rattle.answer.specs.Tally.{tallyAfter}
 use Rattle.answer.specs.declared.Answer.{Answer}
 use Rattle.score.specs.declared.Osc.{Osc}
@@ -18,29 +19,30 @@ use Rattle.supersaw.specs.Supersaw.{newSupersaw, supersawTickOf}
 use Rattle.formant_osc.specs.FormantOsc.{newFormantOsc, formantOscTickOf}
 use Rattle.frame.specs.Frame.{frameText}
 use Rattle.frame.specs.End.{endText, refusedText}
-use Rattle.player.specs.Begin.{vcoAll, lfoAll, rateOf, vcoControls, lfoControls, supersawControls, formantControls}
+use Rattle.player.specs.Begin.{vcoAll, lfoAll, rateOf, thresholdOf, vcoControls, lfoControls, supersawControls, formantControls}
 
 -- what n ticks answer, from a state on; the state after a tick is `next`
 unfoldable pub answers : {S : Type 0} → (S → Answer) → (S → S) → ℕ → S → List Answer
 answers answer next zero s = []
 answers answer next (suc n) s = answer s ∷ answers answer next n (next s)
 
-unfoldable pub heardFrom : Inputs → ℕ → ℕ → List Answer
-heardFrom (Vco i) hz n =
+-- n ticks of a new oscillator of this rate and threshold, which not every one has
+unfoldable pub heardFrom : Inputs → ℕ → Float → ℕ → List Answer
+heardFrom (Vco i) hz t n =
     let c = vcoControls i in
-    answers (λ s. vcoTickOf s c vcoAll .answer) (λ s. vcoTickOf s c vcoAll .vco) n (newVco (rateOf hz))
-heardFrom (Lfo i) hz n =
+    answers (λ s. vcoTickOf s c vcoAll .answer) (λ s. vcoTickOf s c vcoAll .vco) n (newVco (rateOf hz) t)
+heardFrom (Lfo i) hz t n =
     let c = lfoControls i in
-    answers (λ s. lfoTickOf s c lfoAll .answer) (λ s. lfoTickOf s c lfoAll .lfo) n (newLfo (rateOf hz))
-heardFrom (Supersaw i) hz n =
+    answers (λ s. lfoTickOf s c lfoAll .answer) (λ s. lfoTickOf s c lfoAll .lfo) n (newLfo (rateOf hz) t)
+heardFrom (Supersaw i) hz t n =
     let c = supersawControls i in
     answers (λ s. supersawTickOf s c .answer) (λ s. supersawTickOf s c .supersaw) n (newSupersaw (rateOf hz))
-heardFrom (Formant i) hz n =
+heardFrom (Formant i) hz t n =
     let c = formantControls i in
     answers (λ s. formantOscTickOf s c .answer) (λ s. formantOscTickOf s c .«formant_osc») n (newFormantOsc (rateOf hz))
 
 unfoldable pub heardOf : Score → List Answer
-heardOf s = heardFrom (s .inputs) (s .head .hz) (s .head .frames)
+heardOf s = heardFrom (s .inputs) (s .head .hz) (thresholdOf (s .head .gate)) (s .head .frames)
 
 -- the texts of the frames from n on
 unfoldable pub framesText : Osc → ℕ → List Answer → List ℕ

@@ -16,7 +16,7 @@ use Rattle.lfo.specs.Lfo.{newLfo, lfoTickOf}
 use Rattle.supersaw.specs.Supersaw.{newSupersaw, supersawTickOf}
 use Rattle.formant_osc.specs.FormantOsc.{newFormantOsc, formantOscTickOf}
 use Rattle.frame.specs.Frames.{portsIn}
-use Rattle.player.specs.Begin.{vcoAll, lfoAll, rateOf, vcoControls, lfoControls, supersawControls, formantControls}
+use Rattle.player.specs.Begin.{vcoAll, lfoAll, rateOf, thresholdOf, vcoControls, lfoControls, supersawControls, formantControls}
 use Rattle.player.specs.declared.Controls.{Controls}
 use Rattle.player.specs.declared.Controls.the-variants.{Vco, Lfo, Supersaw, Formant}
 use Rattle.player.specs.declared.Player.{Player}
@@ -27,14 +27,14 @@ controlsOf (inputs.Lfo i) = Lfo (lfoControls i)
 controlsOf (inputs.Supersaw i) = Supersaw (supersawControls i)
 controlsOf (inputs.Formant i) = Formant (formantControls i)
 
--- a score's player: new oscillators at its rate
-unfoldable pub playerFrom : Inputs → ℕ → Player
-playerFrom i hz =
+-- a score's player: new oscillators at its rate, and of its gate's threshold
+unfoldable pub playerFrom : Inputs → ℕ → Float → Player
+playerFrom i hz t =
     let r = rateOf hz in
-    record { controls = controlsOf i; vco = newVco r; lfo = newLfo r; supersaw = newSupersaw r; formant = newFormantOsc r }
+    record { controls = controlsOf i; vco = newVco r t; lfo = newLfo r t; supersaw = newSupersaw r; formant = newFormantOsc r }
 
 abbrev pub playerOf : Score → Player
-playerOf s = playerFrom (s .inputs) (s .head .hz)
+playerOf s = playerFrom (s .inputs) (s .head .hz) (thresholdOf (s .head .gate))
 
 unfoldable pub kindOf : Controls → Osc
 kindOf (Vco c) = osc.Vco

@@ -3,7 +3,7 @@ use Prim.Native.Nat.{ℕ, _+_, _*_, _≤_}
 use mathlib.Core.Bool.{Bool, true, false}
 use mathlib.Core.List.{List, [], _∷_, _++_}
 use mathlib.Core.Path.{_≡_}
-use lib.Ieee.{Float}
+use lib.Ieee.{Float, binary64, ofBits}
 use lib.ListN.{length}
 use Rattle.laws.specs.Machine.{Settles}
 use Rattle.answer.specs.Answer.{markNumber, accepted, clean}
@@ -12,6 +12,7 @@ use Rattle.answer.specs.Promises.{CountsAll}
 use Rattle.answer.specs.Tally.{tallyAfter}
 use Rattle.answer.specs.declared.Answer.{Answer}
 use Rattle.answer.specs.declared.Tally.{Tally}
+use Rattle.common.specs.Edge.{newEdge}
 use Rattle.common.specs.Tests.{rateOk}
 use Rattle.line.specs.Bytes.{ascii}
 use Rattle.score.specs.Score.{scoreOf}
@@ -19,13 +20,17 @@ use Rattle.score.specs.Promises.{Valid}
 use Rattle.score.specs.Keys.{ownerOf}
 use Rattle.score.specs.declared.Control.{Control}
 use Rattle.score.specs.declared.Control.the-variants.{Microvolts, Nan}
+use Rattle.score.specs.declared.FormantInputs.{FormantInputs}
+use Rattle.score.specs.declared.Gate.{Gate}
+use Rattle.score.specs.declared.Gate.the-variants.{Absent, Issue}
 use Rattle.score.specs.declared.Inputs.{Inputs}
 use Rattle.score.specs.declared.Inputs.the-variants as inputs
 use Rattle.score.specs.declared.Score.{Score}
+use Rattle.score.specs.declared.SupersawInputs.{SupersawInputs}
 use Rattle.score.specs.declared.Reading.the-variants.{Values}
 use Rattle.frame.specs.End.{claimedOf, endText}
 use Rattle.frame.specs.Frames.{portsIn, playedText}
-use Rattle.player.specs.Begin.{rateOf}
+use Rattle.player.specs.Begin.{rateOf, thresholdOf}
 use Rattle.player.specs.Frames.{playerAt, tallyAt, samplesFrom, marksFrom, textFrom}
 use Rattle.player.specs.Play.{heardOf, playOf, renderOf}
 use Rattle.player.specs.Player.{playerOf, playedOf}
@@ -109,6 +114,35 @@ Plays-on = (text : List ℕ) (s : Score) → scoreOf text ≡ Values s → (k n 
 abbrev pub Prints-on : Type 0
 Prints-on = (text : List ℕ) (s : Score) → scoreOf text ≡ Values s → (k n : ℕ) → k + n ≤ s .head .frames
     → playedText (ownerOf (s .inputs)) k (samplesFrom s k n) (marksFrom s k n) ≡ textFrom s k n
+
+-- ---- the gate's line
+-- 2.5 V in issue 1 and without a line, 1.0 V in issue 2
+pub record Issues : Type 0 where
+  pub absent : thresholdOf Absent ≡ ofBits binary64 0x4004000000000000
+  pub first : thresholdOf (Issue 1) ≡ ofBits binary64 0x4004000000000000
+  pub second : thresholdOf (Issue 2) ≡ ofBits binary64 0x3ff0000000000000
+
+-- both oscillators that have a gate are new ones of that threshold
+pub record Gated (s : Score) : Type 0 where
+  pub vco : playerOf s .vco .«sync_edge» ≡ newEdge (thresholdOf (s .head .gate))
+  pub lfo : playerOf s .lfo .«reset_edge» ≡ newEdge (thresholdOf (s .head .gate))
+
+abbrev pub Gate-held : Type 0
+Gate-held = (s : Score) → Gated s
+
+-- so a score without the line plays as one of issue 1
+abbrev pub scoreWith : Gate → ℕ → ℕ → Inputs → Score
+scoreWith g hz frames i = record { head = record { hz = hz; gate = g; frames = frames }; inputs = i }
+
+abbrev pub Gate-absent : Type 0
+Gate-absent = (hz frames : ℕ) (i : Inputs) → playOf (scoreWith Absent hz frames i) ≡ playOf (scoreWith (Issue 1) hz frames i)
+
+-- and where no oscillator has a gate, the line does nothing
+pub record Gate-idle : Type 0 where
+  pub supersaw : (g h : Gate) (hz frames : ℕ) (i : SupersawInputs)
+      → playOf (scoreWith g hz frames (inputs.Supersaw i)) ≡ playOf (scoreWith h hz frames (inputs.Supersaw i))
+  pub formant : (g h : Gate) (hz frames : ℕ) (i : FormantInputs)
+      → playOf (scoreWith g hz frames (inputs.Formant i)) ≡ playOf (scoreWith h hz frames (inputs.Formant i))
 
 -- ---- each contract settles its answer and the lent buffers
 pub record Settled : Type 0 where

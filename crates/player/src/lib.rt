@@ -7,6 +7,7 @@ use formant_osc::FormantOscControls;
 use lfo::Lfo;
 use lfo::LfoControls;
 use score::FormantInputs;
+use score::Gate;
 use score::Inputs;
 use score::LfoInputs;
 use score::Score;
@@ -22,7 +23,7 @@ ghost use Rattle.vco.specs.Vco.{newVco};
 ghost use Rattle.lfo.specs.Lfo.{newLfo};
 ghost use Rattle.supersaw.specs.Supersaw.{newSupersaw};
 ghost use Rattle.formant_osc.specs.FormantOsc.{newFormantOsc};
-ghost use Rattle.player.specs.Begin.{rateOf, vcoControls, lfoControls, supersawControls, formantControls};
+ghost use Rattle.player.specs.Begin.{rateOf, thresholdOf, vcoControls, lfoControls, supersawControls, formantControls};
 ghost use Rattle.player.specs.Player.{controlsOf, playerOf, playedOf};
 
 // The inputs in volts, which say what is played.
@@ -60,6 +61,22 @@ fn rate_of(hz: u32) -> Hertz
     ensures { λ r. ⌜ r ≡ rateOf hz ⌝ }
 {
     Hertz(hz as f64)
+}
+
+// Where a gate counts as high: issue 1 holds where no line says one.
+fn threshold_of(gate: Gate) -> f64
+    ensures { λ r. ⌜ r ≡ thresholdOf gate ⌝ }
+{
+    match gate {
+        Gate::Absent => common::GATE_THRESHOLD_V,
+        Gate::Issue(n) => {
+            if n < 2 {
+                common::GATE_THRESHOLD_V
+            } else {
+                common::LOW_GATE_THRESHOLD_V
+            }
+        }
+    }
 }
 
 fn vco_controls(i: VcoInputs) -> VcoControls
@@ -132,17 +149,17 @@ fn controls_of(inputs: Inputs) -> Controls
 }
 
 // A new oscillator of each kind. Where `new` refuses the rate, each tick refuses it too.
-fn vco_at(sample_rate: Hertz) -> Vco
-    ensures { λ r. ⌜ r ≡ newVco «sample_rate» ⌝ }
+fn vco_at(sample_rate: Hertz, threshold: f64) -> Vco
+    ensures { λ r. ⌜ r ≡ newVco «sample_rate» threshold ⌝ }
 {
-    let made = Vco::new(sample_rate);
+    let made = Vco::new(sample_rate, threshold);
     made.vco
 }
 
-fn lfo_at(sample_rate: Hertz) -> Lfo
-    ensures { λ r. ⌜ r ≡ newLfo «sample_rate» ⌝ }
+fn lfo_at(sample_rate: Hertz, threshold: f64) -> Lfo
+    ensures { λ r. ⌜ r ≡ newLfo «sample_rate» threshold ⌝ }
 {
-    let made = Lfo::new(sample_rate);
+    let made = Lfo::new(sample_rate, threshold);
     made.lfo
 }
 
@@ -166,11 +183,13 @@ impl Player {
     {
         let head = score.head;
         let inputs = score.inputs;
+        let gate = head.gate;
         let rate = rate_of(head.hz);
+        let threshold = threshold_of(gate);
         Player {
             controls: controls_of(inputs),
-            vco: vco_at(rate),
-            lfo: lfo_at(rate),
+            vco: vco_at(rate, threshold),
+            lfo: lfo_at(rate, threshold),
             supersaw: supersaw_at(rate),
             formant: formant_at(rate),
         }

@@ -45,12 +45,12 @@ const WORDS: [usize; 22] = [
     2,
     2,
     2,
-    23,
-    27,
+    25,
+    29,
     30,
     76,
-    18,
-    213,
+    20,
+    215,
     118,
 ];
 
@@ -208,37 +208,37 @@ fn same_told(
 }
 
 fn same_lfo(words: &[u8]) -> bool {
-    let mut floats = reals(words, 0, 4);
-    let mut wholes = values(words, 4, 2);
+    let mut floats = reals(words, 0, 5);
+    let mut wholes = values(words, 5, 2);
     let mut samples = [0.0; 62];
     let code = gruttisol_lfo_tick(
-        real(words, 6),
         real(words, 7),
         real(words, 8),
-        mask(words, 9),
-        &mut floats[..4],
+        real(words, 9),
+        mask(words, 10),
+        &mut floats[..5],
         &mut wholes[..2],
         &mut samples[..6],
     );
-    same_told(words, 10, code, 4, floats, 2, wholes, 6, samples, [0.0; 62])
+    same_told(words, 11, code, 5, floats, 2, wholes, 6, samples, [0.0; 62])
 }
 
 fn same_vco(words: &[u8]) -> bool {
-    let mut floats = reals(words, 0, 4);
-    let mut wholes = values(words, 4, 4);
+    let mut floats = reals(words, 0, 5);
+    let mut wholes = values(words, 5, 4);
     let mut samples = [0.0; 62];
     let code = gruttisol_vco_tick(
-        real(words, 8),
         real(words, 9),
         real(words, 10),
         real(words, 11),
         real(words, 12),
-        mask(words, 13),
-        &mut floats[..4],
+        real(words, 13),
+        mask(words, 14),
+        &mut floats[..5],
         &mut wholes[..4],
         &mut samples[..4],
     );
-    same_told(words, 14, code, 4, floats, 4, wholes, 4, samples, [0.0; 62])
+    same_told(words, 15, code, 5, floats, 4, wholes, 4, samples, [0.0; 62])
 }
 
 fn same_supersaw(words: &[u8]) -> bool {
@@ -296,42 +296,42 @@ fn same_formant_osc(words: &[u8]) -> bool {
 
 // The bank is the one that our fill makes.
 fn same_wavetable(words: &[u8], bank: &[f64]) -> bool {
-    let mut floats = reals(words, 0, 4);
-    let mut wholes = values(words, 4, 2);
+    let mut floats = reals(words, 0, 5);
+    let mut wholes = values(words, 5, 2);
     let mut samples = [0.0; 62];
     let code = gruttisol_wavetable_tick(
-        real(words, 6),
         real(words, 7),
         real(words, 8),
         real(words, 9),
-        &mut floats[..4],
+        real(words, 10),
+        &mut floats[..5],
         &mut wholes[..2],
         bank,
         &mut samples[..1],
     );
-    same_told(words, 10, code, 4, floats, 2, wholes, 1, samples, [0.0; 62])
+    same_told(words, 11, code, 5, floats, 2, wholes, 1, samples, [0.0; 62])
 }
 
 // A line and draws of 62, which is what a string at 1,000 Hz needs.
 fn same_karplus_strong(words: &[u8]) -> bool {
-    let mut floats = reals(words, 0, 6);
-    let mut wholes = values(words, 6, 4);
-    let mut line = reals(words, 15, 62);
-    let draws = values(words, 77, 62);
+    let mut floats = reals(words, 0, 7);
+    let mut wholes = values(words, 7, 4);
+    let mut line = reals(words, 16, 62);
+    let draws = values(words, 78, 62);
     let mut samples = [0.0; 62];
     let code = gruttisol_karplus_strong_tick(
-        real(words, 10),
         real(words, 11),
         real(words, 12),
         real(words, 13),
         real(words, 14),
-        &mut floats[..6],
+        real(words, 15),
+        &mut floats[..7],
         &mut wholes[..4],
         &mut line[..62],
         &draws[..62],
         &mut samples[..1],
     );
-    same_told(words, 139, code, 6, floats, 4, wholes, 1, samples, line)
+    same_told(words, 140, code, 7, floats, 4, wholes, 1, samples, line)
 }
 
 // 34 draws are the most that a tick needs.

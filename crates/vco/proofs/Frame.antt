@@ -10,11 +10,11 @@ use Rattle.numeric.specs.Floor.{floorOf}
 use Rattle.numeric.specs.Power.{exp2Of}
 use Rattle.numeric.proofs.PowerLaws.{exp2-whole}
 use Rattle.numeric.proofs.TrigLaws.{sin-zero}
-use Rattle.common.specs.Consts.{c4, five, half}
+use Rattle.common.specs.Consts.{gateThreshold, c4, five, half}
 use Rattle.common.specs.Pitch.{voctToHz}
 use Rattle.common.specs.Phase.{polyblepOf, polyblampOf, incrementOf, restartOf}
 use Rattle.common.specs.Memo.{hits3, filled3, recall3}
-use Rattle.common.proofs.EdgeLaws.{crossed-is, rising-once}
+use Rattle.common.proofs.EdgeLaws.{thresholds, crossed-is, rising-once}
 use Rattle.common.specs.Edge.{newEdge, risingAboveOf, risingOf}
 use Rattle.common.specs.Ports.{outOf}
 use Rattle.common.specs.Tests.{rateOk}
@@ -52,9 +52,9 @@ unfolding div ofBits
 no-step = refl
 
 -- and a sync that stays at 0 has no edge
-no-edge : risingOf newEdge zer .rising ≡ false
+no-edge : risingOf (newEdge gateThreshold) zer .rising ≡ false
 unfolding risingOf risingAboveOf
-no-edge = ap (λ (r : Risen). r .rising) (rising-once newEdge zer)
+no-edge = ap (λ (r : Risen). r .rising) (rising-once (newEdge gateThreshold) zer)
 
 -- no control is NaN
 numbers : allNumbers (controlsOf frameControls) ≡ true
@@ -62,7 +62,7 @@ unfolding allNumbers isNan neg ofBits
 numbers = refl
 
 -- so the tick is one without an edge, from phase 0 by 0
-frame-answer : vcoSoundOf (newVco frameRate) frameControls 15 .answer ≡ vcoAnswerOf Nowhere zer zer (clampOf half pwLow pwHigh) zer 15 true
+frame-answer : vcoSoundOf (newVco frameRate gateThreshold) frameControls 15 .answer ≡ vcoAnswerOf Nowhere zer zer (clampOf half pwLow pwHigh) zer 15 true
 unfolding vcoSoundOf newVco crossesOf restartOf incrementOf recall3 hits3 filled3
 frame-answer = simp (crossed-is, no-edge, still, no-step, numbers)
 
@@ -98,7 +98,7 @@ unfolding vcoVoltsOf
 frame-eoc = refl
 
 pub first-frame : First-frame
-first-frame = ap (λ (t : VcoTicked). t .answer) (tick-sound (newVco frameRate) (good-new frameRate rate) frameControls 15) ∙ frame-answer ∙ clean
+first-frame = ap (λ (t : VcoTicked). t .answer) (tick-sound (newVco frameRate gateThreshold) (good-new frameRate gateThreshold rate (thresholds .first)) frameControls 15) ∙ frame-answer ∙ clean
   where
     rate : rateOk frameRate ≡ true
     rate = unfold rateOk le lt eq ofBits in refl

@@ -5,7 +5,8 @@ use Prim.Native.Nat.{ℕ, zero, suc, _+_, _<_}
 use native.Mathlib.Numerals.{add-one}
 use native.Mathlib.Omega.{arith}
 use lib.Dec.{lit<}
-use lib.Ieee.{Float, nan, binary64, add}
+use lib.Ieee.{Float, nan, binary64, add, le}
+use lib.Ieee.Bits.{is-true}
 use lib.Ieee.Fits.{add-fits}
 use Rattle.answer.specs.Answer.{refusalOf}
 use Rattle.answer.specs.Block.{afterTicks, answerAt}
@@ -17,8 +18,8 @@ use Rattle.answer.specs.declared.Answer.{Answer}
 use Rattle.common.specs.Phase.{turns, wrapPhaseOf, incrementOf}
 use Rattle.common.specs.Edge.{risingOf, crossedOf}
 use Rattle.common.specs.Memo.{recall3}
-use Rattle.common.specs.Tests.{phaseOk}
-use Rattle.common.proofs.EdgeLaws.{crossed-is, rising-once, rising-nan}
+use Rattle.common.specs.Tests.{rateOk, phaseOk, thresholdOk}
+use Rattle.common.proofs.EdgeLaws.{threshold-in, threshold-kept, crossed-is, rising-once, rising-not, rising-nan}
 use Rattle.common.proofs.MemoLaws.{recall3-again}
 use Rattle.common.proofs.PhaseLaws.{wrap-in}
 use Rattle.common.specs.declared.Turns.{Turns}
@@ -33,7 +34,7 @@ use Rattle.vco.specs.Consts.{pwLow, pwHigh}
 use Rattle.vco.specs.Vco.{controlsOf, frequencyOf, syncedOf, vcoAnswerOf, vcoSoundOf, vcoRefusalOf, vcoTickOf, vcoToldOf, vcoNextOf}
 use Rattle.vco.specs.Shortcuts.{Held, held, heldTold, heldNext}
 use Rattle.vco.proofs.StateLaws.{unrefused}
-use Rattle.vco.proofs.Reached.{tick-sound}
+use Rattle.vco.proofs.Reached.{Good, tick-sound}
 use Rattle.vco.specs.Promises.{Nan-steers, lowSync, Nan-sync, Block-accepts, Block-tallies}
 use Rattle.vco.specs.declared.Vco.{Vco}
 use Rattle.vco.specs.declared.VcoControls.{VcoControls}
@@ -79,6 +80,15 @@ module _ (s : Vco) (c : VcoControls) where
     pub phase : phaseOk (h .phase) ≡ true
     pub at : crossedOf (edgeOf (h .at)) (c .sync) .at ≡ h .at
 
+  -- which is of the same threshold
+  edge-kept : (at : Crossing) → edgeOf at .threshold ≡ s .«sync_edge» .threshold
+  unfolding edgeOf
+  edge-kept Nowhere = threshold-kept (s .«sync_edge») (c .sync) .rising
+  edge-kept (At frac) = refl
+
+  state-good : (h : Held) → rateOk (s .«sample_rate») ≡ true → Fair h → thresholdOk (s .«sync_edge» .threshold) ≡ true → Good (stateOf h)
+  state-good h r f t = record { rate = r; phase = f .phase; threshold = rw (edge-kept (h .at)) t }
+
   -- no edge comes twice, and the detector then stays
   still : crossedOf (edgeOf Nowhere) (c .sync) .at ≡ Nowhere
   unfolding edgeOf
@@ -112,14 +122,14 @@ module _ (s : Vco) (c : VcoControls) where
       → Holds (vcoToldOf c wanted) (vcoNextOf c wanted) (toldOf wanted) (heldNext stepOf) stateOf Fair s startOf
   holds wanted n =
       let a = unrefused s n in
-      let first = tick-sound s (record { rate = a .0; phase = a .1 }) c wanted ∙ first-sound wanted in
+      let first = tick-sound s (record { rate = a .0; phase = a .1; threshold = a .2 }) c wanted ∙ first-sound wanted in
       record {
         good = record { phase = a .1; at = first-at (crossedOf (s .«sync_edge») (c .sync) .at) refl };
         first = ap (λ (t : VcoTicked). t .answer) first;
         second = ap (λ (t : VcoTicked). t .vco) first;
         stays = λ h f. record { phase = unfold heldNext in wrap-in _ (add-fits binary64 _ _); at = unfold heldNext in still };
-        answers = λ h f. ap (λ (t : VcoTicked). t .answer) (tick-sound (stateOf h) (record { rate = a .0; phase = f .phase }) c wanted ∙ held-sound wanted h f);
-        moves = λ h f. ap (λ (t : VcoTicked). t .vco) (tick-sound (stateOf h) (record { rate = a .0; phase = f .phase }) c wanted ∙ held-sound wanted h f);
+        answers = λ h f. ap (λ (t : VcoTicked). t .answer) (tick-sound (stateOf h) (state-good h (a .0) f (a .2)) c wanted ∙ held-sound wanted h f);
+        moves = λ h f. ap (λ (t : VcoTicked). t .vco) (tick-sound (stateOf h) (state-good h (a .0) f (a .2)) c wanted ∙ held-sound wanted h f);
       }
 
   -- what a block that isn't empty leaves: the edge is forgotten
@@ -155,12 +165,14 @@ unfolding vcoTickOf vcoSoundOf vcoAnswerOf
 nan-steers s c wanted = tick-steers (λ (t : VcoTicked). t .answer) (controlsOf c) (vcoRefusalOf s) _ _ (mark-steers _ _ _ _ (controlsOf c)) refl
 
 -- a sync that is NaN takes no edge, and neither does 0 V
-module _ (s : Vco) (c : VcoControls) (wanted : ℕ) (h : c .sync ≡ nan) where
+module _ (s : Vco) (c : VcoControls) (wanted : ℕ) (h : c .sync ≡ nan) (a : vcoRefusalOf s ≡ 0) where
   nan-nowhere : crossedOf (s .«sync_edge») (c .sync) .at ≡ Nowhere
-  nan-nowhere = rw h (simp (crossed-is, rising-nan (s .«sync_edge») .0))
+  nan-nowhere = rw h (simp (crossed-is, rising-nan (s .«sync_edge»)))
 
   low-nowhere : crossedOf (s .«sync_edge») zer .at ≡ Nowhere
-  low-nowhere = simp (crossed-is, rising-nan (s .«sync_edge») .1)
+  low-nowhere =
+      let low = is-true (le zer (s .«sync_edge» .threshold)) (threshold-in _ (unrefused s a .2) .above) in
+      simp (crossed-is, rising-not (s .«sync_edge») zer low)
 
   sync-sounds : Sounds-as (vcoSoundOf s c wanted .answer) (vcoSoundOf s (lowSync c) wanted .answer)
   unfolding vcoSoundOf vcoAnswerOf

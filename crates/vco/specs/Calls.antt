@@ -53,7 +53,7 @@ reply s (SetSampleRate r) = Told (outcomeNumber (vcoSetSampleRateOf s r .outcome
 
 -- an accepted new one
 abbrev pub First : Vco → Type 0
-First s = (r : Hertz) × (vcoNewOf r ≡ record { outcome = outcome.Done; vco = s })
+First s = (r : Hertz) × (t : Float) × (vcoNewOf r t ≡ record { outcome = outcome.Done; vco = s })
 
 abbrev pub ReachedVco : Vco → Type 0
 ReachedVco = Reached First FitCall after

@@ -4,14 +4,14 @@ use mathlib.Core.Bool.{Bool, true, cond}
 use mathlib.Core.List.{List, [], _∷_}
 use Prim.Native.Nat.{ℕ, _*_, _<_}
 use lib.Dec.{eqb}
-use lib.Ieee.{Float, nan, binary64, le, neg, ofBits}
+use lib.Ieee.{Float, nan, binary64, lt, le, neg, ofBits}
 use lib.ListN.{length}
 use Rattle.laws.specs.Float.{zer}
 use Rattle.laws.specs.Machine.{replies, Settles}
-use Rattle.common.specs.Consts.{five, half}
-use Rattle.common.specs.Edge.{risingOf, thresholdOf}
+use Rattle.common.specs.Consts.{gateThreshold, five, half}
+use Rattle.common.specs.Edge.{risingOf}
 use Rattle.common.specs.Ports.{WantAlike}
-use Rattle.common.specs.Tests.{rateOk, phaseOk}
+use Rattle.common.specs.Tests.{rateOk, phaseOk, thresholdOk}
 use Rattle.common.specs.declared.Hertz.{Hertz}
 use Rattle.answer.specs.Answer.{accepted, voltsOf, outcomeNumber, volts4}
 use Rattle.answer.specs.Block.{Block, blockRefusalOf}
@@ -28,13 +28,15 @@ use Rattle.vco.specs.declared.VcoControls.{VcoControls}
 use Rattle.vco.specs.declared.VcoTicked.{VcoTicked}
 use Rattle.vco.specs.declared.VcoMade.{VcoMade}
 
--- ---- `new` refuses a bad rate alone: at each other one there is a first state
+-- ---- `new` refuses a bad rate, and then a bad threshold, alone: at each other rate there is a first state of each threshold
 abbrev pub New-accepts : Type 0
-New-accepts = (r : Hertz) → (outcomeNumber (vcoNewOf r .outcome) ≡ cond (rateOk r) 0 1) × (rateOk r ≡ true → First (newVco r))
+New-accepts = (r : Hertz) (t : Float) → (outcomeNumber (vcoNewOf r t .outcome) ≡ cond (rateOk r) (cond (thresholdOk t) 0 2) 1)
+    × (rateOk r ≡ true → thresholdOk t ≡ true → First (newVco r t))
 
 -- ---- a reached state refuses no call but for the call's own input
 pub record Accepts (s : Vco) : Type 0 where
   pub phase : phaseOk (s .phase) ≡ true
+  pub threshold : thresholdOk (s .«sync_edge» .threshold) ≡ true
   pub tick : (c : VcoControls) (wanted : ℕ) → accepted (vcoTickOf s c wanted .answer) ≡ true
   -- by its buffers' 52 and its tally's 7 alone
   pub play : (c : VcoControls) (wanted : ℕ) (t : Tally) (o : List Float) (m : List ℕ)
@@ -45,6 +47,10 @@ pub record Accepts (s : Vco) : Type 0 where
 abbrev pub Never-refused : Type 0
 Never-refused = (s : Vco) → ReachedVco s → Accepts s
 
+-- ---- no call changes the threshold
+abbrev pub Threshold-kept : Type 0
+Threshold-kept = (s : Vco) (c : Call) → after s c .«sync_edge» .threshold ≡ s .«sync_edge» .threshold
+
 -- ---- demand 3
 -- whether a tick with these controls takes the sync edge
 abbrev pub taken : Vco → VcoControls → Bool
@@ -53,7 +59,7 @@ taken s c = risingOf (s .«sync_edge») (c .sync) .rising
 -- what a new one like it does, fed this tick first
 pub record Forgotten (s : Vco) (c : VcoControls) (wanted : ℕ) : Type 0 where
   -- it is to be had and accepts the tick
-  pub new : vcoNewOf (s .«sample_rate») ≡ record { outcome = outcome.Done; vco = newLike s }
+  pub new : vcoNewOf (s .«sample_rate») (s .«sync_edge» .threshold) ≡ record { outcome = outcome.Done; vco = newLike s }
   pub accepts : accepted (vcoTickOf (newLike s) c wanted .answer) ≡ true
   -- in the edge tick: all but saw, square and mark
   pub sin : voltsOf (vcoTickOf s c wanted .answer) .p10 ≡ voltsOf (vcoTickOf (newLike s) c wanted .answer) .p10
@@ -73,14 +79,15 @@ Block-forgets = (s : Vco) → ReachedVco s → (c : VcoControls) (wanted : ℕ) 
     → vcoBlockOf s c wanted t o m .refused ≡ 0 → 0 < length m → taken s c ≡ true
     → vcoBlockOf s c wanted t o m .state ≡ vcoBlockOf (newLike s) c wanted t o m .state
 
--- and such a tick is always to be had: after one with sync not above the threshold, one with sync at 5 V
+-- and such a tick is always to be had: after one with sync not above the threshold, one with sync above it, as 5 V are of both
 pub record Comes (s : Vco) (c d : VcoControls) (wanted : ℕ) : Type 0 where
   pub first : accepted (vcoTickOf s c wanted .answer) ≡ true
   pub second : accepted (vcoTickOf (after s (Tick c wanted)) d wanted .answer) ≡ true
   pub edge : taken (after s (Tick c wanted)) d ≡ true
 
 abbrev pub Edge-comes : Type 0
-Edge-comes = (s : Vco) → ReachedVco s → (c d : VcoControls) (wanted : ℕ) → le (c .sync) (thresholdOf (s .«sync_edge»)) ≡ true → d .sync ≡ five
+Edge-comes = (s : Vco) → ReachedVco s → (c d : VcoControls) (wanted : ℕ) → le (c .sync) (s .«sync_edge» .threshold) ≡ true
+    → lt (s .«sync_edge» .threshold) (d .sync) ≡ true
     → Comes s c d wanted
 
 -- ---- no tick is clean with a control that is NaN, and none is steered without one
@@ -108,7 +115,7 @@ Block-tallies = (s : Vco) (c : VcoControls) (wanted : ℕ) → vcoRefusalOf s �
 
 -- ---- each contract settles its answer
 pub record Settled : Type 0 where
-  pub new : (r : Hertz) → Settles (λ (m : VcoMade). m ≡ vcoNewOf r)
+  pub new : (r : Hertz) (t : Float) → Settles (λ (m : VcoMade). m ≡ vcoNewOf r t)
   pub tick : (s : Vco) (c : VcoControls) (wanted : ℕ) → Settles (λ (t : VcoTicked). t ≡ vcoTickOf s c wanted)
   pub block : (s : Vco) (c : VcoControls) (wanted : ℕ) (t : Tally) (o : List Float) (m : List ℕ)
       → Settles (λ (b : Block Vco). b ≡ vcoBlockOf s c wanted t o m)
@@ -125,7 +132,7 @@ frameControls = record { voct = record { 0 = zer }; fm = record { 0 = zer }; pw 
 
 abbrev pub First-frame : Type 0
 First-frame =
-    vcoTickOf (newVco frameRate) frameControls 15 .answer
+    vcoTickOf (newVco frameRate gateThreshold) frameControls 15 .answer
     ≡ answer.Clean
     (volts4
     (ofBits binary64 0)

@@ -1,5 +1,5 @@
 -- The Vco's calls, written from oscillators.rs line by line, with the scope's marks and refusals.
-use mathlib.Core.Bool.{Bool, true, false, cond}
+use mathlib.Core.Bool.{Bool, true, false, cond, _&&_}
 use mathlib.Core.List.{List, [], _∷_}
 use Prim.Native.Nat.{ℕ}
 use lib.Dec.{eqb}
@@ -13,7 +13,7 @@ use Rattle.common.specs.Phase.{turns, wrapPhaseOf, polyblepOf, polyblampOf, inc
 use Rattle.common.specs.Memo.{newMemo3, recall3}
 use Rattle.common.specs.Edge.{newEdge, resetOf, crossedOf}
 use Rattle.common.specs.Ports.{wants, outOf}
-use Rattle.common.specs.Tests.{rateOk, phaseOk}
+use Rattle.common.specs.Tests.{rateOk, phaseOk, thresholdOk}
 use Rattle.answer.specs.Answer.{volts4}
 use Rattle.answer.specs.Block.{Block, blockOf}
 use Rattle.answer.specs.Mark.{allNumbers, markOf}
@@ -33,17 +33,17 @@ use Rattle.vco.specs.declared.VcoControls.{VcoControls}
 use Rattle.vco.specs.declared.VcoTicked.{VcoTicked}
 use Rattle.vco.specs.declared.VcoMade.{VcoMade}
 
--- Vco::new
-unfoldable pub newVco : Hertz → Vco
-newVco r = record { phase = turns zer; «sample_rate» = r; «sync_edge» = newEdge; «freq_memo» = newMemo3 }
+-- Vco::new, and the threshold of its gate
+unfoldable pub newVco : Hertz → Float → Vco
+newVco r t = record { phase = turns zer; «sample_rate» = r; «sync_edge» = newEdge t; «freq_memo» = newMemo3 }
 
 -- a new one like this
 unfoldable pub newLike : Vco → Vco
-newLike s = newVco (s .«sample_rate»)
+newLike s = newVco (s .«sample_rate») (s .«sync_edge» .threshold)
 
--- 0, or what refuses a state: 1 its rate, 2 its phase
+-- 0, or what refuses a state: 1 its rate, 2 its phase or its gate's threshold
 unfoldable pub vcoRefusalOf : Vco → ℕ
-vcoRefusalOf s = cond (rateOk (s .«sample_rate»)) (cond (phaseOk (s .phase)) 0 2) 1
+vcoRefusalOf s = cond (rateOk (s .«sample_rate»)) (cond (phaseOk (s .phase) && thresholdOk (s .«sync_edge» .threshold)) 0 2) 1
 
 -- and a rate change: 1 on the new rate and on the old, then 2
 unfoldable pub vcoRateRefusalOf : Vco → Hertz → ℕ
@@ -53,9 +53,9 @@ vcoRateRefusalOf s r = cond (rateOk r) (vcoRefusalOf s) 1
 unfoldable pub madeUnless : ℕ → Vco → Vco → VcoMade
 madeUnless n old new = cond (eqb n 0) (record { outcome = outcome.Done; vco = new }) (record { outcome = outcome.Refused n; vco = old })
 
--- 1 on the rate: refused, the state has it, and so refuses every call
-unfoldable pub vcoNewOf : Hertz → VcoMade
-vcoNewOf r = madeUnless (cond (rateOk r) 0 1) (newVco r) (newVco r)
+-- refused by what refuses its state, 1 and 2: a refused one refuses every call
+unfoldable pub vcoNewOf : Hertz → Float → VcoMade
+vcoNewOf r t = let s = newVco r t in madeUnless (vcoRefusalOf s) s s
 
 -- the memo's closure: base_freq * pow(2.0, fm), and (fm_lin / 5.0) * base_freq added
 unfoldable pub frequencyOf : Float → Float → Float → Hertz

@@ -222,36 +222,43 @@ impl Vco {
 
     const WANT_SQR: u32 = 1 << 3;
 
-    pub fn new(sample_rate: Hertz) -> VcoMade
-        ensures { λ r. ⌜ r ≡ vcoNewOf «sample_rate» ⌝ }
+    // Of a rate and of the threshold that its gate goes by.
+    pub fn new(sample_rate: Hertz, threshold: f64) -> VcoMade
+        ensures { λ r. ⌜ r ≡ vcoNewOf «sample_rate» threshold ⌝ }
     {
         let vco = Vco {
             phase: Turns(0.0),
             sample_rate,
-            sync_edge: EdgeDetector::new(),
+            sync_edge: EdgeDetector::new(threshold),
             freq_memo: Memo3::new(),
         };
-        if common::rate_ok(sample_rate) {
+        let refused = vco.refusal();
+        if refused == 0 {
             VcoMade {
                 outcome: Outcome::Done,
                 vco,
             }
         } else {
             VcoMade {
-                outcome: Outcome::Refused(1),
+                outcome: Outcome::Refused(refused),
                 vco,
             }
         }
     }
 
-    // 0, or what refuses this state: 1 its rate, 2 its phase.
+    // 0, or what refuses this state: 1 its rate, 2 its phase or its gate's threshold.
     fn refusal(self) -> u32
         ensures { λ r. ⌜ r ≡ vcoRefusalOf self ⌝ }
     {
         let sample_rate = self.sample_rate;
         let phase = self.phase;
+        let edge = self.sync_edge;
         if common::rate_ok(sample_rate) {
-            if common::phase_ok(phase) { 0 } else { 2 }
+            if common::phase_ok(phase) {
+                if common::threshold_ok(edge.threshold) { 0 } else { 2 }
+            } else {
+                2
+            }
         } else {
             1
         }

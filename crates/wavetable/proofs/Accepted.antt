@@ -6,8 +6,8 @@ use native.Mathlib.Omega.{arith}
 use lib.Dec.{eqb}
 use lib.Ieee.{Float}
 use borrow.Author.Tests.{eqb-true, eqb-false}
-use Rattle.common.proofs.PhaseLaws.{accepted-state}
-use Rattle.common.specs.Tests.{rateOk, phaseOk}
+use Rattle.common.proofs.PhaseLaws.{accepted-gate}
+use Rattle.common.specs.Tests.{rateOk, phaseOk, thresholdOk}
 use Rattle.wavetable.specs.Shortcuts.{PairFits, pairOf}
 use Rattle.wavetable.specs.Consts.{tableSize, bankSize}
 use Rattle.wavetable.specs.Reads.{startOf, tableIndexOf}
@@ -28,10 +28,17 @@ pub bank-sized : (s : Wavetable) (size : ℕ) → wavetableTickRefusalOf s size 
 unfolding wavetableTickRefusalOf
 bank-sized s size h = passed (wavetableRefusalOf s) size h .1
 
--- and its rate and its phase are good
-pub accepts : (s : Wavetable) (size : ℕ) → wavetableTickRefusalOf s size ≡ 0 → (rateOk (s .«sample_rate») ≡ true) × (phaseOk (s .phase) ≡ true)
-unfolding wavetableRefusalOf wavetableTickRefusalOf
-accepts s size h = accepted-state (rateOk (s .«sample_rate»)) (phaseOk (s .phase)) (passed (wavetableRefusalOf s) size h .0)
+-- and its rate, its phase and its threshold are good
+abbrev Fine : Wavetable → Type 0
+Fine s = (rateOk (s .«sample_rate») ≡ true) × (phaseOk (s .phase) ≡ true) × (thresholdOk (s .threshold) ≡ true)
+
+pub unrefused : (s : Wavetable) → wavetableRefusalOf s ≡ 0 → Fine s
+unfolding wavetableRefusalOf
+unrefused s h = accepted-gate (rateOk (s .«sample_rate»)) (phaseOk (s .phase)) (thresholdOk (s .threshold)) h
+
+pub accepts : (s : Wavetable) (size : ℕ) → wavetableTickRefusalOf s size ≡ 0 → Fine s
+unfolding wavetableTickRefusalOf
+accepts s size h = unrefused s (passed (wavetableRefusalOf s) size h .0)
 
 -- there is a table above the lower one
 pub index-few : (index : ℕ) (pos : Float) → index ≡ tableIndexOf pos → index ≤ 6

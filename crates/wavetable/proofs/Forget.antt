@@ -4,20 +4,21 @@ use mathlib.Core.List.{List, _∷_}
 use mathlib.Core.Logic.{inl}
 use mathlib.Core.Path.{_≡_, refl, sym, ap, _∙_}
 use Prim.Native.Nat.{ℕ}
-use lib.Dec.{eqb}
-use lib.Ieee.{Float}
+use lib.Dec.{T, eqb}
+use lib.Ieee.{Float, le}
 use lib.ListN.{length}
 use borrow.Author.Tests.{eq-eqb}
 use Rattle.answer.proofs.Blocks.{block-fits, block-refusal, block-same}
 use Rattle.answer.specs.Block.{blockOf}
-use Rattle.common.proofs.EdgeLaws.{rising-like, rising-comes}
+use Rattle.common.proofs.EdgeLaws.{threshold-in, rising-like, rising-comes}
 use Rattle.common.proofs.MemoLaws.{recall1-is}
 use Rattle.common.specs.Edge.{resetOf, risingAboveOf, risingOf}
 use Rattle.common.specs.Memo.{newMemo1, voctToHzAt}
 use Rattle.common.specs.Phase.{restartOf}
+use Rattle.laws.specs.Float.{zer}
 use Rattle.laws.specs.Machine.{replies, more}
 use Rattle.wavetable.proofs.Accepted.{bank-sized}
-use Rattle.wavetable.proofs.Reached.{Good, refused-sized, tick-sounds, tick-accepted, new-good, good, never-refused}
+use Rattle.wavetable.proofs.Reached.{Good, good-unrefused, refused-sized, tick-sounds, tick-accepted, new-good, good, never-refused}
 use Rattle.wavetable.specs.Calls.{Fit, after, reply, Tick, Ticked}
 use Rattle.wavetable.specs.Promises.{taken, Forgets, Block-forgets, Edge-comes}
 use Rattle.wavetable.specs.Consts.{nPorts, bankSize}
@@ -29,26 +30,33 @@ use Rattle.wavetable.specs.declared.Wavetable.{Wavetable}
 use Rattle.wavetable.specs.declared.WavetableControls.{WavetableControls}
 use Rattle.wavetable.specs.declared.WavetableTicked.{WavetableTicked}
 
--- a new one takes the edge too
-new-struck : (s : Wavetable) (c : WavetableControls) → taken s c ≡ true → taken (newLike s) c ≡ true
-unfolding newLike newWavetable resetOf
-new-struck s c e = ap (λ (r : Risen). r .rising) (rising-like (edgeOf s) (c .sync) e) ∙ e
+-- what the edge asks of a threshold, and what both that are good have
+abbrev Above : Wavetable → Type 0
+Above s = T (le zer (s .threshold))
 
-struck : (s : Wavetable) (c : WavetableControls) (bank : List Float) → Good s → Fit c → taken s c ≡ true
+above : (s : Wavetable) → Good s → Above s
+above s g = threshold-in (s .threshold) (g .threshold) .above
+
+-- a new one takes the edge too
+new-struck : (s : Wavetable) → Above s → (c : WavetableControls) → taken s c ≡ true → taken (newLike s) c ≡ true
+unfolding newLike newWavetable resetOf
+new-struck s t c e = ap (λ (r : Risen). r .rising) (rising-like (edgeOf s) (c .sync) t e) ∙ e
+
+struck : (s : Wavetable) → Above s → (c : WavetableControls) (bank : List Float) → Good s → Fit c → taken s c ≡ true
     → wavetableSoundOf s c bank ≡ wavetableSoundOf (newLike s) c bank
 unfolding wavetableSoundOf newLike newWavetable restartOf
-struck s c bank g f e =
+struck s t c bank g f e =
     simp (
       recall1-is voctToHzAt (s .«freq_memo») (g .memo) (c .«v_oct» .0) f,
       recall1-is voctToHzAt newMemo1 (inl refl) (c .«v_oct» .0) f,
       e,
-      new-struck s c e,
+      new-struck s t c e,
     )
 
 struck-tick : (s : Wavetable) (c : WavetableControls) (bank : List Float) → Good s → Fit c → eqb (length bank) bankSize ≡ true → taken s c ≡ true
     → wavetableTickOf s c bank ≡ wavetableTickOf (newLike s) c bank
 struck-tick s c bank g f b e =
-    tick-sounds s c bank g b ∙ struck s c bank g f e ∙ sym (tick-sounds (newLike s) c bank (new-good s g) b)
+    tick-sounds s c bank g b ∙ struck s (above s g) c bank g f e ∙ sym (tick-sounds (newLike s) c bank (new-good s g) b)
 
 pub forgets : Forgets
 unfolding replies after reply
@@ -56,7 +64,7 @@ forgets s h c bank f a e =
     let g = good h in
     let q = struck-tick s c bank g f (sym (tick-accepted s c bank g) ∙ a) e in
     record {
-      new = unfold wavetableNewOf newLike madeUnless in simp (g .rate);
+      new = unfold wavetableNewOf newLike madeUnless in simp (good-unrefused (newLike s) (new-good s g));
       state = ap (λ (t : WavetableTicked). t .wavetable) q;
       same = λ cs. ap (λ (t : WavetableTicked). Ticked (t .answer) ∷ replies after reply (t .wavetable) cs) q;
     }
@@ -84,10 +92,10 @@ kept s c bank = refl
 
 pub edge-comes : Edge-comes
 unfolding after
-edge-comes s h c d bank f b l e =
+edge-comes s h c d bank f b l k =
     let sounds = tick-sounds s c bank (good h) (eq-eqb _ _ b) in (
       never-refused (after s (Tick c bank)) (more h (Tick c bank) f) .tick d bank ∙ eq-eqb _ _ b,
       ap (λ (t : WavetableTicked). taken (t .wavetable) d) sounds
           ∙ ap (λ (e : EdgeDetector). risingOf e (d .sync) .rising) (kept s c bank)
-          ∙ rw e (rising-comes (edgeOf s) (c .sync) l),
+          ∙ rising-comes (edgeOf s) (c .sync) (d .sync) l k,
     )

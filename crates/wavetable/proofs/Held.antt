@@ -77,12 +77,12 @@ toldOf s c bank = heldAnswer bank (heldPair s c) (allNumbers (controlsOf c)) (st
 
 -- and the state then, from the second tick on
 abbrev pub stateOf : Wavetable → WavetableControls → Turns → Wavetable
-stateOf s c p = record { phase = p; «prev_sync» = c .sync; «sample_rate» = s .«sample_rate»; «freq_memo» = heldMemo s c }
+stateOf s c p = record { phase = p; «prev_sync» = c .sync; threshold = s .threshold; «sample_rate» = s .«sample_rate»; «freq_memo» = heldMemo s c }
 
 state-accepted : (s : Wavetable) (c : WavetableControls) (size : ℕ) (p : Turns) → wavetableTickRefusalOf s size ≡ 0 → phaseOk p ≡ true
     → wavetableTickRefusalOf (stateOf s c p) size ≡ 0
 unfolding wavetableRefusalOf wavetableTickRefusalOf
-state-accepted s c size p h k = simp (accepts s size h .0, k, eq-eqb size bankSize (bank-sized s size h))
+state-accepted s c size p h k = simp (accepts s size h .0, k, accepts s size h .2, eq-eqb size bankSize (bank-sized s size h))
 
 tick-sounds : (s : Wavetable) (c : WavetableControls) (bank : List Float) → wavetableTickRefusalOf s (length bank) ≡ 0
     → wavetableTickOf s c bank ≡ wavetableSoundOf s c bank
@@ -97,9 +97,9 @@ unfolding wavetableSoundOf heldAnswer heldNext
 first-sound s c bank = simp mix-pair
 
 -- a sync that stands still has no second edge
-no-second : (v : Float) → risingOf (record { prev = v }) v .rising ≡ false
+no-second : (v t : Float) → risingOf (record { prev = v; threshold = t }) v .rising ≡ false
 unfolding risingOf risingAboveOf
-no-second v = ap (λ (r : Risen). r .rising) (rising-once (record { prev = v }) v)
+no-second v t = ap (λ (r : Risen). r .rising) (rising-once (record { prev = v; threshold = t }) v)
 
 -- in such a state a tick takes no edge and finds its frequency in the memo
 held-sound : (s : Wavetable) (c : WavetableControls) (bank : List Float) (p : Turns)

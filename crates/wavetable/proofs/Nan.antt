@@ -5,13 +5,15 @@ use mathlib.Core.List.{List}
 use mathlib.Core.Path.{_≡_, refl, ap, _∙_}
 use Prim.Native.Nat.{ℕ}
 use lib.Dec.{eqb, lit<}
-use lib.Ieee.{Float, nan, binary64, lt, add, sub, mul, isNan, ofBits, ofInt, toUnsigned}
+use lib.Ieee.{Float, nan, binary64, lt, le, add, sub, mul, isNan, ofBits, ofInt, toUnsigned}
+use lib.Ieee.Bits.{is-true}
 use lib.ListN.{length}
 use Rattle.answer.proofs.Laws.{mark-steers, tick-steers, nan-given, mark-sounds, tick-sounds}
 use Rattle.answer.specs.Promises.{Sounds-as}
 use Rattle.answer.specs.declared.Answer.the-variants as answer
-use Rattle.common.proofs.EdgeLaws.{rising-nan}
+use Rattle.common.proofs.EdgeLaws.{threshold-in, rising-not, rising-nan}
 use Rattle.common.specs.Edge.{risingOf}
+use Rattle.wavetable.proofs.Accepted.{accepts}
 use Rattle.laws.proofs.Number.{add-nan-l, sub-nan-l, mul-nan-l}
 use Rattle.laws.specs.Float.{zer, one}
 use Rattle.numeric.proofs.RangeLaws.{clamp-nan}
@@ -87,15 +89,15 @@ module _ (s : Wavetable) (c : WavetableControls) (bank : List Float) (h : c .tab
 pub nan-table : Nan-table
 unfolding wavetableTickOf
 nan-table s c bank h =
-    (tick-sounds (λ (t : WavetableTicked). t .answer) (wavetableTickRefusalOf s (length bank)) _ _ _ (table-sounds s c bank h) refl, table-state s c bank h)
+    (tick-sounds (λ (t : WavetableTicked). t .answer) (wavetableTickRefusalOf s (length bank)) _ _ _ (λ a. table-sounds s c bank h) refl, table-state s c bank h)
 
 -- ---- a sync that is NaN takes no edge, and neither does 0 V
-module _ (s : Wavetable) (c : WavetableControls) (bank : List Float) (h : c .sync ≡ nan) where
+module _ (s : Wavetable) (c : WavetableControls) (bank : List Float) (h : c .sync ≡ nan) (a : wavetableTickRefusalOf s (length bank) ≡ 0) where
   nan-still : risingOf (edgeOf s) (c .sync) .rising ≡ false
-  nan-still = rw h (rising-nan (edgeOf s) .0)
+  nan-still = rw h (rising-nan (edgeOf s))
 
   low-still : risingOf (edgeOf s) zer .rising ≡ false
-  low-still = rising-nan (edgeOf s) .1
+  low-still = rising-not (edgeOf s) zer (is-true (le zer (s .threshold)) (threshold-in _ (accepts s (length bank) a .2) .above))
 
   sync-sounds : Sounds-as (wavetableSoundOf s c bank .answer) (wavetableSoundOf s (lowSync c) bank .answer)
   unfolding wavetableSoundOf

@@ -1,4 +1,4 @@
--- What every reached Wavetable has: a good rate, a phase in [0, 1), and a memo that holds what it would compute. So no call
+-- What every reached Wavetable has: a good rate, a phase in [0, 1), a good threshold, and a memo that holds what it would compute. So no call
 -- refuses it but for what the call is lent.
 use mathlib.Core.Bool.{Bool, true, false, cond}
 use mathlib.Core.List.{List}
@@ -18,10 +18,12 @@ use Rattle.common.proofs.MemoLaws.{recalled1}
 use Rattle.common.proofs.PhaseLaws.{wrap-in, zero-in}
 use Rattle.common.specs.Memo.{voctToHzAt}
 use Rattle.common.specs.Promises.{Coherent1}
-use Rattle.common.specs.Tests.{rateOk, phaseOk}
+use Rattle.common.specs.Tests.{rateOk, phaseOk, thresholdOk}
 use Rattle.laws.proofs.Always.{always}
+use Rattle.laws.proofs.Tests.{unless-refused}
+use Rattle.wavetable.proofs.Accepted.{unrefused}
 use Rattle.wavetable.specs.Calls.{Call, Fit, after, reply, FitCall, First, ReachedWavetable, Tick, Play, Reset, SetSampleRate, Told}
-use Rattle.wavetable.specs.Promises.{New-accepts, Never-refused}
+use Rattle.wavetable.specs.Promises.{New-accepts, Never-refused, Threshold-kept}
 use Rattle.wavetable.specs.Consts.{nPorts, bankSize}
 use Rattle.wavetable.specs.Wavetable.{newWavetable, newLike, wavetableRefusalOf, wavetableTickRefusalOf, wavetableRateRefusalOf}
 use Rattle.wavetable.specs.Wavetable.{madeUnless, wavetableNewOf, wavetableSoundOf, wavetableTickOf, wavetableBlockOf}
@@ -34,19 +36,35 @@ use Rattle.wavetable.specs.declared.WavetableControls.{WavetableControls
 use Rattle.wavetable.specs.declared.WavetableMade.{WavetableMade}
 use Rattle.wavetable.specs.declared.WavetableTicked.{WavetableTicked}
 
+-- ---- a call without samples
+made-cases : (P : WavetableMade → Type 0) (n : ℕ) (old new : Wavetable) → (n ≡ 0 → P (record { outcome = outcome.Done; wavetable = new }))
+    → P (record { outcome = outcome.Refused n; wavetable = old }) → P (madeUnless n old new)
+unfolding madeUnless
+made-cases P n old new d r = unless-refused P n _ _ d r
+
+made-number : (n : ℕ) (old new : Wavetable) → outcomeNumber (madeUnless n old new .outcome) ≡ n
+unfolding outcomeNumber
+made-number n old new = made-cases (λ m. outcomeNumber (m .outcome) ≡ n) n old new sym refl
+
+rate-good : (b : Bool) (n : ℕ) → cond b n 1 ≡ 0 → b ≡ true
+rate-good true n h = refl
+rate-good false n h = absurd (omega arith)
+
+-- ---- a good state
 pub record Good (s : Wavetable) : Type 0 where
   pub rate : rateOk (s .«sample_rate») ≡ true
   pub phase : phaseOk (s .phase) ≡ true
+  pub threshold : thresholdOk (s .threshold) ≡ true
   pub memo : Coherent1 voctToHzAt (s .«freq_memo»)
 
 -- ---- a good state is refused for its bank alone
-unrefused : (s : Wavetable) → Good s → wavetableRefusalOf s ≡ 0
+pub good-unrefused : (s : Wavetable) → Good s → wavetableRefusalOf s ≡ 0
 unfolding wavetableRefusalOf
-unrefused s g = simp (g .rate, g .phase)
+good-unrefused s g = simp (g .rate, g .phase, g .threshold)
 
 pub refused-sized : (s : Wavetable) (size : ℕ) → Good s → wavetableTickRefusalOf s size ≡ cond (eqb size bankSize) 0 4
 unfolding wavetableTickRefusalOf
-refused-sized s size g = simp (unrefused s g)
+refused-sized s size g = simp (good-unrefused s g)
 
 -- a tick that sounds where the bank's size is right, and is refused by 4 where it isn't
 abbrev sized : Bool → Wavetable → WavetableControls → List Float → WavetableTicked
@@ -60,7 +78,7 @@ by-size false s c bank = refl
 tick-sized : (s : Wavetable) (c : WavetableControls) (bank : List Float) → Good s
     → wavetableTickOf s c bank ≡ sized (eqb (length bank) bankSize) s c bank
 unfolding wavetableTickOf wavetableTickRefusalOf
-tick-sized s c bank g = rw (unrefused s g) (by-size (eqb (length bank) bankSize) s c bank)
+tick-sized s c bank g = rw (good-unrefused s g) (by-size (eqb (length bank) bankSize) s c bank)
 
 pub tick-sounds : (s : Wavetable) (c : WavetableControls) (bank : List Float) → Good s
     → eqb (length bank) bankSize ≡ true → wavetableTickOf s c bank ≡ wavetableSoundOf s c bank
@@ -79,29 +97,36 @@ pub tick-accepted : (s : Wavetable) (c : WavetableControls) (bank : List Float) 
 tick-accepted s c bank g = rw (tick-sized s c bank g) (sized-accepted (eqb (length bank) bankSize) s c bank)
 
 -- ---- it stays good
-good-new : (r : Hertz) → rateOk r ≡ true → Good (newWavetable r)
+good-new : (r : Hertz) (t : Float) → rateOk r ≡ true → thresholdOk t ≡ true → Good (newWavetable r t)
 unfolding newWavetable
-good-new r h = record { rate = h; phase = zero-in; memo = inl refl }
+good-new r t h k = record { rate = h; phase = zero-in; threshold = k; memo = inl refl }
 
 pub new-good : (s : Wavetable) → Good s → Good (newLike s)
 unfolding newLike
-new-good s g = good-new (s .«sample_rate») (g .rate)
+new-good s g = good-new (s .«sample_rate») (s .threshold) (g .rate) (g .threshold)
+
+new-accepted : (r : Hertz) (t : Float) → wavetableRefusalOf (newWavetable r t) ≡ 0 → (rateOk r ≡ true) × (thresholdOk t ≡ true)
+unfolding newWavetable
+new-accepted r t h = let a = unrefused (newWavetable r t) h in (a .0, a .2)
 
 first-good : (s : Wavetable) → First s → Good s
-unfolding wavetableNewOf madeUnless
-first-good s f = go (rateOk (f .0)) refl (f .1)
-  where
-    new : Wavetable
-    new = newWavetable (f .0)
-
-    go : (b : Bool) → rateOk (f .0) ≡ b → madeUnless (cond b 0 1) new new ≡ record { outcome = outcome.Done; wavetable = s } → Good s
-    go true e h = subst Good (ap (λ (m : WavetableMade). m .wavetable) h) (good-new (f .0) e)
-    go false e h = absurd (let q : outcome.Refused 1 ≡ outcome.Done = ap (λ (m : WavetableMade). m .outcome) h in let z : _≡_ {A = ℕ} 0 1 = cc in omega arith)
+unfolding wavetableNewOf outcomeNumber
+first-good s f =
+    let new = newWavetable (f .0) (f .1) in
+    let number = ap (λ (m : WavetableMade). outcomeNumber (m .outcome)) (f .2) in
+    let a = new-accepted (f .0) (f .1) (sym (made-number _ new new) ∙ number) in
+    let g = good-new (f .0) (f .1) (a .0) (a .1) in
+    subst Good (ap (λ (m : WavetableMade). m .wavetable) (f .2)) (made-cases (λ m. Good (m .wavetable)) _ new new (λ e. g) g)
 
 sound-good : (s : Wavetable) (c : WavetableControls) (bank : List Float) → Good s → Fit c → Good (wavetableSoundOf s c bank .wavetable)
 unfolding wavetableSoundOf
 sound-good s c bank g f =
-    record { rate = g .rate; phase = wrap-in _ (add-fits binary64 _ _); memo = recalled1 voctToHzAt (s .«freq_memo») (g .memo) (c .«v_oct» .0) f }
+    record {
+      rate = g .rate;
+      phase = wrap-in _ (add-fits binary64 _ _);
+      threshold = g .threshold;
+      memo = recalled1 voctToHzAt (s .«freq_memo») (g .memo) (c .«v_oct» .0) f;
+    }
 
 sized-good : (b : Bool) (s : Wavetable) (c : WavetableControls) (bank : List Float) → Good s → Fit c → Good (sized b s c bank .wavetable)
 sized-good true s c bank g f = sound-good s c bank g f
@@ -111,54 +136,62 @@ tick-good : (c : WavetableControls) (bank : List Float) → Fit c → (s : Wavet
 tick-good c bank f s g =
     subst (λ (t : WavetableTicked). Good (t .wavetable)) (sym (tick-sized s c bank g)) (sized-good (eqb (length bank) bankSize) s c bank g f)
 
--- a call without samples leaves the new state or the old
-either : (n : ℕ) (old new : Wavetable) → Good old → Good new → Good (madeUnless n old new .wavetable)
-unfolding madeUnless
-either n old new p q = go (eqb n 0) (record { outcome = outcome.Done; wavetable = new }) (record { outcome = outcome.Refused n; wavetable = old }) q p
-  where
-    go : (b : Bool) (x y : WavetableMade) → Good (x .wavetable) → Good (y .wavetable) → Good (cond b x y .wavetable)
-    go true x y q p = q
-    go false x y q p = p
+restarted-good : (s : Wavetable) → Good s → Good (restarted s)
+unfolding restarted
+restarted-good s g = record { rate = g .rate; phase = zero-in; threshold = g .threshold; memo = g .memo }
+
+rated-good : (s : Wavetable) (r : Hertz) → Good s → wavetableRateRefusalOf s r ≡ 0 → Good (rated s r)
+unfolding rated wavetableRateRefusalOf
+rated-good s r g e = record { rate = rate-good (rateOk r) (wavetableRefusalOf s) e; phase = g .phase; threshold = g .threshold; memo = g .memo }
 
 after-good : (s : Wavetable) (c : Call) → Good s → FitCall c → Good (after s c)
-unfolding after
+unfolding after wavetableBlockOf wavetableResetOf wavetableSetSampleRateOf
 after-good s (Tick c bank) g f = tick-good c bank f s g
-after-good s (Play c t bank o m) g f = unfold wavetableBlockOf in block-keeps nPorts _ _ _ Good (tick-good c bank f) s g t o m
-after-good s Reset g f =
-    unfold wavetableResetOf in either _ s (restarted s) g (unfold restarted in record { rate = g .rate; phase = zero-in; memo = g .memo })
-after-good s (SetSampleRate r) g f = unfold wavetableSetSampleRateOf wavetableRateRefusalOf in go (rateOk r) refl
-  where
-    go : (b : Bool) → rateOk r ≡ b → Good (madeUnless (cond b (wavetableRefusalOf s) 1) s (rated s r) .wavetable)
-    go true e = either _ s (rated s r) g (unfold rated in record { rate = e; phase = g .phase; memo = g .memo })
-    go false e = unfold madeUnless in g
+after-good s (Play c t bank o m) g f = block-keeps nPorts _ _ _ Good (tick-good c bank f) s g t o m
+after-good s Reset g f = made-cases (λ m. Good (m .wavetable)) _ s (restarted s) (λ e. restarted-good s g) g
+after-good s (SetSampleRate r) g f = made-cases (λ m. Good (m .wavetable)) (wavetableRateRefusalOf s r) s (rated s r) (rated-good s r g) g
 
 pub good : {s : Wavetable} → ReachedWavetable s → Good s
 good = always Good first-good after-good
 
 -- ---- the promises
+new-refusal : (r : Hertz) (t : Float) → wavetableRefusalOf (newWavetable r t) ≡ cond (rateOk r) (cond (thresholdOk t) 0 2) 1
+unfolding wavetableRefusalOf newWavetable
+new-refusal r t = simp zero-in
+
 pub new-accepts : New-accepts
-unfolding wavetableNewOf madeUnless outcomeNumber
-new-accepts r = (number (rateOk r), λ ok. (r, rw ok refl))
-  where
-    number : (b : Bool) → outcomeNumber (madeUnless (cond b 0 1) (newWavetable r) (newWavetable r) .outcome) ≡ cond b 0 1
-    number true = refl
-    number false = refl
+unfolding wavetableNewOf
+new-accepts r t =
+    (made-number _ _ _ ∙ new-refusal r t, λ ok good. (r, t, unfold madeUnless in simp (new-refusal r t, ok, good)))
 
 pub never-refused : Never-refused
-unfolding reply outcomeNumber
+unfolding reply wavetableBlockOf wavetableResetOf wavetableSetSampleRateOf
 never-refused s h =
     let g = good h in
+    let n = good-unrefused s g in
     record {
       phase = g .phase;
+      threshold = g .threshold;
       tick = λ c bank. tick-accepted s c bank g;
       play =
-          λ c t bank o m. unfold wavetableBlockOf in
+          λ c t bank o m.
           block-refusal nPorts _ _ _ s t o m
           ∙ ap (λ (n : ℕ). blockRefusalOf (eqb (length o) (nPorts * length m)) n t (length m)) (refused-sized s (length bank) g);
-      reset = unfold wavetableResetOf madeUnless in simp (unrefused s g);
-      rate = λ r. unfold wavetableSetSampleRateOf wavetableRateRefusalOf in rates r (rateOk r);
+      reset = ap Told (made-number _ _ _ ∙ n);
+      rate = λ r. ap Told (made-number _ _ _ ∙ (unfold wavetableRateRefusalOf in simp n));
     }
-  where
-    rates : (r : Hertz) (b : Bool) → Told (outcomeNumber (madeUnless (cond b (wavetableRefusalOf s) 1) s (rated s r) .outcome)) ≡ Told (cond b 0 1)
-    rates r true = unfold madeUnless in simp (unrefused s (good h))
-    rates r false = unfold madeUnless in refl
+
+-- ---- the threshold stays
+abbrev Keeps : Wavetable → Wavetable → Type 0
+Keeps s r = r .threshold ≡ s .threshold
+
+tick-keeps : (c : WavetableControls) (bank : List Float) (s : Wavetable) → Keeps s (wavetableTickOf s c bank .wavetable)
+unfolding wavetableTickOf wavetableSoundOf
+tick-keeps c bank s = unless-refused (λ (t : WavetableTicked). Keeps s (t .wavetable)) (wavetableTickRefusalOf s (length bank)) (wavetableSoundOf s c bank) _ (λ e. refl) refl
+
+pub threshold-kept : Threshold-kept
+unfolding after wavetableBlockOf wavetableResetOf wavetableSetSampleRateOf
+threshold-kept s (Tick c bank) = tick-keeps c bank s
+threshold-kept s (Play c t bank o m) = block-keeps nPorts _ _ _ (Keeps s) (λ r h. tick-keeps c bank r ∙ h) s refl t o m
+threshold-kept s Reset = made-cases (λ m. Keeps s (m .wavetable)) _ s (restarted s) (λ e. unfold restarted in refl) refl
+threshold-kept s (SetSampleRate r) = made-cases (λ m. Keeps s (m .wavetable)) _ s (rated s r) (λ e. unfold rated in refl) refl

@@ -7,7 +7,7 @@ use Rattle.wavetable.specs.Wavetable.{wavetableNewOf, wavetableTickOf, w
 pub settled : Settled
 settled =
     record {
-      new = λ r. laws.settled (wavetableNewOf r);
+      new = λ r t. laws.settled (wavetableNewOf r t);
       tick = λ s c bank. laws.settled (wavetableTickOf s c bank);
       block = λ s c t bank o m. laws.settled (wavetableBlockOf s c t bank o m);
       reset = λ s. laws.settled (wavetableResetOf s);

@@ -53,7 +53,7 @@ reply s (SetSampleRate r) = Told (outcomeNumber (wavetableSetSampleRateOf s r .o
 
 -- an accepted new one
 abbrev pub First : Wavetable → Type 0
-First s = (r : Hertz) × (wavetableNewOf r ≡ record { outcome = outcome.Done; wavetable = s })
+First s = (r : Hertz) × (t : Float) × (wavetableNewOf r t ≡ record { outcome = outcome.Done; wavetable = s })
 
 abbrev pub ReachedWavetable : Wavetable → Type 0
 ReachedWavetable = Reached First FitCall after

@@ -4,16 +4,15 @@ use mathlib.Core.List.{List, _∷_, []}
 use mathlib.Core.Path.{_≡_}
 use Prim.Native.Nat.{ℕ, _*_, _<_}
 use lib.Dec.{eqb}
-use lib.Ieee.{Float, nan, le}
+use lib.Ieee.{Float, nan, lt, le}
 use lib.ListN.{length}
 use Rattle.answer.specs.Answer.{accepted, outcomeNumber}
 use Rattle.answer.specs.Block.{Block, blockRefusalOf}
 use Rattle.answer.specs.Promises.{Steers, Sounds-as, AllAccepted, AllTaken}
 use Rattle.answer.specs.declared.Outcome.the-variants as outcome
 use Rattle.answer.specs.declared.Tally.{Tally}
-use Rattle.common.specs.Consts.{five}
-use Rattle.common.specs.Edge.{thresholdOf, risingOf}
-use Rattle.common.specs.Tests.{rateOk, phaseOk}
+use Rattle.common.specs.Edge.{risingOf}
+use Rattle.common.specs.Tests.{rateOk, phaseOk, thresholdOk}
 use Rattle.laws.specs.Float.{zer, one}
 use Rattle.laws.specs.Machine.{replies, Settles}
 use Rattle.wavetable.specs.Bank.{Filled, fillTableOf, fillBankOf}
@@ -27,14 +26,16 @@ use Rattle.wavetable.specs.declared.WavetableControls.{WavetableControls
 use Rattle.wavetable.specs.declared.WavetableTicked.{WavetableTicked}
 use Rattle.wavetable.specs.declared.WavetableMade.{WavetableMade}
 
--- ---- `new` refuses a bad rate alone: at each other one there is a first state
+-- ---- `new` refuses a bad rate, and then a bad threshold, alone: at each other rate there is a first state of each threshold
 abbrev pub New-accepts : Type 0
-New-accepts = (r : Hertz) → (outcomeNumber (wavetableNewOf r .outcome) ≡ cond (rateOk r) 0 1) × (rateOk r ≡ true → First (newWavetable r))
+New-accepts = (r : Hertz) (t : Float) → (outcomeNumber (wavetableNewOf r t .outcome) ≡ cond (rateOk r) (cond (thresholdOk t) 0 2) 1)
+    × (rateOk r ≡ true → thresholdOk t ≡ true → First (newWavetable r t))
 
 -- ---- a reached state refuses no call but for the call's own input: a tick for its bank's size alone, a block for that, for samples
 -- that don't fit its marks, or for a tally without room
 pub record Accepts (s : Wavetable) : Type 0 where
   pub phase : phaseOk (s .phase) ≡ true
+  pub threshold : thresholdOk (s .threshold) ≡ true
   pub tick : (c : WavetableControls) (bank : List Float) → accepted (wavetableTickOf s c bank .answer) ≡ eqb (length bank) bankSize
   pub play : (c : WavetableControls) (t : Tally) (bank o : List Float) (m : List ℕ)
       → wavetableBlockOf s c t bank o m .refused ≡ blockRefusalOf (eqb (length o) (nPorts * length m)) (cond (eqb (length bank) bankSize) 0 4) t (length m)
@@ -44,6 +45,10 @@ pub record Accepts (s : Wavetable) : Type 0 where
 abbrev pub Never-refused : Type 0
 Never-refused = (s : Wavetable) → ReachedWavetable s → Accepts s
 
+-- ---- no call changes the threshold
+abbrev pub Threshold-kept : Type 0
+Threshold-kept = (s : Wavetable) (c : Call) → after s c .threshold ≡ s .threshold
+
 -- ---- demand 3
 -- the tick takes the sync edge
 abbrev pub taken : Wavetable → WavetableControls → Bool
@@ -52,7 +57,7 @@ taken s c = risingOf (edgeOf s) (c .sync) .rising
 -- a new one like it is to be had; this tick leaves both in the same state, and fed it and then any calls, blocks among them,
 -- each lent the same bank, both answer the same
 pub record Forgotten (s : Wavetable) (c : WavetableControls) (bank : List Float) : Type 0 where
-  pub new : wavetableNewOf (s .«sample_rate») ≡ record { outcome = outcome.Done; wavetable = newLike s }
+  pub new : wavetableNewOf (s .«sample_rate») (s .threshold) ≡ record { outcome = outcome.Done; wavetable = newLike s }
   pub state : after s (Tick c bank) ≡ after (newLike s) (Tick c bank)
   pub same : (cs : List Call) → replies after reply s (Tick c bank ∷ cs) ≡ replies after reply (newLike s) (Tick c bank ∷ cs)
 
@@ -66,10 +71,10 @@ Block-forgets = (s : Wavetable) → ReachedWavetable s → (c : WavetableControl
     → wavetableBlockOf s c t bank o m .refused ≡ 0 → 0 < length m → taken s c ≡ true
     → wavetableBlockOf s c t bank o m ≡ wavetableBlockOf (newLike s) c t bank o m
 
--- and such a tick is always to be had: after one with sync not above the threshold, one with sync at 5 V
+-- and such a tick is always to be had: after one with sync not above the threshold, one with sync above it, as 5 V are of both
 abbrev pub Edge-comes : Type 0
 Edge-comes = (s : Wavetable) → ReachedWavetable s → (c d : WavetableControls) (bank : List Float) → Fit c → length bank ≡ bankSize
-    → le (c .sync) (thresholdOf (edgeOf s)) ≡ true → d .sync ≡ five
+    → le (c .sync) (s .threshold) ≡ true → lt (s .threshold) (d .sync) ≡ true
     → (accepted (wavetableTickOf (after s (Tick c bank)) d bank .answer) ≡ true) × (taken (after s (Tick c bank)) d ≡ true)
 
 -- ---- no tick is clean with a control that is NaN, and none is steered without one
@@ -106,7 +111,7 @@ Block-tallies = (s : Wavetable) (c : WavetableControls) (bank : List Float) → 
 
 -- ---- each contract settles its answer, and what a fill or a block leaves in the lent slices
 pub record Settled : Type 0 where
-  pub new : (r : Hertz) → Settles (λ (a : WavetableMade). a ≡ wavetableNewOf r)
+  pub new : (r : Hertz) (t : Float) → Settles (λ (a : WavetableMade). a ≡ wavetableNewOf r t)
   pub tick : (s : Wavetable) (c : WavetableControls) (bank : List Float) → Settles (λ (a : WavetableTicked). a ≡ wavetableTickOf s c bank)
   pub block : (s : Wavetable) (c : WavetableControls) (t : Tally) (bank o : List Float) (m : List ℕ)
       → Settles (λ (b : Block Wavetable). b ≡ wavetableBlockOf s c t bank o m)

@@ -1,5 +1,5 @@
 -- The Wavetable's calls, written from oscillators.rs, with the scope's refusals and marks.
-use mathlib.Core.Bool.{true, false, cond}
+use mathlib.Core.Bool.{true, false, cond, _&&_}
 use mathlib.Core.List.{List, [], _∷_}
 use Prim.Native.Nat.{ℕ}
 use lib.Dec.{eqb}
@@ -11,7 +11,7 @@ use Rattle.answer.specs.Mark.{allNumbers, markOf}
 use Rattle.common.specs.Edge.{risingOf}
 use Rattle.common.specs.Memo.{newMemo1, recall1, voctToHzAt}
 use Rattle.common.specs.Phase.{turns, wrapPhaseOf, incrementOf, restartOf}
-use Rattle.common.specs.Tests.{rateOk, phaseOk}
+use Rattle.common.specs.Tests.{rateOk, phaseOk, thresholdOk}
 use Rattle.laws.specs.Float.{zer, isFin}
 use Rattle.wavetable.specs.Consts.{nPorts, bankSize}
 use Rattle.wavetable.specs.Reads.{tablePosOf, tableIndexOf, blendOf, mixOf}
@@ -26,17 +26,17 @@ use Rattle.wavetable.specs.declared.WavetableControls.{WavetableControls
 use Rattle.wavetable.specs.declared.WavetableTicked.{WavetableTicked}
 use Rattle.wavetable.specs.declared.WavetableMade.{WavetableMade}
 
--- Wavetable::new; the bank isn't the state's
-unfoldable pub newWavetable : Hertz → Wavetable
-newWavetable r = record { phase = turns zer; «prev_sync» = zer; «sample_rate» = r; «freq_memo» = newMemo1 }
+-- Wavetable::new, and the threshold of its gate; the bank isn't the state's
+unfoldable pub newWavetable : Hertz → Float → Wavetable
+newWavetable r t = record { phase = turns zer; «prev_sync» = zer; threshold = t; «sample_rate» = r; «freq_memo» = newMemo1 }
 
 -- a new one like this
 unfoldable pub newLike : Wavetable → Wavetable
-newLike s = newWavetable (s .«sample_rate»)
+newLike s = newWavetable (s .«sample_rate») (s .threshold)
 
--- 0, or what refuses a state: 1 its rate, 2 its phase
+-- 0, or what refuses a state: 1 its rate, 2 its phase or its gate's threshold
 unfoldable pub wavetableRefusalOf : Wavetable → ℕ
-wavetableRefusalOf s = cond (rateOk (s .«sample_rate»)) (cond (phaseOk (s .phase)) 0 2) 1
+wavetableRefusalOf s = cond (rateOk (s .«sample_rate»)) (cond (phaseOk (s .phase) && thresholdOk (s .threshold)) 0 2) 1
 
 -- and after them what refuses a bank of this size: 4
 unfoldable pub wavetableTickRefusalOf : Wavetable → ℕ → ℕ
@@ -50,13 +50,13 @@ wavetableRateRefusalOf s r = cond (rateOk r) (wavetableRefusalOf s) 1
 unfoldable pub madeUnless : ℕ → Wavetable → Wavetable → WavetableMade
 madeUnless n old new = cond (eqb n 0) (record { outcome = outcome.Done; wavetable = new }) (record { outcome = outcome.Refused n; wavetable = old })
 
--- 1 on the rate; a refused new hands out the state with the bad rate, which every call refuses
-unfoldable pub wavetableNewOf : Hertz → WavetableMade
-wavetableNewOf r = madeUnless (cond (rateOk r) 0 1) (newWavetable r) (newWavetable r)
+-- refused by what refuses its state, 1 and 2: a refused one refuses every call
+unfoldable pub wavetableNewOf : Hertz → Float → WavetableMade
+wavetableNewOf r t = let s = newWavetable r t in madeUnless (wavetableRefusalOf s) s s
 
--- the last sync sample as an edge record: the Rust keeps it plain
+-- the last sync sample and the threshold as an edge record: the Rust keeps the one plain
 abbrev pub edgeOf : Wavetable → EdgeDetector
-edgeOf s = record { prev = s .«prev_sync» }
+edgeOf s = record { prev = s .«prev_sync»; threshold = s .threshold }
 
 -- the controls given to a tick, in port order
 abbrev pub controlsOf : WavetableControls → List Float
@@ -74,7 +74,13 @@ wavetableSoundOf s c bank =
     let next = add binary64 phase inc in
     record {
       answer = markOf (volts1 out) false true (isFin next) (allNumbers (controlsOf c));
-      wavetable = record { phase = wrapPhaseOf (turns next) .phase; «prev_sync» = c .sync; «sample_rate» = s .«sample_rate»; «freq_memo» = memo };
+      wavetable = record {
+        phase = wrapPhaseOf (turns next) .phase;
+        «prev_sync» = c .sync;
+        threshold = s .threshold;
+        «sample_rate» = s .«sample_rate»;
+        «freq_memo» = memo;
+      };
     }
 
 -- a refused tick leaves the state
@@ -95,14 +101,14 @@ wavetableBlockOf s c t bank o m = blockOf nPorts (wavetableTickRefusalOf s (leng
 
 -- reset: self.phase = 0.0; self.prev_sync = 0.0
 unfoldable pub restarted : Wavetable → Wavetable
-restarted s = record { phase = turns zer; «prev_sync» = zer; «sample_rate» = s .«sample_rate»; «freq_memo» = s .«freq_memo» }
+restarted s = record { phase = turns zer; «prev_sync» = zer; threshold = s .threshold; «sample_rate» = s .«sample_rate»; «freq_memo» = s .«freq_memo» }
 
 unfoldable pub wavetableResetOf : Wavetable → WavetableMade
 wavetableResetOf s = madeUnless (wavetableRefusalOf s) s (restarted s)
 
 -- self.sample_rate = sample_rate
 unfoldable pub rated : Wavetable → Hertz → Wavetable
-rated s r = record { phase = s .phase; «prev_sync» = s .«prev_sync»; «sample_rate» = r; «freq_memo» = s .«freq_memo» }
+rated s r = record { phase = s .phase; «prev_sync» = s .«prev_sync»; threshold = s .threshold; «sample_rate» = r; «freq_memo» = s .«freq_memo» }
 
 unfoldable pub wavetableSetSampleRateOf : Wavetable → Hertz → WavetableMade
 wavetableSetSampleRateOf s r = madeUnless (wavetableRateRefusalOf s r) s (rated s r)

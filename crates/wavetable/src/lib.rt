@@ -33,6 +33,7 @@ ghost use Rattle.wavetable.specs.Wavetable.{wavetableResetOf, wavetableS
 pub struct Wavetable {
     pub phase: Turns,
     pub prev_sync: f64,
+    pub threshold: f64,
     pub sample_rate: Hertz,
     pub freq_memo: Memo1,
 }
@@ -165,10 +166,13 @@ fn fraction(pos: f64, whole: usize) -> f64
 }
 
 // Whether the sync input has an edge. The Rust keeps its last sample plain; the rule is the edge record's.
-fn synced(prev_sync: f64, sync: f64) -> bool
-    ensures { λ r. ⌜ r ≡ risingOf (record { prev = «prev_sync» }) sync .rising ⌝ }
+fn synced(prev_sync: f64, threshold: f64, sync: f64) -> bool
+    ensures { λ r. ⌜ r ≡ risingOf (record { prev = «prev_sync»; threshold = threshold }) sync .rising ⌝ }
 {
-    let edge = EdgeDetector { prev: prev_sync };
+    let edge = EdgeDetector {
+        prev: prev_sync,
+        threshold,
+    };
     edge.rising(sync).rising
 }
 
@@ -244,36 +248,43 @@ impl WavetableControls {
 
 impl Wavetable {
     // A refused new hands out the state with the bad rate, which every later call refuses.
-    pub fn new(sample_rate: Hertz) -> WavetableMade
-        ensures { λ r. ⌜ r ≡ wavetableNewOf «sample_rate» ⌝ }
+    // Of a rate and of the threshold that its gate goes by.
+    pub fn new(sample_rate: Hertz, threshold: f64) -> WavetableMade
+        ensures { λ r. ⌜ r ≡ wavetableNewOf «sample_rate» threshold ⌝ }
     {
         let wavetable = Wavetable {
             phase: Turns(0.0),
             prev_sync: 0.0,
+            threshold,
             sample_rate,
             freq_memo: Memo1::new(),
         };
-        if common::rate_ok(sample_rate) {
+        let refused = wavetable.refusal();
+        if refused == 0 {
             WavetableMade {
                 outcome: Outcome::Done,
                 wavetable,
             }
         } else {
             WavetableMade {
-                outcome: Outcome::Refused(1),
+                outcome: Outcome::Refused(refused),
                 wavetable,
             }
         }
     }
 
-    // 0, or the number that refuses this state: 1 its rate, 2 its phase.
+    // 0, or the number that refuses this state: 1 its rate, 2 its phase or its gate's threshold.
     fn refusal(self) -> u32
         ensures { λ r. ⌜ r ≡ wavetableRefusalOf self ⌝ }
     {
         let sample_rate = self.sample_rate;
         let phase = self.phase;
         if common::rate_ok(sample_rate) {
-            if common::phase_ok(phase) { 0 } else { 2 }
+            if common::phase_ok(phase) {
+                if common::threshold_ok(self.threshold) { 0 } else { 2 }
+            } else {
+                2
+            }
         } else {
             1
         }
@@ -312,7 +323,7 @@ impl Wavetable {
         let sample_rate = self.sample_rate;
         let memo = self.freq_memo;
         let v_oct = c.v_oct;
-        let phase = common::restart(old, synced(self.prev_sync, c.sync));
+        let phase = common::restart(old, synced(self.prev_sync, self.threshold, c.sync));
         let freq_memo = memo.voct_to_hz(v_oct);
         let freq = freq_memo.val;
         let phase_inc = common::increment(freq, sample_rate);
@@ -324,6 +335,7 @@ impl Wavetable {
             wavetable: Wavetable {
                 phase: moved,
                 prev_sync: c.sync,
+                threshold: self.threshold,
                 sample_rate,
                 freq_memo,
             },
@@ -388,7 +400,7 @@ impl Wavetable {
         let sample_rate = self.sample_rate;
         let memo = self.freq_memo;
         let v_oct = c.v_oct;
-        let first = common::restart(old, synced(self.prev_sync, c.sync));
+        let first = common::restart(old, synced(self.prev_sync, self.threshold, c.sync));
         let freq_memo = memo.voct_to_hz(v_oct);
         let freq = freq_memo.val;
         let step = common::increment(freq, sample_rate);
@@ -396,6 +408,7 @@ impl Wavetable {
         Wavetable {
             phase: Self::glide(pair, first, step, numbers, bank, samples, marks),
             prev_sync: c.sync,
+            threshold: self.threshold,
             sample_rate,
             freq_memo,
         }

@@ -5,6 +5,7 @@ use lib.Seq.{length-sets}
 use borrow.Author.Needs.{needs}
 use Rattle.laws.proofs.Slices.{stored, byte}
 use Rattle.boundary.proofs.Laws.{edge-put}
+use Rattle.wavetable.specs.Wavetable.{edgeOf}
 use Rattle.exports_wavetable.specs.State.{floatsOf, wholesOf}
 use Rattle.exports_wavetable.proofs.store.Statement.{statement}
 use Rattle.exports_wavetable.proofs.store.Tie as tie
@@ -17,7 +18,7 @@ slice-write-floats-3 c =
     let put = c .before .before in
     let ready = put .before .before .before .before in let start = ready .before .before .before .before in
     let a = start .args in
-    let e = edge-put (a .floats .now) _ 0 (a .s .phase .0 ∷ a .s .«sample_rate» .0 ∷ []) (record { prev = a .s .«prev_sync» }) (omega arith)
+    let e = edge-put (a .floats .now) _ 0 (a .s .phase .0 ∷ a .s .«sample_rate» .0 ∷ []) (edgeOf (a .s)) (omega arith)
     (put .put-edge .ensures) in
     rw e (simp length-set (omega arith))
 
@@ -30,7 +31,7 @@ same-length c =
     let put = c .before .before .before in
     let ready = put .before .before .before .before in let start = ready .before .before .before .before in
     let a = start .args in
-    let e = edge-put (a .floats .now) _ 0 (a .s .phase .0 ∷ a .s .«sample_rate» .0 ∷ []) (record { prev = a .s .«prev_sync» }) (omega arith)
+    let e = edge-put (a .floats .now) _ 0 (a .s .phase .0 ∷ a .s .«sample_rate» .0 ∷ []) (edgeOf (a .s)) (omega arith)
     (put .put-edge .ensures) in
     rw e (length-sets (a .floats .now) 0 (floatsOf (a .s)))
 
@@ -40,7 +41,7 @@ returns c =
     let put = c .before .before .before in
     let ready = put .before .before .before .before in let start = ready .before .before .before .before in
     let a = start .args in
-    let e = edge-put (a .floats .now) _ 0 (a .s .phase .0 ∷ a .s .«sample_rate» .0 ∷ []) (record { prev = a .s .«prev_sync» }) (omega arith)
+    let e = edge-put (a .floats .now) _ 0 (a .s .phase .0 ∷ a .s .«sample_rate» .0 ∷ []) (edgeOf (a .s)) (omega arith)
     (put .put-edge .ensures) in
     (rw e (stored (a .floats .now) (floatsOf (a .s)) (start .pre .0)), simp byte (stored (a .wholes .now) (wholesOf (a .s)) (start .pre .1)))
 

@@ -5,7 +5,7 @@ use Rattle.common.proofs.EdgeDetector.rising_frac.Tie as tie
 
 returns : tie.Need-returns
 unfolding crossedOf
-returns c = simp (c .rising-frac-above .ensures, c .before .threshold .ensures)
+returns c = c .rising-frac-above .ensures
 
 pub rising-frac-spec : {M : Type 1} → statement M
-rising-frac-spec = tie.close (tie.spec (λ c κs. search needs) (λ c κs. search needs) returns)
+rising-frac-spec = tie.close (tie.spec (λ c κs. search needs) returns)

@@ -20,8 +20,24 @@ returns-3 c = simp (le-leb _ _ (c .before .before .before .before .if1 .left), l
 returns-4 : tie.Need-returns-4
 unfolding lineOk
 returns-4 c =
-    let passed = c .before .before .before in
-    simp (le-leb _ _ (passed .before .before .if1 .left), le-leb _ _ (passed .if2 .left), lt-ltb _ _ (c .before .if3 .left), number-test)
+    let numbered = c .before in
+    let placed = numbered .before .before in
+    let passed = placed .before .before in
+    simp (
+      le-leb _ _ (passed .before .before .if1 .left),
+      le-leb _ _ (passed .if2 .left),
+      lt-ltb _ _ (placed .if3 .left),
+      ← number-test _,
+      numbered .if4 .taken,
+      c .threshold-ok .ensures,
+    )
+
+returns-5 : tie.Need-returns-5
+unfolding lineOk
+returns-5 c =
+    let placed = c .before in
+    let passed = placed .before .before in
+    simp (le-leb _ _ (passed .before .before .if1 .left), le-leb _ _ (passed .if2 .left), lt-ltb _ _ (placed .if3 .left), ← number-test _, c .if4 .left)
 
 pub line-ok-spec : {M : Type 1} → statement M
-line-ok-spec = tie.close (tie.spec (λ c. search needs) returns returns-2 returns-3 returns-4)
+line-ok-spec = tie.close (tie.spec (λ c κs. search needs) (λ c. search needs) returns returns-2 returns-3 returns-4 returns-5)

@@ -1,15 +1,24 @@
 use borrow.Author.Needs.{needs}
+use borrow.Author.Tests.{ne-eqb, eq-eqb}
 use Rattle.lfo.specs.Lfo.{newLfo, madeUnless, lfoNewOf}
 use Rattle.lfo.proofs.Lfo.new.Statement.{statement}
 use Rattle.lfo.proofs.Lfo.new.Tie as tie
 
 returns : tie.Need-returns
 unfolding lfoNewOf madeUnless newLfo
-returns c = simp (c .before .before .new2 .ensures, c .before .before .before .new .ensures, c .if1 .taken, ← c .before .rate-ok .ensures)
+returns c =
+    let asked = c .before in
+    let memo = asked .before .new2 .ensures in
+    let edge = asked .before .before .new .ensures in
+    simp (memo, edge, ← (simp (memo, edge) at (asked .refusal .ensures)), eq-eqb _ _ (c .if1 .taken))
 
 returns-2 : tie.Need-returns-2
 unfolding lfoNewOf madeUnless newLfo
-returns-2 c = simp (c .before .before .new2 .ensures, c .before .before .before .new .ensures, c .if1 .left, ← c .before .rate-ok .ensures)
+returns-2 c =
+    let asked = c .before in
+    let memo = asked .before .new2 .ensures in
+    let edge = asked .before .before .new .ensures in
+    simp (memo, edge, ← (simp (memo, edge) at (asked .refusal .ensures)), ne-eqb _ _ (c .if1 .left))
 
 pub new-spec : {M : Type 1} → statement M
 new-spec = tie.close (tie.spec (λ c κs. search needs) (λ c κs. search needs) (λ c κs. search needs) returns returns-2)

@@ -12,7 +12,8 @@ returns c =
     let vco = lfo .before in
     let said = vco .before in
     simp (
-      said .before .rate-of .ensures,
+      said .before .before .rate-of .ensures,
+      said .before .threshold-of .ensures,
       said .controls-of .ensures,
       vco .vco-at .ensures,
       lfo .lfo-at .ensures,
@@ -24,6 +25,7 @@ pub new-spec : {M : Type 1} → statement M
 new-spec =
     tie.close
     (tie.spec
+    (λ c κs. search needs)
     (λ c κs. search needs)
     (λ c κs. search needs)
     (λ c κs. search needs)
