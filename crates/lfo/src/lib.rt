@@ -246,7 +246,11 @@ impl Lfo {
         let edge = self.reset_edge;
         if common::rate_ok(sample_rate) {
             if common::phase_ok(phase) {
-                if common::threshold_ok(edge.threshold) { 0 } else { 2 }
+                if common::threshold_ok(edge.threshold) {
+                    0
+                } else {
+                    2
+                }
             } else {
                 2
             }

@@ -255,7 +255,11 @@ impl Vco {
         let edge = self.sync_edge;
         if common::rate_ok(sample_rate) {
             if common::phase_ok(phase) {
-                if common::threshold_ok(edge.threshold) { 0 } else { 2 }
+                if common::threshold_ok(edge.threshold) {
+                    0
+                } else {
+                    2
+                }
             } else {
                 2
             }

@@ -281,7 +281,11 @@ impl Wavetable {
         let phase = self.phase;
         if common::rate_ok(sample_rate) {
             if common::phase_ok(phase) {
-                if common::threshold_ok(self.threshold) { 0 } else { 2 }
+                if common::threshold_ok(self.threshold) {
+                    0
+                } else {
+                    2
+                }
             } else {
                 2
             }

@@ -1,4 +1,4 @@
-use mathlib.Core.List.{[], _∷_}
+use mathlib.Core.List.{[], _∷_, _++_}
 use native.Mathlib.Omega.{arith}
 use lib.Ieee.{nan}
 use lib.ListN.{length-set}
@@ -6,6 +6,7 @@ use lib.Seq.{length-sets}
 use borrow.Author.Needs.{needs}
 use Rattle.laws.proofs.Slices.{stored, byte}
 use Rattle.boundary.proofs.Laws.{edge-put}
+use Rattle.boundary.specs.Edge.{edgeFloats}
 use Rattle.exports_karplus_strong.proofs.Slices.{stored-rest}
 use Rattle.exports_karplus_strong.specs.State.{floatsOf, wholesOf}
 use Rattle.exports_karplus_strong.proofs.store_kept.Statement.{statement}
@@ -40,7 +41,8 @@ same-length c =
     let a = start .args in
     let e = edge-put (a .floats .now) _ 1 (a .s .«lp_state» ∷ a .s .«ap_x1» ∷ a .s .«ap_y1» ∷ []) (a .s .«trigger_edge») (omega arith)
     (put .put-edge .ensures) in
-    rw e (length-sets (a .floats .now) 1 (a .s .«lp_state» ∷ a .s .«ap_x1» ∷ a .s .«ap_y1» ∷ a .s .«trigger_edge» .prev ∷ a .s .«freq_memo» .val .0 ∷ []))
+    let after = edgeFloats (a .s .«trigger_edge») ++ (a .s .«freq_memo» .val .0 ∷ []) in
+    rw e (length-sets (a .floats .now) 1 (a .s .«lp_state» ∷ a .s .«ap_x1» ∷ a .s .«ap_y1» ∷ after))
 
 returns : tie.Need-returns
 unfolding floatsOf wholesOf

@@ -1,3 +1,4 @@
+use mathlib.Core.Path.{sym, _∙_}
 use borrow.Author.Tests.{le-leb, lt-leb, lt-ltb, le-ltb}
 use Rattle.laws.proofs.Order.{number-test}
 use Rattle.karplus_strong.specs.KarplusStrong.{lineOk}
@@ -27,17 +28,22 @@ returns-4 c =
       le-leb _ _ (passed .before .before .if1 .left),
       le-leb _ _ (passed .if2 .left),
       lt-ltb _ _ (placed .if3 .left),
-      ← number-test _,
-      numbered .if4 .taken,
+      sym (number-test _) ∙ numbered .if4 .taken,
       c .threshold-ok .ensures,
     )
 
 returns-5 : tie.Need-returns-5
 unfolding lineOk
 returns-5 c =
-    let placed = c .before in
+    let placed = c .before .before in
     let passed = placed .before .before in
-    simp (le-leb _ _ (passed .before .before .if1 .left), le-leb _ _ (passed .if2 .left), lt-ltb _ _ (placed .if3 .left), ← number-test _, c .if4 .left)
+    simp (
+      le-leb _ _ (passed .before .before .if1 .left),
+      le-leb _ _ (passed .if2 .left),
+      lt-ltb _ _ (placed .if3 .left),
+      sym (number-test _) ∙ c .if4 .left,
+      c .if4 .left,
+    )
 
 pub line-ok-spec : {M : Type 1} → statement M
-line-ok-spec = tie.close (tie.spec (λ c κs. search needs) (λ c. search needs) returns returns-2 returns-3 returns-4 returns-5)
+line-ok-spec = tie.close (tie.spec (λ c. search needs) (λ c κs. search needs) returns returns-2 returns-3 returns-4 returns-5)
