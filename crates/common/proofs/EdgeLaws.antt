@@ -1,6 +1,7 @@
 -- An edge for any previous sample is one for a new detector like it, whose previous sample is 0; and no edge comes twice. All of it over any
 -- threshold that isn't below 0, as neither of the two is.
 use mathlib.Core.Bool.{Bool, _&&_, true, false}
+use mathlib.Core.Logic.{_⊎_, inl, inr}
 use mathlib.Core.Path.{_≡_, refl}
 use lib.Dec.{T}
 use lib.Ieee.{Float, lt, le, neg, ofBits, eq}
@@ -10,7 +11,7 @@ use Rattle.laws.proofs.Order.{eq-ge, eq-le, float-le-trans, le-false, le-lt-tra
 use Rattle.laws.proofs.Tests.{of-true, or-case}
 use Rattle.common.specs.Consts.{gateThreshold, lowGateThreshold, five}
 use Rattle.common.specs.Edge.{resetOf, risesAbove, risingAboveOf, risingOf, crossedAboveOf, crossedOf}
-use Rattle.common.specs.Promises.{Thresholds, Reachable, Threshold-in, Kept, Threshold-kept}
+use Rattle.common.specs.Promises.{Thresholds, SameValue, Threshold-only, Reachable, Threshold-in, Kept, Threshold-kept}
 use Rattle.common.specs.Promises.{Rises-new, Rises-once, Rising-like, Crossed-is, Rising-once, Rising-comes, Rising-not, Rising-nan}
 use Rattle.common.specs.Tests.{thresholdOk}
 use Rattle.common.specs.declared.EdgeDetector.{EdgeDetector}
@@ -20,21 +21,28 @@ pub thresholds : Thresholds
 unfolding thresholdOk eq neg ofBits
 thresholds = record { first = refl; second = refl; of-nan = refl; of-zero = refl; of-minus = refl }
 
--- what equals a number from 0 to below 5 is one itself
-between : (t c : Float) → T (le zer c) → lt c five ≡ true → T (eq t c) → Reachable t
+pub threshold-only : Threshold-only
+unfolding thresholdOk
+threshold-only t h =
+    or-case (eq t gateThreshold) (eq t lowGateThreshold)
+    (λ e. inl (eq-le t gateThreshold e, eq-ge t gateThreshold e))
+    (λ e. inr (eq-le t lowGateThreshold e, eq-ge t lowGateThreshold e))
+    (of-true (thresholdOk t) h)
+
+-- what has the value of a number from 0 to below 5 is one itself
+between : (t c : Float) → T (le zer c) → lt c five ≡ true → SameValue t c → Reachable t
 between t c l h e =
     record {
-      above = float-le-trans zer c t l (eq-ge t c e);
-      below = is-true (lt t five) (le-lt-trans t c five (eq-le t c e) (of-true (lt c five) h));
+      above = float-le-trans zer c t l (e .1);
+      below = is-true (lt t five) (le-lt-trans t c five (e .0) (of-true (lt c five) h));
     }
 
 pub threshold-in : Threshold-in
-unfolding thresholdOk
-threshold-in t h =
-    or-case (eq t gateThreshold) (eq t lowGateThreshold)
-    (between t gateThreshold (unfold le lt eq ofBits in tt) (unfold lt ofBits in refl))
-    (between t lowGateThreshold (unfold le lt eq ofBits in tt) (unfold lt ofBits in refl))
-    (of-true (thresholdOk t) h)
+threshold-in t h = go (threshold-only t h)
+  where
+    go : SameValue t gateThreshold ⊎ SameValue t lowGateThreshold → Reachable t
+    go (inl e) = between t gateThreshold (unfold le lt eq ofBits in tt) (unfold lt ofBits in refl) e
+    go (inr e) = between t lowGateThreshold (unfold le lt eq ofBits in tt) (unfold lt ofBits in refl) e
 
 pub threshold-kept : Threshold-kept
 unfolding risingOf risingAboveOf crossedOf crossedAboveOf resetOf

@@ -39,7 +39,7 @@ abbrev pub Recall3-is : Type 0
 Recall3-is =
     (f : Float → Float → Float → Hertz) (m : Memo3) → Coherent3 f m → (x y z : Float) → F64 x → F64 y → F64 z → recall3 f m x y z ≡ filled3 x y z (f x y z)
 
--- of the thresholds that refusal 2 lets pass there are the two, and neither NaN nor 0.0 nor -1.0
+-- refusal 2 lets both thresholds pass, and neither NaN nor 0.0 nor -1.0
 pub record Thresholds : Type 0 where
   pub first : thresholdOk gateThreshold ≡ true
   pub second : thresholdOk lowGateThreshold ≡ true
@@ -47,7 +47,14 @@ pub record Thresholds : Type 0 where
   pub of-zero : thresholdOk zer ≡ false
   pub of-minus : thresholdOk (neg one) ≡ false
 
--- and each of them is a number that isn't below 0, which is all that the laws below ask, and is below 5 V, so that a gate can rise above it
+-- nor any other: what passes has the value of one of them
+abbrev pub SameValue : Float → Float → Type 0
+SameValue a b = T (le a b) × T (le b a)
+
+abbrev pub Threshold-only : Type 0
+Threshold-only = (threshold : Float) → thresholdOk threshold ≡ true → SameValue threshold gateThreshold ⊎ SameValue threshold lowGateThreshold
+
+-- so it isn't below 0, which is all that the laws below ask, and it is below 5 V, so that a gate can rise above it
 pub record Reachable (threshold : Float) : Type 0 where
   pub above : T (le zer threshold)
   pub below : lt threshold five ≡ true
