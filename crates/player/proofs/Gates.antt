@@ -18,8 +18,8 @@ gate-held s = record { vco = refl; lfo = refl }
 
 pub gate-absent : Gate-absent
 unfolding playOf heardOf thresholdOf
-gate-absent hz frames i = refl
+gate-absent s = refl
 
 pub gate-idle : Gate-idle
 unfolding playOf heardOf heardFrom
-gate-idle = record { supersaw = λ g h hz frames i. refl; formant = λ g h hz frames i. refl }
+gate-idle = record { supersaw = λ s g h i e. simp e; formant = λ s g h i e. simp e }

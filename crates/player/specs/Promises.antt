@@ -16,7 +16,7 @@ use Rattle.common.specs.Edge.{newEdge}
 use Rattle.common.specs.Tests.{rateOk}
 use Rattle.line.specs.Bytes.{ascii}
 use Rattle.score.specs.Score.{scoreOf}
-use Rattle.score.specs.Promises.{Valid}
+use Rattle.score.specs.Promises.{Valid, gated}
 use Rattle.score.specs.Keys.{ownerOf}
 use Rattle.score.specs.declared.Control.{Control}
 use Rattle.score.specs.declared.Control.the-variants.{Microvolts, Nan}
@@ -131,18 +131,13 @@ abbrev pub Gate-held : Type 0
 Gate-held = (s : Score) → Gated s
 
 -- so a score without the line plays as one of issue 1
-abbrev pub scoreWith : Gate → ℕ → ℕ → Inputs → Score
-scoreWith g hz frames i = record { head = record { hz = hz; gate = g; frames = frames }; inputs = i }
-
 abbrev pub Gate-absent : Type 0
-Gate-absent = (hz frames : ℕ) (i : Inputs) → playOf (scoreWith Absent hz frames i) ≡ playOf (scoreWith (Issue 1) hz frames i)
+Gate-absent = (s : Score) → playOf (gated Absent s) ≡ playOf (gated (Issue 1) s)
 
--- and where no oscillator has a gate, the line does nothing
+-- and where the oscillator has no gate, the line does nothing
 pub record Gate-idle : Type 0 where
-  pub supersaw : (g h : Gate) (hz frames : ℕ) (i : SupersawInputs)
-      → playOf (scoreWith g hz frames (inputs.Supersaw i)) ≡ playOf (scoreWith h hz frames (inputs.Supersaw i))
-  pub formant : (g h : Gate) (hz frames : ℕ) (i : FormantInputs)
-      → playOf (scoreWith g hz frames (inputs.Formant i)) ≡ playOf (scoreWith h hz frames (inputs.Formant i))
+  pub supersaw : (s : Score) (g h : Gate) (i : SupersawInputs) → s .inputs ≡ inputs.Supersaw i → playOf (gated g s) ≡ playOf (gated h s)
+  pub formant : (s : Score) (g h : Gate) (i : FormantInputs) → s .inputs ≡ inputs.Formant i → playOf (gated g s) ≡ playOf (gated h s)
 
 -- ---- each contract settles its answer and the lent buffers
 pub record Settled : Type 0 where
