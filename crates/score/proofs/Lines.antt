@@ -3,26 +3,29 @@
 -- Assumes nothing.
 use Prim.Native.Nat.{ℕ, _≤_}
 use Prim.Native.String.{String}
-use mathlib.Core.Path.{_≡_, ap, sym, subst, _∙_}
+use mathlib.Core.Path.{_≡_, refl, ap, sym, subst, _∙_}
 use mathlib.Core.List.{List, [], _∷_, _++_, append-assoc}
-use mathlib.Core.Bool.{true, false, cond}
+use mathlib.Core.Bool.{Bool, true, false, cond}
 use native.Mathlib.Omega.{arith}
 use lib.ListN.{length}
 use lib.Dec.{eqb, lit≤}
 use borrow.Author.Tests.{eqb-true}
 use Rattle.text.specs.Lines.{wordLine}
-use Rattle.line.specs.Bytes.{ascii, hasOf}
-use Rattle.line.specs.Line.{valueOf, isLine, afterLine}
+use Rattle.line.specs.Bytes.{ascii, sameOf, hasOf, untilOf}
+use Rattle.line.specs.Line.{lineOf, keyOf, valueOf, isLine, afterLine}
+use Rattle.line.specs.declared.Number.the-variants.{Whole}
 use Rattle.line.proofs.Laws.{empty, line-split}
-use Rattle.line.proofs.Written.{Key, LineRead, line-read}
-use Rattle.score.specs.Keys.{oscKey, nameOf, WholeKey}
+use Rattle.line.proofs.Written.{Key, LineRead, line-read, number-no-feed}
+use Rattle.score.specs.Keys.{oscKey, nameOf, WholeKey, hzKey, gateKey, framesKey}
 use Rattle.score.specs.Lines.{oscLine, wholeLine, controlLine}
-use Rattle.score.specs.Score.{osc, whole, control, endOf}
-use Rattle.score.specs.Text.{controlText, wholeText, lineText, headText}
-use Rattle.score.specs.Promises.{ValidInput}
+use Rattle.score.specs.Score.{osc, whole, gate, control, endOf}
+use Rattle.score.specs.Text.{controlText, wholeText, lineText, keyText, gateText, headText}
+use Rattle.score.specs.Promises.{ValidInput, ValidGate}
 use Rattle.score.proofs.LineKinds.{Kind, ByLine, Seen, value, none, Lawful, tested}
 use Rattle.score.proofs.LineKinds.{osc-laws, whole-laws, control-laws}
 use Rattle.score.specs.declared.Control.{Control}
+use Rattle.score.specs.declared.Gate.{Gate}
+use Rattle.score.specs.declared.Gate.the-variants.{Absent, Issue}
 use Rattle.score.specs.declared.Head.{Head}
 use Rattle.score.specs.declared.Osc.{Osc}
 use Rattle.score.specs.declared.Score.{Score}
@@ -56,13 +59,13 @@ module _ (key : String) (v rest : List ℕ) where
   line-again : Key (ascii key) → hasOf 10 v ≡ false → LineRead (ascii key) v rest (lineText key v ++ rest)
   line-again k n = rw seam (line-read (ascii key) v rest k n)
 
--- the head's two lines with what stands after them
+-- the head's lines with what stands after them
 pub head-lines : (h : Head) (rest : List ℕ)
-    → headText h ++ rest ≡ lineText "hz" (wholeText (h .hz)) ++ (lineText "frames" (wholeText (h .frames)) ++ rest)
+    → headText h ++ rest ≡ keyText hzKey (h .hz) ++ (gateText (h .gate) ++ (keyText framesKey (h .frames) ++ rest))
 head-lines h rest =
-    let hz = lineText "hz" (wholeText (h .hz)) in
-    let frames = lineText "frames" (wholeText (h .frames)) in
-    append-assoc hz (frames ++ []) rest ∙ ap (λ (l : List ℕ). hz ++ l) (append-assoc frames [] rest)
+    let hz = keyText hzKey (h .hz) in
+    let frames = keyText framesKey (h .frames) in
+    append-assoc hz (gateText (h .gate) ++ frames) rest ∙ ap (λ (l : List ℕ). hz ++ l) (append-assoc (gateText (h .gate)) frames rest)
 
 -- ---- the law
 module _ {K : Kind} (laws : Lawful K) (key : String) (k : K .Value → List ℕ → Reading) where
@@ -101,6 +104,12 @@ module _ (P : Score → Type 0) (t : List ℕ) where
   unfolding whole wholeLine
   whole-says key least most top k then = line-says (whole-laws least most top) key k P t then
 
+  pub gate-says : (k : Gate → List ℕ → Reading) → ((g : Gate) (rest : List ℕ) → gateText g ++ rest ≡ t → ValidGate g → Says P (k g rest))
+      → Says P (gate t k)
+  unfolding gate
+  gate-says k then =
+      tested (Says P) (isLine (ascii "gate") t) (λ _. whole-says "gate" _ _ (lit≤ tt) _ (λ n e v. then (Issue n) _ e v)) (λ _. then Absent t refl tt)
+
   pub control-says : (key : String) (k : Control → List ℕ → Reading)
       → ((c : Control) → lineText key (controlText c) ++ afterLine t ≡ t → ValidInput c → Says P (k c (afterLine t))) → Says P (control (ascii key) t k)
   unfolding control controlLine
@@ -125,3 +134,21 @@ module _ (rest : List ℕ) where
       → control (ascii key) (lineText key (controlText c) ++ rest) k ≡ k c rest
   unfolding control controlLine
   control-written key c k s v = line-written control-laws key k rest c s v
+
+-- ---- the gate's line: where frames comes next, it isn't there
+neither : (b : Bool) → cond b false false ≡ false
+neither true = refl
+neither false = refl
+
+no-gate : (v : List ℕ) → isLine (ascii "gate") (ascii "frames" ++ (61 ∷ v)) ≡ false
+unfolding isLine keyOf lineOf sameOf hasOf untilOf
+no-gate v = neither (hasOf 10 v)
+
+pub gate-written : (rest : List ℕ) (g : Gate) (frames : ℕ) (k : Gate → List ℕ → Reading) → ValidGate g
+    → gate (gateText g ++ (keyText framesKey frames ++ rest)) k ≡ k g (keyText framesKey frames ++ rest)
+unfolding gate hasOf
+gate-written rest Absent frames k v = simp (seam "frames" (wholeText frames) rest, no-gate (wholeText frames ++ (10 ∷ rest)))
+gate-written rest (Issue n) frames k v =
+    let after = keyText framesKey frames ++ rest in
+    let line = line-again "gate" (wholeText n) after (refl, refl) (number-no-feed (Whole false n)) in
+    simp (line .asked) (whole-written after gateKey n (λ (m : ℕ). k (Issue m)) (refl, refl) (lit≤ tt) v)

@@ -12,15 +12,17 @@ use Rattle.text.proofs.DecimalLaws.{decimal-short}
 use Rattle.line.specs.Bytes.{ascii, sameOf, hasOf, untilOf, pastOf}
 use Rattle.line.specs.Line.{lineOf, afterLine, keyOf, valueOf, isLine}
 use Rattle.line.specs.Number.{digitsFrom, digitsOf, negativeOf, signedOf, numberOf, numberText}
-use Rattle.score.specs.Keys.{oscKey, nameOf, inputKeys, ownerOf, controlsOf}
+use Rattle.score.specs.Keys.{oscKey, nameOf, framesKey, inputKeys, ownerOf, controlsOf}
 use Rattle.score.specs.Lines.{oscOf, withinOf, controlOf, oscLine, wholeLine, controlLine}
-use Rattle.score.specs.Score.{osc, whole, control, endOf, inputsOf, headOf, linesOf, scoreOf}
-use Rattle.score.specs.Text.{controlText, wholeText, lineText, controlsText, headText, inputsText, textOf}
-use Rattle.score.specs.Promises.{ValidInput, ValidHead, ValidInputs, Valid, longest, Longest-text}
-use Rattle.score.proofs.Lines.{seam}
+use Rattle.score.specs.Score.{osc, whole, gate, control, endOf, inputsOf, headOf, linesOf, scoreOf}
+use Rattle.score.specs.Text.{controlText, wholeText, lineText, keyText, gateText, controlsText, headText, inputsText, textOf}
+use Rattle.score.specs.Promises.{ValidInput, ValidGate, ValidHead, ValidInputs, Valid, longest, Longest-text}
+use Rattle.score.proofs.Lines.{seam, head-lines}
 use Rattle.score.proofs.Text.{score-text, read-valid}
 use Rattle.score.specs.declared.Control.{Control}
 use Rattle.score.specs.declared.Control.the-variants as C
+use Rattle.score.specs.declared.Gate.{Gate}
+use Rattle.score.specs.declared.Gate.the-variants.{Absent, Issue}
 use Rattle.score.specs.declared.Head.{Head}
 use Rattle.score.specs.declared.Osc.{Osc}
 use Rattle.score.specs.declared.Osc.the-variants as O
@@ -46,14 +48,22 @@ unfolding numberText
 whole-short n h = decimal-short 5 n (omega arith)
 
 -- ---- lines
-head-short : (h : Head) → ValidHead h → length (headText h) ≤ 24
-head-short h v =
+gate-short : (g : Gate) (rest : List ℕ) → ValidGate g → length (gateText g ++ rest) ≤ 7 + length rest
+unfolding numberText
+gate-short Absent rest v = omega arith
+gate-short (Issue n) rest (l, g) = omega (arith, line-length "gate" (wholeText n) rest, decimal-short 0 n (omega arith))
+
+head-short : (h : Head) (rest : List ℕ) → ValidHead h → length (headText h ++ rest) ≤ 31 + length rest
+head-short h rest v =
     let hz-most = v .hz-most in
+    let from-frames = keyText framesKey (h .frames) ++ rest in
     omega (
       arith,
-      line-length "hz" (wholeText (h .hz)) (lineText "frames" (wholeText (h .frames)) ++ []),
+      ap length (head-lines h rest),
+      line-length "hz" (wholeText (h .hz)) (gateText (h .gate) ++ from-frames),
       whole-short (h .hz) (omega arith),
-      line-length "frames" (wholeText (h .frames)) [],
+      gate-short (h .gate) from-frames (v .gate),
+      line-length "frames" (wholeText (h .frames)) rest,
       whole-short (h .frames) (v .frames-most),
     )
 
@@ -84,14 +94,14 @@ all-valid (Lfo i) (a, (b, (c, _))) = (a, b, c)
 all-valid (Supersaw i) (a, (b, (c, _))) = (a, b, c)
 all-valid (Formant i) (a, (b, (c, (d, _)))) = (a, b, c, d)
 
-owned : (o : Osc) → 5 + length (nameOf o) + (24 + most (inputKeys o)) ≤ 110
+owned : (o : Osc) → 5 + length (nameOf o) + (31 + most (inputKeys o)) ≤ 117
 owned O.Vco = lit≤ tt
 owned O.Lfo = lit≤ tt
 owned O.Supersaw = lit≤ tt
 owned O.Formant = lit≤ tt
 
 -- ---- the whole text
-pub text-short : (s : Score) → Valid s → length (textOf s) ≤ 110
+pub text-short : (s : Score) → Valid s → length (textOf s) ≤ 117
 unfolding textOf
 text-short s v =
     let o = ownerOf (s .inputs) in
@@ -99,19 +109,18 @@ text-short s v =
     omega (
       arith,
       line-length oscKey (nameOf o) (headText (s .head) ++ inputs),
-      length-append (headText (s .head)) inputs,
-      head-short (s .head) (v .head),
+      head-short (s .head) inputs (v .head),
       controls-short (inputKeys o) (controlsOf (s .inputs)) (valid-all (s .inputs) (v .inputs)),
       owned o,
     )
 
--- one of 110 bytes, as it is read
+-- one of 117 bytes, as it is read
 abbrev its-text : List ℕ
-its-text = ascii "osc=formant\nhz=192000\nframes=480000\nv_oct=-10000000\nvowel=-10000000\nformant_shift=-10000000\nvibrato=-10000000\n"
+its-text = ascii "osc=formant\nhz=192000\ngate=2\nframes=480000\nv_oct=-10000000\nvowel=-10000000\nformant_shift=-10000000\nvibrato=-10000000\n"
 
 its-reading : scoreOf its-text ≡ Values longest
 unfolding sameOf hasOf untilOf pastOf lineOf afterLine keyOf valueOf isLine digitsFrom digitsOf negativeOf signedOf numberOf oscOf withinOf controlOf
-    oscLine wholeLine controlLine osc whole control endOf inputsOf headOf linesOf scoreOf
+    oscLine wholeLine controlLine osc whole gate control endOf inputsOf headOf linesOf scoreOf
 its-reading = refl
 
 pub longest-text : Longest-text

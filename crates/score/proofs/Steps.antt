@@ -5,7 +5,7 @@ use mathlib.Core.List.{List}
 use native.Mathlib.Omega.{arith}
 use lib.ListN.{drop}
 use Rattle.line.specs.Bytes.{ascii}
-use Rattle.line.specs.Line.{afterLine}
+use Rattle.line.specs.Line.{isLine, afterLine}
 use Rattle.line.proofs.Laws.{after-line}
 use Rattle.score.specs.Lines.{oscLine, wholeLine, controlLine}
 use Rattle.score.specs.Places.{lineOf, lineAt, oscIn, wholeIn, controlIn}
@@ -22,6 +22,10 @@ pub text-left : (at n : ℕ) → at < n → n - at ≡ 0 → ⊥
 text-left at n h e = omega arith
 
 module _ (s : List ℕ) (at : ℕ) (key : List ℕ) (line : Line) (e : line ≡ lineAt s at key) where
+  pub asked-at : isLine key (drop at s) ≡ line .asked
+  unfolding lineAt lineOf
+  asked-at = sym (ap (λ (l : Line). l .asked) e)
+
   pub whole-at : (least most : ℕ) (x : WholeLine) → x ≡ wholeIn least most line → wholeLine key least most (drop at s) ≡ x
   unfolding wholeLine wholeIn lineAt lineOf
   whole-at least most x f = sym (f ∙ ap (wholeIn least most) e)

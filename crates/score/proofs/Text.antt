@@ -5,11 +5,11 @@ use mathlib.Core.Bool.{Bool, true, false, cond}
 use Prim.Native.Nat.{ℕ}
 use lib.ListN.{length}
 use lib.Dec.{ltb, lit≤}
-use Rattle.score.specs.Keys.{oscKey, nameOf, ownerOf}
+use Rattle.score.specs.Keys.{oscKey, nameOf, hzKey, ownerOf}
 use Rattle.score.specs.Score.{headOf, inputsOf, linesOf, scoreOf}
-use Rattle.score.specs.Text.{wholeText, lineText, headText, inputsText, textOf}
+use Rattle.score.specs.Text.{lineText, keyText, gateText, headText, inputsText, textOf}
 use Rattle.score.specs.Promises.{ValidHead, ValidInputs, Valid, Score-text, Read-valid}
-use Rattle.score.proofs.Lines.{head-lines, Says, not-refused, said-values, osc-says, whole-says, control-says, end-says}
+use Rattle.score.proofs.Lines.{head-lines, Says, not-refused, said-values, osc-says, whole-says, gate-says, control-says, end-says}
 use Rattle.score.specs.declared.Head.{Head}
 use Rattle.score.specs.declared.Osc.{Osc}
 use Rattle.score.specs.declared.Osc.the-variants as O
@@ -24,9 +24,10 @@ head-says : (P : Score → Type 0) (t : List ℕ) (k : Head → List ℕ → Rea
     → ((h : Head) (rest : List ℕ) → headText h ++ rest ≡ t → ValidHead h → Says P (k h rest)) → Says P (headOf t k)
 unfolding headOf
 head-says P t k then =
-    whole-says P t "hz" _ _ (lit≤ tt) _ λ hz e₁ v₁. whole-says P _ "frames" _ _ (lit≤ tt) _ λ frames e₂ v₂.
-    then _ _ (head-lines _ _ ∙ ap (λ (l : List ℕ). lineText "hz" (wholeText hz) ++ l) e₂ ∙ e₁)
-    (record { hz-least = v₁ .0; hz-most = v₁ .1; frames-least = v₂ .0; frames-most = v₂ .1 })
+    whole-says P t "hz" _ _ (lit≤ tt) _ λ hz e₁ v₁. gate-says P _ _ λ g rest e₂ v₂. whole-says P rest "frames" _ _ (lit≤ tt) _ λ frames e₃ v₃.
+    let h : Head = record { hz = hz; gate = g; frames = frames } in
+    then h _ (head-lines h _ ∙ ap (λ (l : List ℕ). keyText hzKey hz ++ l) (ap (λ (l : List ℕ). gateText g ++ l) e₃ ∙ e₂) ∙ e₁)
+    (record { hz-least = v₁ .0; hz-most = v₁ .1; gate = v₂; frames-least = v₃ .0; frames-most = v₃ .1 })
 
 -- ---- the input lines, of which the last is the last of the text
 record Tail (o : Osc) (t : List ℕ) (i : Inputs) : Type 0 where

@@ -1,8 +1,8 @@
 -- The text of a valid score is read, line by line, as it was written. Assumes nothing.
 use Prim.Native.Nat.{ℕ, _≤_}
 use Prim.Native.String.{String}
-use mathlib.Core.Path.{_≡_, refl, ap, _∙_}
-use mathlib.Core.List.{List, [], _∷_, _++_}
+use mathlib.Core.Path.{_≡_, refl, ap, sym, _∙_}
+use mathlib.Core.List.{List, [], _∷_, _++_, append-assoc}
 use mathlib.Core.Bool.{cond}
 use native.Mathlib.Omega.{arith}
 use lib.ListN.{length}
@@ -10,13 +10,14 @@ use lib.Dec.{ltb, lit≤}
 use borrow.Author.Tests.{le-ltb}
 use Rattle.line.specs.Bytes.{ascii, hasOf}
 use Rattle.line.proofs.Written.{Key}
-use Rattle.score.specs.Keys.{hzKey, framesKey, inputKeys, ownerOf, controlsOf, inputsFrom}
+use Rattle.score.specs.Keys.{oscKey, nameOf, hzKey, framesKey, inputKeys, ownerOf, controlsOf, inputsFrom}
 use Rattle.score.specs.Score.{endOf, headOf, controls, inputsOf, linesOf, scoreOf}
-use Rattle.score.specs.Text.{controlsText, headText, inputsText, textOf}
-use Rattle.score.specs.Promises.{ValidInput, ValidHead, ValidInputs, Valid, Valid-read}
-use Rattle.score.proofs.Lines.{head-lines, osc-written, whole-written, control-written}
+use Rattle.score.specs.Text.{lineText, keyText, gateText, controlsText, headText, inputsText, textOf}
+use Rattle.score.specs.Promises.{ValidInput, ValidGate, ValidHead, ValidInputs, Valid, Valid-read, gated, toHz, fromFrames, Gate-line}
+use Rattle.score.proofs.Lines.{head-lines, osc-written, whole-written, gate-written, control-written}
 use Rattle.score.proofs.Longest.{text-short}
 use Rattle.score.specs.declared.Control.{Control}
+use Rattle.score.specs.declared.Gate.{Gate}
 use Rattle.score.specs.declared.Head.{Head}
 use Rattle.score.specs.declared.Inputs.{Inputs}
 use Rattle.score.specs.declared.Inputs.the-variants.{Vco, Lfo, Supersaw, Formant}
@@ -30,6 +31,7 @@ unfolding headOf hasOf
 head-written h rest k v =
     ap (λ (t : List ℕ). headOf t k) (head-lines h rest)
     ∙ whole-written _ hzKey (h .hz) _ (refl, refl) (lit≤ tt) (v .hz-least, v .hz-most)
+    ∙ gate-written _ (h .gate) (h .frames) _ (v .gate)
     ∙ whole-written _ framesKey (h .frames) _ (refl, refl) (lit≤ tt) (v .frames-least, v .frames-most)
 
 -- ---- the inputs: each key with its value
@@ -72,9 +74,28 @@ unfolding linesOf textOf hasOf
 lines-written s v =
     osc-written _ (ownerOf (s .inputs)) _ (refl, refl) ∙ head-written (s .head) _ _ (v .head) ∙ inputs-written (s .head) (s .inputs) (v .inputs)
 
-short-enough : (most : ℕ) (t : List ℕ) → 110 ≤ most → length t ≤ 110 → cond (ltb most (length t)) (Refused 20) (linesOf t) ≡ linesOf t
+short-enough : (most : ℕ) (t : List ℕ) → 117 ≤ most → length t ≤ 117 → cond (ltb most (length t)) (Refused 20) (linesOf t) ≡ linesOf t
 short-enough most t l h = simp (le-ltb most (length t) (omega arith))
 
 pub valid-read : Valid-read
 unfolding scoreOf
 valid-read s v = short-enough _ (textOf s) (lit≤ tt) (text-short s v) ∙ lines-written s v
+
+-- ---- the gate's line among the others
+gated-text : (g : Gate) (s : Score) → toHz s ++ (gateText g ++ fromFrames s) ≡ textOf (gated g s)
+unfolding textOf
+gated-text g s =
+    let osc = lineText oscKey (nameOf (ownerOf (s .inputs))) in
+    append-assoc osc (keyText hzKey (s .head .hz)) (gateText g ++ fromFrames s)
+    ∙ ap (λ (l : List ℕ). osc ++ l) (sym (head-lines (gated g s .head) (inputsText (s .inputs))))
+
+gated-valid : (g : Gate) (s : Score) → ValidGate g → Valid s → Valid (gated g s)
+gated-valid g s w v =
+    let h = v .head in
+    record {
+      head = record { hz-least = h .hz-least; hz-most = h .hz-most; gate = w; frames-least = h .frames-least; frames-most = h .frames-most };
+      inputs = v .inputs;
+    }
+
+pub gate-line : Gate-line
+gate-line s g v w = ap scoreOf (gated-text g s) ∙ valid-read (gated g s) (gated-valid g s w v)

@@ -1,4 +1,4 @@
--- The lines of a score in their order, for the reader and for the text: the keys, and the ranges of whole numbers.
+-- The keys of a score's lines in their order, and the ranges of whole numbers, for the reader and for the text.
 -- Assumes nothing.
 use Prim.Native.Nat.{ℕ}
 use Prim.Native.String.{String}
@@ -11,7 +11,6 @@ use Rattle.score.specs.declared.Osc.{Osc}
 use Rattle.score.specs.declared.Osc.the-variants as O
 use Rattle.score.specs.declared.Inputs.{Inputs}
 use Rattle.score.specs.declared.Inputs.the-variants.{Vco, Lfo, Supersaw, Formant}
-use Rattle.score.specs.declared.Head.{Head}
 
 -- ---- the first line: the oscillator's name
 abbrev pub oscKey : String
@@ -23,7 +22,7 @@ nameOf O.Lfo = ascii "lfo"
 nameOf O.Supersaw = ascii "supersaw"
 nameOf O.Formant = ascii "formant"
 
--- ---- the head: whole numbers, each from least to most
+-- ---- the head: whole numbers, each from least to most. The gate's line may be left out
 pub record WholeKey : Type 0 where
   pub key : String
   pub least : ℕ
@@ -32,18 +31,11 @@ pub record WholeKey : Type 0 where
 abbrev pub hzKey : WholeKey
 hzKey = record { key = "hz"; least = 1000; most = 192000 }
 
+abbrev pub gateKey : WholeKey
+gateKey = record { key = "gate"; least = 1; most = 2 }
+
 abbrev pub framesKey : WholeKey
 framesKey = record { key = "frames"; least = 1; most = 480000 }
-
-abbrev pub headKeys : List WholeKey
-headKeys = hzKey ∷ framesKey ∷ []
-
--- the head's values in that order, and the head of such values, of which there is one for each key
-abbrev pub headWholes : Head → List ℕ
-headWholes h = h .hz ∷ h .frames ∷ []
-
-abbrev pub headFrom : List ℕ → Head
-headFrom ns = record { hz = getD ns 0 0; frames = getD ns 1 0 }
 
 -- ---- the inputs: the Rust's port order and names
 abbrev pub inputKeys : Osc → List String

@@ -7,8 +7,8 @@ use mathlib.Core.Bool.{cond}
 use lib.ListN.{length}
 use lib.Dec.{ltb, eqb}
 use Rattle.line.specs.Bytes.{ascii}
-use Rattle.line.specs.Line.{afterLine}
-use Rattle.score.specs.Keys.{WholeKey, headKeys, headFrom, inputKeys, inputsFrom}
+use Rattle.line.specs.Line.{isLine, afterLine}
+use Rattle.score.specs.Keys.{WholeKey, hzKey, gateKey, framesKey, inputKeys, inputsFrom}
 use Rattle.score.specs.Lines.{oscLine, wholeLine, controlLine}
 use Rattle.score.specs.declared.Control.{Control}
 use Rattle.score.specs.declared.Osc.{Osc}
@@ -18,6 +18,8 @@ use Rattle.score.specs.declared.WholeLine.{WholeLine}
 use Rattle.score.specs.declared.WholeLine.the-variants as WL
 use Rattle.score.specs.declared.ControlLine.{ControlLine}
 use Rattle.score.specs.declared.ControlLine.the-variants as CL
+use Rattle.score.specs.declared.Gate.{Gate}
+use Rattle.score.specs.declared.Gate.the-variants.{Absent, Issue}
 use Rattle.score.specs.declared.Head.{Head}
 use Rattle.score.specs.declared.Score.{Score}
 use Rattle.score.specs.declared.Reading.{Reading}
@@ -50,22 +52,27 @@ control key text k = onControl (controlLine key text) (λ (c : Control). k c (af
 unfoldable pub endOf : Score → List ℕ → Reading
 endOf score text = cond (eqb (length text) 0) (Values score) (Refused 21)
 
--- a line for each key, and then what is made of the values
-abbrev pub wholes : List WholeKey → List ℕ → (List ℕ → List ℕ → Reading) → Reading
-wholes [] t k = k [] t
-wholes (w ∷ ws) t k = whole (ascii (w .key)) (w .least) (w .most) t λ n t₁. wholes ws t₁ λ ns. k (n ∷ ns)
+-- ---- the head
+-- a line of a whole number, by its key and range
+abbrev pub wholeOf : WholeKey → List ℕ → (ℕ → List ℕ → Reading) → Reading
+wholeOf w t k = whole (ascii (w .key)) (w .least) (w .most) t k
 
+-- the gate's line is read where it comes next; where it doesn't, the gate is absent and the text stays
+unfoldable pub gate : List ℕ → (Gate → List ℕ → Reading) → Reading
+gate t k = cond (isLine (ascii (gateKey .key)) t) (wholeOf gateKey t λ n. k (Issue n)) (k Absent t)
+
+unfoldable pub headOf : List ℕ → (Head → List ℕ → Reading) → Reading
+headOf t k = wholeOf hzKey t λ hz t₁. gate t₁ λ g t₂. wholeOf framesKey t₂ λ frames. k (record { hz = hz; gate = g; frames = frames })
+
+-- ---- the inputs: a line for each key, and then what is made of the values
 abbrev pub controls : List String → List ℕ → (List Control → List ℕ → Reading) → Reading
 controls [] t k = k [] t
 controls (key ∷ keys) t k = control (ascii key) t λ c t₁. controls keys t₁ λ cs. k (c ∷ cs)
 
-unfoldable pub headOf : List ℕ → (Head → List ℕ → Reading) → Reading
-headOf t k = wholes headKeys t λ ns. k (headFrom ns)
-
 unfoldable pub inputsOf : Osc → Head → List ℕ → Reading
 inputsOf o head t = controls (inputKeys o) t λ cs. endOf (record { head = head; inputs = inputsFrom o cs })
 
--- osc, the head, and then the oscillator's inputs
+-- ---- osc, the head, and then the oscillator's inputs
 unfoldable pub linesOf : List ℕ → Reading
 linesOf t = osc t λ o t₁. headOf t₁ λ head t₂. inputsOf o head t₂
 

@@ -1,9 +1,9 @@
-// The score: osc, hz, frames and then the oscillator's inputs, a line each.
+// The score: osc, hz, the gate where it is said, frames and then the oscillator's inputs, a line each.
 ghost use mathlib.Core.Path.{_≡_};
 ghost use Rattle.score.specs.Control.{voltsOf, numberIn};
 ghost use Rattle.score.specs.Keys.{ownerOf};
 ghost use Rattle.score.specs.Lines.{oscOf, withinOf, controlOf};
-ghost use Rattle.score.specs.Score.{whole, control, endOf, headOf, inputsOf, scoreOf};
+ghost use Rattle.score.specs.Score.{whole, gate, control, endOf, headOf, inputsOf, scoreOf};
 ghost use Rattle.score.specs.Places.{lineOf, lineAt, oscIn, wholeIn, controlIn, from, Takes};
 ghost use Rattle.score.specs.declared.Osc.the-variants as O;
 ghost use Rattle.score.specs.declared.Place.the-variants.{At};
@@ -60,15 +60,26 @@ pub enum Inputs {
     Formant(FormantInputs),
 }
 
+// The issue of the bank that a preset belongs to, which says where its gates count as high; absent where no line says it.
+pub enum Gate {
+    Absent,
+    Issue(u32),
+}
+
 // The lines between the oscillator and its inputs, and the ranges of their numbers.
 pub struct Head {
     pub hz: u32,
+    pub gate: Gate,
     pub frames: u32,
 }
 
 pub const HZ_LEAST: u32 = 1000;
 
 pub const HZ_MOST: u32 = 192000;
+
+pub const GATE_LEAST: u32 = 1;
+
+pub const GATE_MOST: u32 = 2;
 
 pub const FRAMES_LEAST: u32 = 1;
 
@@ -280,6 +291,11 @@ struct TakenWhole {
     place: Place,
 }
 
+struct TakenGate {
+    gate: Gate,
+    place: Place,
+}
+
 struct TakenControl {
     control: Control,
     place: Place,
@@ -304,6 +320,38 @@ fn take_whole(text: &[u8], key: &[u8], least: u32, most: u32, place: Place) -> T
         }
         Place::Refused(n) => TakenWhole {
             whole: 0,
+            place: Place::Refused(n),
+        },
+    }
+}
+
+// The gate's line may be left out: where another one stands, it is absent and the place stays.
+fn take_gate(text: &[u8], place: Place) -> TakenGate
+    ensures { λ r. ⌜ Takes (now (text .entry)) place gate (r .gate) (r .place) ⌝ }
+{
+    match place {
+        Place::At(at) => {
+            let line = line_at(text, at, b"gate");
+            if line.asked {
+                match whole_in(line, GATE_LEAST, GATE_MOST) {
+                    WholeLine::Read(issue) => TakenGate {
+                        gate: Gate::Issue(issue),
+                        place: Place::At(line.next),
+                    },
+                    WholeLine::Refused(n) => TakenGate {
+                        gate: Gate::Absent,
+                        place: Place::Refused(n),
+                    },
+                }
+            } else {
+                TakenGate {
+                    gate: Gate::Absent,
+                    place: Place::At(at),
+                }
+            }
+        }
+        Place::Refused(n) => TakenGate {
+            gate: Gate::Absent,
             place: Place::Refused(n),
         },
     }
@@ -364,11 +412,15 @@ fn take_head(text: &[u8], at: usize) -> TakenHead
 {
     let hz = take_whole(text, b"hz", HZ_LEAST, HZ_MOST, Place::At(at));
     let place = hz.place;
+    let gate_line = take_gate(text, place);
+    let place = gate_line.place;
     let frames = take_whole(text, b"frames", FRAMES_LEAST, FRAMES_MOST, place);
     let place = frames.place;
+    let gate = gate_line.gate;
     TakenHead {
         head: Head {
             hz: hz.whole,
+            gate,
             frames: frames.whole,
         },
         before: TakenControl {

@@ -7,13 +7,16 @@ use Rattle.score.proofs.take_head.Tie as tie
 
 returns : tie.Need-returns
 unfolding headOf
-returns c = λ k. c .before .before .take-whole .ensures _ ∙ c .take-whole2 .ensures _
+returns c =
+    let gated = c .before .before in
+    λ k. gated .before .take-whole .ensures _ ∙ gated .take-gate .ensures _ ∙ c .take-whole2 .ensures _
 
 pub take-head-spec : {M : Type 1} → statement M
 take-head-spec =
     tie.close
     (tie.spec
     (λ c. search needs)
+    (λ c κs. search needs)
     (λ c κs. search needs)
     (λ c. search needs)
     (λ c κs. search needs)
