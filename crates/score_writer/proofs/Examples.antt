@@ -9,7 +9,7 @@ use Rattle.line.specs.Bytes.{ascii, sameOf, hasOf, untilOf, pastOf}
 use Rattle.line.specs.Line.{lineOf, afterLine, keyOf, valueOf, isLine}
 use Rattle.line.specs.Number.{digitsFrom, digitsOf, negativeOf, signedOf, numberOf}
 use Rattle.score.specs.Lines.{oscOf, withinOf, controlOf, oscLine, wholeLine, controlLine}
-use Rattle.score.specs.Score.{osc, whole, control, endOf, inputsOf, headOf, linesOf, scoreOf}
+use Rattle.score.specs.Score.{osc, whole, gate, control, endOf, inputsOf, headOf, linesOf, scoreOf}
 use Rattle.score.specs.declared.Reading.the-variants.{Values}
 use Rattle.score_writer.specs.Writing.{wholeRefusal, controlRefusal, firstOf, refusalOf, writingOf, writtenOf}
 use Rattle.score_writer.specs.Examples.{Row, workedRow, longestRow, texts, buffer, Refusal, refusals, Writing-examples}
@@ -26,7 +26,7 @@ ReadAll (r ∷ rs) = Reads r × ReadAll rs
 
 read-all : ReadAll texts
 unfolding sameOf hasOf untilOf pastOf lineOf afterLine keyOf valueOf isLine digitsFrom digitsOf negativeOf signedOf numberOf oscOf withinOf controlOf
-    oscLine wholeLine controlLine osc whole control endOf inputsOf headOf linesOf scoreOf
+    oscLine wholeLine controlLine osc whole gate control endOf inputsOf headOf linesOf scoreOf
 read-all = (refl, (refl, (refl, (refl, (refl, tt)))))
 
 -- so it is what is written, into x's of which one is left
@@ -62,10 +62,11 @@ too-short r bytes e h = short-refused (r .score) bytes .0 (ascii (r .text)) e h
 refused-all : map (λ (r : Refusal). writingOf (r .score) (r .bytes)) refusals ≡ map (λ (r : Refusal). Refused (r .by)) refusals
 unfolding writingOf wholeRefusal controlRefusal firstOf refusalOf withinOf controlOf
 refused-all =
+    let out = Refused 23 in
     let at-70 = too-short workedRow 70 (read-all .0) (lit< tt) in
-    let at-109 = too-short longestRow 109 (read-all .1 .0) (lit< tt) in
+    let at-116 = too-short longestRow 116 (read-all .1 .0) (lit< tt) in
     let at-0 = too-short workedRow 0 (read-all .0) (lit< tt) in
-    (λ i. Refused 23 ∷ Refused 23 ∷ Refused 23 ∷ Refused 23 ∷ Refused 23 ∷ Refused 23 ∷ at-70 i ∷ at-109 i ∷ at-0 i ∷ Refused 23 ∷ [])
+    (λ i. out ∷ out ∷ out ∷ out ∷ out ∷ out ∷ out ∷ out ∷ at-70 i ∷ at-116 i ∷ at-0 i ∷ out ∷ [])
 
 pub writing-examples : Writing-examples
 writing-examples = (all-answered texts read-all, all-left texts read-all, refused-all)

@@ -42,7 +42,7 @@ module _ (s : Score) (out : List ℕ) where
   refused-at n e h = let refused = values-refused n e h in (sym refused, sym (left-by s out refused))
 
   -- n bytes of p are the text, put into room for the longest
-  module _ (room : List ℕ) (n : ℕ) (p : List ℕ) (size : length room ≡ 110) (taken : refusalOf s ≡ 0) (put : Put room 0 (textOf s) n p) where
+  module _ (room : List ℕ) (n : ℕ) (p : List ℕ) (size : length room ≡ 117) (taken : refusalOf s ≡ 0) (put : Put room 0 (textOf s) n p) where
     its-room : length (textOf s) ≤ length room
     its-room = let m = text-short s (in-range s taken) in omega arith
 

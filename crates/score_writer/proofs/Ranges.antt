@@ -7,17 +7,19 @@ use native.Mathlib.Omega.{arith}
 use lib.Dec.{ltb, eqb}
 use lib.IntN.{pos, negsuc}
 use borrow.Author.Tests.{ltb-true, ltb-false, eqb-true}
-use Rattle.score.specs.Keys.{headKeys, headWholes, controlsOf}
+use Rattle.score.specs.Keys.{controlsOf}
 use Rattle.score.specs.Lines.{withinOf, controlOf}
-use Rattle.score.specs.Promises.{ValidInput, ValidHead, Valid}
+use Rattle.score.specs.Promises.{ValidInput, ValidGate, ValidHead, Valid}
 use Rattle.score.proofs.Longest.{ValidAll, valid-all, all-valid}
 use Rattle.score.specs.declared.Control.{Control}
 use Rattle.score.specs.declared.Control.the-variants as C
 use Rattle.score.specs.declared.ControlLine.the-variants as CL
 use Rattle.score.specs.declared.WholeLine.the-variants as WL
+use Rattle.score.specs.declared.Gate.{Gate}
+use Rattle.score.specs.declared.Gate.the-variants.{Absent, Issue}
 use Rattle.score.specs.declared.Head.{Head}
 use Rattle.score.specs.declared.Score.{Score}
-use Rattle.score_writer.specs.Writing.{ofWhole, ofControl, wholeRefusal, controlRefusal, firstOf, wholesRefusal, controlsRefusal, refusalOf}
+use Rattle.score_writer.specs.Writing.{ofWhole, ofControl, wholeRefusal, controlRefusal, firstOf, gateRefusal, headRefusal, controlsRefusal, refusalOf}
 
 -- 0 where P holds, 23 where it doesn't
 pub data By (P : Type 0) : ℕ → Type 0 where
@@ -33,6 +35,13 @@ whole-by least most n = tests (ltb n least) (ltb most n) refl refl
     tests true b e f = refused (λ (l, g). omega (arith, ltb-true n least e))
     tests false true e f = refused (λ (l, g). omega (arith, ltb-true most n f))
     tests false false e f = taken (ltb-false n least e, ltb-false most n f)
+
+no-line : By (Unit {0}) 0
+no-line = taken tt
+
+gate-by : (g : Gate) → By (ValidGate g) (gateRefusal g)
+gate-by Absent = no-line
+gate-by (Issue n) = whole-by _ _ n
 
 size-by : (n : ℕ) (c : Control) → By (n ≤ 10000000) (ofControl (cond (ltb 10000000 n) (CL.Refused 23) (CL.Read c)))
 size-by n c = tests (ltb 10000000 n) refl
@@ -54,9 +63,6 @@ both-by (taken p) (taken q) = taken (p, q)
 both-by (taken p) (refused g) = refused (λ (x, y). g y)
 both-by (refused f) q = refused (λ (x, y). f x)
 
-no-line : By (Unit {0}) 0
-no-line = taken tt
-
 controls-by : (cs : List Control) → By (ValidAll cs) (controlsRefusal cs)
 controls-by [] = no-line
 controls-by (c ∷ cs) = both-by (control-by c) (controls-by cs)
@@ -65,12 +71,12 @@ same-by : {P Q : Type 0} {n : ℕ} → (P → Q) → (Q → P) → By P n → By
 same-by to from (taken p) = taken (to p)
 same-by to from (refused f) = refused (λ q. f (from q))
 
-head-by : (h : Head) → By (ValidHead h) (wholesRefusal headKeys (headWholes h))
+head-by : (h : Head) → By (ValidHead h) (headRefusal h)
 head-by h =
     same-by
-    (λ ((a, b), ((c, d), _)). record { hz-least = a; hz-most = b; frames-least = c; frames-most = d })
-    (λ v. ((v .hz-least, v .hz-most), ((v .frames-least, v .frames-most), tt)))
-    (both-by (whole-by _ _ (h .hz)) (both-by (whole-by _ _ (h .frames)) no-line))
+    (λ ((a, b), (g, (c, d))). record { hz-least = a; hz-most = b; gate = g; frames-least = c; frames-most = d })
+    (λ v. ((v .hz-least, v .hz-most), (v .gate, (v .frames-least, v .frames-most))))
+    (both-by (whole-by _ _ (h .hz)) (both-by (gate-by (h .gate)) (whole-by _ _ (h .frames))))
 
 pub score-by : (s : Score) → By (Valid s) (refusalOf s)
 unfolding refusalOf

@@ -112,20 +112,20 @@ refusals s room n e = go (wrote s room) e
     go (unread f) e = let m = same-refusal e in (omega arith, omega arith)
 
 pub enough-room : Enough-room
-enough-room = (enough, λ room h. least room h (ltb room 110) refl)
+enough-room = (enough, λ room h. least room h (ltb room 117) refl)
   where
-    enough : (s : Score) (room : ℕ) → 110 ≤ room → writingOf s room ≡ Refused 24 → ⊥
+    enough : (s : Score) (room : ℕ) → 117 ≤ room → writingOf s room ≡ Refused 24 → ⊥
     enough s room h e =
         let (read, l) = short-refused s room .1 e in
         let m = longest-text .0 s (read-valid (textOf s) s read) in
         omega arith
 
-    least : (room : ℕ) → ((s : Score) → writingOf s room ≡ Refused 24 → ⊥) → (b : Bool) → ltb room 110 ≡ b → 110 ≤ room
+    least : (room : ℕ) → ((s : Score) → writingOf s room ≡ Refused 24 → ⊥) → (b : Bool) → ltb room 117 ≡ b → 117 ≤ room
     least room h true e =
-        let l = ltb-true room 110 e in
+        let l = ltb-true room 117 e in
         let (all, v, m) = longest-text in
         absurd (h longest (valid-short longest room v (omega arith)))
-    least room h false e = ltb-false room 110 e
+    least room h false e = ltb-false room 117 e
 
 -- ---- the buffer
 pub refused-left : Refused-left

@@ -44,10 +44,10 @@ Short-refused = (s : Score) (room : ℕ)
 abbrev pub Refusals : Type 0
 Refusals = (s : Score) (room n : ℕ) → writingOf s room ≡ Refused n → (23 ≤ n) × (n ≤ 24)
 
--- 110 bytes are enough for every text, and no fewer are
+-- 117 bytes are enough for every text, and no fewer are
 abbrev pub Enough-room : Type 0
-Enough-room = ((s : Score) (room : ℕ) → 110 ≤ room → writingOf s room ≡ Refused 24 → ⊥)
-    × ((room : ℕ) → ((s : Score) → writingOf s room ≡ Refused 24 → ⊥) → 110 ≤ room)
+Enough-room = ((s : Score) (room : ℕ) → 117 ≤ room → writingOf s room ≡ Refused 24 → ⊥)
+    × ((room : ℕ) → ((s : Score) → writingOf s room ≡ Refused 24 → ⊥) → 117 ≤ room)
 
 -- ---- the buffer
 -- a refusal leaves every byte

@@ -7,7 +7,7 @@ use lib.Dec.{ltb, eqb}
 use lib.ListN.{length, drop}
 use Rattle.line.specs.declared.Number.the-variants.{Whole}
 use Rattle.score.specs.Control.{numberIn}
-use Rattle.score.specs.Keys.{WholeKey, headKeys, headWholes, controlsOf}
+use Rattle.score.specs.Keys.{WholeKey, hzKey, gateKey, framesKey, controlsOf}
 use Rattle.score.specs.Lines.{withinOf, controlOf}
 use Rattle.score.specs.Text.{textOf}
 use Rattle.score.specs.declared.Control.{Control}
@@ -15,6 +15,9 @@ use Rattle.score.specs.declared.WholeLine.{WholeLine}
 use Rattle.score.specs.declared.WholeLine.the-variants as WL
 use Rattle.score.specs.declared.ControlLine.{ControlLine}
 use Rattle.score.specs.declared.ControlLine.the-variants as CL
+use Rattle.score.specs.declared.Gate.{Gate}
+use Rattle.score.specs.declared.Gate.the-variants.{Absent, Issue}
+use Rattle.score.specs.declared.Head.{Head}
 use Rattle.score.specs.declared.Score.{Score}
 use Rattle.score_writer.specs.declared.Writing.{Writing}
 use Rattle.score_writer.specs.declared.Writing.the-variants.{Length, Refused}
@@ -31,6 +34,15 @@ ofControl (CL.Refused n) = n
 unfoldable pub wholeRefusal : ℕ → ℕ → ℕ → ℕ
 wholeRefusal least most n = ofWhole (withinOf least most (Whole false n))
 
+-- by its key's range
+abbrev pub keyRefusal : WholeKey → ℕ → ℕ
+keyRefusal w n = wholeRefusal (w .least) (w .most) n
+
+-- nothing refuses a line that is left out
+abbrev pub gateRefusal : Gate → ℕ
+gateRefusal Absent = 0
+gateRefusal (Issue n) = keyRefusal gateKey n
+
 unfoldable pub controlRefusal : Control → ℕ
 controlRefusal c = ofControl (controlOf (numberIn c))
 
@@ -38,17 +50,15 @@ controlRefusal c = ofControl (controlOf (numberIn c))
 unfoldable pub firstOf : ℕ → ℕ → ℕ
 firstOf a b = cond (eqb a 0) b a
 
-abbrev pub wholesRefusal : List WholeKey → List ℕ → ℕ
-wholesRefusal (w ∷ ws) (n ∷ ns) = firstOf (wholeRefusal (w .least) (w .most) n) (wholesRefusal ws ns)
-wholesRefusal [] ns = 0
-wholesRefusal (w ∷ ws) [] = 0
+abbrev pub headRefusal : Head → ℕ
+headRefusal h = firstOf (keyRefusal hzKey (h .hz)) (firstOf (gateRefusal (h .gate)) (keyRefusal framesKey (h .frames)))
 
 abbrev pub controlsRefusal : List Control → ℕ
 controlsRefusal [] = 0
 controlsRefusal (c ∷ cs) = firstOf (controlRefusal c) (controlsRefusal cs)
 
 unfoldable pub refusalOf : Score → ℕ
-refusalOf s = firstOf (wholesRefusal headKeys (headWholes (s .head))) (controlsRefusal (controlsOf (s .inputs)))
+refusalOf s = firstOf (headRefusal (s .head)) (controlsRefusal (controlsOf (s .inputs)))
 
 -- ---- writing into a buffer of `room` bytes: the length of the text, or the refusal; 24, last, where the text has no room
 unfoldable pub writingOf : Score → ℕ → Writing

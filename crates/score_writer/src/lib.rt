@@ -4,6 +4,7 @@ use line::Number;
 use score::Control;
 use score::ControlLine;
 use score::FormantInputs;
+use score::Gate;
 use score::Head;
 use score::Inputs;
 use score::LfoInputs;
@@ -19,10 +20,10 @@ ghost use lib.Seq.{sets};
 ghost use Rattle.text.specs.Put.{placeOf};
 ghost use Rattle.text.specs.Lines.{wordLine};
 ghost use Rattle.line.specs.Number.{numberText};
-ghost use Rattle.score.specs.Keys.{oscKey, nameOf, headKeys, headWholes, controlsOf};
-ghost use Rattle.score.specs.Text.{controlText, lineText, headText, inputsText, textOf};
+ghost use Rattle.score.specs.Keys.{oscKey, nameOf, controlsOf};
+ghost use Rattle.score.specs.Text.{controlText, lineText, gateText, headText, inputsText, textOf};
 ghost use Rattle.score.specs.declared.Inputs.the-variants as I;
-ghost use Rattle.score_writer.specs.Writing.{wholeRefusal, controlRefusal, firstOf, wholesRefusal, controlsRefusal};
+ghost use Rattle.score_writer.specs.Writing.{wholeRefusal, controlRefusal, firstOf, gateRefusal, headRefusal, controlsRefusal};
 ghost use Rattle.score_writer.specs.Writing.{refusalOf, writingOf, writtenOf};
 
 // The length of the text that was written, or the number of the refusal.
@@ -32,7 +33,7 @@ pub enum Writing {
 }
 
 // Room for every text: the longest has so many bytes.
-const LONGEST: usize = 110;
+const LONGEST: usize = 117;
 
 // ---- what refuses the values, line by line; 0 where nothing does
 
@@ -130,12 +131,25 @@ fn inputs_refusal(inputs: Inputs) -> u32
     }
 }
 
-fn head_refusal(head: Head) -> u32
-    ensures { λ r. ⌜ r ≡ wholesRefusal headKeys (headWholes head) ⌝ }
+fn gate_refusal(gate: Gate) -> u32
+    ensures { λ r. ⌜ r ≡ gateRefusal gate ⌝ }
 {
+    match gate {
+        Gate::Absent => 0,
+        Gate::Issue(n) => whole_refusal(n, score::GATE_LEAST, score::GATE_MOST),
+    }
+}
+
+fn head_refusal(head: Head) -> u32
+    ensures { λ r. ⌜ r ≡ headRefusal head ⌝ }
+{
+    let gate = head.gate;
     first(
         whole_refusal(head.hz, score::HZ_LEAST, score::HZ_MOST),
-        whole_refusal(head.frames, score::FRAMES_LEAST, score::FRAMES_MOST),
+        first(
+            gate_refusal(gate),
+            whole_refusal(head.frames, score::FRAMES_LEAST, score::FRAMES_MOST),
+        ),
     )
 }
 
@@ -187,12 +201,25 @@ fn put_osc(out: &mut [u8], at: usize, osc: Osc) -> usize
     }
 }
 
+// No line where the gate is absent.
+fn put_gate(out: &mut [u8], at: usize, gate: Gate) -> usize
+    ensures { λ r. ⌜ r ≡ placeOf (now (out .entry)) at (gateText gate) ⌝ }
+    ensures { λ r. ⌜ now (out .exit) ≡ sets (now (out .entry)) at (gateText gate) ⌝ }
+{
+    match gate {
+        Gate::Absent => text::put_text(out, at, b""),
+        Gate::Issue(n) => text::put_count(out, at, b"gate=", n as u64),
+    }
+}
+
 fn put_head(out: &mut [u8], at: usize, head: Head) -> usize
     ensures { λ r. ⌜ r ≡ placeOf (now (out .entry)) at (headText head) ⌝ }
     ensures { λ r. ⌜ now (out .exit) ≡ sets (now (out .entry)) at (headText head) ⌝ }
 {
+    let gate = head.gate;
     let a = text::put_count(&mut *out, at, b"hz=", head.hz as u64);
-    text::put_count(out, a, b"frames=", head.frames as u64)
+    let b = put_gate(&mut *out, a, gate);
+    text::put_count(out, b, b"frames=", head.frames as u64)
 }
 
 // ---- the inputs, in the Rust's port order and names
