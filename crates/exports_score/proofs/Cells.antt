@@ -17,21 +17,23 @@ use Rattle.laws.proofs.Over.{by-cells}
 use Rattle.laws.proofs.Slices.{stored}
 use Rattle.score.specs.Control.{voltsOf}
 use Rattle.score.specs.Keys.{inputKeys, inputsFrom}
-use Rattle.score.specs.Promises.{ValidInput, ValidHead, ValidInputs, Valid}
+use Rattle.score.specs.Promises.{ValidInput, ValidGate, ValidHead, ValidInputs, Valid}
 use Rattle.score.specs.declared.Control.{Control}
 use Rattle.score.specs.declared.Control.the-variants.{Microvolts, Nan}
 use Rattle.score.specs.declared.Osc.{Osc}
 use Rattle.score.specs.declared.Osc.the-variants as O
 use Rattle.score.specs.declared.Inputs.{Inputs}
 use Rattle.score.specs.declared.Inputs.the-variants.{Vco, Lfo, Supersaw, Formant}
+use Rattle.score.specs.declared.Gate.{Gate}
+use Rattle.score.specs.declared.Gate.the-variants.{Absent, Issue}
 use Rattle.score.specs.declared.Head.{Head}
 use Rattle.score.specs.declared.Score.{Score}
 use Rattle.score.specs.declared.Reading.{Reading}
 use Rattle.score.specs.declared.Reading.the-variants.{Values, Refused}
 use Rattle.score.proofs.LineKinds.{tested}
 use Rattle.score.proofs.Lines.{not-refused}
-use Rattle.exports_score.specs.Cells.{oscNumber, none, portsOf, wholesOf, floatsOf, cellOf, microvoltsOf, controlAt, isZero, zeros}
-use Rattle.exports_score.specs.Cells.{valuesAt, inputsAt, headAt, scoreAt}
+use Rattle.exports_score.specs.Cells.{oscNumber, none, portsOf, gateNumber, wholesOf, floatsOf, cellOf, microvoltsOf, controlAt, isZero, zeros}
+use Rattle.exports_score.specs.Cells.{valuesAt, inputsAt, gateAt, headAt, scoreAt}
 
 -- ---- five cells, by their places
 abbrev pub cellsAt : List ℤ → List ℤ
@@ -60,6 +62,29 @@ control-back (negsuc n) = marked (eqb n 2147483647) refl
     marked : (b : Bool) → eqb n 2147483647 ≡ b → cellOf (cond b Nan (Microvolts (negsuc n))) ≡ negsuc n
     marked true e = ap negsuc (sym (eqb-true n 2147483647 e))
     marked false e = refl
+
+-- ---- the gate's cell
+gate-back : (g : Gate) → ValidGate g → gateAt (gateNumber g) ≡ g
+unfolding gateAt gateNumber
+gate-back Absent v = refl
+gate-back (Issue n) (l, m) = simp (ne-eqb n 0 (λ e. omega arith))
+
+module _ (n : ℕ) where
+  number-back : gateNumber (gateAt n) ≡ n
+  unfolding gateAt gateNumber
+  number-back = go (eqb n 0) refl
+    where
+      go : (b : Bool) → eqb n 0 ≡ b → gateNumber (cond b Absent (Issue n)) ≡ n
+      go true e = sym (eqb-true n 0 e)
+      go false e = refl
+
+  pub issue-small : ValidGate (gateAt n) → n ≤ 2
+  unfolding gateAt
+  issue-small = go (eqb n 0) refl
+    where
+      go : (b : Bool) → eqb n 0 ≡ b → ValidGate (cond b Absent (Issue n)) → n ≤ 2
+      go true e v = let z = eqb-true n 0 e in omega arith
+      go false e (l, m) = m
 
 -- ---- a cell by its bits, which the code compares
 pub marked : (z : ℤ) → SFits w32 z → ofZ w32 z ≡ 2147483648 → Nan ≡ controlAt z
@@ -124,7 +149,7 @@ inputs-back head (Formant i) (a, b, c, d) =
 
 pub score-back : (s : Score) → Valid s → scoreAt (microvoltsOf s) (wholesOf s) ≡ Values s
 unfolding scoreAt wholesOf
-score-back s v = inputs-back (s .head) (s .inputs) (v .inputs)
+score-back s v = simp (gate-back (s .head .gate) (v .head .gate)) (inputs-back (s .head) (s .inputs) (v .inputs))
 
 -- ---- and the cells of the score of cells are the cells
 zero-is : (n : ℤ) → isZero n ≡ true → n ≡ pos 0
@@ -191,23 +216,24 @@ number-made head m O.Supersaw = refl
 number-made head m O.Formant = refl
 
 said-back : (osc : ℕ) (head : Head) (m : List ℤ) {x : Reading} (s : Score) → length m ≡ 5 → Said osc head m x → x ≡ Values s
-    → (microvoltsOf s ≡ m) × (wholesOf s ≡ osc ∷ head .hz ∷ head .frames ∷ [])
+    → (microvoltsOf s ≡ m) × (wholesOf s ≡ osc ∷ head .hz ∷ head .frames ∷ gateNumber (head .gate) ∷ [])
 unfolding wholesOf
 said-back osc head m s h (values o e z) p =
     let same : made head m o ≡ s = cc in
-    rw (← same) (cells-made head m o h z, ap (λ (n : ℕ). n ∷ head .hz ∷ head .frames ∷ []) (number-made head m o ∙ sym e))
+    rw (← same) (cells-made head m o h z, ap (λ (n : ℕ). n ∷ head .hz ∷ head .frames ∷ gateNumber (head .gate) ∷ []) (number-made head m o ∙ sym e))
 said-back osc head m s h refused p = absurd (not-refused p)
 
-wholes-are : (w : List ℕ) → length w ≡ 3 → w ≡ getD w 0 0 ∷ getD w 1 0 ∷ getD w 2 0 ∷ []
+wholes-are : (w : List ℕ) → length w ≡ 4 → w ≡ getD w 0 0 ∷ getD w 1 0 ∷ getD w 2 0 ∷ getD w 3 0 ∷ []
 unfolding tab
-wholes-are w h = by-cells 0 (λ (i : ℕ). getD w i 0) 3 w h (λ i l. refl)
+wholes-are w h = by-cells 0 (λ (i : ℕ). getD w i 0) 4 w h (λ i l. refl)
 
-pub cells-back : (m : List ℤ) (w : List ℕ) (s : Score) → length m ≡ 5 → length w ≡ 3 → scoreAt m w ≡ Values s
+pub cells-back : (m : List ℤ) (w : List ℕ) (s : Score) → length m ≡ 5 → length w ≡ 4 → scoreAt m w ≡ Values s
     → (microvoltsOf s ≡ m) × (wholesOf s ≡ w)
 unfolding scoreAt
 cells-back m w s hm hw p =
     let (cells, wholes) = said-back (getD w 0 0) (headAt w) m s hm (inputs-said (getD w 0 0) (headAt w) m) p in
-    (cells, wholes ∙ sym (wholes-are w hw))
+    let gate = number-back (getD w 3 0) in
+    (cells, wholes ∙ (λ i. getD w 0 0 ∷ getD w 1 0 ∷ getD w 2 0 ∷ gate i ∷ []) ∙ sym (wholes-are w hw))
 
 pub head-back : (m : List ℤ) (w : List ℕ) (s : Score) → scoreAt m w ≡ Values s → headAt w ≡ s .head
 unfolding scoreAt

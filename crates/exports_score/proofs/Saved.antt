@@ -30,7 +30,7 @@ use Rattle.exports_score.specs.Shortcuts.{heldAt}
 use Rattle.exports_score.specs.Calls.{keptOf, scoreReadAt, Told, told, toldOf, scoreValuesAt, Saved, saved, savedBy, savedOf, scoreWriteAt}
 use Rattle.exports_score.specs.Examples.{blank, none}
 use Rattle.exports_score.specs.Promises.{Tells, Volts-agree, Read-written, Written-read, Short-refused, Enough-room, Unread-refused, Left}
-use Rattle.exports_score.proofs.Cells.{score-back, cells-back, head-back, refused-by, volts-back}
+use Rattle.exports_score.proofs.Cells.{issue-small, score-back, cells-back, head-back, refused-by, volts-back}
 
 -- ---- what was read
 record Known (text : List ℕ) (m : List ℤ) (w : List ℕ) : Type 0 where
@@ -49,7 +49,7 @@ module _ (text : List ℕ) (m₀ m : List ℤ) (w₀ w : List ℕ) where
 
   known : scoreValuesAt text m₀ w₀ ≡ told 0 m w → Known text m w
   unfolding scoreValuesAt
-  known p = sized (eqb (length m₀) 5) (eqb (length w₀) 3) p
+  known p = sized (eqb (length m₀) 5) (eqb (length w₀) 4) p
     where
       sized : (a b : Bool) → cond a (cond b (toldOf (scoreOf text) m₀ w₀) (told 51 m₀ w₀)) (told 54 m₀ w₀) ≡ told 0 m w → Known text m w
       sized true true p = known-by (scoreOf text) refl p
@@ -61,14 +61,14 @@ told-known text m w tells = known text blank m none w (tells blank none refl ref
 
 reads-tells : (text : List ℕ) (s : Score) → scoreOf text ≡ Values s → Tells text (microvoltsOf s) (wholesOf s)
 unfolding scoreValuesAt toldOf
-reads-tells text s e m₀ w₀ hm hw = simp (eq-eqb (length m₀) 5 hm, eq-eqb (length w₀) 3 hw, e)
+reads-tells text s e m₀ w₀ hm hw = simp (eq-eqb (length m₀) 5 hm, eq-eqb (length w₀) 4 hw, e)
 
 pub volts-agree : Volts-agree
 unfolding scoreReadAt keptSized sizesOf keptOf
 volts-agree text m w tells f w₀ hf hw =
     let k = told-known text m w tells in
     let volts = volts-back (k .score) (read-valid text (k .score) (k .reads)) in
-    simp (eq-eqb (length f) 5 hf, eq-eqb (length w₀) 3 hw, k .reads, ← k .cells, ← k .wholes) (ap (λ (v : List Float). kept 0 v (wholesOf (k .score))) volts)
+    simp (eq-eqb (length f) 5 hf, eq-eqb (length w₀) 4 hw, k .reads, ← k .cells, ← k .wholes) (ap (λ (v : List Float). kept 0 v (wholesOf (k .score))) volts)
 
 pub enough-room : Enough-room
 enough-room text m w tells =
@@ -120,17 +120,17 @@ head-is e = cc
 record Wrote (m : List ℤ) (w t t′ : List ℕ) (n : ℕ) : Type 0 where
   score : Score
   five : length m ≡ 5
-  three : length w ≡ 3
+  four : length w ≡ 4
   said : scoreAt m w ≡ Values score
   length-is : writingOf score (length t) ≡ W.Length n
   text-is : writtenOf score t ≡ t′
 
-module _ (m : List ℤ) (w t t′ : List ℕ) (l n : ℕ) (five : length m ≡ 5) (three : length w ≡ 3) where
+module _ (m : List ℤ) (w t t′ : List ℕ) (l n : ℕ) (five : length m ≡ 5) (four : length w ≡ 4) where
   wrote-length : (s : Score) (x : Writing) → scoreAt m w ≡ Values s → writingOf s (length t) ≡ x
       → savedBy x (writtenOf s t) (l ∷ []) ≡ saved 0 t′ (n ∷ []) → Wrote m w t t′ n
   wrote-length s (W.Length k) e f p =
       let z : k ≡ n = head-is (ap (λ (k : Saved). k .written) p) in
-      record { score = s; five = five; three = three; said = e; length-is = f ∙ ap W.Length z; text-is = ap (λ (k : Saved). k .text) p }
+      record { score = s; five = five; four = four; said = e; length-is = f ∙ ap W.Length z; text-is = ap (λ (k : Saved). k .text) p }
   wrote-length s (W.Refused k) e f p =
       absurd (let (a, b) = writer.refusals s (length t) k f in let z : k ≡ 0 = ap (λ (k : Saved). k .code) p in omega arith)
 
@@ -142,31 +142,31 @@ module _ (m : List ℤ) (w t t′ : List ℕ) (l n : ℕ) (five : length m ≡ 5
 
 wrote : (m : List ℤ) (w t t′ : List ℕ) (l n : ℕ) → scoreWriteAt m w t (l ∷ []) ≡ saved 0 t′ (n ∷ []) → Wrote m w t t′ n
 unfolding scoreWriteAt
-wrote m w t t′ l n p = sized (eqb (length m) 5) (eqb (length w) 3) refl refl p
+wrote m w t t′ l n p = sized (eqb (length m) 5) (eqb (length w) 4) refl refl p
   where
-    sized : (a b : Bool) → eqb (length m) 5 ≡ a → eqb (length w) 3 ≡ b
+    sized : (a b : Bool) → eqb (length m) 5 ≡ a → eqb (length w) 4 ≡ b
         → cond a (cond b (savedOf (scoreAt m w) t (l ∷ [])) (saved 51 t (l ∷ []))) (saved 54 t (l ∷ [])) ≡ saved 0 t′ (n ∷ []) → Wrote m w t t′ n
-    sized true true e f p = wrote-by m w t t′ l n (eqb-true (length m) 5 e) (eqb-true (length w) 3 f) (scoreAt m w) refl p
+    sized true true e f p = wrote-by m w t t′ l n (eqb-true (length m) 5 e) (eqb-true (length w) 4 f) (scoreAt m w) refl p
     sized true false e f p = absurd (let z : 51 ≡ 0 = ap (λ (k : Saved). k .code) p in omega arith)
     sized false b e f p = absurd (let z : 54 ≡ 0 = ap (λ (k : Saved). k .code) p in omega arith)
 
 pub written-read : Written-read
 written-read m w t t′ l n p m₀ w₀ hm hw =
     let k = wrote m w t t′ l n p in
-    let (cells, wholes) = cells-back m w (k .score) (k .five) (k .three) (k .said) in
+    let (cells, wholes) = cells-back m w (k .score) (k .five) (k .four) (k .said) in
     let reads : scoreOf (take n t′) ≡ Values (k .score) =
     ap (λ (b : List ℕ). scoreOf (take n b)) (sym (k .text-is)) ∙ write-read (k .score) t n (k .length-is) in
     reads-tells (take n t′) (k .score) reads m₀ w₀ hm hw ∙ (λ i. told 0 (cells i) (wholes i))
 
 -- ---- cells that no text reads as are refused by 23
-module _ (m : List ℤ) (w t : List ℕ) (l : ℕ) (five : length m ≡ 5) (three : length w ≡ 3) where
+module _ (m : List ℤ) (w t : List ℕ) (l : ℕ) (five : length m ≡ 5) (four : length w ≡ 4) where
   abbrev Untold : Type 0
   Untold = (text : List ℕ) → Tells text m w → ⊥
 
   refused-score : Untold → (r : Reading) → scoreAt m w ≡ r → savedOf r t (l ∷ []) ≡ saved 23 t (l ∷ [])
   unfolding savedOf
   refused-score u (Values s) e =
-      let (cells, wholes) = cells-back m w s five three e in
+      let (cells, wholes) = cells-back m w s five four e in
       let refused = writer.unread-refused s (length t) .0
       (λ text p. u text (λ m₀ w₀ hm hw. reads-tells text s p m₀ w₀ hm hw ∙ (λ i. told 0 (cells i) (wholes i)))) in
       let left = writer.refused-left s t 23 refused in
@@ -175,7 +175,7 @@ module _ (m : List ℤ) (w t : List ℕ) (l : ℕ) (five : length m ≡ 5) (thre
 
   untold-refused : Untold → scoreWriteAt m w t (l ∷ []) ≡ saved 23 t (l ∷ [])
   unfolding scoreWriteAt
-  untold-refused u = simp (eq-eqb (length m) 5 five, eq-eqb (length w) 3 three) (refused-score u (scoreAt m w) refl)
+  untold-refused u = simp (eq-eqb (length m) 5 five, eq-eqb (length w) 4 four) (refused-score u (scoreAt m w) refl)
 
   refused-untold : scoreWriteAt m w t (l ∷ []) .code ≡ 23 → Untold
   refused-untold e text tells = by-room (ltb (length t) (length text)) refl
@@ -189,7 +189,7 @@ module _ (m : List ℤ) (w t : List ℕ) (l : ℕ) (five : length m ≡ 5) (thre
           omega arith
 
 pub unread-refused : Unread-refused
-unread-refused m w t l five three = (untold-refused m w t l five three, refused-untold m w t l five three)
+unread-refused m w t l five four = (untold-refused m w t l five four, refused-untold m w t l five four)
 
 -- ---- what no u32 holds is out of range
 module _ (m : List ℤ) (w t l : List ℕ) where
@@ -210,7 +210,9 @@ module _ (m : List ℤ) (w t l : List ℕ) where
       tested (λ (r : Reading). savedOf r t l ≡ savedOf (scoreAt m w) t l) (ltb 4294967295 (getD w 1 0))
       (λ e. out-saved (λ v. let h = v .hz-most in omega (arith, ltb-true 4294967295 (getD w 1 0) e))) (λ _.
       tested (λ (r : Reading). savedOf r t l ≡ savedOf (scoreAt m w) t l) (ltb 4294967295 (getD w 2 0))
-      (λ e. out-saved (λ v. let h = v .frames-most in omega (arith, ltb-true 4294967295 (getD w 2 0) e))) (λ _. refl))
+      (λ e. out-saved (λ v. let h = v .frames-most in omega (arith, ltb-true 4294967295 (getD w 2 0) e))) (λ _.
+      tested (λ (r : Reading). savedOf r t l ≡ savedOf (scoreAt m w) t l) (ltb 4294967295 (getD w 3 0))
+      (λ e. out-saved (λ v. let h = issue-small (getD w 3 0) (v .gate) in omega (arith, ltb-true 4294967295 (getD w 3 0) e))) (λ _. refl)))
 
 -- ---- what isn't done leaves every slice
 told-left : (r : Reading) (m : List ℤ) (w : List ℕ) → (toldOf r m w .code ≡ 0 → ⊥) → toldOf r m w ≡ told (toldOf r m w .code) m w
@@ -235,7 +237,7 @@ module _ (m : List ℤ) (w : List ℕ) where
   values-left : (text : List ℕ) → ToldLeft (scoreValuesAt text m w)
   unfolding scoreValuesAt
   values-left text =
-      tested ToldLeft (eqb (length m) 5) (λ _. tested ToldLeft (eqb (length w) 3) (λ _. told-left (scoreOf text) m w) (λ _ h. refl)) (λ _ h. refl)
+      tested ToldLeft (eqb (length m) 5) (λ _. tested ToldLeft (eqb (length w) 4) (λ _. told-left (scoreOf text) m w) (λ _ h. refl)) (λ _ h. refl)
 
   module _ (t l : List ℕ) where
     abbrev SavedLeft : Saved → Type 0
@@ -245,7 +247,7 @@ module _ (m : List ℤ) (w : List ℕ) where
     unfolding scoreWriteAt
     write-left =
         tested SavedLeft (eqb (length m) 5)
-        (λ _. tested SavedLeft (eqb (length w) 3)
+        (λ _. tested SavedLeft (eqb (length w) 4)
         (λ _. tested SavedLeft (eqb (length l) 1) (λ _. score-left (scoreAt m w) t l) (λ _ h. refl)) (λ _ h. refl)) (λ _ h. refl)
 
 pub left : Left

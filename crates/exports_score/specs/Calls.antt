@@ -24,7 +24,7 @@ keptOf (Refused n) f w = kept n f w
 
 -- what the text reads as, unless the lengths refuse
 unfoldable pub scoreReadAt : List ℕ → List Float → List ℕ → Kept
-scoreReadAt text f w = keptSized 5 3 (keptOf (scoreOf text) f w) f w
+scoreReadAt text f w = keptSized 5 4 (keptOf (scoreOf text) f w) f w
 
 -- ---- the whole microvolts
 pub record Told : Type 0 where
@@ -43,7 +43,7 @@ toldOf (Refused n) m w = told n m w
 -- what the text reads as, after the lengths: 54 by microvolts, 51 by wholes
 unfoldable pub scoreValuesAt : List ℕ → List ℤ → List ℕ → Told
 scoreValuesAt text m w =
-    cond (eqb (length m) 5) (cond (eqb (length w) 3) (toldOf (scoreOf text) m w) (told 51 m w)) (told 54 m w)
+    cond (eqb (length m) 5) (cond (eqb (length w) 4) (toldOf (scoreOf text) m w) (told 51 m w)) (told 54 m w)
 
 -- ---- what is written: the text, and its length
 pub record Saved : Type 0 where
@@ -68,5 +68,5 @@ savedOf (Refused n) t l = saved n t l
 unfoldable pub scoreWriteAt : List ℤ → List ℕ → List ℕ → List ℕ → Saved
 scoreWriteAt m w t l =
     cond (eqb (length m) 5)
-    (cond (eqb (length w) 3) (cond (eqb (length l) 1) (savedOf (scoreAt m w) t l) (saved 55 t l)) (saved 51 t l))
+    (cond (eqb (length w) 4) (cond (eqb (length l) 1) (savedOf (scoreAt m w) t l) (saved 55 t l)) (saved 51 t l))
     (saved 54 t l)

@@ -13,6 +13,8 @@ use Rattle.score.specs.declared.Control.the-variants.{Microvolts, Nan}
 use Rattle.score.specs.declared.Osc.{Osc}
 use Rattle.score.specs.declared.Osc.the-variants as O
 use Rattle.score.specs.declared.Inputs.{Inputs}
+use Rattle.score.specs.declared.Gate.{Gate}
+use Rattle.score.specs.declared.Gate.the-variants.{Absent, Issue}
 use Rattle.score.specs.declared.Head.{Head}
 use Rattle.score.specs.declared.Score.{Score}
 use Rattle.score.specs.declared.Reading.{Reading}
@@ -40,9 +42,14 @@ portsOf i = record { osc = oscNumber (ownerOf i); p0 = portOf i 0; p1 = portOf i
 abbrev pub fiveOf : Score → List Control
 fiveOf s = let p = portsOf (s .inputs) in p .p0 ∷ p .p1 ∷ p .p2 ∷ p .p3 ∷ p .p4 ∷ []
 
--- [osc, hz, frames]
+-- the issue that the gate's line says, 0 where there is no line
+unfoldable pub gateNumber : Gate → ℕ
+gateNumber Absent = 0
+gateNumber (Issue n) = n
+
+-- [osc, hz, frames, gate]
 unfoldable pub wholesOf : Score → List ℕ
-wholesOf s = portsOf (s .inputs) .osc ∷ s .head .hz ∷ s .head .frames ∷ []
+wholesOf s = portsOf (s .inputs) .osc ∷ s .head .hz ∷ s .head .frames ∷ gateNumber (s .head .gate) ∷ []
 
 unfoldable pub floatsOf : Score → List Float
 floatsOf s = map voltsOf (fiveOf s)
@@ -84,8 +91,12 @@ inputsAt osc head m =
     (cond (eqb osc (oscNumber O.Formant)) (valuesAt O.Formant head m)
     (Refused 23))))
 
+-- 0 is no issue: it says that there is no line
+unfoldable pub gateAt : ℕ → Gate
+gateAt n = cond (eqb n 0) Absent (Issue n)
+
 abbrev pub headAt : List ℕ → Head
-headAt w = record { hz = getD w 1 0; frames = getD w 2 0 }
+headAt w = record { hz = getD w 1 0; gate = gateAt (getD w 3 0); frames = getD w 2 0 }
 
 unfoldable pub scoreAt : List ℤ → List ℕ → Reading
 scoreAt m w = inputsAt (getD w 0 0) (headAt w) m

@@ -14,11 +14,11 @@ use Rattle.exports_score.specs.Calls.{scoreReadAt, Told, told, scoreValu
 -- ---- cells that are read
 -- a text reads as these cells
 abbrev pub Tells : List ℕ → List ℤ → List ℕ → Type 0
-Tells text m w = (m₀ : List ℤ) (w₀ : List ℕ) → length m₀ ≡ 5 → length w₀ ≡ 3 → scoreValuesAt text m₀ w₀ ≡ told 0 m w
+Tells text m w = (m₀ : List ℤ) (w₀ : List ℕ) → length m₀ ≡ 5 → length w₀ ≡ 4 → scoreValuesAt text m₀ w₀ ≡ told 0 m w
 
 -- both readers agree: the volts are those of the microvolts, and the wholes are the same
 abbrev pub Volts-agree : Type 0
-Volts-agree = (text : List ℕ) (m : List ℤ) (w : List ℕ) → Tells text m w → (f : List Float) (w₀ : List ℕ) → length f ≡ 5 → length w₀ ≡ 3
+Volts-agree = (text : List ℕ) (m : List ℤ) (w : List ℕ) → Tells text m w → (f : List Float) (w₀ : List ℕ) → length f ≡ 5 → length w₀ ≡ 4
     → scoreReadAt text f w₀ ≡ kept 0 (map (λ (n : ℤ). voltsOf (controlAt n)) m) w
 
 -- ---- cells that are written: as the text that reads as them, into any buffer that holds it
@@ -30,17 +30,17 @@ Read-written = (text : List ℕ) (m : List ℤ) (w t : List ℕ) (l : ℕ) → T
 abbrev pub Written-read : Type 0
 Written-read = (m : List ℤ) (w t t′ : List ℕ) (l n : ℕ) → scoreWriteAt m w t (l ∷ []) ≡ saved 0 t′ (n ∷ []) → Tells (take n t′) m w
 
--- 24 in any other buffer, and none of 110 bytes is another
+-- 24 in any other buffer, and none of 117 bytes is another
 abbrev pub Short-refused : Type 0
 Short-refused = (text : List ℕ) (m : List ℤ) (w t : List ℕ) (l : ℕ) → Tells text m w → length t < length text
     → scoreWriteAt m w t (l ∷ []) ≡ saved 24 t (l ∷ [])
 
 abbrev pub Enough-room : Type 0
-Enough-room = (text : List ℕ) (m : List ℤ) (w : List ℕ) → Tells text m w → length text ≤ 110
+Enough-room = (text : List ℕ) (m : List ℤ) (w : List ℕ) → Tells text m w → length text ≤ 117
 
 -- 23 exactly for cells that no text reads as, whatever the buffer
 abbrev pub Unread-refused : Type 0
-Unread-refused = (m : List ℤ) (w t : List ℕ) (l : ℕ) → length m ≡ 5 → length w ≡ 3
+Unread-refused = (m : List ℤ) (w t : List ℕ) (l : ℕ) → length m ≡ 5 → length w ≡ 4
     → (((text : List ℕ) → Tells text m w → ⊥) → scoreWriteAt m w t (l ∷ []) ≡ saved 23 t (l ∷ []))
     × (scoreWriteAt m w t (l ∷ []) .code ≡ 23 → (text : List ℕ) → Tells text m w → ⊥)
 

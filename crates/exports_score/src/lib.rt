@@ -1,11 +1,12 @@
-// The score's reader and writer for hosts, over lent slices. A score is wholes [osc, hz, frames], with osc 0 vco, 1 lfo, 2 supersaw,
-// 3 formant, and its inputs in port order: as floats, the volts, 0.0 past the oscillator's last one, or as microvolts, whole numbers
-// with -2147483648 for nan, 0 past the last one. Volts are for playing it; microvolts can be written again.
+// The score's reader and writer for hosts, over lent slices. A score is wholes [osc, hz, frames, gate], with osc 0 vco, 1 lfo, 2 supersaw,
+// 3 formant and gate 0 where it has no line, and its inputs in port order: as floats, the volts, 0.0 past the oscillator's last one, or as
+// microvolts, whole numbers with -2147483648 for nan, 0 past the last one. Volts are for playing it; microvolts can be written again.
 // A call answers a number: 0 done; before all, 50, 54, 51 and 55 where floats, microvolts, wholes or written have another length;
 // of a text 20 to 23 as the scope refuses it; of a score that is handed over 23 where no text reads as it, and last 24 where its text
 // has no room. A refused call writes nothing.
 use score::Control;
 use score::FormantInputs;
+use score::Gate;
 use score::Head;
 use score::Inputs;
 use score::LfoInputs;
@@ -21,15 +22,15 @@ ghost use lib.ListN.{length, getD, drop};
 ghost use Rattle.boundary.specs.Flat.{kept};
 ghost use Rattle.score.specs.declared.Inputs.the-variants as I;
 ghost use Rattle.score.specs.declared.Osc.the-variants as O;
-ghost use Rattle.exports_score.specs.Cells.{portsOf, floatsOf, wholesOf, cellOf, microvoltsOf, controlAt, isZero, zeros};
-ghost use Rattle.exports_score.specs.Cells.{valuesAt, inputsAt};
+ghost use Rattle.exports_score.specs.Cells.{portsOf, gateNumber, floatsOf, wholesOf, cellOf, microvoltsOf, controlAt, isZero, zeros};
+ghost use Rattle.exports_score.specs.Cells.{valuesAt, inputsAt, gateAt};
 ghost use Rattle.exports_score.specs.Shortcuts.{heldAt};
 ghost use Rattle.exports_score.specs.Calls.{keptOf, scoreReadAt, told, toldOf, scoreValuesAt, saved, savedOf, scoreWriteAt};
 
 // How many floats, wholes, microvolts and lengths a host lends.
 const FLOATS: usize = 5;
 
-const WHOLES: usize = 3;
+const WHOLES: usize = 4;
 
 const MICROVOLTS: usize = 5;
 
@@ -126,16 +127,28 @@ fn ports_of(inputs: Inputs) -> Ports
     }
 }
 
+// 0 where it is absent.
+fn gate_number(gate: Gate) -> u64
+    ensures { λ r. ⌜ r ≡ gateNumber gate ⌝ }
+{
+    match gate {
+        Gate::Absent => 0,
+        Gate::Issue(n) => n as u64,
+    }
+}
+
 fn put_wholes(s: Score, wholes: &mut [u64])
-    requires { ⌜ length (now wholes) ≡ 3 ⌝ }
+    requires { ⌜ length (now wholes) ≡ 4 ⌝ }
     ensures { λ _. ⌜ now (wholes .exit) ≡ wholesOf s ⌝ }
 {
     let head = s.head;
+    let gate = head.gate;
     let inputs = s.inputs;
     let p = ports_of(inputs);
     wholes[0] = p.osc;
     wholes[1] = head.hz as u64;
     wholes[2] = head.frames as u64;
+    wholes[3] = gate_number(gate);
 }
 
 // ---- the volts
@@ -159,7 +172,7 @@ fn put_floats(s: Score, floats: &mut [f64])
 }
 
 fn put_reading(r: Reading, floats: &mut [f64], wholes: &mut [u64]) -> u32
-    requires { ⌜ (length (now floats) ≡ 5) × (length (now wholes) ≡ 3) ⌝ }
+    requires { ⌜ (length (now floats) ≡ 5) × (length (now wholes) ≡ 4) ⌝ }
     ensures { λ n. ⌜ kept n (now (floats .exit)) (now (wholes .exit)) ≡ keptOf r (now (floats .entry)) (now (wholes .entry)) ⌝ }
 {
     match r {
@@ -214,7 +227,7 @@ fn put_microvolts(s: Score, microvolts: &mut [i32])
 }
 
 fn put_values(r: Reading, microvolts: &mut [i32], wholes: &mut [u64]) -> u32
-    requires { ⌜ (length (now microvolts) ≡ 5) × (length (now wholes) ≡ 3) ⌝ }
+    requires { ⌜ (length (now microvolts) ≡ 5) × (length (now wholes) ≡ 4) ⌝ }
     ensures { λ n. ⌜ told n (now (microvolts .exit)) (now (wholes .exit)) ≡ toldOf r (now (microvolts .entry)) (now (wholes .entry)) ⌝ }
 {
     match r {
@@ -360,21 +373,33 @@ fn inputs_at(osc: u64, head: Head, microvolts: &[i32]) -> Reading
     Reading::Refused(23)
 }
 
-// What no u32 holds is out of range as hz and as frames.
+// 0 is no issue.
+fn gate_at(n: u32) -> Gate
+    ensures { λ r. ⌜ r ≡ gateAt n ⌝ }
+{
+    if n == 0 { Gate::Absent } else { Gate::Issue(n) }
+}
+
+// What no u32 holds is out of range as hz, as frames and as an issue.
 fn score_at(microvolts: &[i32], wholes: &[u64]) -> Reading
-    requires { ⌜ (length (now microvolts) ≡ 5) × (length (now wholes) ≡ 3) ⌝ }
+    requires { ⌜ (length (now microvolts) ≡ 5) × (length (now wholes) ≡ 4) ⌝ }
     ensures { λ r. ⌜ r ≡ heldAt (now (microvolts .entry)) (now (wholes .entry)) ⌝ }
 {
     let hz = wholes[1];
     let frames = wholes[2];
+    let issue = wholes[3];
     if 4294967295 < hz {
         return Reading::Refused(23);
     }
     if 4294967295 < frames {
         return Reading::Refused(23);
     }
+    if 4294967295 < issue {
+        return Reading::Refused(23);
+    }
     let head = Head {
         hz: hz as u32,
+        gate: gate_at(issue as u32),
         frames: frames as u32,
     };
     inputs_at(wholes[0], head, microvolts)
