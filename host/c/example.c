@@ -1,5 +1,5 @@
 /* Renders a vowel of 480 samples twice, once with a broken control value, and shows what is finished; plucks strings; renders noise; counts
- * the turns of an Lfo; then reads a score, changes it and writes it back:
+ * the turns of an Lfo, and gives another a gate; then reads a score, changes it and writes it back:
  *
  *     tools/library ../target/gruttisol
  *     cc -I c c/example.c ../target/gruttisol/libgruttisol.a -o ../target/example && ../target/example
@@ -55,7 +55,7 @@ static void pluck(double sample_rate, double brightness)
     double floats[GRUTTISOL_KARPLUS_STRONG_FLOATS], out[GRUTTISOL_KARPLUS_STRONG_SAMPLES];
     uint64_t wholes[GRUTTISOL_KARPLUS_STRONG_WHOLES];
 
-    uint32_t answer = gruttisol_karplus_strong_new(sample_rate, floats, GRUTTISOL_KARPLUS_STRONG_FLOATS,
+    uint32_t answer = gruttisol_karplus_strong_new(sample_rate, GRUTTISOL_GATE_ISSUE_1, floats, GRUTTISOL_KARPLUS_STRONG_FLOATS,
                                                    wholes, GRUTTISOL_KARPLUS_STRONG_WHOLES,
                                                    line, GRUTTISOL_KARPLUS_STRONG_LINE);
     if (answer == 0)
@@ -102,7 +102,8 @@ static int step_on(double depth)
     uint64_t wholes[GRUTTISOL_LFO_WHOLES];
     uint32_t counts[GRUTTISOL_COUNTS] = {0}, marks[SAMPLES];
 
-    uint32_t refused = gruttisol_lfo_new(1000.0, floats, GRUTTISOL_LFO_FLOATS, wholes, GRUTTISOL_LFO_WHOLES);
+    uint32_t refused = gruttisol_lfo_new(1000.0, GRUTTISOL_GATE_ISSUE_1, floats, GRUTTISOL_LFO_FLOATS,
+                                         wholes, GRUTTISOL_LFO_WHOLES);
     if (refused == 0)
         refused = gruttisol_lfo_block(1.0, depth, 0.0, 1 << 5, floats, GRUTTISOL_LFO_FLOATS, wholes, GRUTTISOL_LFO_WHOLES,
                                       counts, GRUTTISOL_COUNTS, out, GRUTTISOL_LFO_SAMPLES * SAMPLES, marks, SAMPLES);
@@ -119,6 +120,22 @@ static int step_on(double depth)
                   counts[1]);
 }
 
+/* A gate of a three-volt controller, in the tenth tick: an Lfo that was made for issue 2 starts its turn anew, one for issue 1 doesn't. */
+static int reset_by(double gate, double threshold)
+{
+    double floats[GRUTTISOL_LFO_FLOATS], out[GRUTTISOL_LFO_SAMPLES] = {0};
+    uint64_t wholes[GRUTTISOL_LFO_WHOLES];
+
+    uint32_t answer = gruttisol_lfo_new(1000.0, threshold, floats, GRUTTISOL_LFO_FLOATS, wholes, GRUTTISOL_LFO_WHOLES);
+    if (answer)
+        return printf("a threshold of %g V: refused=%u\n", threshold, answer);
+    for (int i = 0; i < 10; i++)
+        answer = gruttisol_lfo_tick(1.0, 10.0, i < 9 ? 0.0 : gate, 1 << 2, floats, GRUTTISOL_LFO_FLOATS,
+                                    wholes, GRUTTISOL_LFO_WHOLES, out, GRUTTISOL_LFO_SAMPLES);
+    return printf("a gate of %g V over a threshold of %g V: %s, and the turn %s\n", gate, threshold, word(answer),
+                  out[2] == -5.0 ? "starts anew" : "goes on");
+}
+
 static void read_score(const char *score, size_t length)
 {
     double volts[GRUTTISOL_SCORE_FLOATS];
@@ -128,12 +145,13 @@ static void read_score(const char *score, size_t length)
     if (refused)
         printf("a score: refused=%u\n", refused);
     else
-        printf("a score: %s, %u Hz, frames=%u, first input %g V\n", said[0] == GRUTTISOL_OSC_LFO ? "lfo" : "another",
-               (unsigned)said[1], (unsigned)said[2], volts[0]);
+        printf("a score: %s, %u Hz, frames=%u, gate=%u, first input %g V\n", said[0] == GRUTTISOL_OSC_LFO ? "lfo" : "another",
+               (unsigned)said[1], (unsigned)said[2], (unsigned)said[3], volts[0]);
 }
 
-/* A score with another second input, an Lfo's depth. A text of GRUTTISOL_SCORE_LONGEST bytes has room for every score. */
-static int deepen(const char *score, size_t length, int32_t depth)
+/* A score with another second input, an Lfo's depth, and of another issue: 1, 2, or 0 for a text that doesn't say one. A text of
+ * GRUTTISOL_SCORE_LONGEST bytes has room for every score. */
+static int change(const char *score, size_t length, int32_t depth, uint64_t issue)
 {
     int32_t microvolts[GRUTTISOL_SCORE_MICROVOLTS];
     uint64_t said[GRUTTISOL_SCORE_WHOLES], written;
@@ -143,6 +161,7 @@ static int deepen(const char *score, size_t length, int32_t depth)
                                               said, GRUTTISOL_SCORE_WHOLES);
     if (refused == 0) {
         microvolts[1] = depth;
+        said[3] = issue;
         refused = gruttisol_score_write(microvolts, GRUTTISOL_SCORE_MICROVOLTS, said, GRUTTISOL_SCORE_WHOLES,
                                         text, GRUTTISOL_SCORE_LONGEST, &written, 1);
     }
@@ -166,11 +185,16 @@ int main(void)
     blow(1);
     step_on(10.0);
     step_on(0.0);
-    printf("a rate of 999.5 Hz: refused=%u\n", gruttisol_vco_new(999.5, floats, GRUTTISOL_VCO_FLOATS, wholes, GRUTTISOL_VCO_WHOLES));
+    reset_by(1.5, GRUTTISOL_GATE_ISSUE_1);
+    reset_by(1.5, GRUTTISOL_GATE_ISSUE_2);
+    reset_by(1.5, 2.0);
+    printf("a rate of 999.5 Hz: refused=%u\n", gruttisol_vco_new(999.5, GRUTTISOL_GATE_ISSUE_1, floats, GRUTTISOL_VCO_FLOATS,
+                                                                 wholes, GRUTTISOL_VCO_WHOLES));
     read_score(score, sizeof score - 1);
     read_score(score, sizeof score - 2); /* without its last line feed */
-    deepen(score, sizeof score - 1, -2500000);
-    deepen(score, sizeof score - 1, GRUTTISOL_SCORE_NAN);
-    deepen(score, sizeof score - 1, 10000001);
+    change(score, sizeof score - 1, -2500000, 0);
+    change(score, sizeof score - 1, GRUTTISOL_SCORE_NAN, 2);
+    change(score, sizeof score - 1, 10000001, 1);
+    change(score, sizeof score - 1, 0, 3);
     return 0;
 }

@@ -24,9 +24,20 @@
  * room for all of its ticks it is refused by 7, though so many single ticks would go on until the tally is full.
  *
  * What a host must change that was written for an earlier header:
- *   - nothing for scores that can be written now: every older call, length and number is what it was. Three numbers are new, 24, 54 and 55, by
- *     which gruttisol_score_values and gruttisol_score_write alone answer. A HOST THAT SAVED SCORES BY VOLTS AND A TEXT OF ITS OWN MUST GO BY
- *     MICROVOLTS, by these two calls: not every score comes back from volts that are multiplied and cut to whole numbers;
+ *   - FOUR STATES HAVE ONE FLOAT MORE, the threshold that a gate must rise above, right after what the gate was before: floats[3] of a
+ *     Vco, Lfo and Wavetable, floats[5] of a string. gruttisol_vco_new, gruttisol_lfo_new, gruttisol_wavetable_new and
+ *     gruttisol_karplus_strong_new TAKE IT AFTER THE RATE: GRUTTISOL_GATE_ISSUE_1, by which every sample, mark and other cell is what it
+ *     was, or GRUTTISOL_GATE_ISSUE_2. Floats of the old lengths are refused by 50, so a host that lends 4, or of a string 6, notices; A
+ *     HOST THAT TAKES ITS LENGTHS FROM THE NAMES BELOW ISN'T REFUSED, and must look for cells that it addresses by number: the memo's
+ *     frequency is one further, floats[4], of a string floats[6]. A STORED STATE OF THE OLD LENGTH MUST BE GIVEN THE THRESHOLD IN
+ *     BETWEEN, 2.5. Refusal 2 is also that of a threshold which is neither of the two;
+ *   - A SCORE HAS FOUR WHOLES: the last is the issue that its line of gate says, 0 where there is no such line. Three are refused by 51,
+ *     by gruttisol_score_read, gruttisol_score_values and gruttisol_score_write alike. A HOST THAT PLAYS SCORES MUST MAKE VCO AND LFO
+ *     WITH THE ISSUE'S THRESHOLD, for 0 that of issue 1: nothing else tells it that a score is for another issue. A score's text may
+ *     have GRUTTISOL_SCORE_LONGEST bytes, now 117;
+ *   - scores can be written, for which no older call changed. Three numbers are new, 24, 54 and 55, by which gruttisol_score_values and
+ *     gruttisol_score_write alone answer. A HOST THAT SAVED SCORES BY VOLTS AND A TEXT OF ITS OWN MUST GO BY MICROVOLTS, by these two
+ *     calls: not every score comes back from volts that are multiplied and cut to whole numbers;
  *   - AN LFO HAS SIX SAMPLES: eoc, a pulse at the end of each turn, is the last. A tick is lent six, and a block six for each mark, where
  *     an Lfo's tick stands every six samples and no longer every five. Five are refused by 52, so a host that lends five notices; A HOST
  *     THAT TAKES ITS LENGTHS FROM GRUTTISOL_LFO_SAMPLES ISN'T REFUSED, and must look for strides of 5 of its own. BIT 5 OF AN LFO'S
@@ -66,7 +77,7 @@ enum gruttisol_mark {
 
 enum gruttisol_refusal {
     GRUTTISOL_BAD_RATE = 1,      /* a rate not from 1,000 to 192,000 */
-    GRUTTISOL_BAD_STATE = 2,     /* a state that is no oscillator's */
+    GRUTTISOL_BAD_STATE = 2,     /* a state that is no oscillator's, or a threshold that is no issue's */
     GRUTTISOL_SHORT_LINE = 3,    /* a line too short for its rate */
     GRUTTISOL_BAD_BANK = 4,      /* a bank, part or table of another size or number */
     GRUTTISOL_FEW_DRAWS = 5,     /* too few draws for a trigger or for noise */
@@ -85,12 +96,18 @@ enum gruttisol_refusal {
 /* Takes the number that a tick answered; one that is no gruttisol_mark is a refused tick, which counts nowhere. */
 uint32_t gruttisol_tally_take(uint32_t code, uint32_t *counts, size_t counts_len);
 
+/* ---- gates: volts that one must rise above to be taken, by the issue of the bank of presets that is played. A Vco, Lfo, Wavetable or
+ *      string is made with one of the two and keeps it, through reset and rate change too; any other number is refused by 2 */
+#define GRUTTISOL_GATE_ISSUE_1 2.5
+#define GRUTTISOL_GATE_ISSUE_2 1.0
+
 /* ---- Vco: samples sin, tri, saw, sqr; bit i of `wanted` asks for the i-th, and one that isn't wanted reads 0.0 */
-#define GRUTTISOL_VCO_FLOATS 4
+#define GRUTTISOL_VCO_FLOATS 5
 #define GRUTTISOL_VCO_WHOLES 4
 #define GRUTTISOL_VCO_SAMPLES 4
 
-uint32_t gruttisol_vco_new(double sample_rate, double *floats, size_t floats_len, uint64_t *wholes, size_t wholes_len);
+uint32_t gruttisol_vco_new(double sample_rate, double threshold, double *floats, size_t floats_len,
+                           uint64_t *wholes, size_t wholes_len);
 uint32_t gruttisol_vco_tick(double voct, double fm, double pw, double sync, double fm_lin, uint32_t wanted,
                             double *floats, size_t floats_len, uint64_t *wholes, size_t wholes_len,
                             double *samples, size_t samples_len);
@@ -105,11 +122,12 @@ uint32_t gruttisol_vco_set_sample_rate(double sample_rate, double *floats, size_
 /* ---- Lfo: samples sin, tri, saw, sqr, sin_uni, eoc; `wanted` as above. eoc, the end of the cycle, is 5.0 in the last tick of a turn and
  *      0.0 in all others, whatever depth is: whether phase plus increment passed a whole turn, as gruttisol_wrap_turned has it. A tick that
  *      takes its reset begins at phase 0, so a turn that is cut off has no pulse; nor has a lost tick. */
-#define GRUTTISOL_LFO_FLOATS 4
+#define GRUTTISOL_LFO_FLOATS 5
 #define GRUTTISOL_LFO_WHOLES 2
 #define GRUTTISOL_LFO_SAMPLES 6
 
-uint32_t gruttisol_lfo_new(double sample_rate, double *floats, size_t floats_len, uint64_t *wholes, size_t wholes_len);
+uint32_t gruttisol_lfo_new(double sample_rate, double threshold, double *floats, size_t floats_len,
+                           uint64_t *wholes, size_t wholes_len);
 uint32_t gruttisol_lfo_tick(double rate, double depth, double reset, uint32_t wanted,
                             double *floats, size_t floats_len, uint64_t *wholes, size_t wholes_len,
                             double *samples, size_t samples_len);
@@ -140,7 +158,7 @@ uint32_t gruttisol_supersaw_set_sample_rate(double sample_rate, double *floats, 
                                             uint64_t *wholes, size_t wholes_len);
 
 /* ---- Wavetable: a sample out, of a bank that is lent to each tick: 8 tables, of each 8 levels, of each 256 numbers */
-#define GRUTTISOL_WAVETABLE_FLOATS 4
+#define GRUTTISOL_WAVETABLE_FLOATS 5
 #define GRUTTISOL_WAVETABLE_WHOLES 2
 #define GRUTTISOL_WAVETABLE_SAMPLES 1
 #define GRUTTISOL_BANK 16384
@@ -150,7 +168,7 @@ uint32_t gruttisol_supersaw_set_sample_rate(double sample_rate, double *floats, 
 uint32_t gruttisol_wavetable_fill_bank(double *bank, size_t bank_len);
 uint32_t gruttisol_wavetable_fill_table(uint64_t table, double *part, size_t part_len);
 
-uint32_t gruttisol_wavetable_new(double sample_rate, double *floats, size_t floats_len,
+uint32_t gruttisol_wavetable_new(double sample_rate, double threshold, double *floats, size_t floats_len,
                                  uint64_t *wholes, size_t wholes_len);
 uint32_t gruttisol_wavetable_tick(double v_oct, double table, double morph, double sync,
                                   double *floats, size_t floats_len, uint64_t *wholes, size_t wholes_len,
@@ -186,7 +204,7 @@ uint32_t gruttisol_formant_osc_set_sample_rate(double sample_rate, double *float
  *      cells at least; a rate change one that is enough for the new rate. Another line will do if the string's cells, the first
  *      wholes[0] of them, are copied to it. A tick that takes its trigger reads as many draws as the string gets cells, each below
  *      2^53, which are fewer than the line has. */
-#define GRUTTISOL_KARPLUS_STRONG_FLOATS 6
+#define GRUTTISOL_KARPLUS_STRONG_FLOATS 7
 #define GRUTTISOL_KARPLUS_STRONG_WHOLES 4
 #define GRUTTISOL_KARPLUS_STRONG_SAMPLES 1
 #define GRUTTISOL_KARPLUS_STRONG_LINE 9612  /* cells that are enough at every rate */
@@ -195,7 +213,7 @@ uint32_t gruttisol_formant_osc_set_sample_rate(double sample_rate, double *float
 /* The cells that a line needs at a sample rate: sample_rate / 20 truncated, and 12. Of a rate that is refused by 1 it is 0. */
 uint64_t gruttisol_karplus_strong_cells(double sample_rate);
 
-uint32_t gruttisol_karplus_strong_new(double sample_rate, double *floats, size_t floats_len,
+uint32_t gruttisol_karplus_strong_new(double sample_rate, double threshold, double *floats, size_t floats_len,
                                       uint64_t *wholes, size_t wholes_len, double *line, size_t line_len);
 uint32_t gruttisol_karplus_strong_tick(double voct, double trigger, double damping, double brightness, double stretch,
                                        double *floats, size_t floats_len, uint64_t *wholes, size_t wholes_len,
@@ -245,9 +263,10 @@ uint32_t gruttisol_noise_generator_set_sample_rate(double sample_rate, double *f
                                                    uint64_t *wholes, size_t wholes_len);
 
 /* ---- scores: what a text of at most GRUTTISOL_SCORE_TEXT bytes says. floats are the volts of the oscillator's inputs in port order, 0.0 past its
- *      last one; wholes are a gruttisol_osc, samples a second and frames. */
+ *      last one; wholes are a gruttisol_osc, samples a second, frames and the issue that the line of gate says, 0 where there is none: then it
+ *      plays as issue 1. */
 #define GRUTTISOL_SCORE_FLOATS 5
-#define GRUTTISOL_SCORE_WHOLES 3
+#define GRUTTISOL_SCORE_WHOLES 4
 #define GRUTTISOL_SCORE_TEXT 1024
 
 enum gruttisol_osc {
@@ -269,9 +288,9 @@ uint32_t gruttisol_score_values(const uint8_t *text, size_t text_len, int32_t *m
                                 uint64_t *wholes, size_t wholes_len);
 
 /* Writes the one text that is read as these values, and its length to written, which is one cell; bytes past it stay. Values that no text
- * is read as are refused by 23: another osc, a number out of its range, a cell past the last input that isn't 0. Last comes 24, which a
+ * is read as are refused by 23: another osc or issue, a number out of its range, a cell past the last input that isn't 0. Last comes 24, which a
  * text of GRUTTISOL_SCORE_LONGEST bytes never gets. */
-#define GRUTTISOL_SCORE_LONGEST 110
+#define GRUTTISOL_SCORE_LONGEST 117
 
 uint32_t gruttisol_score_write(const int32_t *microvolts, size_t microvolts_len, const uint64_t *wholes, size_t wholes_len,
                                uint8_t *text, size_t text_len, uint64_t *written, size_t written_len);

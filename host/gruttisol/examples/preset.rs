@@ -48,14 +48,14 @@ fn main() -> ExitCode {
 
 /// The loudest finite sample of the first output, and the tally of all frames.
 pub fn render(score: &Score) -> Result<(f64, Tally), Refused> {
-    let rate = f64::from(score.hz());
+    let (rate, threshold) = (f64::from(score.hz()), score.threshold());
     match &score.controls() {
         Controls::Vco(c) => {
-            let mut vco = Vco::new(rate)?;
+            let mut vco = Vco::new(rate, threshold)?;
             blocks(score, 4, |tally, samples, marks| vco.block(c, Vco::WANT_ALL, tally, samples, marks))
         }
         Controls::Lfo(c) => {
-            let mut lfo = Lfo::new(rate)?;
+            let mut lfo = Lfo::new(rate, threshold)?;
             blocks(score, 6, |tally, samples, marks| lfo.block(c, Lfo::WANT_ALL, tally, samples, marks))
         }
         Controls::Supersaw(c) => {

@@ -2,8 +2,10 @@
 //!
 //!     cargo run --offline --release -p gruttisol --example save -- ../presets/choir.score vowel 250000 target/mine.score
 //!
-//! KEY is `hz`, `frames` or an input of the preset's oscillator, VALUE a whole number, which for an input is microvolts, or `nan`. OUT may
-//! be the preset itself. What stood there stays until the new text is written as a whole, and for good where anything fails.
+//! KEY is `hz`, `gate`, `frames` or an input of the preset's oscillator, VALUE a whole number, which for an input is microvolts, or `nan`. A
+//! `gate` is 1 or 2, or `none`, which takes its line away. OUT may be the preset itself. What stood there stays until the new text is written
+//! as a whole, and for good where anything fails.
+use gruttisol::gate::Issue;
 use gruttisol::score::{Control, Inputs, Score};
 use std::error::Error;
 use std::ffi::OsString;
@@ -37,15 +39,25 @@ pub fn run(preset: &Path, key: &str, value: &str, out: &Path) -> Result<(), Stri
 
 /// The score with another value.
 fn changed(score: &Score, key: &str, value: &str) -> Result<Score, Box<dyn Error>> {
-    let (mut hz, mut frames, mut inputs) = (score.hz(), score.frames(), score.inputs());
+    let (mut hz, mut gate, mut frames, mut inputs) = (score.hz(), score.gate(), score.frames(), score.inputs());
     match (key, input(&mut inputs, key)) {
         ("hz", _) => hz = value.parse()?,
+        ("gate", _) => gate = issue(value)?,
         ("frames", _) => frames = value.parse()?,
         (_, Some(control)) if value == "nan" => *control = Control::Nan,
         (_, Some(control)) => *control = Control::Microvolts(value.parse()?),
-        (_, None) => return Err("neither hz, frames nor an input of this oscillator".into()),
+        (_, None) => return Err("neither hz, gate, frames nor an input of this oscillator".into()),
     }
-    Ok(Score::new(hz, frames, inputs)?)
+    Ok(Score::new(hz, gate, frames, inputs)?)
+}
+
+/// What a line of `gate` says, or that there is to be none.
+fn issue(value: &str) -> Result<Option<Issue>, Box<dyn Error>> {
+    if value == "none" {
+        return Ok(None);
+    }
+    let issue = Issue::of_number(value.parse()?).ok_or("neither issue 1 nor 2")?;
+    Ok(Some(issue))
 }
 
 /// The input of this key, if the oscillator has one.

@@ -9,7 +9,7 @@ impl fmt::Display for Refused {
     fn fmt(&self, f: &mut fmt::Formatter<'_>) -> fmt::Result {
         let why = match self.0 {
             1 => "the sample rate isn't from 1,000 to 192,000",
-            2 => "the state is no oscillator's",
+            2 => "the state is no oscillator's, or the threshold no issue's",
             3 => "the lent line is too short",
             4 => "the bank isn't of 16,384 numbers, or the part or table isn't one of it",
             5 => "too few draws for a trigger or for noise",

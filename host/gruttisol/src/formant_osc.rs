@@ -26,7 +26,7 @@ oscillator! {
     /// Floats: phase, vibrato phase, two for each of the five resonators, sample rate, memo's frequency, and three
     /// coefficients for each resonator. Wholes: the frequency's key and whether it holds, then the coefficients' three
     /// keys and whether they hold.
-    FormantOsc: [f64; 29], [u64; 6], formant_osc_new, formant_osc_reset, formant_osc_set_sample_rate
+    FormantOsc: [f64; 29], [u64; 6], formant_osc_new(), formant_osc_reset, formant_osc_set_sample_rate
 }
 
 impl FormantOsc {

@@ -11,7 +11,7 @@ use crate::tally::Tally;
 pub struct Controls {
     /// Pitch in volts per octave, 0 being middle C.
     pub voct: f64,
-    /// A rise above 2.5 V plucks the string.
+    /// A rise above the threshold plucks the string.
     pub trigger: f64,
     /// From 0 to 1, a string that rings longer.
     pub damping: f64,
@@ -27,13 +27,13 @@ pub struct Volts {
     pub out: f64,
 }
 
-/// Floats: sample rate, lowpass, allpass input, allpass output, previous trigger, memo's frequency. Wholes: length, write
-/// position, the memo's key, and whether it holds.
+/// Floats: sample rate, lowpass, allpass input, allpass output, previous trigger, threshold, memo's frequency. Wholes: length,
+/// write position, the memo's key, and whether it holds.
 ///
 /// Every call is lent the line as the last call left it.
 #[derive(Clone, Copy, Debug)]
 pub struct KarplusStrong {
-    floats: [f64; 6],
+    floats: [f64; 7],
     wholes: [u64; 4],
 }
 
@@ -43,22 +43,23 @@ impl KarplusStrong {
         karplus_strong_cells(sample_rate) as usize
     }
 
-    /// A new one, its line zeroed; refused by 1 and 3.
-    pub fn new(sample_rate: f64, line: &mut [f64]) -> Result<Self, Refused> {
-        let mut made = KarplusStrong { floats: [0.0; 6], wholes: [0; 4] };
-        done(karplus_strong_new(sample_rate, &mut made.floats, &mut made.wholes, line))?;
+    /// A new one, its line zeroed. Its trigger must rise above `threshold`, volts of an issue as `gate` has them, which a reset and a
+    /// rate change keep. Refused by 1, by 2 where the threshold is no issue's, and by 3.
+    pub fn new(sample_rate: f64, threshold: f64, line: &mut [f64]) -> Result<Self, Refused> {
+        let mut made = KarplusStrong { floats: [0.0; 7], wholes: [0; 4] };
+        done(karplus_strong_new(sample_rate, threshold, &mut made.floats, &mut made.wholes, line))?;
         Ok(made)
     }
 
     /// The state as it stands.
-    pub fn parts(&self) -> (&[f64; 6], &[u64; 4]) {
+    pub fn parts(&self) -> (&[f64; 7], &[u64; 4]) {
         (&self.floats, &self.wholes)
     }
 
     /// A state of the caller's making. Calls refuse it by 1 where its sample rate isn't one and by 2 where its length or write
-    /// position is out of range or the memo's frequency is NaN; all else of it they take as it stands, as a memo that doesn't
-    /// fit its key.
-    pub fn of_parts(floats: [f64; 6], wholes: [u64; 4]) -> Self {
+    /// position is out of range, its threshold is no issue's or the memo's frequency is NaN; all else of it they take as it stands,
+    /// as a memo that doesn't fit its key.
+    pub fn of_parts(floats: [f64; 7], wholes: [u64; 4]) -> Self {
         KarplusStrong { floats, wholes }
     }
 
@@ -83,7 +84,7 @@ impl KarplusStrong {
         ticked(code, Volts { out })
     }
 
-    /// Silent, its length kept; refused by 1, 2 and 3.
+    /// Silent, its length and threshold kept; refused by 1, 2 and 3.
     pub fn reset(&mut self, line: &mut [f64]) -> Result<(), Refused> {
         done(karplus_strong_reset(&mut self.floats, &mut self.wholes, line))
     }
@@ -127,14 +128,15 @@ impl KarplusStrong {
 #[cfg(test)]
 mod tests {
     use super::*;
+    use crate::gate::ISSUE_1;
 
     #[test]
     fn so_many_cells_are_enough_and_fewer_are_not() {
         for rate in [1000.0, 8000.0, 44100.0, 48000.0, 191999.9, 192000.0] {
             let cells = KarplusStrong::cells(rate);
             assert_eq!(cells, (rate / 20.0) as usize + 12);
-            assert!(KarplusStrong::new(rate, &mut vec![0.0; cells]).is_ok());
-            assert_eq!(KarplusStrong::new(rate, &mut vec![0.0; cells - 1]).err(), Some(Refused(3)));
+            assert!(KarplusStrong::new(rate, ISSUE_1, &mut vec![0.0; cells]).is_ok());
+            assert_eq!(KarplusStrong::new(rate, ISSUE_1, &mut vec![0.0; cells - 1]).err(), Some(Refused(3)));
         }
     }
 
@@ -142,7 +144,7 @@ mod tests {
     fn a_rate_that_is_refused_has_no_cells() {
         for rate in [0.0, -1.0, 999.9, 192000.1, f64::MAX, f64::INFINITY, f64::NEG_INFINITY, f64::NAN] {
             assert_eq!(KarplusStrong::cells(rate), 0);
-            assert_eq!(KarplusStrong::new(rate, &mut vec![0.0; 10000]).err(), Some(Refused(1)));
+            assert_eq!(KarplusStrong::new(rate, ISSUE_1, &mut vec![0.0; 10000]).err(), Some(Refused(1)));
         }
     }
 }

@@ -27,13 +27,13 @@ macro_rules! lent {
 }
 
 lent! {
-    fn vco_new(sample_rate: f64; floats: mut f64, wholes: mut u64);
+    fn vco_new(sample_rate: f64, threshold: f64; floats: mut f64, wholes: mut u64);
     fn vco_tick(voct: f64, fm: f64, pw: f64, sync: f64, fm_lin: f64, wanted: u32; floats: mut f64, wholes: mut u64, samples: mut f64);
     fn vco_block(voct: f64, fm: f64, pw: f64, sync: f64, fm_lin: f64, wanted: u32; floats: mut f64, wholes: mut u64, counts: mut u32, samples: mut f64, marks: mut u32);
     fn vco_reset(; floats: mut f64, wholes: mut u64);
     fn vco_set_sample_rate(sample_rate: f64; floats: mut f64, wholes: mut u64);
 
-    fn lfo_new(sample_rate: f64; floats: mut f64, wholes: mut u64);
+    fn lfo_new(sample_rate: f64, threshold: f64; floats: mut f64, wholes: mut u64);
     fn lfo_tick(rate: f64, depth: f64, reset: f64, wanted: u32; floats: mut f64, wholes: mut u64, samples: mut f64);
     fn lfo_block(rate: f64, depth: f64, reset: f64, wanted: u32; floats: mut f64, wholes: mut u64, counts: mut u32, samples: mut f64, marks: mut u32);
     fn lfo_reset(; floats: mut f64, wholes: mut u64);
@@ -45,7 +45,7 @@ lent! {
     fn supersaw_reset(; floats: mut f64, wholes: mut u64);
     fn supersaw_set_sample_rate(sample_rate: f64; floats: mut f64, wholes: mut u64);
 
-    fn wavetable_new(sample_rate: f64; floats: mut f64, wholes: mut u64);
+    fn wavetable_new(sample_rate: f64, threshold: f64; floats: mut f64, wholes: mut u64);
     fn wavetable_tick(v_oct: f64, table: f64, morph: f64, sync: f64; floats: mut f64, wholes: mut u64, bank: const f64, samples: mut f64);
     fn wavetable_block(v_oct: f64, table: f64, morph: f64, sync: f64; floats: mut f64, wholes: mut u64, bank: const f64, counts: mut u32, samples: mut f64, marks: mut u32);
     fn wavetable_reset(; floats: mut f64, wholes: mut u64);
@@ -59,7 +59,7 @@ lent! {
     fn formant_osc_reset(; floats: mut f64, wholes: mut u64);
     fn formant_osc_set_sample_rate(sample_rate: f64; floats: mut f64, wholes: mut u64);
 
-    fn karplus_strong_new(sample_rate: f64; floats: mut f64, wholes: mut u64, line: mut f64);
+    fn karplus_strong_new(sample_rate: f64, threshold: f64; floats: mut f64, wholes: mut u64, line: mut f64);
     fn karplus_strong_tick(voct: f64, trigger: f64, damping: f64, brightness: f64, stretch: f64; floats: mut f64, wholes: mut u64, line: mut f64, draws: const u64, samples: mut f64);
     fn karplus_strong_block(voct: f64, trigger: f64, damping: f64, brightness: f64, stretch: f64; floats: mut f64, wholes: mut u64, line: mut f64, draws: const u64, counts: mut u32, samples: mut f64, marks: mut u32);
     fn karplus_strong_reset(; floats: mut f64, wholes: mut u64, line: mut f64);
@@ -82,9 +82,14 @@ lent! {
     fn score_write(; microvolts: const i32, wholes: const u64, text: mut u8, written: mut u64);
 }
 
-/// An oscillator whose state alone is lent to making, reset and rate change.
+/// An oscillator whose state alone is lent to making, reset and rate change. One that has a gate is made with a threshold too, which
+/// stands in brackets behind the function that makes it.
 macro_rules! oscillator {
-    ($(#[$doc:meta])* $name:ident: [f64; $floats:literal], [u64; $wholes:literal], $new:ident, $reset:ident, $set_sample_rate:ident) => {
+    (
+        $(#[$doc:meta])*
+        $name:ident: [f64; $floats:literal], [u64; $wholes:literal],
+        $new:ident($($threshold:ident)?), $reset:ident, $set_sample_rate:ident
+    ) => {
         $(#[$doc])*
         #[derive(Clone, Copy, Debug)]
         pub struct $name {
@@ -94,9 +99,13 @@ macro_rules! oscillator {
 
         impl $name {
             /// A new one; refused by 1.
-            pub fn new(sample_rate: f64) -> Result<Self, $crate::answer::Refused> {
+            $(#[doc = concat!(
+                "Its gate must rise above `", stringify!($threshold), "`, volts of an issue as `gate` has them, which a reset and a ",
+                "rate change keep; where it is no issue's, refused by 2."
+            )])?
+            pub fn new(sample_rate: f64 $(, $threshold: f64)?) -> Result<Self, $crate::answer::Refused> {
                 let mut made = $name { floats: [0.0; $floats], wholes: [0; $wholes] };
-                $crate::answer::done($crate::lent::$new(sample_rate, &mut made.floats, &mut made.wholes))?;
+                $crate::answer::done($crate::lent::$new(sample_rate, $($threshold,)? &mut made.floats, &mut made.wholes))?;
                 Ok(made)
             }
 
@@ -106,12 +115,13 @@ macro_rules! oscillator {
             }
 
             /// A state of the caller's making. Calls refuse it by 1 where its sample rate isn't one and by 2 where a phase isn't
-            /// from 0 to below 1; all else of it they take as it stands, as a memo that doesn't fit its key.
+            /// from 0 to below 1 or a threshold is no issue's; all else of it they take as it stands, as a memo that doesn't fit
+            /// its key.
             pub fn of_parts(floats: [f64; $floats], wholes: [u64; $wholes]) -> Self {
                 $name { floats, wholes }
             }
 
-            /// Back to the start, memos kept; refused by 1 and 2.
+            /// Back to the start, memos and a threshold kept; refused by 1 and 2.
             pub fn reset(&mut self) -> Result<(), $crate::answer::Refused> {
                 $crate::answer::done($crate::lent::$reset(&mut self.floats, &mut self.wholes))
             }
@@ -129,10 +139,13 @@ macro_rules! oscillator {
 mod tests {
     use super::*;
     use crate::answer::Mark;
+    use crate::gate::{ISSUE_1, ISSUE_2};
     use crate::tally::COUNTS;
 
     const UNTOUCHED: u64 = 0x7ff8_0bad_0bad_0bad;
+    const RATE: f64 = 48000.0;
     const NO_RATE: f64 = 0.0;
+    const NO_THRESHOLDS: [f64; 4] = [f64::NAN, -0.0, 1.5, ISSUE_1.next_up()];
 
     /// The right length of a slice and wrong ones; of none, which has the length 0, that alone.
     fn lengths(right: usize) -> Vec<usize> {
@@ -173,6 +186,17 @@ mod tests {
     /// A call that is refused by 1, since neither the state's rate nor one that is given is a rate.
     fn refuses(lengths: [usize; 3], call: impl Fn(&mut [f64], &mut [u64], &mut [f64]) -> u32) {
         refuses_by(1, lengths, call);
+    }
+
+    /// One that makes an oscillator with a gate: lengths come first, then 1, whatever the threshold is, then 2 for one that is no
+    /// issue's.
+    fn refuses_thresholds(lengths: [usize; 3], new: impl Fn(f64, f64, &mut [f64], &mut [u64]) -> u32) {
+        for threshold in [ISSUE_1, ISSUE_2].into_iter().chain(NO_THRESHOLDS) {
+            refuses(lengths, |f, w, _| new(NO_RATE, threshold, f, w));
+        }
+        for threshold in NO_THRESHOLDS {
+            refuses_by(2, lengths, |f, w, _| new(RATE, threshold, f, w));
+        }
     }
 
     /// The same of a block, whose counts are tried too, and whose samples must be so many for each mark: then by 50, 51, 53
@@ -219,30 +243,30 @@ mod tests {
 
     #[test]
     fn blocks() {
-        refuses_block([4, 4, 4], |f, w, k, s, m| vco_block(0.0, 0.0, 0.5, 0.0, 0.0, u32::MAX, f, w, k, s, m));
-        refuses_block([4, 2, 6], |f, w, k, s, m| lfo_block(0.5, 10.0, 0.0, u32::MAX, f, w, k, s, m));
+        refuses_block([5, 4, 4], |f, w, k, s, m| vco_block(0.0, 0.0, 0.5, 0.0, 0.0, u32::MAX, f, w, k, s, m));
+        refuses_block([5, 2, 6], |f, w, k, s, m| lfo_block(0.5, 10.0, 0.0, u32::MAX, f, w, k, s, m));
         refuses_block([10, 2, 2], |f, w, k, s, m| supersaw_block(0.0, 0.5, 0.5, f, w, k, s, m));
-        refuses_block([4, 2, 1], |f, w, k, s, m| wavetable_block(0.0, 0.0, 0.0, 0.0, f, w, &[], k, s, m));
+        refuses_block([5, 2, 1], |f, w, k, s, m| wavetable_block(0.0, 0.0, 0.0, 0.0, f, w, &[], k, s, m));
         refuses_block([29, 6, 1], |f, w, k, s, m| formant_osc_block(0.0, 0.0, 0.0, 0.0, f, w, k, s, m));
-        refuses_block([6, 4, 1], |f, w, k, s, m| {
+        refuses_block([7, 4, 1], |f, w, k, s, m| {
             karplus_strong_block(0.0, 5.0, 0.5, 0.5, 0.0, f, w, &mut [], &[], k, s, m)
         });
     }
 
     #[test]
     fn vco() {
-        refuses([4, 4, 4], |f, w, s| vco_tick(0.0, 0.0, 0.5, 0.0, 0.0, u32::MAX, f, w, s));
-        refuses([4, 4, 0], |f, w, _| vco_new(NO_RATE, f, w));
-        refuses([4, 4, 0], |f, w, _| vco_reset(f, w));
-        refuses([4, 4, 0], |f, w, _| vco_set_sample_rate(48000.0, f, w));
+        refuses([5, 4, 4], |f, w, s| vco_tick(0.0, 0.0, 0.5, 0.0, 0.0, u32::MAX, f, w, s));
+        refuses_thresholds([5, 4, 0], vco_new);
+        refuses([5, 4, 0], |f, w, _| vco_reset(f, w));
+        refuses([5, 4, 0], |f, w, _| vco_set_sample_rate(RATE, f, w));
     }
 
     #[test]
     fn lfo() {
-        refuses([4, 2, 6], |f, w, s| lfo_tick(0.5, 10.0, 0.0, u32::MAX, f, w, s));
-        refuses([4, 2, 0], |f, w, _| lfo_new(NO_RATE, f, w));
-        refuses([4, 2, 0], |f, w, _| lfo_reset(f, w));
-        refuses([4, 2, 0], |f, w, _| lfo_set_sample_rate(48000.0, f, w));
+        refuses([5, 2, 6], |f, w, s| lfo_tick(0.5, 10.0, 0.0, u32::MAX, f, w, s));
+        refuses_thresholds([5, 2, 0], lfo_new);
+        refuses([5, 2, 0], |f, w, _| lfo_reset(f, w));
+        refuses([5, 2, 0], |f, w, _| lfo_set_sample_rate(RATE, f, w));
     }
 
     #[test]
@@ -250,15 +274,15 @@ mod tests {
         refuses([10, 2, 2], |f, w, s| supersaw_tick(0.0, 0.5, 0.5, f, w, s));
         refuses([10, 2, 0], |f, w, _| supersaw_new(NO_RATE, f, w));
         refuses([10, 2, 0], |f, w, _| supersaw_reset(f, w));
-        refuses([10, 2, 0], |f, w, _| supersaw_set_sample_rate(48000.0, f, w));
+        refuses([10, 2, 0], |f, w, _| supersaw_set_sample_rate(RATE, f, w));
     }
 
     #[test]
     fn wavetable() {
-        refuses([4, 2, 1], |f, w, s| wavetable_tick(0.0, 0.0, 0.0, 0.0, f, w, &[], s));
-        refuses([4, 2, 0], |f, w, _| wavetable_new(NO_RATE, f, w));
-        refuses([4, 2, 0], |f, w, _| wavetable_reset(f, w));
-        refuses([4, 2, 0], |f, w, _| wavetable_set_sample_rate(48000.0, f, w));
+        refuses([5, 2, 1], |f, w, s| wavetable_tick(0.0, 0.0, 0.0, 0.0, f, w, &[], s));
+        refuses_thresholds([5, 2, 0], wavetable_new);
+        refuses([5, 2, 0], |f, w, _| wavetable_reset(f, w));
+        refuses([5, 2, 0], |f, w, _| wavetable_set_sample_rate(RATE, f, w));
     }
 
     #[test]
@@ -266,15 +290,18 @@ mod tests {
         refuses([29, 6, 1], |f, w, s| formant_osc_tick(0.0, 0.0, 0.0, 0.0, f, w, s));
         refuses([29, 6, 0], |f, w, _| formant_osc_new(NO_RATE, f, w));
         refuses([29, 6, 0], |f, w, _| formant_osc_reset(f, w));
-        refuses([29, 6, 0], |f, w, _| formant_osc_set_sample_rate(48000.0, f, w));
+        refuses([29, 6, 0], |f, w, _| formant_osc_set_sample_rate(RATE, f, w));
     }
 
     #[test]
     fn karplus_strong() {
-        refuses([6, 4, 1], |f, w, s| karplus_strong_tick(0.0, 5.0, 0.5, 0.5, 0.0, f, w, &mut [], &[], s));
-        refuses([6, 4, 0], |f, w, _| karplus_strong_new(NO_RATE, f, w, &mut []));
-        refuses([6, 4, 0], |f, w, _| karplus_strong_reset(f, w, &mut []));
-        refuses([6, 4, 0], |f, w, _| karplus_strong_set_sample_rate(48000.0, f, w, &mut []));
+        refuses([7, 4, 1], |f, w, s| karplus_strong_tick(0.0, 5.0, 0.5, 0.5, 0.0, f, w, &mut [], &[], s));
+        refuses_thresholds([7, 4, 0], |rate, threshold, f, w| karplus_strong_new(rate, threshold, f, w, &mut []));
+        for threshold in [ISSUE_1, ISSUE_2] {
+            refuses_by(3, [7, 4, 0], |f, w, _| karplus_strong_new(RATE, threshold, f, w, &mut []));
+        }
+        refuses([7, 4, 0], |f, w, _| karplus_strong_reset(f, w, &mut []));
+        refuses([7, 4, 0], |f, w, _| karplus_strong_set_sample_rate(RATE, f, w, &mut []));
     }
 
     #[test]
@@ -327,27 +354,54 @@ mod tests {
     }
 
     /// Texts that are no scores, and what they are refused by.
-    fn no_scores() -> [(u32, String); 4] {
-        [(20, "x".repeat(1025)), (21, "osc=\n".into()), (22, "osc=lfo\nhz=x\n".into()), (23, "osc=lfo\nhz=1\n".into())]
+    fn no_scores() -> [(u32, String); 6] {
+        let after_hz = |line: &str| format!("osc=lfo\nhz=1000\n{line}\n");
+        [
+            (20, "x".repeat(1025)),
+            (21, "osc=\n".into()),
+            (22, "osc=lfo\nhz=x\n".into()),
+            (23, "osc=lfo\nhz=1\n".into()),
+            (22, after_hz("gate=nan")),
+            (23, after_hz("gate=3")),
+        ]
     }
 
     #[test]
     fn score() {
         for (number, text) in no_scores() {
-            refuses_by(number, [5, 3, 0], |f, w, _| score_read(text.as_bytes(), f, w));
+            refuses_by(number, [5, 4, 0], |f, w, _| score_read(text.as_bytes(), f, w));
         }
     }
+
+    /// The lines of `gate` that a score may have, with the boundary's numbers of them; first of all none.
+    const GATES: [(&str, u64); 3] = [("", 0), ("gate=1\n", 1), ("gate=2\n", 2)];
 
     /// Cells past the last input are written too.
     #[test]
     fn score_that_is_read() {
-        let (mut floats, mut wholes) = ([f64::NAN; 5], [UNTOUCHED; 3]);
-        let text = b"osc=lfo\nhz=48000\nframes=7\nrate=500000\ndepth=-1\nreset=nan\n";
-        assert_eq!(score_read(text, &mut floats, &mut wholes), 0);
-        assert!(floats[2].is_nan());
-        floats[2] = 1.0;
-        assert_eq!(floats.map(f64::to_bits), [0.5, -1e-6, 1.0, 0.0, 0.0].map(f64::to_bits));
-        assert_eq!(wholes, [1, 48000, 7]);
+        for (line, gate) in GATES {
+            let (mut floats, mut wholes) = ([f64::NAN; 5], [UNTOUCHED; 4]);
+            let text = format!("osc=lfo\nhz=48000\n{line}frames=7\nrate=500000\ndepth=-1\nreset=nan\n");
+            assert_eq!(score_read(text.as_bytes(), &mut floats, &mut wholes), 0);
+            assert!(floats[2].is_nan());
+            floats[2] = 1.0;
+            assert_eq!(floats.map(f64::to_bits), [0.5, -1e-6, 1.0, 0.0, 0.0].map(f64::to_bits));
+            assert_eq!(wholes, [1, 48000, 7, gate]);
+        }
+    }
+
+    /// States without a threshold and scores without an issue, as there were once, though all else is right.
+    #[test]
+    fn lengths_of_an_earlier_header() {
+        assert_eq!(vco_new(RATE, ISSUE_1, &mut [0.0; 4], &mut [0; 4]), 50);
+        assert_eq!(lfo_new(RATE, ISSUE_1, &mut [0.0; 4], &mut [0; 2]), 50);
+        assert_eq!(wavetable_new(RATE, ISSUE_1, &mut [0.0; 4], &mut [0; 2]), 50);
+        assert_eq!(karplus_strong_new(RATE, ISSUE_1, &mut [0.0; 6], &mut [0; 4], &mut [0.0; 9612]), 50);
+        let (text, mut lent) = (b"osc=lfo\nhz=48000\nframes=7\nrate=0\ndepth=0\nreset=0\n", [0; 117]);
+        assert_eq!(score_read(text, &mut [0.0; 5], &mut [0; 3]), 51);
+        assert_eq!(score_values(text, &mut [0; 5], &mut [0; 3]), 51);
+        assert_eq!(score_write(&[0; 5], &[1, 48000, 7], &mut lent, &mut [0]), 51);
+        assert_eq!(score_write(&[0; 5], &[1, 48000, 7, 0], &mut lent, &mut [0]), 0);
     }
 
     /// In whole numbers: microvolts of another length by 54, then wholes by 51, then by what the text is refused by.
@@ -355,9 +409,9 @@ mod tests {
     fn score_in_whole_numbers() {
         for (number, text) in no_scores() {
             for m in lengths(5) {
-                for w in lengths(3) {
+                for w in lengths(4) {
                     let (mut microvolts, mut wholes) = (vec![7; m], vec![UNTOUCHED; w]);
-                    let number = match (m == 5, w == 3) {
+                    let number = match (m == 5, w == 4) {
                         (false, _) => 54,
                         (_, false) => 51,
                         _ => number,
@@ -373,11 +427,13 @@ mod tests {
     /// The mark of `nan` is this number, and cells past the last input are written too.
     #[test]
     fn score_that_is_read_in_whole_numbers() {
-        let (mut microvolts, mut wholes) = ([7; 5], [UNTOUCHED; 3]);
-        let text = b"osc=supersaw\nhz=192000\nframes=480000\nvoct=-10000000\ndetune=nan\nmix=1\n";
-        assert_eq!(score_values(text, &mut microvolts, &mut wholes), 0);
-        assert_eq!(microvolts, [-10_000_000, i32::MIN, 1, 0, 0]);
-        assert_eq!(wholes, [2, 192_000, 480_000]);
+        for (line, gate) in GATES {
+            let (mut microvolts, mut wholes) = ([7; 5], [UNTOUCHED; 4]);
+            let text = format!("osc=supersaw\nhz=192000\n{line}frames=480000\nvoct=-10000000\ndetune=nan\nmix=1\n");
+            assert_eq!(score_values(text.as_bytes(), &mut microvolts, &mut wholes), 0);
+            assert_eq!(microvolts, [-10_000_000, i32::MIN, 1, 0, 0]);
+            assert_eq!(wholes, [2, 192_000, 480_000, gate]);
+        }
     }
 
     /// A writing into a text of so many bytes: what it answers. A refused one may change nothing.
@@ -397,15 +453,15 @@ mod tests {
     fn order_of_what_refuses_a_writing() {
         for (hz, last) in [(u64::MAX, 23), (48000, 24)] {
             for m in lengths(5) {
-                for w in lengths(3) {
+                for w in lengths(4) {
                     for cells in lengths(1) {
-                        let number = match (m == 5, w == 3, cells == 1) {
+                        let number = match (m == 5, w == 4, cells == 1) {
                             (false, ..) => 54,
                             (_, false, _) => 51,
                             (_, _, false) => 55,
                             _ => last,
                         };
-                        let wholes: Vec<u64> = [1, hz, 480].into_iter().cycle().take(w).collect();
+                        let wholes: Vec<u64> = [1, hz, 480, 2].into_iter().cycle().take(w).collect();
                         assert_eq!(writes(&vec![0; m], &wholes, 0, cells), number, "of {m}, {w} and {cells}");
                     }
                 }
@@ -413,31 +469,36 @@ mod tests {
         }
     }
 
-    /// What the safe functions can't hand over: numbers of no oscillator, wholes of more than 32 bits, whose low ones would do,
-    /// and cells past the last input, of which the mark isn't 0 either.
+    /// What the safe functions can't hand over: numbers of no oscillator or issue, wholes of more than 32 bits, whose low ones would
+    /// do, and cells past the last input, of which the mark isn't 0 either.
     #[test]
     fn values_of_no_score() {
         const HIGH: u64 = 1 << 32;
-        let refused = |microvolts: [i32; 5], wholes: [u64; 3]| writes(&microvolts, &wholes, 110, 1) == 23;
+        let refused = |microvolts: [i32; 5], wholes: [u64; 4]| writes(&microvolts, &wholes, 117, 1) == 23;
         for osc in 0..4 {
-            assert_eq!(writes(&[0; 5], &[osc, 48000, 480], 110, 1), 0, "{osc}");
+            for (_, gate) in GATES {
+                assert_eq!(writes(&[0; 5], &[osc, 48000, 480, gate], 117, 1), 0, "{osc}, gate {gate}");
+            }
             for hz in [48000 + HIGH, 48000 + (1 << 63), u64::MAX] {
-                assert!(refused([0; 5], [osc, hz, 480]), "{osc}, {hz} Hz");
+                assert!(refused([0; 5], [osc, hz, 480, 0]), "{osc}, {hz} Hz");
             }
             for frames in [480 + HIGH, 480 + (1 << 63), u64::MAX] {
-                assert!(refused([0; 5], [osc, 48000, frames]), "{osc}, {frames} frames");
+                assert!(refused([0; 5], [osc, 48000, frames, 0]), "{osc}, {frames} frames");
+            }
+            for gate in [3, 255, HIGH, HIGH + 1, HIGH + 2, 1 << 63, u64::MAX] {
+                assert!(refused([0; 5], [osc, 48000, 480, gate]), "{osc}, gate {gate}");
             }
             let inputs = [5, 3, 3, 4][osc as usize];
             for past in inputs..5 {
                 for cell in [1, -1, 500_000, i32::MIN, i32::MAX] {
                     let mut microvolts = [0; 5];
                     microvolts[past] = cell;
-                    assert!(refused(microvolts, [osc, 48000, 480]), "{osc}, cell {past} is {cell}");
+                    assert!(refused(microvolts, [osc, 48000, 480, 0]), "{osc}, cell {past} is {cell}");
                 }
             }
         }
         for osc in [4, 5, 255, HIGH, HIGH + 3, u64::MAX] {
-            assert!(refused([0; 5], [osc, 48000, 480]), "{osc}");
+            assert!(refused([0; 5], [osc, 48000, 480, 0]), "{osc}");
         }
     }
 }

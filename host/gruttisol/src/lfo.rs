@@ -10,7 +10,7 @@ pub struct Controls {
     pub rate: f64,
     /// Volts from peak to peak.
     pub depth: f64,
-    /// A rise above 2.5 V starts the phase anew.
+    /// A rise above the threshold starts the phase anew.
     pub reset: f64,
 }
 
@@ -27,8 +27,8 @@ pub struct Volts {
 }
 
 oscillator! {
-    /// Floats: phase, sample rate, previous reset input, memo's frequency. Wholes: the memo's key, and whether it holds.
-    Lfo: [f64; 4], [u64; 2], lfo_new, lfo_reset, lfo_set_sample_rate
+    /// Floats: phase, sample rate, previous reset input, threshold, memo's frequency. Wholes: the memo's key, and whether it holds.
+    Lfo: [f64; 5], [u64; 2], lfo_new(threshold), lfo_reset, lfo_set_sample_rate
 }
 
 impl Lfo {

@@ -11,6 +11,7 @@ mod lent;
 pub mod answer;
 pub mod common;
 pub mod formant_osc;
+pub mod gate;
 pub mod karplus_strong;
 pub mod lfo;
 pub mod noise_generator;

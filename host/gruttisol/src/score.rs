@@ -1,5 +1,6 @@
 //! Scores: the text that says what is played, as the program `render` takes it. It is read, changed and written.
 use crate::answer::{done, Refused};
+use crate::gate::Issue;
 use crate::lent::{score_read, score_values, score_write};
 use crate::{formant_osc, lfo, supersaw, vco};
 use std::fmt;
@@ -70,44 +71,57 @@ pub enum Controls {
 #[derive(Clone, Copy, PartialEq, Eq, Debug)]
 pub struct Score {
     hz: u32,
+    gate: Option<Issue>,
     frames: u32,
     inputs: Inputs,
 }
 
 impl Score {
     /// Bytes that are enough for every score's text.
-    pub const LONGEST: usize = 110;
+    pub const LONGEST: usize = 117;
 
     /// A score of these values; refused by 23 where one is out of its range.
-    pub fn new(hz: u32, frames: u32, inputs: Inputs) -> Result<Score, Refused> {
-        let score = Score { hz, frames, inputs };
+    pub fn new(hz: u32, gate: Option<Issue>, frames: u32, inputs: Inputs) -> Result<Score, Refused> {
+        let score = Score { hz, gate, frames, inputs };
         // the proved writer judges them
         score.write(&mut [0; Score::LONGEST])?;
         Ok(score)
     }
 
-    /// Reads a score: a line `key=value` for each of `osc` (`vco`, `lfo`, `supersaw` or `formant`), `hz`, `frames` and the
-    /// oscillator's inputs in port order, which are microvolts or `nan`. Refused by 20 to 23.
+    /// Reads a score: a line `key=value` for each of `osc` (`vco`, `lfo`, `supersaw` or `formant`), `hz`, `gate`, which may be left
+    /// out, `frames` and the oscillator's inputs in port order, which are microvolts or `nan`. Refused by 20 to 23.
     pub fn parse(text: &[u8]) -> Result<Score, Refused> {
-        let (mut cells, mut wholes) = ([0; 5], [0; 3]);
+        let (mut cells, mut wholes) = ([0; 5], [0; 4]);
         done(score_values(text, &mut cells, &mut wholes))?;
-        let [osc, hz, frames] = wholes;
-        // neither is above 480,000
-        Ok(Score { hz: hz as u32, frames: frames as u32, inputs: Inputs::of_cells(osc, cells) })
+        let [osc, hz, frames, gate] = wholes;
+        // neither hz nor frames is above 480,000
+        let (hz, gate, frames) = (hz as u32, Issue::of_number(gate), frames as u32);
+        Ok(Score { hz, gate, frames, inputs: Inputs::of_cells(osc, cells) })
     }
 
     /// Writes the score's text and answers its length; bytes past it stay. Refused by 24 where it has no room, and then nothing is
     /// written; `LONGEST` bytes are always enough.
     pub fn write(&self, text: &mut [u8]) -> Result<usize, Refused> {
         let (osc, cells) = self.inputs.cells();
+        let gate = self.gate.map_or(NO_GATE, |issue| issue as u64);
         let mut written = [0];
-        done(score_write(&cells, &[osc, self.hz.into(), self.frames.into()], text, &mut written))?;
+        done(score_write(&cells, &[osc, self.hz.into(), self.frames.into(), gate], text, &mut written))?;
         Ok(written[0] as usize)
     }
 
     /// Samples a second, from 1,000 to 192,000.
     pub fn hz(&self) -> u32 {
         self.hz
+    }
+
+    /// The issue that its line of `gate` says, if it has one.
+    pub fn gate(&self) -> Option<Issue> {
+        self.gate
+    }
+
+    /// Volts that its gates must rise above, to play it: those of issue 1 where no line says another.
+    pub fn threshold(&self) -> f64 {
+        self.gate.unwrap_or(Issue::One).threshold()
     }
 
     /// From 1 to 480,000.
@@ -121,7 +135,7 @@ impl Score {
 
     /// The inputs in volts, to play it.
     pub fn controls(&self) -> Controls {
-        let (mut floats, mut wholes) = ([0.0; 5], [0; 3]);
+        let (mut floats, mut wholes) = ([0.0; 5], [0; 4]);
         // by its text, so that the one division is the proved reader's
         let read = score_read(self.to_string().as_bytes(), &mut floats, &mut wholes);
         done(read).expect("the text of a score");
@@ -148,6 +162,9 @@ impl fmt::Display for Score {
 
 /// The boundary's mark of `nan`, which is no score's microvolts.
 const NAN: i32 = i32::MIN;
+
+/// The boundary's number of a score without a line of `gate`.
+const NO_GATE: u64 = 0;
 
 impl Control {
     fn of_cell(cell: i32) -> Control {

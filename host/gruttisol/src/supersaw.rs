@@ -23,7 +23,7 @@ pub struct Volts {
 
 oscillator! {
     /// Floats: seven phases, sub phase, sample rate, memo's frequency. Wholes: the memo's key, and whether it holds.
-    Supersaw: [f64; 10], [u64; 2], supersaw_new, supersaw_reset, supersaw_set_sample_rate
+    Supersaw: [f64; 10], [u64; 2], supersaw_new(), supersaw_reset, supersaw_set_sample_rate
 }
 
 impl Supersaw {

@@ -12,7 +12,7 @@ pub struct Controls {
     pub fm: f64,
     /// Share of a turn that the square is high, from 0.05 to 0.95.
     pub pw: f64,
-    /// A rise above 2.5 V starts the phase anew.
+    /// A rise above the threshold starts the phase anew.
     pub sync: f64,
     /// Linear modulation through zero: 5 V add the pitch's frequency once more.
     pub fm_lin: f64,
@@ -28,8 +28,8 @@ pub struct Volts {
 }
 
 oscillator! {
-    /// Floats: phase, sample rate, previous sync, memo's frequency. Wholes: the memo's three keys, and whether it holds.
-    Vco: [f64; 4], [u64; 4], vco_new, vco_reset, vco_set_sample_rate
+    /// Floats: phase, sample rate, previous sync, threshold, memo's frequency. Wholes: the memo's three keys, and whether it holds.
+    Vco: [f64; 5], [u64; 4], vco_new(threshold), vco_reset, vco_set_sample_rate
 }
 
 impl Vco {

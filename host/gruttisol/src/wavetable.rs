@@ -12,7 +12,7 @@ pub struct Controls {
     pub table: f64,
     /// Leans towards the next table, from 0 to 1.
     pub morph: f64,
-    /// A rise above 2.5 V starts the phase anew.
+    /// A rise above the threshold starts the phase anew.
     pub sync: f64,
 }
 
@@ -23,8 +23,8 @@ pub struct Volts {
 }
 
 oscillator! {
-    /// Floats: phase, sample rate, previous sync, memo's frequency. Wholes: the memo's key, and whether it holds.
-    Wavetable: [f64; 4], [u64; 2], wavetable_new, wavetable_reset, wavetable_set_sample_rate
+    /// Floats: phase, sample rate, previous sync, threshold, memo's frequency. Wholes: the memo's key, and whether it holds.
+    Wavetable: [f64; 5], [u64; 2], wavetable_new(threshold), wavetable_reset, wavetable_set_sample_rate
 }
 
 impl Wavetable {

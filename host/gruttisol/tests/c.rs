@@ -29,13 +29,17 @@ fn the_example_shows_what_is_finished() {
          noise of 480 samples and 2871 draws: refused=5 begun=0 finished=0\n\
          an lfo of 480 samples, 10 V deep: 14 turns, the last ends with sample 466, finished=480\n\
          an lfo of 480 samples, 0 V deep: 14 turns, the last ends with sample 466, finished=480\n\
+         a gate of 1.5 V over a threshold of 2.5 V: clean, and the turn goes on\n\
+         a gate of 1.5 V over a threshold of 1 V: clean, and the turn starts anew\n\
+         a threshold of 2 V: refused=2\n\
          a rate of 999.5 Hz: refused=1\n\
-         a score: lfo, 48000 Hz, frames=480, first input 0.5 V\n\
+         a score: lfo, 48000 Hz, frames=480, gate=0, first input 0.5 V\n\
          a score: refused=21\n\
          another score, of 63 bytes:\n\
          osc=lfo\nhz=48000\nframes=480\nrate=500000\ndepth=-2500000\nreset=0\n\
-         another score, of 58 bytes:\n\
-         osc=lfo\nhz=48000\nframes=480\nrate=500000\ndepth=nan\nreset=0\n\
+         another score, of 65 bytes:\n\
+         osc=lfo\nhz=48000\ngate=2\nframes=480\nrate=500000\ndepth=nan\nreset=0\n\
+         another score: refused=23\n\
          another score: refused=23\n"
     );
 }

@@ -1,6 +1,7 @@
 //! The Lfo's end-of-cycle pulse: where it comes, and what it doesn't ask; and whether a wrap passes a whole turn.
 use gruttisol::answer::{Mark, Refused};
 use gruttisol::common::{wrap_phase, wrap_turned};
+use gruttisol::gate::ISSUE_1;
 use gruttisol::lfo::{Controls, Lfo, Volts};
 use gruttisol::tally::Tally;
 use gruttisol::vco::{self, Vco};
@@ -21,7 +22,7 @@ const BELOW: f64 = 1.0 - f64::EPSILON / 2.0;
 const DEPTHS: [f64; 9] = [10.0, 5.0, -10.0, 0.0, SMALLEST, f64::MAX, f64::INFINITY, f64::NEG_INFINITY, f64::NAN];
 
 fn fresh() -> Lfo {
-    Lfo::new(RATE).unwrap()
+    Lfo::new(RATE, ISSUE_1).unwrap()
 }
 
 /// What can be told apart of volts: their bits, any NaN being one.
@@ -147,7 +148,7 @@ fn bits_beyond_the_outputs() {
 fn a_vco_has_no_pulse() {
     let controls = vco::Controls { voct: 5.0, fm: 0.0, pw: 0.5, sync: 0.0, fm_lin: 0.0 };
     for wanted in 0..16 {
-        let [mut with, mut without] = [(); 2].map(|()| Vco::new(RATE).unwrap());
+        let [mut with, mut without] = [(); 2].map(|()| Vco::new(RATE, ISSUE_1).unwrap());
         for _ in 0..TICKS {
             let [a, b] = [with.tick(&controls, wanted | 1 << 5), without.tick(&controls, wanted)];
             assert_eq!(a.unwrap(), b.unwrap());
@@ -216,7 +217,7 @@ fn turns_of_numbers() {
 
 /// A state of a caller's own, at 1,024 ticks a second: the memo holds a frequency for a rate of 1 V that makes this increment.
 fn own(phase: f64, increment: f64, previous: f64) -> Lfo {
-    Lfo::of_parts([phase, 1024.0, previous, increment * 1024.0], [1f64.to_bits(), 1])
+    Lfo::of_parts([phase, 1024.0, previous, ISSUE_1, increment * 1024.0], [1f64.to_bits(), 1])
 }
 
 /// Phases and increments by which a turn ends just so, or just doesn't, forwards and backwards.

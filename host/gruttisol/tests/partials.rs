@@ -1,4 +1,5 @@
 //! What docs/HARMONICS.md says of each level of each wave, held to the bank's own numbers, and of the level that is played, to ticks.
+use gruttisol::gate::ISSUE_1;
 use gruttisol::wavetable::{Controls, Wavetable};
 use std::f64::consts::TAU;
 
@@ -83,7 +84,7 @@ fn the_level_that_is_played() {
         for hz in (1..=65).flat_map(|n| [0.999999, 1.000001].map(|beside| half_rate / n as f64 * beside)) {
             let v_oct = (hz / 261.6255653005986_f64).log2();
             let controls = Controls { v_oct, table: wave as f64 / 7.0, morph: 0.0, sync: 0.0 };
-            let ticked = Wavetable::new(2.0 * half_rate).unwrap().tick(&controls, &bank).unwrap();
+            let ticked = Wavetable::new(2.0 * half_rate, ISSUE_1).unwrap().tick(&controls, &bank).unwrap();
             let said = highest.iter().position(|&number| number as f64 <= half_rate / hz).unwrap_or(LEVELS - 1);
             assert_eq!((ticked.volts.out / 5.0).round() as usize, said, "wave {wave}, {hz} Hz");
         }

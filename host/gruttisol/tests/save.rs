@@ -22,19 +22,29 @@ fn names(folder: &Path) -> Vec<String> {
     names
 }
 
+/// Every preset's file.
+fn presets() -> impl Iterator<Item = PathBuf> {
+    let folder = Path::new(env!("CARGO_MANIFEST_DIR")).join("../../presets");
+    let files = fs::read_dir(folder).unwrap().map(|file| file.unwrap().path());
+    files.filter(|file| file.extension().is_some_and(|ending| ending == "score"))
+}
+
 /// Every preset, and of it every number.
 #[test]
 fn one_value_of_a_preset() {
-    let presets = Path::new(env!("CARGO_MANIFEST_DIR")).join("../../presets");
     let folder = folder("one_value_of_a_preset");
     let out = folder.join("saved.score");
     let mut saved = 0;
-    let files = fs::read_dir(presets).unwrap().map(|file| file.unwrap().path());
-    for preset in files.filter(|file| file.extension().is_some_and(|ending| ending == "score")) {
+    for preset in presets() {
         let text = fs::read_to_string(&preset).unwrap();
         for line in text.lines().skip(1) {
             let (key, value) = line.split_once('=').unwrap();
-            let other = if value == "7001" { "7002" } else { "7001" };
+            let other = match (key, value) {
+                ("gate", "1") => "2",
+                ("gate", _) => "1",
+                (_, "7001") => "7002",
+                _ => "7001",
+            };
             save::run(&preset, key, other, &out).unwrap();
             let (was, is) = (format!("\n{line}\n"), format!("\n{key}={other}\n"));
             assert_eq!(fs::read_to_string(&out).unwrap(), text.replace(&was, &is), "{}", preset.display());
@@ -47,6 +57,24 @@ fn one_value_of_a_preset() {
     assert_eq!(names(&folder), ["saved.score"]);
     assert!(saved >= 12 * 5);
     println!("{saved} values");
+}
+
+/// Every preset with each line of `gate`, and without one: it stands after `hz`, and no other line is another.
+#[test]
+fn the_gate_of_a_preset() {
+    let folder = folder("the_gate_of_a_preset");
+    let out = folder.join("saved.score");
+    for preset in presets() {
+        let stood = fs::read_to_string(&preset).unwrap();
+        let without: String = stood.split_inclusive('\n').filter(|line| !line.starts_with("gate=")).collect();
+        let (head, rest) = without.split_at(without.find("frames=").unwrap());
+        fs::write(&out, &stood).unwrap();
+        for (value, line) in [("2", "gate=2\n"), ("1", "gate=1\n"), ("none", ""), ("none", ""), ("1", "gate=1\n")] {
+            save::run(&out, "gate", value, &out).unwrap();
+            assert_eq!(fs::read_to_string(&out).unwrap(), [head, line, rest].concat(), "{}", preset.display());
+        }
+    }
+    assert_eq!(names(&folder), ["saved.score"]);
 }
 
 #[test]
@@ -76,6 +104,11 @@ fn what_fails_leaves_everything() {
         ("good", "rate", "NaN", "out", "rate=NaN: invalid digit"),
         ("good", "hz", "nan", "out", "hz=nan: invalid digit"),
         ("good", "frames", "-1", "out", "frames=-1: invalid digit"),
+        ("good", "gate", "0", "out", "gate=0: neither issue 1 nor 2"),
+        ("good", "gate", "3", "out", "gate=3: neither issue 1 nor 2"),
+        ("good", "gate", "-1", "out", "gate=-1: invalid digit"),
+        ("good", "gate", "nan", "out", "gate=nan: invalid digit"),
+        ("good", "gate", "", "out", "gate=: cannot parse"),
         ("good", "voct", "0", "out", "voct=0: neither "),
         ("good", "osc", "vco", "out", "osc=vco: neither "),
         ("good", "Rate", "0", "out", "Rate=0: neither "),

@@ -1,5 +1,6 @@
 //! A Wavetable with a NaN on its table input sounds steady, on the second table whatever was meant: no tick of it counts as finished.
 use gruttisol::answer::Mark;
+use gruttisol::gate::ISSUE_1;
 use gruttisol::tally::Tally;
 use gruttisol::wavetable::{Controls, Wavetable};
 
@@ -9,7 +10,7 @@ const FIRST: Controls = Controls { v_oct: 0.0, table: 0.0, morph: 0.0, sync: 0.0
 /// The samples of a block with these controls, its marks and its tally.
 fn played(controls: &Controls, bank: &[f64]) -> (Vec<f64>, Vec<u32>, Tally) {
     let (mut samples, mut marks, mut tally) = (vec![0.0; TICKS], vec![0; TICKS], Tally::new());
-    Wavetable::new(48000.0).unwrap().block(controls, bank, &mut tally, &mut samples, &mut marks).unwrap();
+    Wavetable::new(48000.0, ISSUE_1).unwrap().block(controls, bank, &mut tally, &mut samples, &mut marks).unwrap();
     (samples, marks, tally)
 }
 
@@ -27,7 +28,7 @@ fn a_table_that_is_nan_is_the_second_and_is_steered() {
     assert_eq!(marks, [Mark::Steered as u32; TICKS]);
     assert_eq!(tally.counts(), &[1000, 0, 0, 0, 0, 1000]);
 
-    let mut wavetable = Wavetable::new(48000.0).unwrap();
+    let mut wavetable = Wavetable::new(48000.0, ISSUE_1).unwrap();
     for (tick, due) in second.into_iter().enumerate() {
         let ticked = wavetable.tick(&nan, &bank).unwrap();
         assert_eq!((ticked.mark, ticked.volts.out), (Mark::Steered, due), "tick {tick}");
