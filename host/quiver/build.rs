@@ -1,16 +1,17 @@
-//! Finds the Rust's source and declares its files as modules, for the crates `quiver`, `quiver_system` and `quiver_lent`.
+//! Finds the Rust's source and declares its files as modules, for the crates `quiver`, `quiver_low`, `quiver_system` and `quiver_lent`.
 //!
 //! QUIVER_SRC names the folder that holds the Rust's `src`; if it isn't set, `shared/docs/src` beside the repository is
 //! taken. Nothing of it is in this repository. What is found there must be quiver's at 74f0456287, or the build stops. Files with
 //! private fields are copied to cargo's own folder with one line added at their end, which declares a child module of `probe/`;
-//! every byte before that line is the Rust's. A file that a crate has in its own folder stands in for the Rust's of that name.
+//! every byte before that line is the Rust's. A file that a crate has in its own folder stands in for the Rust's of that name. Where that
+//! folder has a file `threshold`, its number of volts is what a gate must rise above: the copy has it in the one line that says so.
 //!
 //! Where there is no source, the crate is empty, and crates that depend on it are told so: only with the source is
-//! DEP_QUIVER_FOUND (or DEP_QUIVER_SYSTEM_FOUND, DEP_QUIVER_LENT_FOUND) set in their build scripts.
+//! DEP_QUIVER_FOUND (or DEP_QUIVER_SYSTEM_FOUND and so on) set in their build scripts.
 #[path = "source.rs"]
 mod source;
 
-use source::{is_it, FILES};
+use source::{is_it, with_threshold, FILES, OF_GATES};
 use std::path::{Path, PathBuf};
 use std::{env, fs};
 
@@ -30,6 +31,7 @@ fn main() {
     let source = env::var_os("QUIVER_SRC").map_or(repository.join("../shared/docs/src"), PathBuf::from).join("src");
     let file = |name: &str| source.join(name).with_extension("rs");
     let own = |name: &str| here.join(name).with_extension("rs");
+    let threshold = Some(here.join("threshold")).filter(|own| own.is_file());
     for (name, _) in FILES {
         println!("cargo:rerun-if-changed={}", file(name).display());
     }
@@ -42,12 +44,19 @@ fn main() {
         }
         println!("cargo:rustc-cfg=found");
         println!("cargo:found=yes");
+        let text = |name: &str| {
+            let text = fs::read_to_string(file(name)).unwrap();
+            match &threshold {
+                Some(volts) if name == OF_GATES => with_volts(&text, volts),
+                _ => text,
+            }
+        };
         declared(|name, child| {
             if own(name).is_file() {
                 println!("cargo:rerun-if-changed={}", own(name).display());
                 own(name)
             } else if child {
-                with_child(&file(name), quiver, &out)
+                with_child(&file(name), &text(name), quiver, &out)
             } else {
                 whole(&file(name))
             }
@@ -77,12 +86,19 @@ fn whole(file: &Path) -> PathBuf {
     fs::canonicalize(file).unwrap()
 }
 
-/// A copy of a file with its child module declared at the end.
-fn with_child(file: &Path, quiver: &Path, out: &Path) -> PathBuf {
+/// The text with the volts of this file for its threshold.
+fn with_volts(text: &str, volts: &Path) -> String {
+    println!("cargo:rerun-if-changed={}", volts.display());
+    let volts = fs::read_to_string(volts).unwrap();
+    with_threshold(text, volts.trim()).expect("the line of GATE_THRESHOLD_V, once")
+}
+
+/// A copy of a file, of this text and with its child module declared at the end.
+fn with_child(file: &Path, text: &str, quiver: &Path, out: &Path) -> PathBuf {
     let name = file.file_name().unwrap();
     let child = whole(&quiver.join("probe").join(name));
     println!("cargo:rerun-if-changed={}", child.display());
     let copy = out.join(name);
-    fs::write(&copy, format!("{}\n#[path = {child:?}]\npub mod probe;\n", fs::read_to_string(file).unwrap())).unwrap();
+    fs::write(&copy, format!("{text}\n#[path = {child:?}]\npub mod probe;\n")).unwrap();
     copy
 }

@@ -1,4 +1,5 @@
-//! The Rust's files, and whether what stands at hand is them: quiver's at 74f0456287, by SHA-256.
+//! The Rust's files, whether what stands at hand is them, quiver's at 74f0456287 by SHA-256, and the one line of them that a copy may have
+//! otherwise.
 
 /// Each file as the module that it is, with its hash.
 pub const FILES: [(&str, &str); 5] = [
@@ -8,6 +9,16 @@ pub const FILES: [(&str, &str); 5] = [
     ("modules/common", "955d5ae19faef3787dde777432ce9d49ba88001dcee340696650cbe29e7da825"),
     ("modules/oscillators", "5959ea8a37c919f40c4bdf7717c53f40fd0d98a1d294c51399954d5a5d31180d"),
 ];
+
+/// The file that says what a gate must rise above, and its line.
+pub const OF_GATES: &str = "modules/common";
+const THRESHOLD: &str = "pub const GATE_THRESHOLD_V: f64 = 2.5;";
+
+/// The text with another number of volts in that line. There is none unless the line stood there, and once.
+pub fn with_threshold(text: &str, volts: &str) -> Option<String> {
+    let once = text.matches(THRESHOLD).count() == 1 && text.lines().any(|line| line == THRESHOLD);
+    once.then(|| text.replace(THRESHOLD, &THRESHOLD.replace("2.5", volts)))
+}
 
 /// Whether a file is the one of that hash.
 pub fn is_it(text: &[u8], hash: &str) -> bool {

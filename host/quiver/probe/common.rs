@@ -1,5 +1,5 @@
 //! Child of `common.rs`: reads and writes the private fields of a memo and an edge detector.
-use super::{EdgeDetector, Memo};
+use super::{EdgeDetector, Memo, GATE_THRESHOLD_V};
 
 impl<const N: usize, V: Copy> Memo<N, V> {
     /// Keys, then 1 where the memo holds a value.
@@ -18,11 +18,14 @@ impl<const N: usize, V: Copy> Memo<N, V> {
 }
 
 impl EdgeDetector {
-    pub(crate) fn prev(&self) -> f64 {
-        self.prev
+    /// The previous sample, and the threshold that this crate is compiled with.
+    pub(crate) fn flat(&self) -> [f64; 2] {
+        [self.prev, GATE_THRESHOLD_V]
     }
 
-    pub(crate) fn of(prev: f64) -> Self {
+    /// One of that threshold; of no other there is one here.
+    pub(crate) fn of(prev: f64, threshold: f64) -> Self {
+        assert_eq!(threshold, GATE_THRESHOLD_V);
         EdgeDetector { prev }
     }
 }

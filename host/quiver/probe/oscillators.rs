@@ -2,7 +2,7 @@
 use super::*;
 
 /// An oscillator with `C` controls and `P` outputs, its state as `F` floats and `W` whole numbers in the order of the
-/// proved library's boundary.
+/// proved library's boundary. A threshold among them is the one that this crate is compiled with.
 pub trait Probe<const C: usize, const P: usize, const F: usize, const W: usize>: GraphModule {
     /// The body of a tick with nothing around it. An output that isn't wanted is left as it stands.
     fn body(&mut self, controls: &[f64; C], wanted: u32, samples: &mut [f64; P]);
@@ -42,40 +42,42 @@ impl<const P: usize> OutputFrame for Out<'_, P> {
     }
 }
 
-impl Probe<5, 4, 4, 4> for Vco {
+impl Probe<5, 4, 5, 4> for Vco {
     #[inline]
     fn body(&mut self, controls: &[f64; 5], wanted: u32, samples: &mut [f64; 4]) {
         self.tick_wanted(&In(controls), &mut Out(samples), wanted);
     }
 
-    fn flat(&self) -> ([f64; 4], [u64; 4]) {
+    fn flat(&self) -> ([f64; 5], [u64; 4]) {
         let ([a, b, c], valid) = self.freq_memo.words();
-        ([self.phase, self.sample_rate, self.sync_edge.prev(), self.freq_memo.val()], [a, b, c, valid])
+        let [prev, threshold] = self.sync_edge.flat();
+        ([self.phase, self.sample_rate, prev, threshold, self.freq_memo.val()], [a, b, c, valid])
     }
 
-    fn put_flat(&mut self, &[phase, sample_rate, prev, val]: &[f64; 4], &[a, b, c, valid]: &[u64; 4]) {
+    fn put_flat(&mut self, &[phase, sample_rate, prev, threshold, val]: &[f64; 5], &[a, b, c, valid]: &[u64; 4]) {
         self.phase = phase;
         self.sample_rate = sample_rate;
-        self.sync_edge = EdgeDetector::of(prev);
+        self.sync_edge = EdgeDetector::of(prev, threshold);
         self.freq_memo = Memo::of([a, b, c], val, valid);
     }
 }
 
-impl Probe<3, 5, 4, 2> for Lfo {
+impl Probe<3, 5, 5, 2> for Lfo {
     #[inline]
     fn body(&mut self, controls: &[f64; 3], wanted: u32, samples: &mut [f64; 5]) {
         self.tick_wanted(&In(controls), &mut Out(samples), wanted);
     }
 
-    fn flat(&self) -> ([f64; 4], [u64; 2]) {
+    fn flat(&self) -> ([f64; 5], [u64; 2]) {
         let ([key], valid) = self.freq_memo.words();
-        ([self.phase, self.sample_rate, self.reset_edge.prev(), self.freq_memo.val()], [key, valid])
+        let [prev, threshold] = self.reset_edge.flat();
+        ([self.phase, self.sample_rate, prev, threshold, self.freq_memo.val()], [key, valid])
     }
 
-    fn put_flat(&mut self, &[phase, sample_rate, prev, val]: &[f64; 4], &[key, valid]: &[u64; 2]) {
+    fn put_flat(&mut self, &[phase, sample_rate, prev, threshold, val]: &[f64; 5], &[key, valid]: &[u64; 2]) {
         self.phase = phase;
         self.sample_rate = sample_rate;
-        self.reset_edge = EdgeDetector::of(prev);
+        self.reset_edge = EdgeDetector::of(prev, threshold);
         self.freq_memo = Memo::of([key], val, valid);
     }
 }
@@ -105,18 +107,20 @@ impl Supersaw {
     pub const DETUNES: [f64; 7] = Self::DETUNE_RATIOS;
 }
 
-impl Probe<4, 1, 4, 2> for Wavetable {
+/// Its comparison is its own, with the same threshold.
+impl Probe<4, 1, 5, 2> for Wavetable {
     #[inline]
     fn body(&mut self, controls: &[f64; 4], _wanted: u32, samples: &mut [f64; 1]) {
         self.tick_generic(&In(controls), &mut Out(samples));
     }
 
-    fn flat(&self) -> ([f64; 4], [u64; 2]) {
+    fn flat(&self) -> ([f64; 5], [u64; 2]) {
         let ([key], valid) = self.freq_memo.words();
-        ([self.phase, self.sample_rate, self.prev_sync, self.freq_memo.val()], [key, valid])
+        ([self.phase, self.sample_rate, self.prev_sync, GATE_THRESHOLD_V, self.freq_memo.val()], [key, valid])
     }
 
-    fn put_flat(&mut self, &[phase, sample_rate, prev_sync, val]: &[f64; 4], &[key, valid]: &[u64; 2]) {
+    fn put_flat(&mut self, &[phase, sample_rate, prev_sync, threshold, val]: &[f64; 5], &[key, valid]: &[u64; 2]) {
+        assert_eq!(threshold, GATE_THRESHOLD_V);
         self.phase = phase;
         self.sample_rate = sample_rate;
         self.prev_sync = prev_sync;
@@ -187,29 +191,29 @@ impl FormantOsc {
 }
 
 /// The line isn't among the flat numbers: its length is, and a new length truncates it or fills it with 0.0.
-impl Probe<5, 1, 6, 4> for KarplusStrong {
+impl Probe<5, 1, 7, 4> for KarplusStrong {
     #[inline]
     fn body(&mut self, controls: &[f64; 5], _wanted: u32, samples: &mut [f64; 1]) {
         self.tick_generic(&In(controls), &mut Out(samples));
     }
 
-    fn flat(&self) -> ([f64; 6], [u64; 4]) {
+    fn flat(&self) -> ([f64; 7], [u64; 4]) {
         let ([key], valid) = self.freq_memo.words();
-        let prev = self.trigger_edge.prev();
+        let [prev, threshold] = self.trigger_edge.flat();
         (
-            [self.sample_rate, self.lp_state, self.ap_x1, self.ap_y1, prev, self.freq_memo.val()],
+            [self.sample_rate, self.lp_state, self.ap_x1, self.ap_y1, prev, threshold, self.freq_memo.val()],
             [self.buffer.len() as u64, self.write_pos as u64, key, valid],
         )
     }
 
-    fn put_flat(&mut self, floats: &[f64; 6], &[len, write_pos, key, valid]: &[u64; 4]) {
-        let &[sample_rate, lp_state, ap_x1, ap_y1, prev, val] = floats;
+    fn put_flat(&mut self, floats: &[f64; 7], &[len, write_pos, key, valid]: &[u64; 4]) {
+        let &[sample_rate, lp_state, ap_x1, ap_y1, prev, threshold, val] = floats;
         self.sample_rate = sample_rate;
         self.max_len = Self::max_len_for(sample_rate);
         self.lp_state = lp_state;
         self.ap_x1 = ap_x1;
         self.ap_y1 = ap_y1;
-        self.trigger_edge = EdgeDetector::of(prev);
+        self.trigger_edge = EdgeDetector::of(prev, threshold);
         self.freq_memo = Memo::of([key], val, valid);
         self.buffer.resize(len as usize, 0.0);
         self.write_pos = write_pos as usize;

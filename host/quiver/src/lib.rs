@@ -2,7 +2,8 @@
 //!
 //! The stand-ins: `libm` calls the proved sine, cosine and powers, so that two sides which do the same operations agree to
 //! the last bit; `serde` derives nothing; `graph` below answers what no oscillator asks. For measurements `quiver_system` has the system's
-//! functions instead of the proved ones, and `quiver_lent` also a stream of lent draws.
+//! functions instead of the proved ones, and `quiver_lent` also a stream of lent draws. `quiver_low` is the same text but for the one
+//! line that says what a gate must rise above.
 #![allow(dead_code, unused_imports, clippy::all)]
 extern crate alloc;
 

@@ -1,8 +1,8 @@
-//! A file that isn't quiver's at 74f0456287 is noticed.
+//! A file that isn't quiver's at 74f0456287 is noticed, and so is one whose threshold can't be changed in one line.
 #[path = "../source.rs"]
 mod source;
 
-use source::{is_it, sha256, FILES};
+use source::{is_it, sha256, with_threshold, FILES, OF_GATES};
 
 /// The two examples of FIPS 180-4, nothing, and lengths around a block's.
 #[test]
@@ -23,5 +23,33 @@ fn the_hash_is_the_standards() {
 fn another_file_is_refused() {
     for (name, hash) in FILES {
         assert!(!is_it(name.as_bytes(), hash), "{name}");
+    }
+}
+
+const LINE: &str = "pub const GATE_THRESHOLD_V: f64 = 2.5;\n";
+
+/// Every byte but the number's is what it was, other lines with the name or the number too.
+#[test]
+fn one_line_has_another_threshold() {
+    let before = "// GATE_THRESHOLD_V is 2.5\npub const GATE_HIGH_V: f64 = 5.0;\r\n\n";
+    let after = "if v > GATE_THRESHOLD_V && 2.5 <= v {}\n// no line feed at the end";
+    for (before, after) in [(before, after), ("", after), (before, ""), ("", "")] {
+        let changed = with_threshold(&[before, LINE, after].concat(), "1.0").unwrap();
+        assert_eq!(changed, [before, "pub const GATE_THRESHOLD_V: f64 = 1.0;\n", after].concat());
+    }
+    assert!(FILES.iter().any(|&(name, _)| name == OF_GATES));
+}
+
+/// Where the line stands nowhere, twice or as a part of another, there is no such text, and the build would stop.
+#[test]
+fn a_line_that_does_not_stand_there_once() {
+    let (upper, spaced) = (LINE.to_uppercase(), LINE.replace(" = ", "  = "));
+    let (noted, inner) = (format!("// {LINE}"), format!("    {LINE}"));
+    let (longer, other) = (LINE.replace(';', "0;"), LINE.replace("2.5", "1.0"));
+    for text in ["", "\n", "GATE_THRESHOLD_V 2.5\n", &upper, &spaced, &noted, &inner, &longer, &other] {
+        assert_eq!(with_threshold(text, "1.0"), None, "{text}");
+    }
+    for twice in [LINE.repeat(2), format!("{LINE}\n{LINE}"), format!("{LINE}{noted}"), format!("{inner}{LINE}")] {
+        assert_eq!(with_threshold(&twice, "1.0"), None, "{twice}");
     }
 }
