@@ -18,7 +18,12 @@ pub const OCTAVES: Control =
 pub const VOLTS: Control = Control { lo: -5.0, hi: 5.0, corners: &[-5.0, 5.0, 10.0, 1e6], gate: false };
 pub const UNIT: Control = Control { lo: -0.1, hi: 1.1, corners: &[0.0, 1.0, 0.5, 0.05, 0.95], gate: false };
 pub const BOTH_WAYS: Control = Control { lo: -1.1, hi: 1.1, corners: &[-1.0, 0.0, 1.0], gate: false };
-pub const GATE: Control = Control { lo: -5.0, hi: 10.0, corners: &[0.0, 2.5, 5.0], gate: true };
+pub const GATE: Control = Control { lo: -5.0, hi: 10.0, corners: &[0.0, LOW, HIGH, 5.0], gate: true };
+
+/// What a gate must rise above, in volts: the threshold of issue 1 and that of issue 2. No other is taken.
+pub const HIGH: f64 = 2.5;
+pub const LOW: f64 = 1.0;
+pub const THRESHOLDS: [f64; 2] = [HIGH, LOW];
 
 /// The NaN that ours takes any for, as a memo's key.
 pub const ONE_NAN: u64 = 0x7ff8_0000_0000_0000;
@@ -93,11 +98,13 @@ impl Draw {
 
     pub fn usual(&mut self, of: &Control) -> f64 {
         if of.gate {
-            // low, the threshold itself among it, or high
-            match self.below(8) {
-                0 => self.about(2.5),
-                1..=4 => self.between(of.lo, 2.5),
-                _ => self.between(2.5, of.hi),
+            // low, the thresholds themselves among it, high for one of them, or for both
+            match self.below(16) {
+                0 | 1 => self.about(HIGH),
+                2 | 3 => self.about(LOW),
+                4..=7 => self.between(of.lo, LOW),
+                8 | 9 => self.between(LOW, HIGH),
+                _ => self.between(HIGH, of.hi),
             }
         } else {
             self.between(of.lo, of.hi)
@@ -155,6 +162,41 @@ impl Draw {
             self.bad_rate()
         } else {
             self.rate()
+        }
+    }
+
+    /// A threshold that is refused by 2.
+    pub fn bad_threshold(&mut self) -> f64 {
+        let listed = [
+            LOW.next_down(),
+            LOW.next_up(),
+            HIGH.next_down(),
+            HIGH.next_up(),
+            -LOW,
+            -HIGH,
+            0.0,
+            -0.0,
+            1.5,
+            5.0,
+            f64::NAN,
+            f64::INFINITY,
+            f64::NEG_INFINITY,
+            f64::MAX,
+            f64::from_bits(1),
+            f64::MIN_POSITIVE.next_down(),
+        ];
+        match self.odd() {
+            x if self.one_in(4) && !THRESHOLDS.contains(&x) => x,
+            _ => self.of(&listed),
+        }
+    }
+
+    /// A state's threshold: mostly this one, now and then the other, or one that is refused.
+    pub fn state_threshold(&mut self, mostly: f64) -> f64 {
+        match self.below(32) {
+            0 | 1 => self.bad_threshold(),
+            2..=5 => self.of(&THRESHOLDS),
+            _ => mostly,
         }
     }
 

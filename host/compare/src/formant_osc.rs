@@ -25,7 +25,7 @@ impl Pair for FormantOsc {
     const MASKED: bool = false;
     both!(ours::FormantOsc, 29, 6);
 
-    fn new(sample_rate: f64, _draw: &mut Draw) -> Result<Self, Refused> {
+    fn new(sample_rate: f64, _threshold: f64, _draw: &mut Draw) -> Result<Self, Refused> {
         Ok(FormantOsc { ours: ours::FormantOsc::new(sample_rate)?, theirs: rust::FormantOsc::new(sample_rate) })
     }
 
@@ -48,7 +48,7 @@ impl Pair for FormantOsc {
     }
 
     fn refusal(floats: &[f64; 29], _: &[u64; 6]) -> u32 {
-        refusal(floats[12], &floats[..2])
+        refusal(floats[12], &floats[..2], None)
     }
 
     fn ours_tick(&mut self, controls: &[f64], _wanted: u32, samples: &mut [f64]) -> Result<Mark, Refused> {

@@ -1,14 +1,11 @@
 //! The string on both sides, with the line that is lent to ours.
 use crate::draw::{Control, Draw, BOTH_WAYS, GATE, PITCH, UNIT};
-use crate::pair::{block, move_stream, rises, NO_DRAW};
-use crate::script::{alike, bad_rate, hex, mark, one_nan, unchanged, Counts, Pair};
+use crate::pair::{block, rises, stream_place, NO_DRAW};
+use crate::rust;
+use crate::script::{alike, bad_rate, bad_threshold, hex, mark, one_nan, unchanged, Counts, Pair};
 use gruttisol::answer::{Mark, Refused};
 use gruttisol::karplus_strong as ours;
 use gruttisol::tally::Tally;
-use quiver::modules::oscillators as rust;
-use quiver::modules::oscillators::probe::Probe;
-use quiver::port::GraphModule;
-use quiver::rng::ModuleRng;
 
 pub struct KarplusStrong {
     ours: ours::KarplusStrong,
@@ -115,35 +112,37 @@ impl Pair for KarplusStrong {
     const MARKS: &'static [Mark] = &[Mark::Cleared, Mark::Steered, Mark::Clean];
     const REFUSALS: &'static [u32] = &[1, 2, 3, 5, 6, 7, 52];
     const KINDS: &'static [&'static str] = &[STRIKES, REPAIRED];
-    type Floats = [f64; 6];
+    const THRESHOLD: Option<usize> = Some(rust::KarplusStrong::THRESHOLD);
+    type Floats = [f64; 7];
     type Wholes = [u64; 4];
 
-    fn new(sample_rate: f64, draw: &mut Draw) -> Result<Self, Refused> {
+    fn new(sample_rate: f64, threshold: f64, draw: &mut Draw) -> Result<Self, Refused> {
         let cells = ours::KarplusStrong::cells(if bad_rate(sample_rate) { 48000.0 } else { sample_rate });
         let more = if draw.one_in(2) { draw.below(100) as usize } else { 0 };
         let mut line: Vec<f64> = (0..cells + more).map(untouched).collect();
         let due = line.clone();
-        let made = ours::KarplusStrong::new(sample_rate, &mut line);
+        let made = ours::KarplusStrong::new(sample_rate, threshold, &mut line);
         assert!(made.is_ok() || same_bits(&line, &due), "refused, and the line isn't as it stood");
-        let (ours, mut theirs) = (made?, rust::KarplusStrong::new(sample_rate));
-        *theirs.stream() = ModuleRng::at(draw.bits(), draw.bits());
+        let (ours, mut theirs) = (made?, rust::KarplusStrong::new(sample_rate, threshold));
+        theirs.put_stream((draw.bits(), draw.bits()));
         let lent = line.len();
         Ok(KarplusStrong { ours, theirs, line, due, lent, draws: vec![], all: true, written: 0, unseen: 0 })
     }
 
-    fn ours(&self) -> ([f64; 6], [u64; 4]) {
+    fn ours(&self) -> ([f64; 7], [u64; 4]) {
         let (floats, wholes) = self.ours.parts();
         (*floats, *wholes)
     }
 
-    fn theirs(&self) -> ([f64; 6], [u64; 4]) {
+    fn theirs(&self) -> ([f64; 7], [u64; 4]) {
         self.theirs.flat()
     }
 
-    fn invent(&self, controls: &[f64], draw: &mut Draw) -> ([f64; 6], [u64; 4]) {
+    fn invent(&self, controls: &[f64], draw: &mut Draw) -> ([f64; 7], [u64; 4]) {
         let rate = draw.state_rate();
         let [key] = draw.keys([controls[0]]);
-        let floats = [rate, draw.level(), draw.level(), draw.level(), draw.previous(), draw.hertz()];
+        let threshold = draw.state_threshold(self.ours().0[5]);
+        let floats = [rate, draw.level(), draw.level(), draw.level(), draw.previous(), threshold, draw.hertz()];
         let most = longest(rate);
         let len = match draw.below(8) {
             0 => draw.of(&[4, 5, most, most - 1]),
@@ -159,13 +158,14 @@ impl Pair for KarplusStrong {
         (floats, [len, write_pos, key, draw.valid()])
     }
 
-    fn put_ours(&mut self, floats: &[f64; 6], wholes: &[u64; 4]) {
+    fn put_ours(&mut self, floats: &[f64; 7], wholes: &[u64; 4]) {
         self.ours = ours::KarplusStrong::of_parts(*floats, *wholes);
         self.all = true;
     }
 
-    /// The Rust's line becomes what ours holds below the state's length, some of it of a caller's own making.
-    fn put_theirs(&mut self, floats: &[f64; 6], wholes: &[u64; 4], draw: &mut Draw) {
+    /// The Rust's line becomes what ours holds below the state's length, some of it of a caller's own making. Its stream is none of the
+    /// state's, and goes on anywhere.
+    fn put_theirs(&mut self, floats: &[f64; 7], wholes: &[u64; 4], draw: &mut Draw) {
         self.grow(ours::KarplusStrong::cells(floats[0]));
         let len = wholes[0] as usize;
         match draw.below(4) {
@@ -174,15 +174,17 @@ impl Pair for KarplusStrong {
             _ => {}
         }
         self.theirs.put_flat(floats, wholes);
+        self.theirs.put_stream((draw.bits(), draw.bits()));
         self.theirs.line_mut().copy_from_slice(&self.line[..len]);
         self.due.copy_from_slice(&self.line);
         self.all = true;
     }
 
-    fn refusal(floats: &[f64; 6], &[len, write_pos, ..]: &[u64; 4]) -> u32 {
-        if bad_rate(floats[0]) {
+    fn refusal(&[rate, .., threshold, val]: &[f64; 7], &[len, write_pos, ..]: &[u64; 4]) -> u32 {
+        let fits = (4..=longest(rate)).contains(&len) && write_pos < len;
+        if bad_rate(rate) {
             1
-        } else if !(4..=longest(floats[0])).contains(&len) || write_pos >= len || floats[5].is_nan() {
+        } else if !fits || bad_threshold(threshold) || val.is_nan() {
             2
         } else {
             0
@@ -201,17 +203,19 @@ impl Pair for KarplusStrong {
         if draw.one_in(1000) {
             self.poison(draw);
         }
-        if !rises(floats[4], controls[1]) {
+        if !rises(floats[4], controls[1], floats[5]) {
             // not looked at
             self.draws = vec![draw.bits(); draw.below(3) as usize];
             return Ok(());
         }
         counts.met(STRIKES);
-        move_stream(self.theirs.stream(), draw);
+        if let Some(place) = stream_place(draw) {
+            self.theirs.put_stream(place);
+        }
         let mut twin = self.theirs.twin();
         twin.body(controls.try_into().unwrap(), 1, &mut [0.0]);
         let needed = twin.line().len();
-        self.draws = self.theirs.stream().draws(needed);
+        self.draws = self.theirs.draws(needed);
         if draw.one_in(4) {
             let tick = |pair: &mut Self| {
                 let told = pair.ours_tick(controls, 1, &mut [0.0]).map(drop);
@@ -228,7 +232,7 @@ impl Pair for KarplusStrong {
             self.draws = draws;
             self.draws.pop();
             self.must_refuse(5, self.lent, counts, tick)?;
-            self.draws = self.theirs.stream().draws(needed);
+            self.draws = self.theirs.draws(needed);
         }
         if draw.one_in(2) {
             self.draws.extend([u64::MAX, 0, NO_DRAW]); // past those that are needed
@@ -262,7 +266,7 @@ impl Pair for KarplusStrong {
     fn theirs_tick(&mut self, controls: &[f64], wanted: u32, samples: &mut [f64], _counts: &mut Counts) -> Mark {
         let controls: &[f64; 5] = controls.try_into().unwrap();
         let (floats, [len, write_pos, ..]) = self.theirs.flat();
-        let taken = rises(floats[4], controls[1]);
+        let taken = rises(floats[4], controls[1], floats[5]);
         let turned = (!taken && write_pos + 1 == len).then(|| {
             let mut twin = self.theirs.twin();
             twin.line_mut().rotate_right(1);
@@ -315,7 +319,7 @@ impl Pair for KarplusStrong {
     }
 
     /// The list has `STORED` cells and draws for a string, enough at rates from 1,000 to below 1,020.
-    fn storable(&self, floats: &[f64; 6]) -> bool {
+    fn storable(&self, floats: &[f64; 7]) -> bool {
         (1000.0..1020.0).contains(&floats[0]) && self.line.len() <= STORED
     }
 

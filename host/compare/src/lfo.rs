@@ -2,12 +2,10 @@
 use crate::draw::{Control, Draw, GATE, UNIT};
 use crate::marked::{Marked, EOC};
 use crate::pair::{advanced, block, both, refusal, turned};
+use crate::rust;
 use crate::script::{bad_phase, Counts, Pair};
 use gruttisol::answer::{Mark, Refused};
 use gruttisol::lfo as ours;
-use quiver::modules::oscillators as rust;
-use quiver::modules::oscillators::probe::Probe;
-use quiver::port::GraphModule;
 
 pub struct Lfo {
     ours: ours::Lfo,
@@ -29,23 +27,26 @@ impl Pair for Lfo {
     const PORTS: usize = 6;
     const MASKED: bool = true;
     const KINDS: &'static [&'static str] = &[PULSES, BACKWARDS, UNWANTED, CUT_OFF];
-    both!(ours::Lfo, 4, 2);
+    const THRESHOLD: Option<usize> = Some(rust::Lfo::THRESHOLD);
+    both!(ours::Lfo, 5, 2);
 
-    fn new(sample_rate: f64, _draw: &mut Draw) -> Result<Self, Refused> {
-        Ok(Lfo { ours: ours::Lfo::new(sample_rate)?, theirs: rust::Lfo::new(sample_rate) })
+    fn new(sample_rate: f64, threshold: f64, _draw: &mut Draw) -> Result<Self, Refused> {
+        let ours = ours::Lfo::new(sample_rate, threshold)?;
+        Ok(Lfo { ours, theirs: rust::Lfo::new(sample_rate, threshold) })
     }
 
-    fn invent(&self, controls: &[f64], draw: &mut Draw) -> ([f64; 4], [u64; 2]) {
+    fn invent(&self, controls: &[f64], draw: &mut Draw) -> ([f64; 5], [u64; 2]) {
         let [key] = draw.keys([controls[0]]);
         let (val, rate) = (draw.under(&[key], Draw::hertz), draw.state_rate());
         // now and then right where a turn ends, be it backwards
         let end = draw.about(if val < 0.0 { -val / rate } else { 1.0 - val / rate });
         let phase = if draw.one_in(8) && !bad_phase(end) { end } else { draw.phase() };
-        ([phase, rate, draw.previous(), val], [key, draw.valid()])
+        let [_, _, _, threshold, _] = self.ours().0;
+        ([phase, rate, draw.previous(), draw.state_threshold(threshold), val], [key, draw.valid()])
     }
 
-    fn refusal([phase, rate, ..]: &[f64; 4], _: &[u64; 2]) -> u32 {
-        refusal(*rate, &[*phase])
+    fn refusal(&[phase, rate, _, threshold, _]: &[f64; 5], _: &[u64; 2]) -> u32 {
+        refusal(rate, &[phase], Some(threshold))
     }
 
     fn ours_tick(&mut self, controls: &[f64], wanted: u32, samples: &mut [f64]) -> Result<Mark, Refused> {

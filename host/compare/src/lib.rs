@@ -1,17 +1,19 @@
 //! The proved oscillators and the Rust's, run through the same calls and compared to the last bit.
 //!
-//! The Rust is compiled unchanged by the crate `quiver`, over the proved sine, cosine and powers. Where its source isn't
-//! found, nothing can be compared: this crate is empty, and its tests are skipped.
+//! The Rust is compiled unchanged by the crate `quiver`, over the proved sine, cosine and powers, and once more by `quiver_low`, with the other
+//! threshold of gates. Where its source isn't found, nothing can be compared: this crate is empty, and its tests are skipped.
 #![cfg(quiver)]
 
 pub mod common;
 pub mod draw;
 pub mod formant_osc;
+pub mod gates;
 pub mod karplus_strong;
 pub mod lfo;
 pub mod marked;
 pub mod noise_generator;
 mod pair;
+pub mod rust;
 pub mod script;
 pub mod supersaw;
 pub mod vco;
@@ -19,13 +21,15 @@ pub mod wavetable;
 
 use draw::Draw;
 use gruttisol::answer::Mark;
-use script::{run, ticks, Counts, Pair};
+use script::{run, thresholds, ticks, title, Counts, Pair};
+use std::thread;
 
-/// A run of scripts from a seed, for so many ticks; the error is the first difference.
-pub type Run = fn(u64, u64) -> Result<Counts, String>;
+/// The runs of an oscillator from a seed, each of so many ticks and with its title: one at each threshold where it has a gate, else one. An
+/// error is the first difference.
+pub type Runs = fn(u64, u64) -> Vec<(String, Result<Counts, String>)>;
 
 /// Every oscillator.
-pub const ALL: [(&str, Run); 7] = [
+pub const ALL: [(&str, Runs); 7] = [
     of::<vco::Vco>(),
     of::<lfo::Lfo>(),
     of::<supersaw::Supersaw>(),
@@ -35,8 +39,17 @@ pub const ALL: [(&str, Run); 7] = [
     of::<noise_generator::NoiseGenerator>(),
 ];
 
-const fn of<P: Pair>() -> (&'static str, Run) {
-    (P::NAME, run::<P>)
+const fn of<P: Pair>() -> (&'static str, Runs) {
+    (P::NAME, runs::<P>)
+}
+
+/// Each run has a thread.
+fn runs<P: Pair>(seed: u64, ticks: u64) -> Vec<(String, Result<Counts, String>)> {
+    let started = thresholds::<P>()
+        .into_iter()
+        .map(|threshold| (title::<P>(threshold), thread::spawn(move || run::<P>(seed, ticks, threshold))));
+    let started: Vec<_> = started.collect();
+    started.into_iter().map(|(title, run)| (title, run.join().unwrap())).collect()
 }
 
 /// The list's lines of an oscillator, as `ticks` has them: so many of any mark, and some that are steered, which are rare among those.
@@ -63,11 +76,13 @@ pub fn stored() -> Result<String, String> {
     .concat())
 }
 
-/// The run of the gate. It prints what was compared.
+/// The runs of the gate. It prints what was compared.
 #[track_caller]
 pub fn gate<P: Pair>() {
-    match run::<P>(1, 2_000_000) {
-        Ok(counts) => println!("{}: {counts}; no difference", P::NAME),
-        Err(difference) => panic!("{difference}"),
+    for (title, ran) in runs::<P>(1, 2_000_000) {
+        match ran {
+            Ok(counts) => println!("{title}: {counts}; no difference"),
+            Err(difference) => panic!("{difference}"),
+        }
     }
 }

@@ -1,9 +1,10 @@
 //! The Rust's oscillators with the mark that the scope gives each of their ticks.
 use crate::pair::{advanced, turned, wanted_of};
+use crate::rust::{Lfo, Vco};
 use crate::script::mark;
 use gruttisol::answer::Mark;
 use quiver::modules::oscillators::probe::Probe;
-use quiver::modules::oscillators::{FormantOsc, Lfo, Supersaw, Vco};
+use quiver::modules::oscillators::{FormantOsc, Supersaw};
 
 /// A tick and its mark, which is found from the states before and after it and from the controls.
 pub trait Marked {

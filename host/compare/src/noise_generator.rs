@@ -1,6 +1,6 @@
 //! The noise generator on both sides, over the draws that the Rust takes from its stream.
 use crate::draw::{Control, Draw, UNIT};
-use crate::pair::{move_stream, wanted_of, NO_DRAW};
+use crate::pair::{stream_place, wanted_of, NO_DRAW};
 use crate::script::{mark, unchanged, unused_block, Counts, Pair, NO_SUM};
 use gruttisol::answer::{Mark, Refused};
 use gruttisol::noise_generator as ours;
@@ -134,7 +134,7 @@ impl Pair for NoiseGenerator {
     type Floats = [f64; 36];
     type Wholes = [u64; 2];
 
-    fn new(_sample_rate: f64, draw: &mut Draw) -> Result<Self, Refused> {
+    fn new(_sample_rate: f64, _threshold: f64, draw: &mut Draw) -> Result<Self, Refused> {
         let correlation = draw.value(&UNIT, 2);
         let (ours, mut theirs) = if draw.one_in(2) {
             (ours::NoiseGenerator::new(), rust::NoiseGenerator::new())
@@ -180,8 +180,8 @@ impl Pair for NoiseGenerator {
 
     /// Makes the draws ready that the Rust will draw, holds how many ours says that it needs to them, and tries others.
     fn lend(&mut self, controls: &[f64], ticks: usize, draw: &mut Draw, counts: &mut Counts) -> Result<(), String> {
-        if draw.one_in(16) {
-            move_stream(self.theirs.stream(), draw);
+        if let Some((s0, s1)) = draw.one_in(16).then(|| stream_place(draw)).flatten() {
+            *self.theirs.stream() = ModuleRng::at(s0, s1);
         }
         self.given = !draw.one_in(4);
         self.meet(ticks, counts);

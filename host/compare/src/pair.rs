@@ -1,7 +1,6 @@
 //! What the pairs of both sides have in common.
 use crate::draw::Draw;
-use crate::script::{bad_phase, bad_rate};
-use quiver::rng::ModuleRng;
+use crate::script::{bad_phase, bad_rate, bad_threshold};
 
 /// The parts of a pair that are the same for every oscillator whose state alone is lent.
 macro_rules! both {
@@ -65,11 +64,11 @@ macro_rules! block {
 
 pub(crate) use block;
 
-/// The number that a state is refused by, of its rate and phases.
-pub fn refusal(rate: f64, phases: &[f64]) -> u32 {
+/// The number that a state is refused by, of its rate, its phases and, where it has a gate, its threshold.
+pub fn refusal(rate: f64, phases: &[f64], threshold: Option<f64>) -> u32 {
     if bad_rate(rate) {
         1
-    } else if phases.iter().any(|&phase| bad_phase(phase)) {
+    } else if phases.iter().any(|&phase| bad_phase(phase)) || threshold.is_some_and(bad_threshold) {
         2
     } else {
         0
@@ -77,14 +76,14 @@ pub fn refusal(rate: f64, phases: &[f64]) -> u32 {
 }
 
 /// Whether a gate rises, as the scope has it.
-pub fn rises(previous: f64, v: f64) -> bool {
-    v > 2.5 && previous <= 2.5
+pub fn rises(previous: f64, v: f64, threshold: f64) -> bool {
+    v > threshold && previous <= threshold
 }
 
-/// What a tick wraps, of the floats before it and after it, which are phase, rate, previous gate and frequency: the phase, 0 where its
-/// gate rises, plus the increment.
-pub fn advanced([phase, _, previous, _]: [f64; 4], gate: f64, [_, rate, _, freq]: [f64; 4]) -> f64 {
-    let used = if rises(previous, gate) { 0.0 } else { phase };
+/// What a tick wraps, of the floats before it and after it, which are phase, rate, previous gate, threshold and frequency: the phase, 0
+/// where its gate rises, plus the increment.
+pub fn advanced([phase, _, previous, threshold, _]: [f64; 5], gate: f64, [_, rate, .., freq]: [f64; 5]) -> f64 {
+    let used = if rises(previous, gate, threshold) { 0.0 } else { phase };
     used + freq / rate
 }
 
@@ -101,15 +100,15 @@ pub fn wanted_of(samples: &[f64], wanted: u32) -> impl Iterator<Item = f64> + '_
 /// 2^53: the first number that is no draw.
 pub const NO_DRAW: u64 = 1 << 53;
 
-/// Puts the Rust's stream to another place: to zeros for ever, to a corner, to any; or lets it go on.
-pub fn move_stream(stream: &mut ModuleRng, draw: &mut Draw) {
+/// Another place for the Rust's stream: of zeros for ever, a corner, any; or none, so that it goes on.
+pub fn stream_place(draw: &mut Draw) -> Option<(u64, u64)> {
     match draw.below(8) {
-        0 => *stream = ModuleRng::at(0, 0),
+        0 => Some((0, 0)),
         1 => {
-            let first = draw.of(&[0, 1, 1 << 52, (1 << 52) - 1, (1 << 53) - 1]);
-            *stream = ModuleRng::at(first << 11, 0);
+            let first: u64 = draw.of(&[0, 1, 1 << 52, (1 << 52) - 1, (1 << 53) - 1]);
+            Some((first << 11, 0))
         }
-        2 => {}
-        _ => *stream = ModuleRng::at(draw.bits(), draw.bits()),
+        2 => None,
+        _ => Some((draw.bits(), draw.bits())),
     }
 }

@@ -1,5 +1,6 @@
 //! One script for every oscillator: calls drawn from a seed, made on both sides, and everything compared after each.
-use crate::draw::{Control, Draw, ONE_NAN};
+use crate::draw::{Control, Draw, HIGH, ONE_NAN, THRESHOLDS};
+use crate::gates::{self, Gate};
 use gruttisol::answer::{Mark, Refused};
 use gruttisol::tally::{Tally, COUNTS};
 use std::collections::BTreeMap;
@@ -9,7 +10,7 @@ use std::fmt;
 pub const MOST: usize = 6;
 
 /// One oscillator on both sides.
-pub trait Pair: Sized {
+pub trait Pair: Sized + 'static {
     const NAME: &'static str;
     const CONTROLS: &'static [Control];
     const PORTS: usize;
@@ -22,11 +23,14 @@ pub trait Pair: Sized {
     const KINDS: &'static [&'static str] = &[];
     /// Whether it has a sample rate; else it takes any number for one, and nothing comes of it.
     const RATED: bool = true;
-    type Floats: AsRef<[f64]> + Copy;
+    /// Where its floats have the threshold, if it has a gate; what the gate was before stands one place earlier. Else it takes any number
+    /// for a threshold, and nothing comes of it.
+    const THRESHOLD: Option<usize> = None;
+    type Floats: AsRef<[f64]> + AsMut<[f64]> + Copy;
     type Wholes: AsRef<[u64]> + AsMut<[u64]> + Copy;
 
     /// A new one on both sides, if ours isn't refused.
-    fn new(sample_rate: f64, draw: &mut Draw) -> Result<Self, Refused>;
+    fn new(sample_rate: f64, threshold: f64, draw: &mut Draw) -> Result<Self, Refused>;
 
     fn ours(&self) -> (Self::Floats, Self::Wholes);
     fn theirs(&self) -> (Self::Floats, Self::Wholes);
@@ -99,13 +103,35 @@ pub struct Counts {
     pub states: u64,
     /// Refused calls, by the number that refused them.
     pub refused: BTreeMap<u32, u64>,
-    /// Calls, or ticks, of the kinds that are an oscillator's own.
+    /// Calls, or ticks, of the kinds that are an oscillator's own, or a gate's.
     pub own: BTreeMap<&'static str, u64>,
+    /// The threshold that a run is of, if it is of one, and the ticks at it.
+    pub threshold: Option<f64>,
+    pub at_threshold: u64,
 }
 
 impl Counts {
+    /// Nothing yet, of a run of this threshold.
+    fn of(threshold: Option<f64>) -> Self {
+        Counts { threshold, ..Counts::default() }
+    }
+
     pub fn ticks(&self) -> u64 {
         self.marks.iter().sum()
+    }
+
+    /// The ticks that a run is asked for: those at its threshold.
+    fn ticks_of_run(&self) -> u64 {
+        self.threshold.map_or(self.ticks(), |_| self.at_threshold)
+    }
+
+    /// Takes an accepted tick, given the floats before it. Of gates only those at the run's own threshold count.
+    fn ticked<P: Pair>(&mut self, mark: Mark, floats: &P::Floats, controls: &[f64]) {
+        self.marks[place(mark)] += 1;
+        if let Some(gate) = Gate::of::<P>(floats, controls).filter(|gate| Some(gate.threshold) == self.threshold) {
+            self.at_threshold += 1;
+            self.meet(gates::KINDS.map(|(kind, is)| (kind, is(&gate))));
+        }
     }
 
     /// Counts a call, or a tick, of a kind that is the oscillator's own.
@@ -128,7 +154,9 @@ impl Counts {
             ("rate change", self.rate_changes),
             ("state put in", self.states),
         ];
-        let own = P::KINDS.iter().map(|&kind| (kind, *self.own.get(kind).unwrap_or(&0)));
+        let of_gates = gates::KINDS.map(|(kind, _)| kind).into_iter().chain(gates::CALLS);
+        let kinds = P::KINDS.iter().copied().chain(of_gates.filter(|_| P::THRESHOLD.is_some()));
+        let own = kinds.map(|kind| (kind, *self.own.get(kind).unwrap_or(&0)));
         let calls = calls.into_iter().chain(own).map(|(call, n)| (call.to_string(), n));
         marks.chain(refusals).chain(calls).filter(|&(_, n)| n == 0).map(|(what, _)| what).collect()
     }
@@ -140,27 +168,42 @@ impl fmt::Display for Counts {
             Mark::ALL.into_iter().zip(self.marks).map(|(mark, n)| format!("{n} {}", mark.word())).collect();
         let Counts { blocks, resets, rate_changes, states, .. } = self;
         let refused: u64 = self.refused.values().sum();
-        write!(f, "{} ticks ({}), {blocks} blocks, {resets} resets", self.ticks(), marks.join(", "))?;
+        write!(f, "{} ticks ({}), ", self.ticks(), marks.join(", "))?;
+        if let Some(threshold) = self.threshold {
+            write!(f, "{} of them at {threshold} V, ", self.at_threshold)?;
+        }
+        write!(f, "{blocks} blocks, {resets} resets")?;
         write!(f, ", {rate_changes} rate changes, {states} states put in, {refused} refused calls")?;
         self.own.iter().try_for_each(|(kind, n)| write!(f, ", {n} {kind}"))
     }
 }
 
-/// Runs scripts from a seed until there were that many ticks. The error is the first difference, or what the run never met: it would
-/// have compared nothing of that.
-pub fn run<P: Pair>(seed: u64, ticks: u64) -> Result<Counts, String> {
+/// Runs scripts from a seed until there were that many ticks, at this threshold where there is a gate. The error is the first difference,
+/// or what the run never met: it would have compared nothing of that.
+pub fn run<P: Pair>(seed: u64, ticks: u64, threshold: Option<f64>) -> Result<Counts, String> {
     let mut draw = Draw::new(seed);
-    let mut counts = Counts::default();
-    while counts.ticks() < ticks {
+    let mut counts = Counts::of(threshold);
+    let title = title::<P>(threshold);
+    while counts.ticks_of_run() < ticks {
         scene::<P>(&mut draw, &mut counts)
-            .map_err(|said| format!("{}, seed {seed}, tick {}: {said}", P::NAME, counts.ticks()))?;
+            .map_err(|said| format!("{title}, seed {seed}, tick {}: {said}", counts.ticks()))?;
     }
     let unmet = counts.unmet::<P>();
     if unmet.is_empty() {
         Ok(counts)
     } else {
-        Err(format!("{}, seed {seed}, {} ticks: never met: {}", P::NAME, counts.ticks(), unmet.join(", ")))
+        Err(format!("{title}, seed {seed}, {} ticks: never met: {}", counts.ticks(), unmet.join(", ")))
     }
+}
+
+/// What a run is called.
+pub fn title<P: Pair>(threshold: Option<f64>) -> String {
+    threshold.map_or(P::NAME.into(), |volts| format!("{} at {volts} V", P::NAME))
+}
+
+/// The thresholds that an oscillator is run at, or none once, where it has no gate.
+pub fn thresholds<P: Pair>() -> Vec<Option<f64>> {
+    P::THRESHOLD.map_or(vec![None], |_| THRESHOLDS.map(Some).into())
 }
 
 /// So many ticks that are drawn, of any mark or of this one, in the words of the list that the program `replay` runs: a state, controls, the
@@ -170,7 +213,8 @@ pub fn ticks<P: Pair>(draw: &mut Draw, n: usize, of: Option<Mark>) -> Result<Vec
     let (mut counts, mut cases) = (Counts::default(), vec![]);
     while cases.len() < n {
         let mood = Mood { held: 3, gates: 2, rarely: 4, ..Mood::drawn(draw) };
-        let mut pair = P::new(draw.rate(), draw).map_err(|n| n.to_string())?;
+        let threshold = if P::THRESHOLD.is_some() { draw.of(&THRESHOLDS) } else { HIGH };
+        let mut pair = P::new(draw.rate(), threshold, draw).map_err(|n| n.to_string())?;
         if !pair.storable(&pair.theirs().0) {
             continue;
         }
@@ -276,12 +320,19 @@ impl Mood {
 fn scene<P: Pair>(draw: &mut Draw, counts: &mut Counts) -> Result<(), String> {
     draw.one_nan = !draw.one_nan; // by turns
     let mood = Mood::drawn(draw);
+    let threshold = counts.threshold.unwrap_or(HIGH);
     if P::RATED {
         let bad = draw.bad_rate();
-        refused(P::new(bad, draw).map(drop), 1, counts).map_err(|said| format!("new at {bad:?}: {said}"))?;
+        no_new::<P>(1, bad, threshold, draw, counts)?;
+    }
+    if P::THRESHOLD.is_some() {
+        let (bad_rate, rate, bad) = (draw.bad_rate(), draw.rate(), draw.bad_threshold());
+        no_new::<P>(1, bad_rate, bad, draw, counts)?;
+        no_new::<P>(2, rate, bad, draw, counts)?;
+        counts.met(gates::NOT_MADE);
     }
     let rate = draw.rate();
-    let mut pair = P::new(rate, draw).map_err(|n| format!("new at {rate:?}: {n}"))?;
+    let mut pair = P::new(rate, threshold, draw).map_err(|n| format!("new at {rate:?}: {n}"))?;
     same(&mut pair).map_err(|said| format!("new at {rate:?}: {said}"))?;
     let mut controls: Vec<f64> = P::CONTROLS.iter().map(|control| draw.usual(control)).collect();
     for _ in 0..mood.calls {
@@ -314,6 +365,12 @@ fn scene<P: Pair>(draw: &mut Draw, counts: &mut Counts) -> Result<(), String> {
         }
     }
     Ok(())
+}
+
+/// A new one that must be refused by this number.
+fn no_new<P: Pair>(number: u32, rate: f64, threshold: f64, draw: &mut Draw, counts: &mut Counts) -> Result<(), String> {
+    refused(P::new(rate, threshold, draw).map(drop), number, counts)
+        .map_err(|said| format!("new at {rate:?}, threshold {threshold:?}: {said}"))
 }
 
 /// Turns the controls before a tick.
@@ -350,7 +407,7 @@ fn tick<P: Pair>(pair: &mut P, controls: &[f64], draw: &mut Draw, counts: &mut C
     };
     pair.lend(controls, 1, draw, counts).map_err(told)?;
     let (mark, _) = sound(pair, controls, wanted, counts).map_err(told)?;
-    counts.marks[place(mark)] += 1;
+    counts.ticked::<P>(mark, &before.0, controls);
     Ok(())
 }
 
@@ -438,6 +495,7 @@ fn block<P: Pair>(pair: &mut P, controls: &[f64], draw: &mut Draw, counts: &mut 
     pair.ours_block(controls, wanted, &mut tally, &mut samples, &mut marks).map_err(|n| told(n.to_string()))?;
     for i in 0..n {
         let mut theirs = [f64::from_bits(UNWRITTEN); MOST];
+        let (floats, _) = pair.theirs();
         let their_mark = pair.theirs_tick(controls, wanted, &mut theirs[..P::PORTS], counts);
         let Some(mark) = Mark::of_number(marks[i]) else {
             return Err(told(format!("tick {i} is marked {}", marks[i])));
@@ -445,7 +503,7 @@ fn block<P: Pair>(pair: &mut P, controls: &[f64], draw: &mut Draw, counts: &mut 
         let ours = &samples[P::PORTS * i..P::PORTS * (i + 1)];
         same_sound(wanted, (mark, ours), (their_mark, &theirs[..P::PORTS]))
             .map_err(|said| told(format!("tick {i}: {said}")))?;
-        counts.marks[place(mark)] += 1;
+        counts.ticked::<P>(mark, &floats, controls);
         due[0] += 1;
         due[count_of(mark)] += 1;
     }
@@ -505,8 +563,11 @@ fn put_state<P: Pair>(pair: &mut P, controls: &[f64], draw: &mut Draw, counts: &
     if number == 0 {
         pair.put_theirs(&floats, &wholes, draw);
         counts.states += 1;
+        let other = P::THRESHOLD.is_some_and(|place| Some(floats.as_ref()[place]) != counts.threshold);
+        counts.meet([(gates::OTHER_PUT_IN, other)]);
         return Ok(true);
     }
+    counts.meet([(gates::NOT_TAKEN, taken_but_for_threshold::<P>(&floats, &wholes))]);
     let (rate, bad, mut samples) = (draw.rate(), draw.bad_rate(), [0.0; MOST]);
     unchanged(pair, counts, number, |pair| pair.ours_tick(controls, u32::MAX, &mut samples[..P::PORTS]).map(drop))
         .and_then(|_| unused_block(pair, counts, number, [0; COUNTS], controls, 3 * P::PORTS, 3))
@@ -517,6 +578,15 @@ fn put_state<P: Pair>(pair: &mut P, controls: &[f64], draw: &mut Draw, counts: &
     pair.put_ours(&before.0, &before.1);
     same(pair).map_err(told)?;
     Ok(false)
+}
+
+/// Whether a state that is refused would be taken with another threshold.
+fn taken_but_for_threshold<P: Pair>(floats: &P::Floats, wholes: &P::Wholes) -> bool {
+    P::THRESHOLD.is_some_and(|place| {
+        let mut other = *floats;
+        other.as_mut()[place] = HIGH;
+        P::refusal(&other, wholes) == 0
+    })
 }
 
 /// A call that must be refused by this number and leave our state as it stood, to the last bit of a NaN.
@@ -579,6 +649,11 @@ pub fn bad_rate(rate: f64) -> bool {
 /// Refusal 2 of a phase.
 pub fn bad_phase(phase: f64) -> bool {
     !(0.0..1.0).contains(&phase)
+}
+
+/// Refusal 2 of a threshold: any number but two, by value.
+pub fn bad_threshold(threshold: f64) -> bool {
+    !THRESHOLDS.contains(&threshold)
 }
 
 /// The mark by the scope's rule: `outputs` are the wanted ones, `sums` what stands before a clamp, `phases` each phase

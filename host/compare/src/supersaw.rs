@@ -21,7 +21,7 @@ impl Pair for Supersaw {
     const MASKED: bool = false;
     both!(ours::Supersaw, 10, 2);
 
-    fn new(sample_rate: f64, _draw: &mut Draw) -> Result<Self, Refused> {
+    fn new(sample_rate: f64, _threshold: f64, _draw: &mut Draw) -> Result<Self, Refused> {
         Ok(Supersaw { ours: ours::Supersaw::new(sample_rate)?, theirs: rust::Supersaw::new(sample_rate) })
     }
 
@@ -37,7 +37,7 @@ impl Pair for Supersaw {
     }
 
     fn refusal(floats: &[f64; 10], _: &[u64; 2]) -> u32 {
-        refusal(floats[8], &floats[..8])
+        refusal(floats[8], &floats[..8], None)
     }
 
     fn ours_tick(&mut self, controls: &[f64], _wanted: u32, samples: &mut [f64]) -> Result<Mark, Refused> {

@@ -6,6 +6,7 @@
 fn a_vco_that_stands_still() {
     #[cfg(quiver)]
     {
+        use gruttisol::gate::ISSUE_1;
         use gruttisol::vco::{Controls, Vco};
         use quiver_system::modules::oscillators::{self as rust, probe::Probe};
 
@@ -13,7 +14,7 @@ fn a_vco_that_stands_still() {
             let mut samples = [0.0; 4];
             rust::Vco::new(48000.0).body(&[0.0, fm, 0.5, 0.0, 0.0], u32::MAX, &mut samples);
             let controls = Controls { voct: 0.0, fm, pw: 0.5, sync: 0.0, fm_lin: 0.0 };
-            let ours = Vco::new(48000.0).unwrap().tick(&controls, Vco::WANT_ALL).unwrap().volts;
+            let ours = Vco::new(48000.0, ISSUE_1).unwrap().tick(&controls, Vco::WANT_ALL).unwrap().volts;
             // an increment above 0 smooths the step at phase 0, one of 0 doesn't
             assert_eq!((samples[2], samples[3]), (0.0, 0.0));
             assert_eq!((ours.saw, ours.sqr), (-5.0, 5.0));
@@ -55,37 +56,38 @@ fn a_nan_for_a_memos_key() {
     #[cfg(quiver)]
     {
         use gruttisol::answer::Mark;
+        use gruttisol::gate::ISSUE_1;
         use gruttisol::lfo::{Controls, Lfo};
         use quiver_system::modules::oscillators::{self as rust, probe::Probe};
 
         // a state of a caller's own: the memo holds 1 Hz for a NaN that no operation makes
         let key = 0x7ff8_0000_0000_0001;
-        let (floats, wholes) = ([0.0, 48000.0, 0.0, 1.0], [key, 1]);
+        let (floats, wholes) = ([0.0, 48000.0, 0.0, ISSUE_1, 1.0], [key, 1]);
         let rate = f64::from_bits(key);
         let (mut theirs, mut samples) = (rust::Lfo::new(48000.0), [0.0; 5]);
         theirs.put_flat(&floats, &wholes);
         theirs.body(&[rate, 10.0, 0.0], u32::MAX, &mut samples);
-        assert_eq!(theirs.flat().0, [1.0 / 48000.0, 48000.0, 0.0, 1.0]);
+        assert_eq!(theirs.flat().0, [1.0 / 48000.0, 48000.0, 0.0, ISSUE_1, 1.0]);
         let mut ours = Lfo::of_parts(floats, wholes);
         let ticked = ours.tick(&Controls { rate, depth: 10.0, reset: 0.0 }, Lfo::WANT_ALL).unwrap();
         assert_eq!(ticked.mark, Mark::Lost);
-        assert!(ours.parts().0[3].is_nan());
+        assert!(ours.parts().0[4].is_nan());
         println!("the Rust hits and goes on at 1 Hz, ours misses and is lost");
 
         // the other way round: the key is ours of every NaN, and the control is another NaN
-        let (floats, wholes) = ([0.0, 48000.0, 0.0, 1.0], [0x7ff8_0000_0000_0000, 1]);
+        let (floats, wholes) = ([0.0, 48000.0, 0.0, ISSUE_1, 1.0], [0x7ff8_0000_0000_0000, 1]);
         let mut theirs = rust::Lfo::new(48000.0);
         theirs.put_flat(&floats, &wholes);
         theirs.body(&[rate, 10.0, 0.0], u32::MAX, &mut samples);
-        assert!(theirs.flat().0[3].is_nan());
+        assert!(theirs.flat().0[4].is_nan());
         let mut ours = Lfo::of_parts(floats, wholes);
         let ticked = ours.tick(&Controls { rate, depth: 10.0, reset: 0.0 }, Lfo::WANT_ALL).unwrap();
         assert_eq!(ticked.mark, Mark::Steered);
-        assert_eq!(*ours.parts().0, [1.0 / 48000.0, 48000.0, 0.0, 1.0]);
+        assert_eq!(*ours.parts().0, [1.0 / 48000.0, 48000.0, 0.0, ISSUE_1, 1.0]);
         println!("ours hits, goes on at 1 Hz and is steered, the Rust misses");
 
         // of a Vco the Rust's triangle is then no number
-        let (floats, wholes) = ([0.0, 48000.0, 0.0, 1.0], [0x7ff8_0000_0000_0000, 0, 0, 1]);
+        let (floats, wholes) = ([0.0, 48000.0, 0.0, ISSUE_1, 1.0], [0x7ff8_0000_0000_0000, 0, 0, 1]);
         let (mut theirs, mut samples) = (rust::Vco::new(48000.0), [0.0; 4]);
         theirs.put_flat(&floats, &wholes);
         theirs.body(&[rate, 0.0, 0.5, 0.0, 0.0], u32::MAX, &mut samples);
@@ -103,12 +105,13 @@ fn a_nan_for_a_memos_key() {
 fn an_output_that_the_rust_has_not() {
     #[cfg(quiver)]
     {
+        use gruttisol::gate::ISSUE_1;
         use gruttisol::lfo::{Controls, Lfo};
         use quiver_system::modules::oscillators::{self as rust, probe::Probe};
         use quiver_system::port::GraphModule;
 
         // a tick that ends its turn: thirty a second, at 1,000 ticks a second, from just before the end
-        let (floats, wholes) = ([0.99, 1000.0, 0.0, 30.0], [1f64.to_bits(), 1]);
+        let (floats, wholes) = ([0.99, 1000.0, 0.0, ISSUE_1, 30.0], [1f64.to_bits(), 1]);
         let (mut theirs, mut samples) = (rust::Lfo::new(1000.0), [7.0; 5]);
         theirs.put_flat(&floats, &wholes);
         theirs.body(&[1.0, 10.0, 0.0], Lfo::WANT_EOC, &mut samples);

@@ -1,5 +1,6 @@
 //! A string that clears itself under finite controls: a stretch of -1.0 and 1.0 by turns pumps its loop until it overflows.
 use gruttisol::answer::Mark;
+use gruttisol::gate::ISSUE_1;
 use gruttisol::karplus_strong::{Controls, KarplusStrong};
 
 const RATE: f64 = 48000.0;
@@ -17,7 +18,7 @@ fn controls(tick: u32) -> Controls {
 fn ours() {
     let cells = KarplusStrong::cells(RATE);
     let (mut line, draws) = (vec![0.0; cells], vec![0; cells]);
-    let mut string = KarplusStrong::new(RATE, &mut line).unwrap();
+    let mut string = KarplusStrong::new(RATE, ISSUE_1, &mut line).unwrap();
     for tick in 0..=CLEARED {
         let ticked = string.tick(&controls(tick), &mut line, &draws).unwrap();
         assert_eq!(ticked.mark == Mark::Cleared, tick == CLEARED, "tick {tick}: {}", ticked.volts.out);

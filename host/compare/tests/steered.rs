@@ -71,7 +71,7 @@ const NANS: [u64; 7] = [
 #[cfg(quiver)]
 mod oscillators {
     use super::NANS;
-    use compare::draw::{Draw, ONE_NAN};
+    use compare::draw::{Draw, HIGH, ONE_NAN};
     use compare::script::{alike, sound, Counts, Pair, MOST};
     use gruttisol::answer::Mark::{self, Clean, Lost, NotFinite, Steered};
     use gruttisol::tally::{Tally, COUNTS, NAMES};
@@ -149,7 +149,7 @@ mod oscillators {
     }
 
     fn fresh<P: Pair>() -> P {
-        P::new(48000.0, &mut draw()).unwrap()
+        P::new(48000.0, HIGH, &mut draw()).unwrap()
     }
 
     /// Controls that are numbers; gates are low.

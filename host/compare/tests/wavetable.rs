@@ -12,11 +12,14 @@ fn two_million_ticks() {
 fn the_bank() {
     #[cfg(quiver)]
     {
+        use compare::{draw::THRESHOLDS, rust};
         use gruttisol::wavetable::Wavetable;
-        use quiver::modules::oscillators as rust;
 
-        let theirs = rust::Wavetable::new(48000.0);
-        let theirs: Vec<u64> = theirs.bank().as_flattened().as_flattened().iter().map(|x| x.to_bits()).collect();
+        let [theirs, low] = THRESHOLDS.map(|threshold| {
+            let bank = rust::Wavetable::new(48000.0, threshold).bank();
+            bank.as_flattened().as_flattened().iter().map(|x| x.to_bits()).collect::<Vec<u64>>()
+        });
+        assert!(theirs == low, "the Rust's banks differ");
         let same = |ours: &[f64], theirs: &[u64]| ours.iter().map(|x| x.to_bits()).eq(theirs.iter().copied());
 
         let mut bank = vec![f64::NAN; Wavetable::BANK];

@@ -2,7 +2,8 @@
 //!
 //! `cargo run --offline --release -p compare --bin soak -- SEED TICKS [NAME..]`
 //!
-//! Each has a thread and is given TICKS accepted ticks. The status is 0 only when there was no difference.
+//! Each has a thread, one with a gate two, and each thread is given TICKS accepted ticks, all at one threshold. The status is 0 only when there
+//! was no difference.
 use std::process::ExitCode;
 
 #[cfg(quiver)]
@@ -18,12 +19,12 @@ fn main() -> ExitCode {
     let runs: Vec<_> = compare::ALL
         .into_iter()
         .filter(|(name, _)| wanted(name))
-        .map(|(name, run)| (name, std::thread::spawn(move || run(seed, ticks))))
+        .map(|(_, runs)| std::thread::spawn(move || runs(seed, ticks)))
         .collect();
     let mut differences = 0;
-    for (name, run) in runs {
-        match run.join().unwrap() {
-            Ok(counts) => println!("{name}: {counts}; no difference"),
+    for (title, ran) in runs.into_iter().flat_map(|runs| runs.join().unwrap()) {
+        match ran {
+            Ok(counts) => println!("{title}: {counts}; no difference"),
             Err(difference) => {
                 println!("{difference}");
                 differences += 1;
