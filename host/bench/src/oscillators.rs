@@ -4,6 +4,7 @@
 //! of Rust's standard library. Held controls are one set for all ticks; moving ones glide, so that no memo ever holds. Blocks
 //! are of held controls, with their tally, against the same bare body and against the Rust's own block call.
 use crate::noise;
+use gruttisol::gate::ISSUE_1;
 use gruttisol::tally::Tally;
 use gruttisol::{formant_osc, karplus_strong, lfo, supersaw, vco, wavetable};
 use random::Random;
@@ -38,7 +39,7 @@ pub fn rows(named: &[String]) {
 }
 
 fn vco() {
-    let mut state = vco::Vco::new(RATE).unwrap();
+    let mut state = vco::Vco::new(RATE, ISSUE_1).unwrap();
     let ours = move |&[voct, fm, pw, sync, fm_lin]: &[f64; 5]| {
         state.tick(&vco::Controls { voct, fm, pw, sync, fm_lin }, vco::Vco::WANT_ALL).unwrap().volts
     };
@@ -46,7 +47,7 @@ fn vco() {
     row("vco", held, [true, true, true, false, true], ours, theirs::vco());
     let [voct, fm, pw, sync, fm_lin] = held;
     let controls = vco::Controls { voct, fm, pw, sync, fm_lin };
-    let mut state = vco::Vco::new(RATE).unwrap();
+    let mut state = vco::Vco::new(RATE, ISSUE_1).unwrap();
     let ours = |tally: &mut Tally, samples: &mut [f64], marks: &mut [u32]| {
         state.block(black_box(&controls), vco::Vco::WANT_ALL, tally, samples, marks).unwrap()
     };
@@ -58,7 +59,7 @@ fn vco() {
 fn lfo() {
     const FIVE: u32 = 0b11111;
     for (name, wanted) in [("lfo", FIVE), ("lfo, eoc", FIVE | lfo::Lfo::WANT_EOC)] {
-        let mut state = lfo::Lfo::new(RATE).unwrap();
+        let mut state = lfo::Lfo::new(RATE, ISSUE_1).unwrap();
         let ours = move |&[rate, depth, reset]: &[f64; 3]| {
             state.tick(&lfo::Controls { rate, depth, reset }, wanted).unwrap().volts
         };
@@ -66,7 +67,7 @@ fn lfo() {
         row(name, held, [true, true, false], ours, theirs::lfo());
         let [rate, depth, reset] = held;
         let controls = lfo::Controls { rate, depth, reset };
-        let mut state = lfo::Lfo::new(RATE).unwrap();
+        let mut state = lfo::Lfo::new(RATE, ISSUE_1).unwrap();
         let ours = |tally: &mut Tally, samples: &mut [f64], marks: &mut [u32]| {
             state.block(black_box(&controls), wanted, tally, samples, marks).unwrap()
         };
@@ -93,7 +94,7 @@ fn wavetable() {
     let bank: Vec<f64> = (0..wavetable::Wavetable::BANK).map(|cell| (cell as f64).sin()).collect();
     // the higher pitch asks four levels of each table, the lower one the first alone
     for (name, v_oct) in [("wavetable", 0.25), ("wavetable, high", 3.25)] {
-        let mut state = wavetable::Wavetable::new(RATE).unwrap();
+        let mut state = wavetable::Wavetable::new(RATE, ISSUE_1).unwrap();
         let ours = |&[v_oct, table, morph, sync]: &[f64; 4]| {
             state.tick(&wavetable::Controls { v_oct, table, morph, sync }, &bank).unwrap().volts
         };
@@ -101,7 +102,7 @@ fn wavetable() {
         row(name, held, [true, true, true, false], ours, theirs::wavetable());
         let [v_oct, table, morph, sync] = held;
         let controls = wavetable::Controls { v_oct, table, morph, sync };
-        let mut state = wavetable::Wavetable::new(RATE).unwrap();
+        let mut state = wavetable::Wavetable::new(RATE, ISSUE_1).unwrap();
         let ours = |tally: &mut Tally, samples: &mut [f64], marks: &mut [u32]| {
             state.block(black_box(&controls), &bank, tally, samples, marks).unwrap()
         };
@@ -146,7 +147,7 @@ fn karplus_strong() {
     let mut line = vec![0.0; karplus_strong::KarplusStrong::cells(RATE)];
     let mut random = Random::new(1);
     let draws: Vec<u64> = line.iter().map(|_| random.bits() >> 11).collect();
-    let mut state = karplus_strong::KarplusStrong::new(RATE, &mut line).unwrap();
+    let mut state = karplus_strong::KarplusStrong::new(RATE, ISSUE_1, &mut line).unwrap();
     let ours = |&[voct, trigger, damping, brightness, stretch]: &[f64; 5]| {
         let controls = karplus_strong::Controls { voct, trigger, damping, brightness, stretch };
         state.tick(&controls, &mut line, &draws).unwrap().volts

@@ -3,6 +3,7 @@
 //! oscillator, lends it a bank, a line or draws, and counts what is finished.
 use gruttisol::answer::{Mark, Refused};
 use gruttisol::formant_osc::{self, FormantOsc};
+use gruttisol::gate::ISSUE_1;
 use gruttisol::karplus_strong::{self, KarplusStrong};
 use gruttisol::noise_generator::{self, NoiseGenerator};
 use gruttisol::tally::{self, Tally};
@@ -64,7 +65,7 @@ fn wavetable() -> Result<String, Refused> {
     const FRAMES: u32 = 1920;
     let mut bank = vec![0.0; Wavetable::BANK];
     Wavetable::fill_bank(&mut bank)?;
-    let mut oscillator = Wavetable::new(RATE)?;
+    let mut oscillator = Wavetable::new(RATE, ISSUE_1)?;
     let mut text = Text::default();
     for frame in 0..FRAMES {
         let table = f64::from(frame) / f64::from(FRAMES);
@@ -81,7 +82,7 @@ fn string() -> Result<String, Refused> {
     let mut line = vec![0.0; KarplusStrong::cells(RATE)];
     let mut random = Random::new(1);
     let draws: Vec<u64> = line.iter().map(|_| random.bits() >> 11).collect();
-    let mut string = KarplusStrong::new(RATE, &mut line)?;
+    let mut string = KarplusStrong::new(RATE, ISSUE_1, &mut line)?;
     let mut text = Text::default();
     for frame in 0..FRAMES {
         let trigger = if frame == 0 { 5.0 } else { 0.0 };
