@@ -52,14 +52,43 @@ pub fn gate(run: Run, n: u64) {
     }
 }
 
-/// By what the reference reads.
-const TEXTS: [Kind<Result<Score, Refusal>>; 6] = [
+/// A drawn text, by what the reference reads.
+struct Text {
+    score: Result<Score, Refusal>,
+    /// Whether it is refused for a line of `gate`: without such lines it is a score.
+    for_gate: bool,
+}
+
+impl Text {
+    fn of(text: &[u8]) -> Self {
+        let lines = text.split_inclusive(|&byte| byte == b'\n');
+        let without_gate: Vec<u8> = lines.filter(|line| !line.starts_with(b"gate=")).flatten().copied().collect();
+        let score = read(text);
+        Text { for_gate: score.is_err() && read(&without_gate).is_ok(), score }
+    }
+
+    fn says(&self, gate: Option<u32>) -> bool {
+        self.score.as_ref().is_ok_and(|score| score.gate == gate)
+    }
+
+    fn is_refused_by(&self, refusal: Refusal) -> bool {
+        self.score == Err(refusal)
+    }
+}
+
+const TEXTS: [Kind<Text>; 12] = [
     ("texts", |_| true),
-    ("read and written back", |read| read.is_ok()),
-    ("refused by 20", |read| *read == Err(Refusal::Long)),
-    ("by 21", |read| *read == Err(Refusal::Line)),
-    ("by 22", |read| *read == Err(Refusal::Form)),
-    ("by 23", |read| *read == Err(Refusal::Range)),
+    ("read and written back", |text| text.score.is_ok()),
+    ("without a gate", |text| text.says(None)),
+    ("with gate=1", |text| text.says(Some(1))),
+    ("with gate=2", |text| text.says(Some(2))),
+    ("refused by 20", |text| text.is_refused_by(Refusal::Long)),
+    ("by 21", |text| text.is_refused_by(Refusal::Line)),
+    ("by 22", |text| text.is_refused_by(Refusal::Form)),
+    ("by 23", |text| text.is_refused_by(Refusal::Range)),
+    ("for a line of gate by 21", |text| text.for_gate && text.is_refused_by(Refusal::Line)),
+    ("for it by 22", |text| text.for_gate && text.is_refused_by(Refusal::Form)),
+    ("for it by 23", |text| text.for_gate && text.is_refused_by(Refusal::Range)),
 ];
 
 /// Drawn texts: both read the same of each, and what ours read it writes back as the same bytes.
@@ -67,24 +96,26 @@ pub fn texts(seed: u64, texts: u64) -> Result<Counts, String> {
     let (mut draw, mut counts) = (Draw::new(seed), Counts::of(&TEXTS));
     for _ in 0..texts {
         let text = scores::any(&mut draw);
-        let (ours, theirs) = (Ours::parse(&text), read(&text));
-        let same = match (&ours, &theirs) {
+        let (ours, theirs) = (Ours::parse(&text), Text::of(&text));
+        let same = match (&ours, &theirs.score) {
             (Ok(ours), Ok(theirs)) => says(ours, theirs) && ours.to_string().as_bytes() == text,
             (Err(Refused(number)), Err(refusal)) => *number == *refusal as u32,
             _ => false,
         };
         if !same {
-            return Err(format!("text {}: {ours:?}, and the reference has {theirs:?}", text.escape_ascii()));
+            return Err(format!("text {}: {ours:?}, and the reference has {:?}", text.escape_ascii(), theirs.score));
         }
         counts.take(&TEXTS, &theirs);
     }
     Ok(counts)
 }
 
-/// Whether ours says the same: whole numbers, and volts to the last bit.
+/// Whether ours says the same: whole numbers, the threshold, and volts to the last bit.
 fn says(ours: &Ours, theirs: &Score) -> bool {
     let volts = ours::volts(ours).into_iter().zip(theirs.controls());
-    ours::values(ours) == *theirs && volts.into_iter().all(|(a, b)| alike(a, b))
+    ours::values(ours) == *theirs
+        && ours.threshold() == theirs.threshold()
+        && volts.into_iter().all(|(a, b)| alike(a, b))
 }
 
 /// Drawn values, and what came of them.
@@ -99,6 +130,10 @@ impl Tried {
         self.written && self.values.osc.name == osc
     }
 
+    fn says(&self, gate: Option<u32>) -> bool {
+        self.written && self.values.gate == gate
+    }
+
     /// Whether this holds of one of its numbers, given between the ends of its range.
     fn one(&self, holds: impl Fn(i64, i64, i64) -> bool) -> bool {
         let inputs = self.values.microvolts.iter().flatten().map(|&n| (MICROVOLTS, n.into()));
@@ -107,13 +142,16 @@ impl Tried {
     }
 }
 
-const VALUES: [Kind<Tried>; 18] = [
+const VALUES: [Kind<Tried>; 21] = [
     ("values", |_| true),
     ("written", |tried| tried.written),
     ("of vco", |tried| tried.is_of("vco")),
     ("of lfo", |tried| tried.is_of("lfo")),
     ("of supersaw", |tried| tried.is_of("supersaw")),
     ("of formant", |tried| tried.is_of("formant")),
+    ("without a gate", |tried| tried.says(None)),
+    ("with gate=1", |tried| tried.says(Some(1))),
+    ("with gate=2", |tried| tried.says(Some(2))),
     ("with nan", |tried| tried.written && tried.values.microvolts.contains(&None)),
     ("with an end of a range", |tried| tried.written && tried.one(|lo, n, hi| n == lo || n == hi)),
     ("in texts of every length", |tried| tried.written && tried.in_every_room),

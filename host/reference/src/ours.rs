@@ -1,10 +1,11 @@
 //! The proved crate's scores, by the reference's values.
 use crate::score::{Score, FORMANT, LFO, SUPERSAW, VCO};
 use gruttisol::answer::Refused;
+use gruttisol::gate::Issue;
 use gruttisol::score as ours;
 use gruttisol::score::{Control, Controls, FormantInputs, Inputs, LfoInputs, SupersawInputs, VcoInputs};
 
-/// Ours of these values.
+/// Ours of these values, whose gate is an issue's.
 pub fn of(values: &Score) -> Result<ours::Score, Refused> {
     let input = |i: usize| values.microvolts[i].map_or(Control::Nan, Control::Microvolts);
     let inputs = match values.osc.name {
@@ -21,7 +22,8 @@ pub fn of(values: &Score) -> Result<ours::Score, Refused> {
         }),
         name => unreachable!("{name} is no oscillator of a score"),
     };
-    ours::Score::new(values.hz, values.frames, inputs)
+    let gate = values.gate.map(|number| Issue::of_number(number.into()).expect("issue 1 or 2"));
+    ours::Score::new(values.hz, gate, values.frames, inputs)
 }
 
 /// The values of ours.
@@ -36,7 +38,13 @@ pub fn values(score: &ours::Score) -> Score {
         Control::Microvolts(microvolts) => Some(microvolts),
         Control::Nan => None,
     };
-    Score { osc, hz: score.hz(), frames: score.frames(), microvolts: inputs.into_iter().map(microvolts).collect() }
+    Score {
+        osc,
+        hz: score.hz(),
+        gate: score.gate().map(|issue| issue as u32),
+        frames: score.frames(),
+        microvolts: inputs.into_iter().map(microvolts).collect(),
+    }
 }
 
 /// Its volts, in the order of the inputs.

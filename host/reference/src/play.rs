@@ -1,9 +1,10 @@
 //! A score played, and the text of it.
 use crate::score::{read, Score};
 use compare::marked::Marked;
+use compare::rust::{Lfo, Vco};
 use compare::script::one_nan;
 use gruttisol::answer::Mark;
-use quiver::modules::oscillators as rust;
+use quiver::modules::oscillators::{FormantOsc, Supersaw};
 use std::io::{self, Write};
 
 /// What `render` must print for a score.
@@ -23,12 +24,12 @@ pub fn write(text: &[u8], out: &mut impl Write) -> io::Result<()> {
 
 /// The Rust's new oscillator for a score.
 fn voice(score: &Score) -> Box<dyn Marked> {
-    let rate = score.hz.into();
+    let (rate, threshold) = (score.hz.into(), score.threshold());
     match score.osc.name {
-        "vco" => Box::new(rust::Vco::new(rate)),
-        "lfo" => Box::new(rust::Lfo::new(rate)),
-        "supersaw" => Box::new(rust::Supersaw::new(rate)),
-        "formant" => Box::new(rust::FormantOsc::new(rate)),
+        "vco" => Box::new(Vco::new(rate, threshold)),
+        "lfo" => Box::new(Lfo::new(rate, threshold)),
+        "supersaw" => Box::new(Supersaw::new(rate)),
+        "formant" => Box::new(FormantOsc::new(rate)),
         name => unreachable!("{name} is no oscillator of a score"),
     }
 }

@@ -1,4 +1,4 @@
-//! A score: `osc`, `hz`, `frames` and the oscillator's inputs, a line each.
+//! A score: `osc`, `hz`, `gate`, which may be left out, `frames` and the oscillator's inputs, a line each.
 use std::ops::RangeInclusive;
 use Refusal::{Form, Line, Long, Range};
 
@@ -10,6 +10,7 @@ pub const LARGEST: i64 = 10_000_000;
 
 /// What numbers may be.
 pub const HZ: RangeInclusive<i64> = 1000..=192_000;
+pub const GATE: RangeInclusive<i64> = 1..=2;
 pub const FRAMES: RangeInclusive<i64> = 1..=480_000;
 pub const MICROVOLTS: RangeInclusive<i64> = -LARGEST..=LARGEST;
 
@@ -49,12 +50,22 @@ pub static ALL: [Osc; 4] = [VCO, LFO, SUPERSAW, FORMANT];
 pub struct Score {
     pub osc: &'static Osc,
     pub hz: u32,
+    /// The issue of the bank that it is from; none where no line says it.
+    pub gate: Option<u32>,
     pub frames: u32,
     /// In the order of the inputs; none where one is `nan`.
     pub microvolts: Vec<Option<i32>>,
 }
 
 impl Score {
+    /// Volts that a gate must rise above. Where no line says it, issue 1 holds.
+    pub fn threshold(&self) -> f64 {
+        match self.gate {
+            Some(2) => 1.0,
+            _ => 2.5,
+        }
+    }
+
     /// Volts, in the order of the inputs.
     pub fn controls(&self) -> Vec<f64> {
         let volts = |microvolts| f64::from(microvolts) / 1_000_000.0;
@@ -71,10 +82,11 @@ pub fn read(text: &[u8]) -> Result<Score, Refusal> {
     let name = lines.value("osc")?;
     let osc = ALL.iter().find(|osc| osc.name.as_bytes() == name).ok_or(Line)?;
     let hz = within(HZ, number(lines.value("hz")?)?)? as u32;
+    let gate = lines.value_if("gate").map(|value| within(GATE, number(value)?)).transpose()?;
     let frames = within(FRAMES, number(lines.value("frames")?)?)? as u32;
     let microvolts = osc.inputs.iter().map(|key| microvolts(lines.value(key)?)).collect::<Result<_, _>>()?;
     if lines.0.is_empty() {
-        Ok(Score { osc, hz, frames, microvolts })
+        Ok(Score { osc, hz, gate: gate.map(|issue| issue as u32), frames, microvolts })
     } else {
         Err(Line)
     }
@@ -83,7 +95,11 @@ pub fn read(text: &[u8]) -> Result<Score, Refusal> {
 /// The text that is read as a score. A number out of its range is refused.
 pub fn write(score: &Score) -> Result<String, Refusal> {
     let (hz, frames) = (within(HZ, score.hz.into())?, within(FRAMES, score.frames.into())?);
-    let mut text = format!("osc={}\nhz={hz}\nframes={frames}\n", score.osc.name);
+    let gate = match score.gate {
+        Some(issue) => format!("gate={}\n", within(GATE, issue.into())?),
+        None => String::new(),
+    };
+    let mut text = format!("osc={}\nhz={hz}\n{gate}frames={frames}\n", score.osc.name);
     for (key, input) in score.osc.inputs.iter().zip(&score.microvolts) {
         let value = match *input {
             Some(microvolts) => within(MICROVOLTS, microvolts.into())?.to_string(),
@@ -104,6 +120,14 @@ impl<'a> Lines<'a> {
         let (line, rest) = self.0.split_at(end);
         self.0 = &rest[1..];
         line.strip_prefix(key.as_bytes()).and_then(|line| line.strip_prefix(b"=")).ok_or(Line)
+    }
+
+    /// The same, if the next line has this key; else it is still the next.
+    fn value_if(&mut self, key: &str) -> Option<&'a [u8]> {
+        let mut lines = Lines(self.0);
+        let value = lines.value(key).ok()?;
+        *self = lines;
+        Some(value)
     }
 }
 

@@ -10,16 +10,22 @@ fn whole(draw: &mut Draw, lo: i64, hi: i64) -> i64 {
 
 /// An input: mostly a number from a usual range, else a place where some rule changes, or `nan`.
 fn control(draw: &mut Draw) -> Option<i32> {
-    let corners = [0, 1, -1, 50_000, 500_000, 950_000, 1_000_000, 2_500_000, 2_500_001, 5_000_000, LARGEST];
+    const CORNERS: [i64; 13] =
+        [0, 1, -1, 50_000, 500_000, 950_000, 1_000_000, 1_000_001, 1_500_000, 2_500_000, 2_500_001, 5_000_000, LARGEST];
     let microvolts = match draw.below(12) {
         0 => return None,
-        1..=3 => draw.of(&corners),
-        4 => -draw.of(&corners),
+        1..=3 => draw.of(&CORNERS),
+        4 => -draw.of(&CORNERS),
         5..=7 => whole(draw, 0, 1_000_000),
         8 => whole(draw, -1_000_000, 1_000_000),
         _ => whole(draw, -LARGEST, LARGEST),
     };
     Some(microvolts as i32)
+}
+
+/// What a line of `gate` says; as often there is none.
+fn gate(draw: &mut Draw) -> Option<u32> {
+    draw.of(&[None, None, Some(1), Some(2)])
 }
 
 /// A score that isn't refused: mostly of few frames, now and then of some thousand.
@@ -41,8 +47,9 @@ fn of_frames(frames: i64, draw: &mut Draw) -> Vec<u8> {
         3 => 48_000,
         _ => whole(draw, 1000, 192_000),
     };
+    let gate = gate(draw);
     let microvolts = osc.inputs.iter().map(|_| control(draw)).collect();
-    let score = Score { osc, hz: hz as u32, frames: frames as u32, microvolts };
+    let score = Score { osc, hz: hz as u32, gate, frames: frames as u32, microvolts };
     write(&score).expect("numbers in their ranges").into_bytes()
 }
 
@@ -51,13 +58,14 @@ pub fn values(draw: &mut Draw) -> Score {
     let osc = &ALL[draw.below(4) as usize];
     let unsigned = u32::MIN.into()..=u32::MAX.into();
     let hz = odd(HZ, &unsigned, draw) as u32;
+    let gate = gate(draw);
     let frames = odd(FRAMES, &unsigned, draw) as u32;
     let mut input = || {
         let microvolts = odd(MICROVOLTS, &(i32::MIN.into()..=i32::MAX.into()), draw) as i32;
         (!draw.one_in(8)).then_some(microvolts)
     };
     let microvolts = osc.inputs.iter().map(|_| input()).collect();
-    Score { osc, hz, frames, microvolts }
+    Score { osc, hz, gate, frames, microvolts }
 }
 
 /// A number: mostly in its range, now and then of few digits, or an end of it; else one past an end, or any that its type can hold.
@@ -87,6 +95,15 @@ pub fn damaged(draw: &mut Draw) -> Vec<u8> {
 const VALUES: &str = "|-|-0|+1|00|01|-01|1e3|0x10|1.0| 1|1 |1\r|nan|NaN|-nan|nan |999|480001\
                       |10000001|-10000001|999999999999|1000000000000";
 
+/// Values of a line of `gate`: both issues, numbers that are none, and no numbers.
+const GATES: &str = "1|2|0|3|-1|nan||01|0000000000001|1000000000000";
+
+/// One of those between bars.
+fn between_bars(values: &'static str, draw: &mut Draw) -> &'static str {
+    let values: Vec<&str> = values.split('|').collect();
+    draw.of(&values)
+}
+
 fn damage(text: &mut Vec<u8>, draw: &mut Draw) {
     let place = |draw: &mut Draw, text: &Vec<u8>| draw.below(text.len() as u64 + 1) as usize;
     let at = place(draw, text);
@@ -107,7 +124,7 @@ fn damage(text: &mut Vec<u8>, draw: &mut Draw) {
     }
 }
 
-/// Doubles, drops, swaps or moves lines, or changes a value.
+/// Doubles, drops, swaps or moves lines, puts one of `gate` anywhere, or changes a value.
 fn lines(text: &mut Vec<u8>, draw: &mut Draw) {
     let mut lines: Vec<Vec<u8>> = text.split_inclusive(|&byte| byte == b'\n').map(<[u8]>::to_vec).collect();
     if lines.is_empty() {
@@ -115,15 +132,19 @@ fn lines(text: &mut Vec<u8>, draw: &mut Draw) {
     }
     let any = |draw: &mut Draw| draw.below(lines.len() as u64) as usize;
     let (i, j) = (any(draw), any(draw));
-    match draw.below(6) {
+    match draw.below(8) {
         0 => lines.insert(i, lines[j].clone()),
         1 => drop(lines.remove(i)),
         2 => lines.swap(i, j),
+        3 | 4 => {
+            // where it belongs as often as elsewhere
+            let at = draw.of(&[i, lines.len(), 2.min(lines.len()), 2.min(lines.len())]);
+            lines.insert(at, format!("gate={}\n", between_bars(GATES, draw)).into_bytes());
+        }
         _ => {
             if let Some(equals) = lines[i].iter().position(|&byte| byte == b'=') {
-                let values: Vec<&str> = VALUES.split('|').collect();
                 lines[i].truncate(equals + 1);
-                lines[i].extend(draw.of(&values).bytes());
+                lines[i].extend(between_bars(VALUES, draw).bytes());
                 lines[i].push(b'\n');
             }
         }
@@ -162,8 +183,8 @@ fn renumbered(draw: &mut Draw) -> Vec<u8> {
 /// A number at an end of a range, of 12 digits or of a machine's word, or one beside it, or any; mostly as a score writes it, else
 /// with signs, zeros or bytes that don't belong to it.
 fn odd_number(draw: &mut Draw) -> Vec<u8> {
-    const ENDS: [u64; 10] =
-        [0, 1, 1000, 192_000, 480_000, LARGEST as u64, 1_000_000_000_000, 1 << 31, 1 << 32, 1 << 63];
+    const ENDS: [u64; 11] =
+        [0, 1, 2, 1000, 192_000, 480_000, LARGEST as u64, 1_000_000_000_000, 1 << 31, 1 << 32, 1 << 63];
     let size = match draw.below(5) {
         0 => draw.bits() >> draw.below(64),
         _ => draw.of(&ENDS).wrapping_add(draw.below(3)).wrapping_sub(1),
@@ -224,7 +245,12 @@ fn noise(draw: &mut Draw) -> Vec<u8> {
         _ => draw.below(64),
     };
     let letters = draw.one_in(2);
-    let byte =
-        |draw: &mut Draw| if letters { draw.of(b"osc=vco\nhz=48000\nframes=1\nnan-0") } else { draw.bits() as u8 };
+    let byte = |draw: &mut Draw| {
+        if letters {
+            draw.of(b"osc=vco\nhz=48000\ngate=2\nframes=1\nnan-0")
+        } else {
+            draw.bits() as u8
+        }
+    };
     (0..length).map(|_| byte(draw)).collect()
 }

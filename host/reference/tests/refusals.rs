@@ -1,5 +1,6 @@
 //! Scores and the number that each is refused by, written by hand from the scope; 0 says that it is played.
 use reference::score::read;
+use std::ops::RangeBounds;
 
 /// The number by what the program prints.
 fn printed(score: &[u8]) -> u32 {
@@ -27,6 +28,11 @@ const SUPERSAW: &str = "osc=supersaw\nhz=48000\nframes=2\nvoct=0\ndetune=500000\
 const FORMANT: &str = "osc=formant\nhz=48000\nframes=2\nv_oct=0\nvowel=0\nformant_shift=0\nvibrato=0\n";
 const ALL: [&str; 4] = [VCO, LFO, SUPERSAW, FORMANT];
 
+/// A score with this line after `hz`, where one of `gate` may stand.
+fn gated(score: &str, line: &str) -> String {
+    score.replace("\nframes=", &format!("\n{line}\nframes="))
+}
+
 /// The score of the Vco with one piece of it, which it has once, replaced.
 fn with(old: &str, new: &str) -> String {
     assert_eq!(VCO.matches(old).count(), 1, "{old}");
@@ -35,12 +41,16 @@ fn with(old: &str, new: &str) -> String {
 
 #[test]
 fn good_ones_are_played() {
-    ALL.into_iter().for_each(|score| is(score, 0));
+    for score in ALL {
+        is(score, 0);
+        is(gated(score, "gate=1"), 0);
+        is(gated(score, "gate=2"), 0);
+    }
 }
 
 #[test]
 fn whole_texts() {
-    let cases: [(u32, &[u8]); 22] = [
+    let cases: [(u32, &[u8]); 27] = [
         (21, b""),
         (21, b"\n"),
         (21, b"\n\n"),
@@ -59,6 +69,11 @@ fn whole_texts() {
         (23, b"osc=vco\nhz=1\n"),
         (21, b"osc=vco\nhz=1"),
         (21, b"osc=vco\nhz=48000\n"),
+        (21, b"osc=vco\nhz=48000\ngate=1"),
+        (21, b"osc=vco\nhz=48000\ngate=3"),
+        (21, b"osc=vco\nhz=48000\ngate=1\n"),
+        (22, b"osc=vco\nhz=48000\ngate=nan\n"),
+        (23, b"osc=vco\nhz=48000\ngate=3\n"),
         (21, b"osc=vco\nhz=48000\nframes=1\n"),
         (21, b"osc=vco\nhz=48000\nframes=1\nvoct=0\nfm=0\npw=0\nsync=0\n"),
         (21, b"\xff\xfe"),
@@ -175,6 +190,38 @@ fn lines() {
         (21, "hz=48000\nframes=2", "hertz=x\nframes=0"),
         (23, "sync=0\nfm_lin=0\n", "sync=10000001\nfm_lin=0"),
         (22, "sync=0\nfm_lin=0\n", "sync=00\nfm_lin=0\nx=1\n"),
+        // a gate in another place, or twice
+        (21, "osc=vco\n", "gate=1\nosc=vco\n"),
+        (21, "osc=vco\n", "osc=vco\ngate=1\n"),
+        (21, "frames=2\n", "frames=2\ngate=1\n"),
+        (21, "voct=0\n", "voct=0\ngate=2\n"),
+        (21, "sync=0\n", "gate=2\nsync=0\n"),
+        (21, "fm_lin=0\n", "fm_lin=0\ngate=1\n"),
+        (21, "hz=48000\n", "gate=1\n"),
+        (21, "frames=2\n", "gate=1\n"),
+        (21, "hz=48000\n", "hz=48000\ngate=1\ngate=1\n"),
+        (21, "hz=48000\n", "hz=48000\ngate=1\ngate=2\n"),
+        (21, "hz=48000\n", "hz=48000\ngate=2\ngate=nan\n"),
+        (21, "hz=48000\n", "hz=48000\ngate=2\nhz=48000\n"),
+        (21, "hz=48000\n", "hz=48000\ngate=2\n\n"),
+        // its key
+        (21, "hz=48000\n", "hz=48000\nGate=1\n"),
+        (21, "hz=48000\n", "hz=48000\nGATE=1\n"),
+        (21, "hz=48000\n", "hz=48000\n gate=1\n"),
+        (21, "hz=48000\n", "hz=48000\ngate =1\n"),
+        (21, "hz=48000\n", "hz=48000\ngates=1\n"),
+        (21, "hz=48000\n", "hz=48000\ngat=1\n"),
+        (21, "hz=48000\n", "hz=48000\ngate:1\n"),
+        (21, "hz=48000\n", "hz=48000\ngate\n"),
+        (21, "hz=48000\n", "hz=48000\nissue=1\n"),
+        // among lines that are wrong, or without its line feed
+        (23, "hz=48000\n", "hz=48000\ngate=3\ngate=1\n"),
+        (22, "hz=48000\n", "hz=48000\ngate=\ngate=1\n"),
+        (23, "hz=48000\n", "hz=999\ngate=nan\n"),
+        (22, "hz=48000\nframes=2", "hz=48000\ngate=01\nframes=0"),
+        (23, "hz=48000\nframes=2", "hz=48000\ngate=2\nframes=0"),
+        (22, "hz=48000\n", "hz=48000\ngate=1"),
+        (22, "hz=48000\n", "hz=48000\ngate=1\r\n"),
         // a line without its feed is no line, whatever its number
         (21, "fm_lin=0\n", "fm_lin=00"),
         (21, "fm_lin=0\n", "fm_lin=10000001"),
@@ -193,46 +240,54 @@ const BAD_FORMS: &[u8] =
     |1.0|1,000|1_000|1e3|0x10|1e|=1|1=1|NaN|NAN|nan | nan|-nan|nan0|na|nann|inf\
     |1000000000000|-1000000000000|000000000000|0000000048000|18446744073709551616|18446744073709599616";
 
-/// Values, and the numbers that they are refused by as `hz`, `frames` and an input.
-const RANGES: [(&str, [u32; 3]); 18] = [
-    ("nan", [22, 22, 0]),
-    ("0", [23, 23, 0]),
-    ("1", [23, 0, 0]),
-    ("-1", [23, 23, 0]),
-    ("-5", [23, 23, 0]),
-    ("7", [23, 0, 0]),
-    ("999", [23, 0, 0]),
-    ("1000", [0, 0, 0]),
-    ("-1000", [23, 23, 0]),
-    ("192000", [0, 0, 0]),
-    ("192001", [23, 0, 0]),
-    ("480001", [23, 23, 0]),
-    ("10000000", [23, 23, 0]),
-    ("-10000000", [23, 23, 0]),
-    ("10000001", [23, 23, 23]),
-    ("-10000001", [23, 23, 23]),
-    ("999999999999", [23, 23, 23]),
-    ("-999999999999", [23, 23, 23]),
+/// Values, and the numbers that they are refused by as `hz`, `gate`, `frames` and an input.
+const RANGES: [(&str, [u32; 4]); 20] = [
+    ("nan", [22, 22, 22, 0]),
+    ("0", [23, 23, 23, 0]),
+    ("1", [23, 0, 0, 0]),
+    ("2", [23, 0, 0, 0]),
+    ("3", [23, 23, 0, 0]),
+    ("-1", [23, 23, 23, 0]),
+    ("-5", [23, 23, 23, 0]),
+    ("7", [23, 23, 0, 0]),
+    ("999", [23, 23, 0, 0]),
+    ("1000", [0, 23, 0, 0]),
+    ("-1000", [23, 23, 23, 0]),
+    ("192000", [0, 23, 0, 0]),
+    ("192001", [23, 23, 0, 0]),
+    ("480001", [23, 23, 23, 0]),
+    ("10000000", [23, 23, 23, 0]),
+    ("-10000000", [23, 23, 23, 0]),
+    ("10000001", [23, 23, 23, 23]),
+    ("-10000001", [23, 23, 23, 23]),
+    ("999999999999", [23, 23, 23, 23]),
+    ("-999999999999", [23, 23, 23, 23]),
 ];
 
-/// Every line of every oscillator's score with another value.
+/// Every line of every oscillator's score with another value; of one with a gate the two lines from there on.
 #[test]
 fn values() {
-    let mut n = 0;
-    for score in ALL {
-        let lines: Vec<&str> = score.split_inclusive('\n').collect();
-        for (i, line) in lines.iter().enumerate().skip(1) {
-            let key = line.split_inclusive('=').next().unwrap();
-            let (before, after) = (lines[..i].concat(), lines[i + 1..].concat());
-            let mut put = |value: &[u8], number| {
-                is([before.as_bytes(), key.as_bytes(), value, b"\n", after.as_bytes()].concat(), number);
-                n += 1;
-            };
-            BAD_FORMS.split(|&byte| byte == b'|').for_each(|value| put(value, 22));
-            RANGES.iter().for_each(|(value, numbers)| put(value.as_bytes(), numbers[(i - 1).min(2)]));
-        }
-    }
+    let n: usize =
+        ALL.into_iter().map(|score| other_values(score, 1..) + other_values(&gated(score, "gate=1"), 2..4)).sum();
     println!("{n} scores");
+}
+
+/// Tries other values for these lines of a score, and says how many.
+fn other_values(score: &str, tried: impl RangeBounds<usize>) -> usize {
+    let mut n = 0;
+    let lines: Vec<&str> = score.split_inclusive('\n').collect();
+    for (i, line) in lines.iter().enumerate().filter(|(i, _)| tried.contains(i)) {
+        let key = line.split_inclusive('=').next().unwrap();
+        let column = ["hz=", "gate=", "frames="].iter().position(|its| *its == key).unwrap_or(3);
+        let (before, after) = (lines[..i].concat(), lines[i + 1..].concat());
+        let mut put = |value: &[u8], number| {
+            is([before.as_bytes(), key.as_bytes(), value, b"\n", after.as_bytes()].concat(), number);
+            n += 1;
+        };
+        BAD_FORMS.split(|&byte| byte == b'|').for_each(|value| put(value, 22));
+        RANGES.iter().for_each(|(value, numbers)| put(value.as_bytes(), numbers[column]));
+    }
+    n
 }
 
 /// 1,024 bytes are read and refused for what they say; 1,025 are too many, whatever they say.

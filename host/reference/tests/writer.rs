@@ -55,7 +55,7 @@ fn damaged_presets_come_back_as_they_are() {
 
 /// Values inside their ranges.
 fn values(osc: &'static Osc) -> Score {
-    Score { osc, hz: 48000, frames: 480, microvolts: vec![Some(-250_000); osc.inputs.len()] }
+    Score { osc, hz: 48000, gate: None, frames: 480, microvolts: vec![Some(-250_000); osc.inputs.len()] }
 }
 
 /// Good values have a text with this line, which is read as them; others are refused by 23.
@@ -108,17 +108,35 @@ fn nan_of_each_input() {
     }
 }
 
+/// The line of `gate` stands between `hz` and `frames`, or there is none: of one set of values three scores, of which none is another.
+#[test]
+fn each_gate_and_none() {
+    for osc in &ALL {
+        let scores = [None, Some(1), Some(2)].map(|gate| (gate, ours::of(&Score { gate, ..values(osc) }).unwrap()));
+        let without = scores[0].1.to_string();
+        for (gate, score) in scores {
+            let line = gate.map_or(String::new(), |issue| format!("gate={issue}\n"));
+            let text = without.replace("\nframes=", &format!("\n{line}frames="));
+            assert_eq!(score.to_string(), text);
+            let read = Ours::parse(text.as_bytes()).unwrap();
+            assert_eq!((read, ours::values(&read).gate), (score, gate), "{text}");
+            assert_eq!(read.threshold(), if gate == Some(2) { 1.0 } else { 2.5 }, "{text}");
+            ours::written_in_every_room(&score, &text).unwrap();
+        }
+    }
+}
+
 /// The longest text of each oscillator, of which the formant's is the longest, lent from no byte to one more than it has.
 #[test]
 fn every_room() {
     for osc in &ALL {
         let microvolts = vec![Some(-10_000_000); osc.inputs.len()];
-        let longest = ours::of(&Score { osc, hz: 192_000, frames: 480_000, microvolts }).unwrap();
+        let longest = ours::of(&Score { osc, hz: 192_000, gate: Some(2), frames: 480_000, microvolts }).unwrap();
         let text = longest.to_string();
         assert_eq!(text.len() == Ours::LONGEST, osc.name == "formant", "{text}");
         ours::written_in_every_room(&longest, &text).unwrap();
     }
-    assert_eq!(Ours::LONGEST, 110);
+    assert_eq!(Ours::LONGEST, 117);
 }
 
 #[test]
