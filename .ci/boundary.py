@@ -79,6 +79,8 @@ CONSTANTS = [
 ]
 # and that another place says: the text with the number
 SAID = [
+    ("GATE_ISSUE_1", "common", r"\bconst GATE_THRESHOLD_V: f64 = ([\d.]+);"),
+    ("GATE_ISSUE_2", "common", r"\bconst LOW_GATE_THRESHOLD_V: f64 = ([\d.]+);"),
     ("SCORE_TEXT", "score", r"\bif (\d+) < text\.len\(\)"),
     *((f"OSC_{osc.upper()}", "exports_score", rf"\bfn {osc}_ports\b(?s:.*?)\bosc: (\d+)") for osc in ("vco", "lfo", "supersaw", "formant")),
 ]
@@ -124,7 +126,7 @@ def said(files):
 def wrong_numbers(files):
     """The header's numbers that are others than the crates'."""
     text = re.sub(r"/\*.*?\*/", "", files[HEADER], flags=re.S)
-    given = dict(re.findall(r"\bGRUTTISOL_(\w+)(?: +| = )(\d+)", text))
+    given = dict(re.findall(r"\bGRUTTISOL_(\w+)(?: +| = )(\d+(?:\.\d+)?)", text))
     crates = said(files)
     for name in sorted(given.keys() | crates.keys()):
         if not re.fullmatch(NOWHERE, name) and crates.get(name) != {given.get(name)}:

@@ -553,9 +553,10 @@ CHECKS = {
     boundary_holds: [
         {"crates/x/src/lib.rt": 'pub extern "C" fn gruttisol_more(x: f64) -> f64\n', "host/": ""},
         header("gruttisol_sin(double x)", "gruttisol_sin(double y)"),
-        header("GRUTTISOL_VCO_FLOATS 4", "GRUTTISOL_VCO_FLOATS 3"),
+        header("GRUTTISOL_VCO_FLOATS 5", "GRUTTISOL_VCO_FLOATS 4"),
+        header("GRUTTISOL_GATE_ISSUE_2 1.0", "GRUTTISOL_GATE_ISSUE_2 1.5"),
         header("GRUTTISOL_CLEAN = 14", "GRUTTISOL_CLEAN = 13"),
-        header("GRUTTISOL_SCORE_LONGEST 110", "GRUTTISOL_SCORE_LONGEST 109"),
+        header("GRUTTISOL_SCORE_LONGEST 117", "GRUTTISOL_SCORE_LONGEST 116"),
         header("(const int32_t *microvolts", "(const uint32_t *microvolts"),
         header("#define GRUTTISOL_COUNTS 6", ""),
         header("#define GRUTTISOL_COUNTS 6", "#define GRUTTISOL_COUNTS 6\n#define GRUTTISOL_MORE 5"),
