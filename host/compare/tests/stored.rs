@@ -36,7 +36,7 @@ fn both_thresholds_are_there() {
         let list = include_str!("../../../crates/replay/stdin");
         // the places of the threshold and of the gate among a case's words
         for (name, place, gate) in [("lfo", 3, 9), ("vco", 3, 12), ("wavetable", 3, 10), ("karplus_strong", 5, 12)] {
-            let word = |word| f64::from_bits(u64::from_str_radix(word, 16).unwrap());
+            let word = |word: &str| f64::from_bits(u64::from_str_radix(word, 16).unwrap());
             let words = |line: &str| line.split(' ').skip(1).map(word).collect::<Vec<f64>>();
             let cases = list.lines().filter(|line| line.starts_with(&format!("{name}_tick "))).map(words);
             let cases: Vec<Vec<f64>> = cases.collect();

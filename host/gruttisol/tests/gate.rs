@@ -274,6 +274,25 @@ fn states_with_another_threshold() {
     each!(refused);
 }
 
+/// What is lent comes after: a line that is too short, a bank that is none, and draws that are missing.
+#[test]
+fn before_what_is_lent() {
+    fn refused<G: Gated>(spoil: fn(&mut G), last: u32) {
+        for (threshold, number) in [(f64::NAN, 2), (ISSUE_1, last), (ISSUE_2, last)] {
+            let mut gated = run::<G>(ISSUE_1);
+            let (mut floats, wholes) = gated.state();
+            floats[G::THRESHOLD] = threshold;
+            gated.put(&floats, &wholes);
+            spoil(&mut gated);
+            assert_eq!(gated.tick(5.0), Err(Refused(number)), "{} at {threshold:?} V", G::NAME);
+        }
+    }
+    refused::<OfString>(|string| string.line.truncate(10), 3);
+    refused::<OfString>(|string| string.draws.clear(), 5);
+    refused::<OfString>(|string| string.draws[0] = 1 << 53, 6);
+    refused::<OfWavetable>(|wavetable| wavetable.bank.clear(), 4);
+}
+
 /// The state that a tick with this gate leaves, without the gate itself: another than that of a low gate's where its edge is taken.
 fn left<G: Gated>(gated: &mut G, gate: f64) -> (Vec<u64>, Vec<u64>, Vec<u64>) {
     gated.tick(gate).unwrap();
