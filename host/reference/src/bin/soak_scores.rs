@@ -3,7 +3,7 @@
 //! `cargo run --offline --release --bin soak_scores -- SEED SCORES`
 //!
 //! Of ten scores one is good and nine are damaged. Each core has a share of them. The status is 0 only when there was no
-//! difference, and a pulse and every mark, claim and refusal were met.
+//! difference, and a pulse and every gate, mark, claim and refusal were met.
 use std::process::ExitCode;
 
 #[cfg(quiver)]
