@@ -27,27 +27,22 @@ fn the_list_is_the_rusts() {
 /// Of each oscillator with a gate there are ticks at either threshold, edges that the other threshold hasn't, and states that are refused for
 /// their threshold.
 #[test]
-#[cfg_attr(not(quiver), ignore = "skipped: QUIVER_SRC not found")]
 fn both_thresholds_are_there() {
-    #[cfg(quiver)]
-    {
-        use compare::draw::{HIGH, LOW, THRESHOLDS};
-
-        let list = include_str!("../../../crates/replay/stdin");
-        // the places of the threshold and of the gate among a case's words
-        for (name, place, gate) in [("lfo", 3, 9), ("vco", 3, 12), ("wavetable", 3, 10), ("karplus_strong", 5, 12)] {
-            let word = |word: &str| f64::from_bits(u64::from_str_radix(word, 16).unwrap());
-            let words = |line: &str| line.split(' ').skip(1).map(word).collect::<Vec<f64>>();
-            let cases = list.lines().filter(|line| line.starts_with(&format!("{name}_tick "))).map(words);
-            let cases: Vec<Vec<f64>> = cases.collect();
-            for (threshold, other) in [(HIGH, LOW), (LOW, HIGH)] {
-                let its: Vec<_> = cases.iter().filter(|case| case[place] == threshold).collect();
-                let rises = |case: &[f64], volts: f64| case[gate] > volts && case[place - 1] <= volts;
-                let alone = its.iter().filter(|case| rises(case, threshold) && !rises(case, other)).count();
-                assert!(its.len() >= 20 && alone >= 2, "{name}: {} at {threshold} V, {alone} edges", its.len());
-                println!("{name}: {} at {threshold} V, with {alone} edges of that alone", its.len());
-            }
-            assert!(cases.iter().any(|case| !THRESHOLDS.contains(&case[place])), "{name}");
+    const THRESHOLDS: [f64; 2] = [2.5, 1.0];
+    let list = include_str!("../../../crates/replay/stdin");
+    let word = |word: &str| f64::from_bits(u64::from_str_radix(word, 16).unwrap());
+    let words = |line: &str| line.split(' ').skip(1).map(word).collect::<Vec<f64>>();
+    // the places of the threshold and of the gate among a case's words; what the gate was stands before the threshold
+    for (name, place, gate) in [("lfo", 3, 9), ("vco", 3, 12), ("wavetable", 3, 10), ("karplus_strong", 5, 12)] {
+        let cases = list.lines().filter(|line| line.starts_with(&format!("{name}_tick ")));
+        let cases: Vec<Vec<f64>> = cases.map(words).collect();
+        let rises = |case: &[f64], volts: f64| case[gate] > volts && case[place - 1] <= volts;
+        for (i, threshold) in THRESHOLDS.into_iter().enumerate() {
+            let its: Vec<&Vec<f64>> = cases.iter().filter(|case| case[place] == threshold).collect();
+            let alone = its.iter().filter(|case| rises(case, threshold) && !rises(case, THRESHOLDS[1 - i])).count();
+            assert!(its.len() >= 20 && alone >= 2, "{name}: {} at {threshold} V, {alone} edges", its.len());
+            println!("{name}: {} at {threshold} V, {alone} edges of that alone", its.len());
         }
+        assert!(cases.iter().any(|case| !THRESHOLDS.contains(&case[place])), "{name}");
     }
 }

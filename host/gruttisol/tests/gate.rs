@@ -361,12 +361,15 @@ fn edges() {
     each!(taken, &table);
 }
 
+/// A call, and what it is.
+type Call<G> = (&'static str, fn(&mut G));
+
 /// A reset, a rate change and any ticks keep the threshold: a gate of 1.5 V strikes after them where it did before.
 #[test]
 fn it_is_kept() {
     fn kept<G: Gated>() {
         for (threshold, strikes) in [(ISSUE_1, false), (ISSUE_2, true)] {
-            let calls: [(&str, fn(&mut G)); 4] = [
+            let calls: [Call<G>; 4] = [
                 ("nothing", |_| {}),
                 ("a reset", |gated| gated.reset().unwrap()),
                 ("a rate change", |gated| gated.set_sample_rate(44100.0).unwrap()),
