@@ -19,7 +19,8 @@ nWholes = 4
 abbrev pub nSamples : ℕ
 nSamples = 1
 
--- floats [sample_rate, lp_state, ap_x1, ap_y1, trigger_edge.prev, trigger_edge.threshold, freq_memo.val], wholes [len, write_pos, freq_memo.key, freq_memo.valid]
+-- floats [sample_rate, lp_state, ap_x1, ap_y1, trigger_edge.prev, trigger_edge.threshold, freq_memo.val],
+-- wholes [len, write_pos, freq_memo.key, freq_memo.valid]
 unfoldable pub stateOf : List Float → List ℕ → KarplusStrong
 stateOf f w =
     record {

@@ -382,7 +382,8 @@ module _ (r : Hertz) (v : Float) (n : ℕ) where
       go true false p q h = absurd (omega arith)
       go false b p q h = absurd (omega arith)
 
-module _ (r : Hertz) (v : Float) (l : List Float) (t : KarplusStrong) (n k : ℕ) (et : t ≡ stringOf r v n) (q : k ≡ karplusStrongNewRefusalOf r v (length l)) where
+module _ (r : Hertz) (v : Float) (l : List Float) (t : KarplusStrong) (n k : ℕ) (et : t ≡ stringOf r v n)
+    (q : k ≡ karplusStrongNewRefusalOf r v (length l)) where
   pub new-no : (k ≡ 0 → ⊥) → n ≡ 0 → refused k t l ≡ karplusStrongNewOf r v l
   unfolding karplusStrongNewOf
   new-no h en = rw (← q, et, en) (made-no k (strung (noString r v) l) _ h)

@@ -28,7 +28,8 @@ use Rattle.karplus_strong.specs.Calls.{First, ReachedKarplusStrong, stru
 use Rattle.karplus_strong.specs.Consts.{nPorts}
 use Rattle.karplus_strong.specs.KarplusStrong.{newStrung, triggerRefusalOf, karplusStrongBlockOf, maxLenOf, roomOf}
 use Rattle.karplus_strong.specs.KarplusStrong.{karplusStrongCellsOf, karplusStrongRefusalOf, karplusStrongRateRefusalOf}
-use Rattle.karplus_strong.specs.KarplusStrong.{madeUnless, karplusStrongNewRefusalOf, karplusStrongNewOf, karplusStrongResetOf, karplusStrongSetSampleRateOf}
+use Rattle.karplus_strong.specs.KarplusStrong.{madeUnless, karplusStrongNewRefusalOf, karplusStrongNewOf}
+use Rattle.karplus_strong.specs.KarplusStrong.{karplusStrongResetOf, karplusStrongSetSampleRateOf}
 use Rattle.karplus_strong.specs.KarplusStrong.{struckLen, heardString, tickUnless, karplusStrongTickOf, karplusStrongNextOf, Strung, newLike}
 use Rattle.karplus_strong.specs.KarplusStrong.{memoAt, periodAt}
 use Rattle.karplus_strong.specs.Promises.{taken, Never-refused, New-accepts, New-there, Cells-enough, Edge-comes}
@@ -117,7 +118,8 @@ cells-enough rate threshold l = made-says _ _ _ ∙ go (rateOk rate)
     ok : Bool
     ok = thresholdOk threshold
 
-    go : (b : Bool) → _≡_ {A = ℕ} (cond b (cond ok (roomOf rate (length l)) 2) 1) (cond b (cond ok (cond (leb (cond b (maxLenOf rate + 2) 0) (length l)) 0 3) 2) 1)
+    go : (b : Bool) → _≡_ {A = ℕ} (cond b (cond ok (roomOf rate (length l)) 2) 1)
+        (cond b (cond ok (cond (leb (cond b (maxLenOf rate + 2) 0) (length l)) 0 3) 2) 1)
     go true = unfold roomOf in refl
     go false = refl
 

@@ -148,7 +148,9 @@ Keeps s r = r .«reset_edge» .threshold ≡ s .«reset_edge» .threshold
 
 tick-keeps : (c : LfoControls) (w : ℕ) (s : Lfo) → Keeps s (lfoTickOf s c w .lfo)
 unfolding lfoTickOf lfoSoundOf
-tick-keeps c w s = unless-refused (λ (t : LfoTicked). Keeps s (t .lfo)) (lfoRefusalOf s) (lfoSoundOf s c w) _ (λ e. edge.threshold-kept (s .«reset_edge») (c .reset) .rising) refl
+tick-keeps c w s =
+    let kept = edge.threshold-kept (s .«reset_edge») (c .reset) .rising in
+    unless-refused (λ (t : LfoTicked). Keeps s (t .lfo)) (lfoRefusalOf s) (lfoSoundOf s c w) _ (λ e. kept) refl
 
 pub threshold-kept : Threshold-kept
 unfolding after lfoBlockOf lfoResetOf lfoSetSampleRateOf

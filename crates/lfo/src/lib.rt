@@ -180,15 +180,15 @@ impl Lfo {
             reset_edge: EdgeDetector::new(threshold),
             freq_memo: Memo1::new(),
         };
-        let refused = lfo.refusal();
-        if refused == 0 {
+        let n = lfo.refusal();
+        if n == 0 {
             LfoMade {
                 outcome: Outcome::Done,
                 lfo,
             }
         } else {
             LfoMade {
-                outcome: Outcome::Refused(refused),
+                outcome: Outcome::Refused(n),
                 lfo,
             }
         }

@@ -98,7 +98,9 @@ unfolding vcoVoltsOf
 frame-eoc = refl
 
 pub first-frame : First-frame
-first-frame = ap (λ (t : VcoTicked). t .answer) (tick-sound (newVco frameRate gateThreshold) (good-new frameRate gateThreshold rate (thresholds .first)) frameControls 15) ∙ frame-answer ∙ clean
+first-frame =
+    let good = good-new frameRate gateThreshold rate (thresholds .first) in
+    ap (λ (t : VcoTicked). t .answer) (tick-sound (newVco frameRate gateThreshold) good frameControls 15) ∙ frame-answer ∙ clean
   where
     rate : rateOk frameRate ≡ true
     rate = unfold rateOk le lt eq ofBits in refl

@@ -165,7 +165,9 @@ Keeps s r = r .«sync_edge» .threshold ≡ s .«sync_edge» .threshold
 
 tick-keeps : (c : VcoControls) (wanted : ℕ) (s : Vco) → Keeps s (vcoTickOf s c wanted .vco)
 unfolding vcoTickOf vcoSoundOf
-tick-keeps c wanted s = unless-refused (λ (t : VcoTicked). Keeps s (t .vco)) (vcoRefusalOf s) (vcoSoundOf s c wanted) _ (λ e. edge.threshold-kept (s .«sync_edge») (c .sync) .crossed) refl
+tick-keeps c wanted s =
+    let kept = edge.threshold-kept (s .«sync_edge») (c .sync) .crossed in
+    unless-refused (λ (t : VcoTicked). Keeps s (t .vco)) (vcoRefusalOf s) (vcoSoundOf s c wanted) _ (λ e. kept) refl
 
 pub threshold-kept : Threshold-kept
 unfolding after vcoBlockOf vcoResetOf vcoSetSampleRateOf

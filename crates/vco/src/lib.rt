@@ -232,15 +232,15 @@ impl Vco {
             sync_edge: EdgeDetector::new(threshold),
             freq_memo: Memo3::new(),
         };
-        let refused = vco.refusal();
-        if refused == 0 {
+        let n = vco.refusal();
+        if n == 0 {
             VcoMade {
                 outcome: Outcome::Done,
                 vco,
             }
         } else {
             VcoMade {
-                outcome: Outcome::Refused(refused),
+                outcome: Outcome::Refused(n),
                 vco,
             }
         }

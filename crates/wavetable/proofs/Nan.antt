@@ -89,7 +89,8 @@ module _ (s : Wavetable) (c : WavetableControls) (bank : List Float) (h : c .tab
 pub nan-table : Nan-table
 unfolding wavetableTickOf
 nan-table s c bank h =
-    (tick-sounds (λ (t : WavetableTicked). t .answer) (wavetableTickRefusalOf s (length bank)) _ _ _ (λ a. table-sounds s c bank h) refl, table-state s c bank h)
+    let sounds = table-sounds s c bank h in
+    (tick-sounds (λ (t : WavetableTicked). t .answer) (wavetableTickRefusalOf s (length bank)) _ _ _ (λ a. sounds) refl, table-state s c bank h)
 
 -- ---- a sync that is NaN takes no edge, and neither does 0 V
 module _ (s : Wavetable) (c : WavetableControls) (bank : List Float) (h : c .sync ≡ nan) (a : wavetableTickRefusalOf s (length bank) ≡ 0) where

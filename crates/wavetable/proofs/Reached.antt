@@ -187,7 +187,8 @@ Keeps s r = r .threshold ≡ s .threshold
 
 tick-keeps : (c : WavetableControls) (bank : List Float) (s : Wavetable) → Keeps s (wavetableTickOf s c bank .wavetable)
 unfolding wavetableTickOf wavetableSoundOf
-tick-keeps c bank s = unless-refused (λ (t : WavetableTicked). Keeps s (t .wavetable)) (wavetableTickRefusalOf s (length bank)) (wavetableSoundOf s c bank) _ (λ e. refl) refl
+tick-keeps c bank s =
+    unless-refused (λ (t : WavetableTicked). Keeps s (t .wavetable)) (wavetableTickRefusalOf s (length bank)) (wavetableSoundOf s c bank) _ (λ e. refl) refl
 
 pub threshold-kept : Threshold-kept
 unfolding after wavetableBlockOf wavetableResetOf wavetableSetSampleRateOf

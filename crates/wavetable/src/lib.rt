@@ -259,15 +259,15 @@ impl Wavetable {
             sample_rate,
             freq_memo: Memo1::new(),
         };
-        let refused = wavetable.refusal();
-        if refused == 0 {
+        let n = wavetable.refusal();
+        if n == 0 {
             WavetableMade {
                 outcome: Outcome::Done,
                 wavetable,
             }
         } else {
             WavetableMade {
-                outcome: Outcome::Refused(refused),
+                outcome: Outcome::Refused(n),
                 wavetable,
             }
         }
