@@ -1,6 +1,6 @@
 -- A tally and an edge record are read back from what was put; a record read from a part of the floats, or put there, stands in the floats.
 use mathlib.Core.List.{List, [], _∷_, _++_}
-use mathlib.Core.Path.{_≡_, refl, ap, _∙_}
+use mathlib.Core.Path.{_≡_, refl, _∙_}
 use Prim.Native.Nat.{ℕ, zero, suc, _+_, _≤_}
 use native.Mathlib.Numerals.{add-one}
 use lib.Dec.{lit≤}
@@ -10,12 +10,15 @@ use lib.Seq.{sets, length-sets}
 use Rattle.laws.proofs.Slices.{sets-append, sets-part}
 use Rattle.boundary.specs.Edge.{nEdge, edgeFloats, edgeAt}
 use Rattle.boundary.specs.Flat.{tallyFrom, countsOf}
-use Rattle.boundary.specs.Promises.{Counts-back, Edge-back, Edge-size}
+use Rattle.boundary.specs.Promises.{Counts-back, Edge-back, Edge-order, Edge-size}
 use Rattle.common.specs.declared.EdgeDetector.{EdgeDetector}
 
 pub counts-back : Counts-back
 unfolding tallyFrom countsOf
 counts-back t = refl
+
+pub edge-order : Edge-order
+edge-order e = refl
 
 pub edge-size : Edge-size
 edge-size e = refl

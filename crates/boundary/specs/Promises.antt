@@ -1,5 +1,5 @@
 -- Theorems about flat states: the statements. The proofs of the same names in small letters stand in proofs/.
-use mathlib.Core.List.{List, _++_}
+use mathlib.Core.List.{List, [], _∷_, _++_}
 use mathlib.Core.Path.{_≡_}
 use lib.Ieee.{Float}
 use lib.ListN.{length}
@@ -16,6 +16,10 @@ Counts-back = (t : Tally) → tallyFrom (countsOf t) ≡ tallied.Taken t
 -- and an edge record's floats the whole record, wherever they stand
 abbrev pub Edge-back : Type 0
 Edge-back = (e : EdgeDetector) (before after : List Float) → edgeAt (before ++ (edgeFloats e ++ after)) (length before) ≡ e
+
+-- in this order
+abbrev pub Edge-order : Type 0
+Edge-order = (e : EdgeDetector) → edgeFloats e ≡ e .prev ∷ e .threshold ∷ []
 
 abbrev pub Edge-size : Type 0
 Edge-size = (e : EdgeDetector) → length (edgeFloats e) ≡ nEdge

@@ -2,7 +2,7 @@
 -- threshold that isn't below 0, as neither of the two is.
 use mathlib.Core.Bool.{Bool, _&&_, true, false}
 use mathlib.Core.Logic.{_⊎_, inl, inr}
-use mathlib.Core.Path.{_≡_, refl}
+use mathlib.Core.Path.{_≡_, refl, ap}
 use lib.Dec.{T}
 use lib.Ieee.{Float, lt, le, neg, ofBits, eq}
 use lib.Ieee.Bits.{is-true}
@@ -11,8 +11,8 @@ use Rattle.laws.proofs.Order.{eq-ge, eq-le, float-le-trans, le-false, le-lt-tra
 use Rattle.laws.proofs.Tests.{of-true, or-case}
 use Rattle.common.specs.Consts.{gateThreshold, lowGateThreshold, five}
 use Rattle.common.specs.Edge.{resetOf, risesAbove, risingAboveOf, risingOf, crossedAboveOf, crossedOf}
-use Rattle.common.specs.Promises.{Thresholds, SameValue, Threshold-only, Reachable, Threshold-in, Kept, Threshold-kept}
-use Rattle.common.specs.Promises.{Rises-new, Rises-once, Rising-like, Crossed-is, Rising-once, Rising-comes, Rising-not, Rising-nan}
+use Rattle.common.specs.Promises.{Thresholds, SameValue, Threshold-only, Between, Threshold-in, Kept, Threshold-kept}
+use Rattle.common.specs.Promises.{Rises-new, Rises-once, Rising-like, Crossed-is, Rising-once, Rising-comes, Rising-not, Rising-nan, Rising-zero}
 use Rattle.common.specs.Tests.{thresholdOk}
 use Rattle.common.specs.declared.EdgeDetector.{EdgeDetector}
 
@@ -30,7 +30,7 @@ threshold-only t h =
     (of-true (thresholdOk t) h)
 
 -- what has the value of a number from 0 to below 5 is one itself
-between : (t c : Float) → T (le zer c) → lt c five ≡ true → SameValue t c → Reachable t
+between : (t c : Float) → T (le zer c) → lt c five ≡ true → SameValue t c → Between t
 between t c l h e =
     record {
       above = float-le-trans zer c t l (e .1);
@@ -40,13 +40,17 @@ between t c l h e =
 pub threshold-in : Threshold-in
 threshold-in t h = go (threshold-only t h)
   where
-    go : SameValue t gateThreshold ⊎ SameValue t lowGateThreshold → Reachable t
+    go : SameValue t gateThreshold ⊎ SameValue t lowGateThreshold → Between t
     go (inl e) = between t gateThreshold (unfold le lt eq ofBits in tt) (unfold lt ofBits in refl) e
     go (inr e) = between t lowGateThreshold (unfold le lt eq ofBits in tt) (unfold lt ofBits in refl) e
 
 pub threshold-kept : Threshold-kept
 unfolding risingOf risingAboveOf crossedOf crossedAboveOf resetOf
 threshold-kept e v = record { rising = refl; crossed = refl; reset = refl }
+
+-- equal detectors have one threshold
+pub same-gate : {d e : EdgeDetector} → d ≡ e → d .threshold ≡ e .threshold
+same-gate p = ap (λ (e : EdgeDetector). e .threshold) p
 
 -- ---- the edges
 rises-left : (a b c : Bool) → (a && b) ≡ true → c ≡ true → (a && c) ≡ true
@@ -88,3 +92,6 @@ rising-not e v h = simp (lt-false (e .threshold) v (of-true (le v (e .threshold)
 pub rising-nan : Rising-nan
 unfolding risingOf risingAboveOf risesAbove
 rising-nan e = simp (lt-nan (e .threshold))
+
+pub rising-zero : Rising-zero
+rising-zero e t = rising-not e zer (is-true (le zer (e .threshold)) t)

@@ -29,5 +29,6 @@ settled =
       rate-ok = λ r. laws.settled _;
       phase-ok = λ p. laws.settled _;
       threshold-ok = λ t. laws.settled _;
+      gated-refusal = λ r p t. laws.settled _;
       draws-refusal = λ n draws. laws.settled _;
     }

@@ -3,7 +3,7 @@ use mathlib.Core.Path.{_≡_}
 use mathlib.Core.Bool.{true, false, cond, not, _&&_}
 use mathlib.Core.Logic.{_⊎_}
 use lib.Dec.{T}
-use lib.Ieee.{Float, nan, lt, le, neg}
+use lib.Ieee.{Float, nan, binary64, lt, le, neg, ofBits}
 use Rattle.laws.specs.Float.{zer, one, F64, isFin}
 use Rattle.common.specs.Phase.{turns, wrapOf, turnedOf}
 use Rattle.common.specs.Memo.{filled1, filled3, recall1, recall3}
@@ -39,10 +39,10 @@ abbrev pub Recall3-is : Type 0
 Recall3-is =
     (f : Float → Float → Float → Hertz) (m : Memo3) → Coherent3 f m → (x y z : Float) → F64 x → F64 y → F64 z → recall3 f m x y z ≡ filled3 x y z (f x y z)
 
--- refusal 2 lets both thresholds pass, and neither NaN nor 0.0 nor -1.0
+-- refusal 2 lets 2.5 and 1.0 pass, and neither NaN nor 0.0 nor -1.0
 pub record Thresholds : Type 0 where
-  pub first : thresholdOk gateThreshold ≡ true
-  pub second : thresholdOk lowGateThreshold ≡ true
+  pub first : thresholdOk (ofBits binary64 0x4004000000000000) ≡ true
+  pub second : thresholdOk (ofBits binary64 0x3ff0000000000000) ≡ true
   pub of-nan : thresholdOk nan ≡ false
   pub of-zero : thresholdOk zer ≡ false
   pub of-minus : thresholdOk (neg one) ≡ false
@@ -55,18 +55,18 @@ abbrev pub Threshold-only : Type 0
 Threshold-only = (threshold : Float) → thresholdOk threshold ≡ true → SameValue threshold gateThreshold ⊎ SameValue threshold lowGateThreshold
 
 -- so it isn't below 0, which is all that the laws below ask, and it is below 5 V, so that a gate can rise above it
-pub record Reachable (threshold : Float) : Type 0 where
+pub record Between (threshold : Float) : Type 0 where
   pub above : T (le zer threshold)
   pub below : lt threshold five ≡ true
 
 abbrev pub Threshold-in : Type 0
-Threshold-in = (threshold : Float) → thresholdOk threshold ≡ true → Reachable threshold
+Threshold-in = (threshold : Float) → thresholdOk threshold ≡ true → Between threshold
 
--- a detector keeps its threshold
+-- a detector keeps its threshold; its previous sample is then v, and 0.0 after a reset
 pub record Kept (e : EdgeDetector) (v : Float) : Type 0 where
-  pub rising : risingOf e v .edge .threshold ≡ e .threshold
-  pub crossed : crossedOf e v .edge .threshold ≡ e .threshold
-  pub reset : resetOf e .threshold ≡ e .threshold
+  pub rising : risingOf e v .edge ≡ record { prev = v; threshold = e .threshold }
+  pub crossed : crossedOf e v .edge ≡ record { prev = v; threshold = e .threshold }
+  pub reset : resetOf e ≡ record { prev = zer; threshold = e .threshold }
 
 abbrev pub Threshold-kept : Type 0
 Threshold-kept = (e : EdgeDetector) (v : Float) → Kept e v
@@ -93,9 +93,12 @@ Rising-comes = (e : EdgeDetector) (v w : Float) → le v (e .threshold) ≡ true
 abbrev pub Rising-not : Type 0
 Rising-not = (e : EdgeDetector) (v : Float) → le v (e .threshold) ≡ true → risingOf e v .rising ≡ false
 
--- nor is a NaN
+-- nor is a NaN, or, where the threshold isn't below 0, 0.0
 abbrev pub Rising-nan : Type 0
 Rising-nan = (e : EdgeDetector) → risingOf e nan .rising ≡ false
+
+abbrev pub Rising-zero : Type 0
+Rising-zero = (e : EdgeDetector) → T (le zer (e .threshold)) → risingOf e zer .rising ≡ false
 
 -- a sample that stands still gives no second edge
 abbrev pub Rises-once : Type 0

@@ -10,7 +10,7 @@ use Rattle.common.specs.Phase.{wrapPhaseOf, polyblepOf, polyblampOf, inc
 use Rattle.common.specs.Memo.{newMemo1, hits1, filled1, recall1, voctToHzAt, newMemo3, hits3, filled3}
 use Rattle.common.specs.Edge.{newEdge, risingAboveOf, risingOf, crossedAboveOf, crossedOf, resetOf}
 use Rattle.common.specs.Ports.{outOf}
-use Rattle.common.specs.Tests.{rateOk, phaseOk, thresholdOk, drawsRefusalOf}
+use Rattle.common.specs.Tests.{rateOk, phaseOk, thresholdOk, gatedRefusalOf, drawsRefusalOf}
 use Rattle.common.specs.declared.Hertz.{Hertz}
 use Rattle.common.specs.declared.Turns.{Turns}
 use Rattle.common.specs.declared.Wrapped.{Wrapped}
@@ -46,4 +46,5 @@ pub record Settled : Type 0 where
   pub rate-ok : (r : Hertz) → Settles (λ (b : Bool). b ≡ rateOk r)
   pub phase-ok : (p : Turns) → Settles (λ (b : Bool). b ≡ phaseOk p)
   pub threshold-ok : (t : Float) → Settles (λ (b : Bool). b ≡ thresholdOk t)
+  pub gated-refusal : (r : Hertz) (p : Turns) (t : Float) → Settles (λ (n : ℕ). n ≡ gatedRefusalOf r p t)
   pub draws-refusal : (n : ℕ) (draws : List ℕ) → Settles (λ (r : ℕ). r ≡ drawsRefusalOf n draws)

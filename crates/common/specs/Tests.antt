@@ -22,6 +22,10 @@ phaseOk p = le zer (p .0) && lt (p .0) one
 unfoldable pub thresholdOk : Float → Bool
 thresholdOk t = eq t gateThreshold || eq t lowGateThreshold
 
+-- what refuses the state of an oscillator with a phase and a gate: 1 its rate, 2 its phase or its threshold
+abbrev pub gatedRefusalOf : Hertz → Turns → Float → ℕ
+gatedRefusalOf r p t = cond (rateOk r) (cond (phaseOk p && thresholdOk t) 0 2) 1
+
 -- each of the first n draws is below 2 ^ 53
 unfoldable pub drawsOk : List ℕ → ℕ → Bool
 drawsOk draws zero = true

@@ -11,7 +11,7 @@ ghost use Rattle.common.specs.Phase.{turns, wrapOf, turnedOf, wrapPhaseO
 ghost use Rattle.common.specs.Memo.{newMemo1, hits1, filled1, newMemo3, hits3, filled3, recall1, voctToHzAt};
 ghost use Rattle.common.specs.Edge.{newEdge, seenOf, risingAboveOf, risingOf, crossedAboveOf, crossedOf, resetOf};
 ghost use Rattle.common.specs.Ports.{outOf};
-ghost use Rattle.common.specs.Tests.{rateOk, phaseOk, thresholdOk, drawsOk, drawsRefusalOf};
+ghost use Rattle.common.specs.Tests.{rateOk, phaseOk, thresholdOk, gatedRefusalOf, drawsOk, drawsRefusalOf};
 
 // A pitch: 0 is middle C, one more is an octave up.
 pub struct VoltsPerOctave(pub f64);
@@ -437,6 +437,21 @@ pub fn threshold_ok(threshold: f64) -> bool
     ensures { λ r. ⌜ r ≡ thresholdOk threshold ⌝ }
 {
     threshold == GATE_THRESHOLD_V || threshold == LOW_GATE_THRESHOLD_V
+}
+
+// 0, or what refuses the state of an oscillator with a phase and a gate: 1 its rate, 2 its phase or its threshold.
+pub fn gated_refusal(rate: Hertz, phase: Turns, threshold: f64) -> u32
+    ensures { λ r. ⌜ r ≡ gatedRefusalOf rate phase threshold ⌝ }
+{
+    if rate_ok(rate) {
+        if phase_ok(phase) {
+            if threshold_ok(threshold) { 0 } else { 2 }
+        } else {
+            2
+        }
+    } else {
+        1
+    }
 }
 
 // Whether each of the first n draws is below 2^53: all their digits together are.

@@ -1,4 +1,4 @@
--- The scope's ten examples, and after them the corners of request CR 5: one table, about the definitions that the contracts cite, and the
+-- The scope's ten examples, and after them the corners of requests CR 5 and CR 7: one table, about the definitions that the contracts cite, and the
 -- statement that every row holds.
 use Prim.Native.Nat.{ℕ}
 use Prim.Native.String.{String, _++_}

@@ -14,7 +14,7 @@ use Rattle.laws.specs.Lists.{tab}
 use Rattle.common.specs.Edge.{risingOf}
 use Rattle.common.specs.Memo.{recall1, voctToHzAt}
 use Rattle.common.specs.Tests.{drawsRefusalOf}
-use Rattle.common.proofs.EdgeLaws.{threshold-kept, rising-once}
+use Rattle.common.proofs.EdgeLaws.{threshold-kept, same-gate, rising-once}
 use Rattle.common.proofs.MemoLaws.{recall1-again}
 use Rattle.common.specs.declared.Memo1.{Memo1}
 use Rattle.common.specs.declared.Risen.{Risen}
@@ -138,7 +138,7 @@ struck-held s c draws l a h =
     let k = strike-keeps heard (periodAt s c) (brightnessOf c) draws l (taken s c) in
     let size = strike-size heard (periodAt s c) (brightnessOf c) draws l (taken s c) (struck-fits s c a (length l) h) in
     record {
-      sound = struck-sound s c a (taken s c) _ (brightnessOf c) draws l (threshold-kept (s .«trigger_edge») (c .trigger) .rising);
+      sound = struck-sound s c a (taken s c) _ (brightnessOf c) draws l (same-gate (threshold-kept (s .«trigger_edge») (c .trigger) .rising));
       room = rw (size, k .rate) h;
       rate = k .rate;
       edge = k .edge;

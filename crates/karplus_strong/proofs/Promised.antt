@@ -1,5 +1,5 @@
 -- The promises of a reached string: no call refuses but for its own input, and an edge can always be had.
-use mathlib.Core.Bool.{Bool, _&&_, true, false, cond}
+use mathlib.Core.Bool.{Bool, _&&_, true, false, cond, and-false}
 use mathlib.Core.List.{List}
 use mathlib.Core.Path.{_≡_, refl, ap, _∙_}
 use Prim.Native.Nat.{ℕ, _+_, _*_, _≤_, zero, suc}
@@ -31,9 +31,9 @@ use Rattle.karplus_strong.specs.KarplusStrong.{karplusStrongCellsOf, kar
 use Rattle.karplus_strong.specs.KarplusStrong.{madeUnless, karplusStrongNewRefusalOf, karplusStrongNewOf}
 use Rattle.karplus_strong.specs.KarplusStrong.{karplusStrongResetOf, karplusStrongSetSampleRateOf}
 use Rattle.karplus_strong.specs.KarplusStrong.{struckLen, heardString, tickUnless, karplusStrongTickOf, karplusStrongNextOf, Strung, newLike}
-use Rattle.karplus_strong.specs.KarplusStrong.{memoAt, periodAt}
+use Rattle.karplus_strong.specs.KarplusStrong.{memoAt, periodAt, lineOk}
 use Rattle.karplus_strong.specs.Promises.{taken, Never-refused, New-accepts, New-there, Cells-enough, Edge-comes}
-use Rattle.karplus_strong.specs.Promises.{Finite-or-cleared, Refused-leaves, Keeps-rate, Threshold-kept, Block-accepts, Block-tallies}
+use Rattle.karplus_strong.specs.Promises.{Finite-or-cleared, Refused-leaves, Keeps-rate, Gate-says, Threshold-kept, Block-accepts, Block-tallies}
 use Rattle.laws.specs.Float.{zer}
 use Rattle.karplus_strong.specs.Step.{Ticking}
 use Rattle.common.specs.declared.EdgeDetector.{EdgeDetector}
@@ -72,6 +72,7 @@ never-refused x h = record {
   state = λ n. good-refusal (x .string) (length (x .line)) n g;
   room = good-room (x .string) (length (x .line)) g;
   threshold = g .sound .threshold;
+  five = law.threshold-in _ (g .sound .threshold) .below;
   tick = λ c draws. good-number (x .string) c draws (x .line) g;
   play = λ c draws t o m. good-block x c draws t o m g;
   reset = reset-says;
@@ -156,15 +157,29 @@ tick-kept part s c draws l h =
 pub keeps-rate : Keeps-rate
 keeps-rate s c draws l = tick-kept (λ (u : KarplusStrong). u .«sample_rate») s c draws l (struck-step-keeps s c draws l .rate)
 
--- ---- the threshold stays
+-- ---- the gate
+gate-line : (s : KarplusStrong) (m : ℕ) → thresholdOk (s .«trigger_edge» .threshold) ≡ false → lineOk s m ≡ false
+unfolding lineOk
+gate-line s m bad = simp (bad, and-false)
+
+pub gate-says : Gate-says
+unfolding karplusStrongRefusalOf
+gate-says =
+    record {
+      new = λ rate threshold. refl;
+      asked = λ s n ok bad. simp (ok, gate-line s (maxLenOf (s .«sample_rate»)) bad);
+      reset = λ s. law.threshold-kept (s .«trigger_edge») zer .reset;
+      rate = λ s r. refl;
+    }
+
+-- the threshold stays
 abbrev gateOf : KarplusStrong → Float
 gateOf s = s .«trigger_edge» .threshold
 
 tick-gate : (c : KarplusStrongControls) (draws : List ℕ) (x : Strung) → gateOf (karplusStrongNextOf c draws x .string) ≡ gateOf (x .string)
 tick-gate c draws x =
     let s = x .string in
-    let edge = ap (λ (d : EdgeDetector). d .threshold) (struck-step-keeps s c draws (x .line) .edge) in
-    tick-kept gateOf s c draws (x .line) (edge ∙ law.threshold-kept (s .«trigger_edge») (c .trigger) .rising)
+    tick-kept gateOf s c draws (x .line) (law.same-gate (struck-step-keeps s c draws (x .line) .edge ∙ law.threshold-kept (s .«trigger_edge») (c .trigger) .rising))
 
 made-gate : (k : ℕ) (x y : Strung) → gateOf (y .string) ≡ gateOf (x .string) → gateOf (strungAfter (madeUnless k x y) .string) ≡ gateOf (x .string)
 made-gate k x y h = made-either (λ m. gateOf (m .out .«karplus_strong») ≡ gateOf (x .string)) k x y (λ e. h) (λ n. refl)
@@ -174,7 +189,7 @@ unfolding after karplusStrongBlockOf karplusStrongResetOf karplusStrongSetSample
 threshold-kept x (Tick c draws) = tick-gate c draws x
 threshold-kept x (Play c draws t o m) =
     block-keeps nPorts _ _ _ (λ (y : Strung). gateOf (y .string) ≡ gateOf (x .string)) (λ y h. tick-gate c draws y ∙ h) x refl t o m
-threshold-kept x Reset = made-gate _ x _ (law.threshold-kept (x .string .«trigger_edge») zer .reset)
+threshold-kept x Reset = made-gate _ x _ (law.same-gate (law.threshold-kept (x .string .«trigger_edge») zer .reset))
 threshold-kept x (SetSampleRate r) = made-gate _ x _ refl
 threshold-kept x (Lend l) = refl
 

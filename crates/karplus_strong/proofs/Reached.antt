@@ -15,7 +15,7 @@ use Rattle.laws.specs.Float.{zer, F64}
 use Rattle.answer.specs.Mark.{allNumbers}
 use Rattle.answer.proofs.Blocks.{block-keeps}
 use Rattle.answer.specs.Answer.{outcomeNumber}
-use Rattle.common.proofs.EdgeLaws.{threshold-kept}
+use Rattle.common.proofs.EdgeLaws.{threshold-kept, same-gate}
 use Rattle.common.proofs.MemoLaws.{recalled1}
 use Rattle.common.specs.Edge.{risingOf}
 use Rattle.common.specs.Memo.{voctToHzAt}
@@ -84,7 +84,7 @@ sound-good s c draws l g f = go (triggerRefusalOf s c draws)
 
     struck : Good (x .string) (length (x .line))
     struck = record {
-      sound = struck-sound s c (g .sound) (taken s c) _ (brightnessOf c) draws l (threshold-kept (s .«trigger_edge») (c .trigger) .rising);
+      sound = struck-sound s c (g .sound) (taken s c) _ (brightnessOf c) draws l (same-gate (threshold-kept (s .«trigger_edge») (c .trigger) .rising));
       room = rw (size, kept .rate) (g .room);
       memo = rw (kept .memo) (recalled1 voctToHzAt (s .«freq_memo») (g .memo) (finiteOr (c .voct .0) zer) (fits-or (c .voct .0) f));
     }

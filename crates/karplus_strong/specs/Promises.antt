@@ -9,7 +9,8 @@ use lib.ListN.{length, getD}
 use lib.Ieee.{Float, nan, eq, lt, le}
 use Rattle.laws.specs.Float.{zer, isFin}
 use Rattle.laws.specs.Machine.{Reached, replies, Settles}
-use Rattle.common.specs.Edge.{risingOf}
+use Rattle.common.specs.Consts.{five}
+use Rattle.common.specs.Edge.{newEdge, risingOf}
 use Rattle.common.specs.Tests.{rateOk, thresholdOk, drawsOk}
 use Rattle.common.specs.declared.Hertz.{Hertz}
 use Rattle.answer.specs.Answer.{volts1, cleared, steered, clean, markNumber, voltsOf, refusalOf, accepted, outcomeNumber}
@@ -22,7 +23,7 @@ use Rattle.karplus_strong.specs.Step.{Ticking}
 use Rattle.karplus_strong.specs.KarplusStrong.{maxLenOf, Strung, strung, newStrung, newLike, roomOf, karplusStrongRefusalOf, karplusStrongCellsOf}
 use Rattle.karplus_strong.specs.KarplusStrong.{Making, karplusStrongNewOf, struckLen, stretchOf, controlsOf, periodAt, karplusStrongTickOf}
 use Rattle.karplus_strong.specs.KarplusStrong.{karplusStrongNextOf, triggerRefusalOf, firstRefusalOf, karplusStrongBlockOf, karplusStrongResetOf}
-use Rattle.karplus_strong.specs.KarplusStrong.{karplusStrongToldOf, karplusStrongSetSampleRateOf}
+use Rattle.karplus_strong.specs.KarplusStrong.{karplusStrongToldOf, karplusStrongSetSampleRateOf, newKarplusStrong, restarted, rated}
 use Rattle.karplus_strong.specs.Calls.{Call, Tick, Play, Reset, SetSampleRate, Lend, Told, strungAfter, after, reply, Fit, First, ReachedKarplusStrong}
 use Rattle.karplus_strong.specs.declared.KarplusStrong.{KarplusStrong}
 use Rattle.karplus_strong.specs.declared.KarplusStrongControls.{KarplusStrongControls}
@@ -46,6 +47,7 @@ pub record Accepts (x : Strung) : Type 0 where
   pub state : (n : ℕ) → karplusStrongRefusalOf (x .string) n ≡ roomOf (x .string .«sample_rate») n
   pub room : roomOf (x .string .«sample_rate») (length (x .line)) ≡ 0
   pub threshold : thresholdOk (x .string .«trigger_edge» .threshold) ≡ true
+  pub five : lt (x .string .«trigger_edge» .threshold) five ≡ true
   pub tick : (c : KarplusStrongControls) (draws : List ℕ)
       → refusalOf (karplusStrongToldOf c draws x) ≡ triggerRefusalOf (x .string) c draws
   pub play : (c : KarplusStrongControls) (draws : List ℕ) (t : Tally) (o : List Float) (m : List ℕ)
@@ -203,7 +205,18 @@ abbrev pub Keeps-rate : Type 0
 Keeps-rate = (s : KarplusStrong) (c : KarplusStrongControls) (draws : List ℕ) (l : List Float)
     → karplusStrongTickOf s c draws l .out .«karplus_strong» .«sample_rate» ≡ s .«sample_rate»
 
--- ---- no call changes the threshold
+-- ---- the gate
+pub record Gate-says : Type 0 where
+  -- `new` makes one of the threshold that it is given
+  pub new : (rate : Hertz) (threshold : Float) → newKarplusStrong rate threshold .«trigger_edge» ≡ newEdge threshold
+  -- a threshold that is none refuses the state, and so every call, by 2
+  pub asked : (s : KarplusStrong) (n : ℕ) → rateOk (s .«sample_rate») ≡ true → thresholdOk (s .«trigger_edge» .threshold) ≡ false
+      → karplusStrongRefusalOf s n ≡ 2
+  -- a reset keeps it, and the previous sample is 0.0 then; a rate change leaves both
+  pub reset : (s : KarplusStrong) → restarted s .«trigger_edge» ≡ newEdge (s .«trigger_edge» .threshold)
+  pub rate : (s : KarplusStrong) (r : Hertz) → rated s r .«trigger_edge» ≡ s .«trigger_edge»
+
+-- no call changes the threshold
 abbrev pub Threshold-kept : Type 0
 Threshold-kept = (x : Strung) (c : Call) → after x c .string .«trigger_edge» .threshold ≡ x .string .«trigger_edge» .threshold
 

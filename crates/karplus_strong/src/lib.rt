@@ -290,7 +290,7 @@ fn period_of(sample_rate: Hertz, freq: Hertz) -> f64
     }
 }
 
-// A string at rest, of so many cells.
+// A string at rest, of this threshold and of so many cells.
 fn string_of(sample_rate: Hertz, threshold: f64, len: usize) -> KarplusStrong
     ensures { λ r. ⌜ r ≡ stringOf «sample_rate» threshold len ⌝ }
 {

@@ -2,6 +2,7 @@
 use mathlib.Core.Bool.{Bool, _&&_, _||_, cond, false, false≢true, not, true, true≢false}
 use mathlib.Core.Path.{_≡_, refl}
 use Prim.Native.Nat.{_*_, _<_, _≤_, suc, zero, ℕ}
+use native.Mathlib.Omega.{arith}
 use native.Mathlib.Nat.{lt-of-not-le, mul-pos, not-le-of-lt, zero-lt-suc}
 use lib.Dec.{T, eqb, eqb→eq, leb, leb→le, le→leb, ltb, ltb→lt, lt→ltb, not-T}
 use lib.Ieee.Bits.{is-false, is-true}
@@ -21,7 +22,15 @@ pub both-true : (a b : Bool) → (a && b) ≡ true → (a ≡ true) × (b ≡ tr
 both-true true b h = (refl, h)
 both-true false b h = absurd (false≢true h)
 
--- what x has where no number refuses, and y
+-- a test that gives 1 where it fails
+pub passed : (b : Bool) (n : ℕ) → cond b n 1 ≡ 0 → b ≡ true
+passed true n h = refl
+passed false n h = absurd (one-not-zero h)
+  where
+    one-not-zero : _≡_ {A = ℕ} 1 0 → ⊥
+    one-not-zero e = omega arith
+
+-- P holds of what a refusal's number chooses, where it holds of both: of x if the number is 0
 pub unless-refused : {X : Type 0} (P : X → Type 0) (n : ℕ) (x y : X) → (n ≡ 0 → P x) → P y → P (cond (eqb n 0) x y)
 unless-refused P n x y p q = go (eqb n 0) (eqb→eq n 0)
   where

@@ -4,8 +4,7 @@ use mathlib.Core.Path.{_≡_, refl, ap, _∙_}
 use Prim.Native.Nat.{ℕ, _+_}
 use native.Mathlib.Numerals.{add-one}
 use lib.Dec.{lit<}
-use lib.Ieee.{Float, nan, binary64, add, div, le}
-use lib.Ieee.Bits.{is-true}
+use lib.Ieee.{Float, nan, binary64, add, div}
 use lib.Ieee.Fits.{add-fits}
 use Rattle.answer.specs.Answer.{refusalOf}
 use Rattle.answer.specs.Block.{afterTicks, answerAt}
@@ -19,7 +18,7 @@ use Rattle.common.specs.Phase.{turns, wrapPhaseOf, incrementOf, restartOf}
 use Rattle.common.specs.Edge.{risingOf}
 use Rattle.common.specs.Memo.{recall1}
 use Rattle.common.specs.Tests.{phaseOk}
-use Rattle.common.proofs.EdgeLaws.{threshold-in, threshold-kept, rising-once, rising-not, rising-nan}
+use Rattle.common.proofs.EdgeLaws.{threshold-in, threshold-kept, rising-once, rising-nan, rising-zero}
 use Rattle.common.proofs.MemoLaws.{recall1-again}
 use Rattle.common.proofs.PhaseLaws.{wrap-in, restart-in}
 use Rattle.common.specs.declared.Turns.{Turns}
@@ -113,7 +112,7 @@ module _ (s : Lfo) (c : LfoControls) (wanted : ℕ) (h : c .reset ≡ nan) (a : 
   nan-still = rw h (rising-nan (s .«reset_edge»))
 
   low-still : risingOf (s .«reset_edge») zer .rising ≡ false
-  low-still = rising-not (s .«reset_edge») zer (is-true (le zer (s .«reset_edge» .threshold)) (threshold-in _ (accepts s a .2) .above))
+  low-still = rising-zero (s .«reset_edge») (threshold-in (s .«reset_edge» .threshold) (accepts s a .2) .above)
 
   reset-sounds : Sounds-as (lfoSoundOf s c wanted .answer) (lfoSoundOf s (lowReset c) wanted .answer)
   unfolding lfoSoundOf

@@ -1,9 +1,8 @@
 -- What every reached Lfo has: a good rate, a phase in [0, 1), a good threshold, and a memo that holds what it would compute. So no call refuses it.
-use mathlib.Core.Bool.{Bool, true, false, cond}
+use mathlib.Core.Bool.{Bool, true, cond, and-false}
 use mathlib.Core.Logic.{inl}
 use mathlib.Core.Path.{_≡_, refl, sym, ap, _∙_, subst}
 use Prim.Native.Nat.{ℕ, _*_}
-use native.Mathlib.Omega.{arith}
 use lib.Dec.{eqb}
 use lib.Ieee.{Float, binary64}
 use lib.Ieee.Fits.{add-fits}
@@ -20,14 +19,14 @@ use Rattle.common.specs.Promises.{Coherent1}
 use Rattle.common.specs.Tests.{rateOk, phaseOk, thresholdOk}
 use Rattle.common.specs.declared.Hertz.{Hertz}
 use Rattle.laws.proofs.Always.{always}
-use Rattle.laws.proofs.Tests.{unless-refused}
+use Rattle.laws.proofs.Tests.{passed, unless-refused}
 use Rattle.laws.specs.Float.{zer}
 use Rattle.lfo.proofs.Accepted.{accepts, sounds}
 use Rattle.lfo.specs.Calls.{Call, Tick, Play, Reset, SetSampleRate, Told, Fit, FitCall, after, reply, First, ReachedLfo}
 use Rattle.lfo.specs.Consts.{nPorts}
 use Rattle.lfo.specs.Lfo.{newLfo, lfoRefusalOf, lfoRateRefusalOf, madeUnless, lfoNewOf, lfoSoundOf, lfoTickOf, lfoBlockOf, restarted, lfoResetOf}
 use Rattle.lfo.specs.Lfo.{rated, lfoSetSampleRateOf}
-use Rattle.lfo.specs.Promises.{New-accepts, Never-refused, Threshold-kept}
+use Rattle.lfo.specs.Promises.{New-accepts, Never-refused, Gate-says, Threshold-kept}
 use Rattle.lfo.specs.Waves.{rateToHz}
 use Rattle.lfo.specs.declared.Lfo.{Lfo}
 use Rattle.lfo.specs.declared.LfoControls.{LfoControls}
@@ -43,10 +42,6 @@ made-cases P n old new d r = unless-refused P n _ _ d r
 made-number : (n : ℕ) (old new : Lfo) → outcomeNumber (madeUnless n old new .outcome) ≡ n
 unfolding outcomeNumber
 made-number n old new = made-cases (λ m. outcomeNumber (m .outcome) ≡ n) n old new sym refl
-
-rate-good : (b : Bool) (n : ℕ) → cond b n 1 ≡ 0 → b ≡ true
-rate-good true n h = refl
-rate-good false n h = absurd (omega arith)
 
 -- ---- a good state
 pub record Good (s : Lfo) : Type 0 where
@@ -100,7 +95,7 @@ tick-good s c w g f = subst (λ (t : LfoTicked). Good (t .lfo)) (sym (tick-sound
 
 rated-good : (s : Lfo) (r : Hertz) → Good s → lfoRateRefusalOf s r ≡ 0 → Good (rated s r)
 unfolding rated lfoRateRefusalOf
-rated-good s r g e = record { rate = rate-good (rateOk r) (lfoRefusalOf s) e; phase = g .phase; threshold = g .threshold; memo = g .memo }
+rated-good s r g e = record { rate = passed (rateOk r) (lfoRefusalOf s) e; phase = g .phase; threshold = g .threshold; memo = g .memo }
 
 restarted-good : (s : Lfo) → Good s → Good (restarted s)
 unfolding restarted
@@ -135,6 +130,7 @@ never-refused s h =
     record {
       phase = g .phase;
       threshold = g .threshold;
+      five = edge.threshold-in _ (g .threshold) .below;
       tick = λ c w. rw (tick-sounds s c w g) (sound-accepted s c w);
       play = λ c w t o m. block-refusal nPorts _ _ _ s t o m
           ∙ ap (λ (k : ℕ). blockRefusalOf (eqb (length o) (nPorts * length m)) k t (length m)) n;
@@ -142,14 +138,25 @@ never-refused s h =
       rate = λ r. ap Told (made-number _ _ _ ∙ (unfold lfoRateRefusalOf in simp n));
     }
 
--- ---- the threshold stays
+-- ---- the gate
+pub gate-says : Gate-says
+unfolding newLfo lfoRefusalOf restarted rated
+gate-says =
+    record {
+      new = λ r t. refl;
+      asked = λ s ok bad. simp (ok, bad, and-false);
+      reset = λ s. edge.threshold-kept (s .«reset_edge») zer .reset;
+      rate = λ s r. refl;
+    }
+
+-- the threshold stays
 abbrev Keeps : Lfo → Lfo → Type 0
 Keeps s r = r .«reset_edge» .threshold ≡ s .«reset_edge» .threshold
 
 tick-keeps : (c : LfoControls) (w : ℕ) (s : Lfo) → Keeps s (lfoTickOf s c w .lfo)
 unfolding lfoTickOf lfoSoundOf
 tick-keeps c w s =
-    let kept = edge.threshold-kept (s .«reset_edge») (c .reset) .rising in
+    let kept = edge.same-gate (edge.threshold-kept (s .«reset_edge») (c .reset) .rising) in
     unless-refused (λ (t : LfoTicked). Keeps s (t .lfo)) (lfoRefusalOf s) (lfoSoundOf s c w) _ (λ e. kept) refl
 
 pub threshold-kept : Threshold-kept
@@ -157,5 +164,5 @@ unfolding after lfoBlockOf lfoResetOf lfoSetSampleRateOf
 threshold-kept s (Tick c w) = tick-keeps c w s
 threshold-kept s (Play c w t o m) = block-keeps nPorts _ _ _ (Keeps s) (λ r h. tick-keeps c w r ∙ h) s refl t o m
 threshold-kept s Reset =
-    made-cases (λ m. Keeps s (m .lfo)) _ s (restarted s) (λ e. unfold restarted in edge.threshold-kept (s .«reset_edge») zer .reset) refl
+    made-cases (λ m. Keeps s (m .lfo)) _ s (restarted s) (λ e. unfold restarted in edge.same-gate (edge.threshold-kept (s .«reset_edge») zer .reset)) refl
 threshold-kept s (SetSampleRate r) = made-cases (λ m. Keeps s (m .lfo)) _ s (rated s r) (λ e. unfold rated in refl) refl

@@ -1,5 +1,5 @@
 -- The Lfo's calls, written from oscillators.rs, with the scope's refusals and marks.
-use mathlib.Core.Bool.{Bool, true, false, cond, _&&_}
+use mathlib.Core.Bool.{Bool, true, false, cond}
 use mathlib.Core.List.{List, [], _∷_}
 use Prim.Native.Nat.{ℕ}
 use lib.Dec.{eqb}
@@ -12,7 +12,7 @@ use Rattle.common.specs.Edge.{newEdge, resetOf, risingOf}
 use Rattle.common.specs.Memo.{newMemo1, recall1}
 use Rattle.common.specs.Phase.{turns, wrapPhaseOf, incrementOf, restartOf}
 use Rattle.common.specs.Ports.{wants}
-use Rattle.common.specs.Tests.{rateOk, phaseOk, thresholdOk}
+use Rattle.common.specs.Tests.{rateOk, gatedRefusalOf}
 use Rattle.laws.specs.Float.{zer, isFin}
 use Rattle.lfo.specs.Consts.{ten, nPorts}
 use Rattle.lfo.specs.Waves.{rateToHz, sineOf, sinWave, triWave, sawWave, sqrWave, sinUniWave, eocWave}
@@ -37,7 +37,7 @@ newLike s = newLfo (s .«sample_rate») (s .«reset_edge» .threshold)
 
 -- 0, or what refuses a state: 1 its rate, 2 its phase or its gate's threshold
 unfoldable pub lfoRefusalOf : Lfo → ℕ
-lfoRefusalOf s = cond (rateOk (s .«sample_rate»)) (cond (phaseOk (s .phase) && thresholdOk (s .«reset_edge» .threshold)) 0 2) 1
+lfoRefusalOf s = gatedRefusalOf (s .«sample_rate») (s .phase) (s .«reset_edge» .threshold)
 
 -- and a rate change: 1 on the new rate and on the old, then 2
 unfoldable pub lfoRateRefusalOf : Lfo → Hertz → ℕ

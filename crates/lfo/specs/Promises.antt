@@ -1,5 +1,5 @@
 -- Theorems about the Lfo: the statements. proofs/ proves each under the same name in small letters.
-use mathlib.Core.Bool.{Bool, true, cond, not, _&&_}
+use mathlib.Core.Bool.{Bool, true, false, cond, not, _&&_}
 use mathlib.Core.List.{List, _∷_, []}
 use mathlib.Core.Path.{_≡_}
 use Prim.Native.Nat.{ℕ, _*_, _<_}
@@ -11,7 +11,7 @@ use Rattle.answer.specs.Block.{Block, blockRefusalOf, portsOf}
 use Rattle.answer.specs.Promises.{Steers, Sounds-as, AllAccepted, AllTaken}
 use Rattle.answer.specs.Mark.{allFinite}
 use Rattle.common.specs.Consts.{five}
-use Rattle.common.specs.Edge.{risingOf}
+use Rattle.common.specs.Edge.{newEdge, risingOf}
 use Rattle.common.specs.Memo.{recall1}
 use Rattle.common.specs.Phase.{turns, incrementOf, restartOf}
 use Rattle.common.specs.Ports.{wants, WantAlike}
@@ -22,6 +22,7 @@ use Rattle.laws.specs.Machine.{replies, Settles}
 use Rattle.lfo.specs.Calls.{Call, Tick, Reset, SetSampleRate, Told, Fit, after, reply, First, ReachedLfo}
 use Rattle.lfo.specs.Consts.{ten, nPorts}
 use Rattle.lfo.specs.Lfo.{newLfo, newLike, lfoRefusalOf, lfoNewOf, lfoTickOf, lfoToldOf, lfoNextOf, lfoBlockOf, lfoResetOf, lfoSetSampleRateOf}
+use Rattle.lfo.specs.Lfo.{restarted, rated}
 use Rattle.lfo.specs.Small.{isSmall}
 use Rattle.lfo.specs.Waves.{rateToHz}
 use Rattle.answer.specs.declared.Outcome.the-variants as outcome
@@ -41,6 +42,7 @@ New-accepts = (r : Hertz) (t : Float) → (outcomeNumber (lfoNewOf r t .outcome)
 pub record Accepts (s : Lfo) : Type 0 where
   pub phase : phaseOk (s .phase) ≡ true
   pub threshold : thresholdOk (s .«reset_edge» .threshold) ≡ true
+  pub five : lt (s .«reset_edge» .threshold) five ≡ true
   pub tick : (c : LfoControls) (wanted : ℕ) → accepted (lfoTickOf s c wanted .answer) ≡ true
   -- by its buffers' 52 and its tally's 7 alone
   pub play : (c : LfoControls) (wanted : ℕ) (t : Tally) (o : List Float) (m : List ℕ)
@@ -51,7 +53,17 @@ pub record Accepts (s : Lfo) : Type 0 where
 abbrev pub Never-refused : Type 0
 Never-refused = (s : Lfo) → ReachedLfo s → Accepts s
 
--- ---- no call changes the threshold
+-- ---- the gate
+pub record Gate-says : Type 0 where
+  -- `new` makes one of the threshold that it is given
+  pub new : (r : Hertz) (t : Float) → newLfo r t .«reset_edge» ≡ newEdge t
+  -- a threshold that is none refuses the state, and so every call, by 2
+  pub asked : (s : Lfo) → rateOk (s .«sample_rate») ≡ true → thresholdOk (s .«reset_edge» .threshold) ≡ false → lfoRefusalOf s ≡ 2
+  -- a reset keeps it, and the previous sample is 0.0 then; a rate change leaves both
+  pub reset : (s : Lfo) → restarted s .«reset_edge» ≡ newEdge (s .«reset_edge» .threshold)
+  pub rate : (s : Lfo) (r : Hertz) → rated s r .«reset_edge» ≡ s .«reset_edge»
+
+-- no call changes the threshold
 abbrev pub Threshold-kept : Type 0
 Threshold-kept = (s : Lfo) (c : Call) → after s c .«reset_edge» .threshold ≡ s .«reset_edge» .threshold
 

@@ -244,19 +244,7 @@ impl Lfo {
         let sample_rate = self.sample_rate;
         let phase = self.phase;
         let edge = self.reset_edge;
-        if common::rate_ok(sample_rate) {
-            if common::phase_ok(phase) {
-                if common::threshold_ok(edge.threshold) {
-                    0
-                } else {
-                    2
-                }
-            } else {
-                2
-            }
-        } else {
-            1
-        }
+        common::gated_refusal(sample_rate, phase, edge.threshold)
     }
 
     // An accepted tick: the Rust's tick_wanted.

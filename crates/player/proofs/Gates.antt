@@ -1,12 +1,11 @@
 -- The gate's line: which threshold it says, that the oscillators get it, and where it does nothing.
 use mathlib.Core.Path.{refl}
-use lib.Ieee.{ofBits}
 use Rattle.lfo.specs.Lfo.{newLfo}
 use Rattle.vco.specs.Vco.{newVco}
 use Rattle.player.specs.Begin.{thresholdOf}
 use Rattle.player.specs.Play.{heardFrom, heardOf, playOf}
 use Rattle.player.specs.Player.{playerFrom}
-use Rattle.player.specs.Promises.{Issues, Gated, Gate-held, Gate-absent, Gate-idle}
+use Rattle.player.specs.Promises.{Issues, MadeWith, Gate-held, Gate-absent, Gate-idle}
 
 pub issues : Issues
 unfolding thresholdOf

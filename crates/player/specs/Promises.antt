@@ -123,12 +123,12 @@ pub record Issues : Type 0 where
   pub second : thresholdOf (Issue 2) ≡ ofBits binary64 0x3ff0000000000000
 
 -- both oscillators that have a gate are new ones of that threshold
-pub record Gated (s : Score) : Type 0 where
+pub record MadeWith (s : Score) : Type 0 where
   pub vco : playerOf s .vco .«sync_edge» ≡ newEdge (thresholdOf (s .head .gate))
   pub lfo : playerOf s .lfo .«reset_edge» ≡ newEdge (thresholdOf (s .head .gate))
 
 abbrev pub Gate-held : Type 0
-Gate-held = (s : Score) → Gated s
+Gate-held = (s : Score) → MadeWith s
 
 -- so a score without the line plays as one of issue 1
 abbrev pub Gate-absent : Type 0

@@ -4,7 +4,6 @@ use mathlib.Core.List.{List}
 use mathlib.Core.Path.{_≡_, refl, sym, ap, _∙_, subst}
 use Prim.Native.Nat.{ℕ, zero, suc, _*_, _≤_, _<_}
 use native.Mathlib.Nat.{le-refl, le-of-lt}
-use native.Mathlib.Omega.{arith}
 use lib.Dec.{eqb}
 use lib.ListN.{length, length-set, set}
 use lib.Seq.{getD-set-same, getD-set-other}
@@ -12,6 +11,7 @@ use lib.Ieee.{Float, nan, binary64, div, round, lt, le, eq, ofBits, ofInt}
 use lib.Ieee.Fits.{add-fits}
 use borrow.Author.Tests.{eqb-true, eqb-false}
 use Rattle.laws.proofs.Always.{always}
+use Rattle.laws.proofs.Tests.{passed}
 use Rattle.laws.specs.Lists.{all, tab}
 use Rattle.common.proofs.PhaseLaws.{wrap-in, zero-in}
 use Rattle.common.specs.Phase.{turns}
@@ -100,17 +100,13 @@ made-number : (n : ℕ) (old new : Supersaw) → outcomeNumber (madeUnless n old
 unfolding outcomeNumber
 made-number n old new = made-cases (λ m. outcomeNumber (m .outcome) ≡ n) n old new sym refl
 
-rate-good : (b : Bool) (n : ℕ) → cond b n 1 ≡ 0 → b ≡ true
-rate-good true n h = refl
-rate-good false n h = absurd (omega arith)
-
 -- ---- so it stays one
 first-good : (s : Supersaw) → First s → Good s
 unfolding supersawNewOf outcomeNumber
 first-good s f =
     let new = newSupersaw (f .0) in
     let number = ap (λ (m : SupersawMade). outcomeNumber (m .outcome)) (f .1) in
-    let g = good-new (f .0) (rate-good (rateOk (f .0)) 0 (sym (made-number _ new new) ∙ number)) in
+    let g = good-new (f .0) (passed (rateOk (f .0)) 0 (sym (made-number _ new new) ∙ number)) in
     subst Good (ap (λ (m : SupersawMade). m .supersaw) (f .1)) (made-cases (λ m. Good (m .supersaw)) _ new new (λ e. g) g)
 
 good-tick : (s : Supersaw) → Good s → (c : SupersawControls) → Good (supersawTickOf s c .supersaw)
@@ -118,7 +114,7 @@ good-tick s h c = subst (λ (t : SupersawTicked). Good (t .supersaw)) (sym (tick
 
 rated-good : (s : Supersaw) (r : Hertz) → Good s → supersawRateRefusalOf s r ≡ 0 → Good (rated s r)
 unfolding supersawRateRefusalOf
-rated-good s r h e = record { rate = rate-good (rateOk r) (supersawRefusalOf s) e; phases = h .phases; low = h .low }
+rated-good s r h e = record { rate = passed (rateOk r) (supersawRefusalOf s) e; phases = h .phases; low = h .low }
 
 good-after : (s : Supersaw) (c : Call) → Good s → Good (after s c)
 unfolding after supersawBlockOf supersawResetOf supersawSetSampleRateOf

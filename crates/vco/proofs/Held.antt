@@ -5,8 +5,7 @@ use Prim.Native.Nat.{ℕ, zero, suc, _+_, _<_}
 use native.Mathlib.Numerals.{add-one}
 use native.Mathlib.Omega.{arith}
 use lib.Dec.{lit<}
-use lib.Ieee.{Float, nan, binary64, add, le}
-use lib.Ieee.Bits.{is-true}
+use lib.Ieee.{Float, nan, binary64, add}
 use lib.Ieee.Fits.{add-fits}
 use Rattle.answer.specs.Answer.{refusalOf}
 use Rattle.answer.specs.Block.{afterTicks, answerAt}
@@ -19,7 +18,7 @@ use Rattle.common.specs.Phase.{turns, wrapPhaseOf, incrementOf}
 use Rattle.common.specs.Edge.{risingOf, crossedOf}
 use Rattle.common.specs.Memo.{recall3}
 use Rattle.common.specs.Tests.{rateOk, phaseOk, thresholdOk}
-use Rattle.common.proofs.EdgeLaws.{threshold-in, threshold-kept, crossed-is, rising-once, rising-not, rising-nan}
+use Rattle.common.proofs.EdgeLaws.{threshold-in, threshold-kept, same-gate, crossed-is, rising-once, rising-nan, rising-zero}
 use Rattle.common.proofs.MemoLaws.{recall3-again}
 use Rattle.common.proofs.PhaseLaws.{wrap-in}
 use Rattle.common.specs.declared.Turns.{Turns}
@@ -83,7 +82,7 @@ module _ (s : Vco) (c : VcoControls) where
   -- which is of the same threshold
   edge-kept : (at : Crossing) → edgeOf at .threshold ≡ s .«sync_edge» .threshold
   unfolding edgeOf
-  edge-kept Nowhere = threshold-kept (s .«sync_edge») (c .sync) .rising
+  edge-kept Nowhere = same-gate (threshold-kept (s .«sync_edge») (c .sync) .rising)
   edge-kept (At frac) = refl
 
   state-good : (h : Held) → rateOk (s .«sample_rate») ≡ true → Fair h → thresholdOk (s .«sync_edge» .threshold) ≡ true → Good (stateOf h)
@@ -171,8 +170,7 @@ module _ (s : Vco) (c : VcoControls) (wanted : ℕ) (h : c .sync ≡ nan) (a : v
 
   low-nowhere : crossedOf (s .«sync_edge») zer .at ≡ Nowhere
   low-nowhere =
-      let low = is-true (le zer (s .«sync_edge» .threshold)) (threshold-in _ (unrefused s a .2) .above) in
-      simp (crossed-is, rising-not (s .«sync_edge») zer low)
+      simp (crossed-is, rising-zero (s .«sync_edge») (threshold-in (s .«sync_edge» .threshold) (unrefused s a .2) .above))
 
   sync-sounds : Sounds-as (vcoSoundOf s c wanted .answer) (vcoSoundOf s (lowSync c) wanted .answer)
   unfolding vcoSoundOf vcoAnswerOf

@@ -1,9 +1,8 @@
 -- A Vco that is reached from new has a good rate, a phase in [0, 1), a good threshold and a coherent memo: so no call refuses but for its own input.
-use mathlib.Core.Bool.{Bool, true, false, cond}
+use mathlib.Core.Bool.{Bool, true, cond, and-false}
 use mathlib.Core.Logic.{inl}
 use mathlib.Core.Path.{_≡_, refl, sym, ap, _∙_, subst}
 use Prim.Native.Nat.{ℕ, _*_}
-use native.Mathlib.Omega.{arith}
 use lib.Dec.{eqb}
 use lib.Ieee.{Float, binary64}
 use lib.Ieee.Fits.{add-fits}
@@ -20,12 +19,12 @@ use Rattle.common.specs.Promises.{Coherent3}
 use Rattle.common.specs.Tests.{rateOk, phaseOk, thresholdOk}
 use Rattle.common.specs.declared.Hertz.{Hertz}
 use Rattle.laws.proofs.Always.{always}
-use Rattle.laws.proofs.Tests.{unless-refused}
+use Rattle.laws.proofs.Tests.{passed, unless-refused}
 use Rattle.laws.specs.Float.{zer}
 use Rattle.vco.specs.Calls.{Call, Tick, Play, Reset, SetSampleRate, Told, Fit, FitCall, after, reply, First, ReachedVco}
 use Rattle.vco.specs.Consts.{nPorts}
 use Rattle.vco.proofs.StateLaws.{unrefused}
-use Rattle.vco.specs.Promises.{Accepts, New-accepts, Never-refused, Threshold-kept}
+use Rattle.vco.specs.Promises.{Accepts, New-accepts, Never-refused, Gate-says, Threshold-kept}
 use Rattle.vco.specs.Vco.{newVco, vcoRefusalOf, vcoRateRefusalOf, madeUnless, vcoNewOf, frequencyOf, vcoAnswerOf, vcoSoundOf, vcoTickOf, vcoBlockOf}
 use Rattle.vco.specs.Vco.{restarted, vcoResetOf, rated, vcoSetSampleRateOf}
 use Rattle.vco.specs.declared.Vco.{Vco}
@@ -42,10 +41,6 @@ made-cases P n old new d r = unless-refused P n _ _ d r
 made-number : (n : ℕ) (old new : Vco) → outcomeNumber (madeUnless n old new .outcome) ≡ n
 unfolding outcomeNumber
 made-number n old new = made-cases (λ m. outcomeNumber (m .outcome) ≡ n) n old new sym refl
-
-rate-good : (b : Bool) (n : ℕ) → cond b n 1 ≡ 0 → b ≡ true
-rate-good true n h = refl
-rate-good false n h = absurd (omega arith)
 
 -- nothing refuses such a state
 pub record Good (s : Vco) : Type 0 where
@@ -97,7 +92,7 @@ both-tick c wanted f s h = (good-tick s (h .0) c wanted, remembers-tick s (h .0)
 
 both-rated : (s : Vco) (r : Hertz) → Both s → vcoRateRefusalOf s r ≡ 0 → Both (rated s r)
 unfolding rated vcoRateRefusalOf
-both-rated s r h e = (record { rate = rate-good (rateOk r) (vcoRefusalOf s) e; phase = h .0 .phase; threshold = h .0 .threshold }, h .1)
+both-rated s r h e = (record { rate = passed (rateOk r) (vcoRefusalOf s) e; phase = h .0 .phase; threshold = h .0 .threshold }, h .1)
 
 both-restarted : (s : Vco) → Both s → Both (restarted s)
 unfolding restarted
@@ -140,6 +135,7 @@ good-accepts s g =
     record {
       phase = g .phase;
       threshold = g .threshold;
+      five = edge.threshold-in _ (g .threshold) .below;
       tick = λ c wanted. rw (tick-sound s g c wanted) (accepted-sound s c wanted);
       play = λ c wanted t o m. block-refusal nPorts _ _ _ s t o m
           ∙ ap (λ (k : ℕ). blockRefusalOf (eqb (length o) (nPorts * length m)) k t (length m)) n;
@@ -159,14 +155,25 @@ new-accepts r t =
 pub never-refused : Never-refused
 never-refused s h = good-accepts s (reached s h .0)
 
--- ---- the threshold stays
+-- ---- the gate
+pub gate-says : Gate-says
+unfolding newVco vcoRefusalOf restarted rated
+gate-says =
+    record {
+      new = λ r t. refl;
+      asked = λ s ok bad. simp (ok, bad, and-false);
+      reset = λ s. edge.threshold-kept (s .«sync_edge») zer .reset;
+      rate = λ s r. refl;
+    }
+
+-- the threshold stays
 abbrev Keeps : Vco → Vco → Type 0
 Keeps s r = r .«sync_edge» .threshold ≡ s .«sync_edge» .threshold
 
 tick-keeps : (c : VcoControls) (wanted : ℕ) (s : Vco) → Keeps s (vcoTickOf s c wanted .vco)
 unfolding vcoTickOf vcoSoundOf
 tick-keeps c wanted s =
-    let kept = edge.threshold-kept (s .«sync_edge») (c .sync) .crossed in
+    let kept = edge.same-gate (edge.threshold-kept (s .«sync_edge») (c .sync) .crossed) in
     unless-refused (λ (t : VcoTicked). Keeps s (t .vco)) (vcoRefusalOf s) (vcoSoundOf s c wanted) _ (λ e. kept) refl
 
 pub threshold-kept : Threshold-kept
@@ -174,5 +181,5 @@ unfolding after vcoBlockOf vcoResetOf vcoSetSampleRateOf
 threshold-kept s (Tick c wanted) = tick-keeps c wanted s
 threshold-kept s (Play c wanted t o m) = block-keeps nPorts _ _ _ (Keeps s) (λ r h. tick-keeps c wanted r ∙ h) s refl t o m
 threshold-kept s Reset =
-    made-cases (λ m. Keeps s (m .vco)) _ s (restarted s) (λ e. unfold restarted in edge.threshold-kept (s .«sync_edge») zer .reset) refl
+    made-cases (λ m. Keeps s (m .vco)) _ s (restarted s) (λ e. unfold restarted in edge.same-gate (edge.threshold-kept (s .«sync_edge») zer .reset)) refl
 threshold-kept s (SetSampleRate r) = made-cases (λ m. Keeps s (m .vco)) _ s (rated s r) (λ e. unfold rated in refl) refl

@@ -1,6 +1,6 @@
 -- Theorems about the Vco: the statements. The proofs of the same names in small letters stand in proofs/.
 use mathlib.Core.Path.{_≡_}
-use mathlib.Core.Bool.{Bool, true, cond}
+use mathlib.Core.Bool.{Bool, true, false, cond}
 use mathlib.Core.List.{List, [], _∷_}
 use Prim.Native.Nat.{ℕ, _*_, _<_}
 use lib.Dec.{eqb}
@@ -9,7 +9,7 @@ use lib.ListN.{length}
 use Rattle.laws.specs.Float.{zer}
 use Rattle.laws.specs.Machine.{replies, Settles}
 use Rattle.common.specs.Consts.{gateThreshold, five, half}
-use Rattle.common.specs.Edge.{risingOf}
+use Rattle.common.specs.Edge.{newEdge, risingOf}
 use Rattle.common.specs.Ports.{WantAlike}
 use Rattle.common.specs.Tests.{rateOk, phaseOk, thresholdOk}
 use Rattle.common.specs.declared.Hertz.{Hertz}
@@ -21,6 +21,7 @@ use Rattle.answer.specs.declared.Outcome.the-variants as outcome
 use Rattle.answer.specs.declared.Tally.{Tally}
 use Rattle.vco.specs.Consts.{nPorts}
 use Rattle.vco.specs.Vco.{newVco, newLike, vcoRefusalOf, vcoNewOf, vcoTickOf, vcoToldOf, vcoNextOf, vcoBlockOf, vcoResetOf}
+use Rattle.vco.specs.Vco.{restarted, rated}
 use Rattle.vco.specs.Vco.{vcoSetSampleRateOf}
 use Rattle.vco.specs.Calls.{Call, Tick, Reset, SetSampleRate, Told, Fit, after, reply, First, ReachedVco}
 use Rattle.vco.specs.declared.Vco.{Vco}
@@ -37,6 +38,7 @@ New-accepts = (r : Hertz) (t : Float) → (outcomeNumber (vcoNewOf r t .outcome)
 pub record Accepts (s : Vco) : Type 0 where
   pub phase : phaseOk (s .phase) ≡ true
   pub threshold : thresholdOk (s .«sync_edge» .threshold) ≡ true
+  pub five : lt (s .«sync_edge» .threshold) five ≡ true
   pub tick : (c : VcoControls) (wanted : ℕ) → accepted (vcoTickOf s c wanted .answer) ≡ true
   -- by its buffers' 52 and its tally's 7 alone
   pub play : (c : VcoControls) (wanted : ℕ) (t : Tally) (o : List Float) (m : List ℕ)
@@ -47,7 +49,17 @@ pub record Accepts (s : Vco) : Type 0 where
 abbrev pub Never-refused : Type 0
 Never-refused = (s : Vco) → ReachedVco s → Accepts s
 
--- ---- no call changes the threshold
+-- ---- the gate
+pub record Gate-says : Type 0 where
+  -- `new` makes one of the threshold that it is given
+  pub new : (r : Hertz) (t : Float) → newVco r t .«sync_edge» ≡ newEdge t
+  -- a threshold that is none refuses the state, and so every call, by 2
+  pub asked : (s : Vco) → rateOk (s .«sample_rate») ≡ true → thresholdOk (s .«sync_edge» .threshold) ≡ false → vcoRefusalOf s ≡ 2
+  -- a reset keeps it, and the previous sample is 0.0 then; a rate change leaves both
+  pub reset : (s : Vco) → restarted s .«sync_edge» ≡ newEdge (s .«sync_edge» .threshold)
+  pub rate : (s : Vco) (r : Hertz) → rated s r .«sync_edge» ≡ s .«sync_edge»
+
+-- no call changes the threshold
 abbrev pub Threshold-kept : Type 0
 Threshold-kept = (s : Vco) (c : Call) → after s c .«sync_edge» .threshold ≡ s .«sync_edge» .threshold
 

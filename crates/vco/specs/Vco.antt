@@ -1,5 +1,5 @@
 -- The Vco's calls, written from oscillators.rs line by line, with the scope's marks and refusals.
-use mathlib.Core.Bool.{Bool, true, false, cond, _&&_}
+use mathlib.Core.Bool.{Bool, true, false, cond}
 use mathlib.Core.List.{List, [], _∷_}
 use Prim.Native.Nat.{ℕ}
 use lib.Dec.{eqb}
@@ -13,7 +13,7 @@ use Rattle.common.specs.Phase.{turns, wrapPhaseOf, polyblepOf, polyblampOf, inc
 use Rattle.common.specs.Memo.{newMemo3, recall3}
 use Rattle.common.specs.Edge.{newEdge, resetOf, crossedOf}
 use Rattle.common.specs.Ports.{wants, outOf}
-use Rattle.common.specs.Tests.{rateOk, phaseOk, thresholdOk}
+use Rattle.common.specs.Tests.{rateOk, gatedRefusalOf}
 use Rattle.answer.specs.Answer.{volts4}
 use Rattle.answer.specs.Block.{Block, blockOf}
 use Rattle.answer.specs.Mark.{allNumbers, markOf}
@@ -43,7 +43,7 @@ newLike s = newVco (s .«sample_rate») (s .«sync_edge» .threshold)
 
 -- 0, or what refuses a state: 1 its rate, 2 its phase or its gate's threshold
 unfoldable pub vcoRefusalOf : Vco → ℕ
-vcoRefusalOf s = cond (rateOk (s .«sample_rate»)) (cond (phaseOk (s .phase) && thresholdOk (s .«sync_edge» .threshold)) 0 2) 1
+vcoRefusalOf s = gatedRefusalOf (s .«sample_rate») (s .phase) (s .«sync_edge» .threshold)
 
 -- and a rate change: 1 on the new rate and on the old, then 2
 unfoldable pub vcoRateRefusalOf : Vco → Hertz → ℕ

@@ -253,19 +253,7 @@ impl Vco {
         let sample_rate = self.sample_rate;
         let phase = self.phase;
         let edge = self.sync_edge;
-        if common::rate_ok(sample_rate) {
-            if common::phase_ok(phase) {
-                if common::threshold_ok(edge.threshold) {
-                    0
-                } else {
-                    2
-                }
-            } else {
-                2
-            }
-        } else {
-            1
-        }
+        common::gated_refusal(sample_rate, phase, edge.threshold)
     }
 
     fn sin(wanted: u32, phase: Turns) -> f64

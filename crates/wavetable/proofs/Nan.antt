@@ -5,13 +5,12 @@ use mathlib.Core.List.{List}
 use mathlib.Core.Path.{_≡_, refl, ap, _∙_}
 use Prim.Native.Nat.{ℕ}
 use lib.Dec.{eqb, lit<}
-use lib.Ieee.{Float, nan, binary64, lt, le, add, sub, mul, isNan, ofBits, ofInt, toUnsigned}
-use lib.Ieee.Bits.{is-true}
+use lib.Ieee.{Float, nan, binary64, lt, add, sub, mul, isNan, ofBits, ofInt, toUnsigned}
 use lib.ListN.{length}
 use Rattle.answer.proofs.Laws.{mark-steers, tick-steers, nan-given, mark-sounds, tick-sounds}
 use Rattle.answer.specs.Promises.{Sounds-as}
 use Rattle.answer.specs.declared.Answer.the-variants as answer
-use Rattle.common.proofs.EdgeLaws.{threshold-in, rising-not, rising-nan}
+use Rattle.common.proofs.EdgeLaws.{threshold-in, rising-nan, rising-zero}
 use Rattle.common.specs.Edge.{risingOf}
 use Rattle.wavetable.proofs.Accepted.{accepts}
 use Rattle.laws.proofs.Number.{add-nan-l, sub-nan-l, mul-nan-l}
@@ -98,7 +97,7 @@ module _ (s : Wavetable) (c : WavetableControls) (bank : List Float) (h : c .syn
   nan-still = rw h (rising-nan (edgeOf s))
 
   low-still : risingOf (edgeOf s) zer .rising ≡ false
-  low-still = rising-not (edgeOf s) zer (is-true (le zer (s .threshold)) (threshold-in _ (accepts s (length bank) a .2) .above))
+  low-still = rising-zero (edgeOf s) (threshold-in (s .threshold) (accepts s (length bank) a .2) .above)
 
   sync-sounds : Sounds-as (wavetableSoundOf s c bank .answer) (wavetableSoundOf s (lowSync c) bank .answer)
   unfolding wavetableSoundOf

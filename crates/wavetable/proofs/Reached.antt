@@ -1,11 +1,10 @@
 -- What every reached Wavetable has: a good rate, a phase in [0, 1), a good threshold, and a memo that holds what it would compute. So no call
 -- refuses it but for what the call is lent.
-use mathlib.Core.Bool.{Bool, true, false, cond}
+use mathlib.Core.Bool.{Bool, true, false, cond, and-false}
 use mathlib.Core.List.{List}
 use mathlib.Core.Logic.{inl}
 use mathlib.Core.Path.{_≡_, refl, sym, ap, subst, _∙_}
 use Prim.Native.Nat.{ℕ, _*_}
-use native.Mathlib.Omega.{arith}
 use lib.Dec.{eqb}
 use lib.Ieee.Fits.{add-fits}
 use lib.Ieee.{Float, binary64}
@@ -14,16 +13,17 @@ use Rattle.answer.proofs.Blocks.{block-keeps, block-refusal}
 use Rattle.answer.proofs.Laws.{mark-says}
 use Rattle.answer.specs.Answer.{accepted, outcomeNumber}
 use Rattle.answer.specs.Block.{blockRefusalOf}
+use Rattle.common.proofs.EdgeLaws.{threshold-in}
 use Rattle.common.proofs.MemoLaws.{recalled1}
 use Rattle.common.proofs.PhaseLaws.{wrap-in, zero-in}
 use Rattle.common.specs.Memo.{voctToHzAt}
 use Rattle.common.specs.Promises.{Coherent1}
 use Rattle.common.specs.Tests.{rateOk, phaseOk, thresholdOk}
 use Rattle.laws.proofs.Always.{always}
-use Rattle.laws.proofs.Tests.{unless-refused}
+use Rattle.laws.proofs.Tests.{passed, unless-refused}
 use Rattle.wavetable.proofs.Accepted.{unrefused}
 use Rattle.wavetable.specs.Calls.{Call, Fit, after, reply, FitCall, First, ReachedWavetable, Tick, Play, Reset, SetSampleRate, Told}
-use Rattle.wavetable.specs.Promises.{New-accepts, Never-refused, Threshold-kept}
+use Rattle.wavetable.specs.Promises.{New-accepts, Never-refused, Gate-says, Threshold-kept}
 use Rattle.wavetable.specs.Consts.{nPorts, bankSize}
 use Rattle.wavetable.specs.Wavetable.{newWavetable, newLike, wavetableRefusalOf, wavetableTickRefusalOf, wavetableRateRefusalOf}
 use Rattle.wavetable.specs.Wavetable.{madeUnless, wavetableNewOf, wavetableSoundOf, wavetableTickOf, wavetableBlockOf}
@@ -45,10 +45,6 @@ made-cases P n old new d r = unless-refused P n _ _ d r
 made-number : (n : ℕ) (old new : Wavetable) → outcomeNumber (madeUnless n old new .outcome) ≡ n
 unfolding outcomeNumber
 made-number n old new = made-cases (λ m. outcomeNumber (m .outcome) ≡ n) n old new sym refl
-
-rate-good : (b : Bool) (n : ℕ) → cond b n 1 ≡ 0 → b ≡ true
-rate-good true n h = refl
-rate-good false n h = absurd (omega arith)
 
 -- ---- a good state
 pub record Good (s : Wavetable) : Type 0 where
@@ -142,7 +138,7 @@ restarted-good s g = record { rate = g .rate; phase = zero-in; threshold = g .th
 
 rated-good : (s : Wavetable) (r : Hertz) → Good s → wavetableRateRefusalOf s r ≡ 0 → Good (rated s r)
 unfolding rated wavetableRateRefusalOf
-rated-good s r g e = record { rate = rate-good (rateOk r) (wavetableRefusalOf s) e; phase = g .phase; threshold = g .threshold; memo = g .memo }
+rated-good s r g e = record { rate = passed (rateOk r) (wavetableRefusalOf s) e; phase = g .phase; threshold = g .threshold; memo = g .memo }
 
 after-good : (s : Wavetable) (c : Call) → Good s → FitCall c → Good (after s c)
 unfolding after wavetableBlockOf wavetableResetOf wavetableSetSampleRateOf
@@ -172,6 +168,7 @@ never-refused s h =
     record {
       phase = g .phase;
       threshold = g .threshold;
+      five = threshold-in _ (g .threshold) .below;
       tick = λ c bank. tick-accepted s c bank g;
       play =
           λ c t bank o m.
@@ -181,7 +178,12 @@ never-refused s h =
       rate = λ r. ap Told (made-number _ _ _ ∙ (unfold wavetableRateRefusalOf in simp n));
     }
 
--- ---- the threshold stays
+-- ---- the gate
+pub gate-says : Gate-says
+unfolding newWavetable wavetableRefusalOf restarted rated
+gate-says = record { new = λ r t. refl; asked = λ s ok bad. simp (ok, bad, and-false); reset = λ s. refl; rate = λ s r. refl }
+
+-- the threshold stays
 abbrev Keeps : Wavetable → Wavetable → Type 0
 Keeps s r = r .threshold ≡ s .threshold
 

@@ -1,5 +1,5 @@
 -- Theorems about the Wavetable: the statements. proofs/ proves each under the same name in small letters.
-use mathlib.Core.Bool.{Bool, true, cond}
+use mathlib.Core.Bool.{Bool, true, false, cond}
 use mathlib.Core.List.{List, _∷_, []}
 use mathlib.Core.Path.{_≡_}
 use Prim.Native.Nat.{ℕ, _*_, _<_}
@@ -11,14 +11,16 @@ use Rattle.answer.specs.Block.{Block, blockRefusalOf}
 use Rattle.answer.specs.Promises.{Steers, Sounds-as, AllAccepted, AllTaken}
 use Rattle.answer.specs.declared.Outcome.the-variants as outcome
 use Rattle.answer.specs.declared.Tally.{Tally}
-use Rattle.common.specs.Edge.{risingOf}
+use Rattle.common.specs.Consts.{five}
+use Rattle.common.specs.Edge.{newEdge, risingOf}
 use Rattle.common.specs.Tests.{rateOk, phaseOk, thresholdOk}
 use Rattle.laws.specs.Float.{zer, one}
 use Rattle.laws.specs.Machine.{replies, Settles}
 use Rattle.wavetable.specs.Bank.{Filled, fillTableOf, fillBankOf}
 use Rattle.wavetable.specs.Calls.{Call, Fit, after, reply, First, ReachedWavetable, Tick, Reset, SetSampleRate, Told}
 use Rattle.wavetable.specs.Consts.{nPorts, bankSize}
-use Rattle.wavetable.specs.Wavetable.{newWavetable, newLike, edgeOf, wavetableTickRefusalOf, wavetableToldOf, wavetableNextOf}
+use Rattle.wavetable.specs.Wavetable.{newWavetable, newLike, edgeOf, wavetableRefusalOf, wavetableTickRefusalOf, wavetableToldOf}
+use Rattle.wavetable.specs.Wavetable.{wavetableNextOf, restarted, rated}
 use Rattle.wavetable.specs.Wavetable.{wavetableNewOf, wavetableTickOf, wavetableBlockOf, wavetableResetOf, wavetableSetSampleRateOf}
 use Rattle.common.specs.declared.Hertz.{Hertz}
 use Rattle.wavetable.specs.declared.Wavetable.{Wavetable}
@@ -36,6 +38,7 @@ New-accepts = (r : Hertz) (t : Float) → (outcomeNumber (wavetableNewOf r t .ou
 pub record Accepts (s : Wavetable) : Type 0 where
   pub phase : phaseOk (s .phase) ≡ true
   pub threshold : thresholdOk (s .threshold) ≡ true
+  pub five : lt (s .threshold) five ≡ true
   pub tick : (c : WavetableControls) (bank : List Float) → accepted (wavetableTickOf s c bank .answer) ≡ eqb (length bank) bankSize
   pub play : (c : WavetableControls) (t : Tally) (bank o : List Float) (m : List ℕ)
       → wavetableBlockOf s c t bank o m .refused ≡ blockRefusalOf (eqb (length o) (nPorts * length m)) (cond (eqb (length bank) bankSize) 0 4) t (length m)
@@ -45,7 +48,17 @@ pub record Accepts (s : Wavetable) : Type 0 where
 abbrev pub Never-refused : Type 0
 Never-refused = (s : Wavetable) → ReachedWavetable s → Accepts s
 
--- ---- no call changes the threshold
+-- ---- the gate
+pub record Gate-says : Type 0 where
+  -- `new` makes one of the threshold that it is given
+  pub new : (r : Hertz) (t : Float) → edgeOf (newWavetable r t) ≡ newEdge t
+  -- a threshold that is none refuses the state, and so every call, by 2
+  pub asked : (s : Wavetable) → rateOk (s .«sample_rate») ≡ true → thresholdOk (s .threshold) ≡ false → wavetableRefusalOf s ≡ 2
+  -- a reset keeps it, and the previous sample is 0.0 then; a rate change leaves both
+  pub reset : (s : Wavetable) → edgeOf (restarted s) ≡ newEdge (s .threshold)
+  pub rate : (s : Wavetable) (r : Hertz) → edgeOf (rated s r) ≡ edgeOf s
+
+-- no call changes the threshold
 abbrev pub Threshold-kept : Type 0
 Threshold-kept = (s : Wavetable) (c : Call) → after s c .threshold ≡ s .threshold
 

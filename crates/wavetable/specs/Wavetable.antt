@@ -1,5 +1,5 @@
 -- The Wavetable's calls, written from oscillators.rs, with the scope's refusals and marks.
-use mathlib.Core.Bool.{true, false, cond, _&&_}
+use mathlib.Core.Bool.{true, false, cond}
 use mathlib.Core.List.{List, [], _∷_}
 use Prim.Native.Nat.{ℕ}
 use lib.Dec.{eqb}
@@ -11,7 +11,7 @@ use Rattle.answer.specs.Mark.{allNumbers, markOf}
 use Rattle.common.specs.Edge.{risingOf}
 use Rattle.common.specs.Memo.{newMemo1, recall1, voctToHzAt}
 use Rattle.common.specs.Phase.{turns, wrapPhaseOf, incrementOf, restartOf}
-use Rattle.common.specs.Tests.{rateOk, phaseOk, thresholdOk}
+use Rattle.common.specs.Tests.{rateOk, gatedRefusalOf}
 use Rattle.laws.specs.Float.{zer, isFin}
 use Rattle.wavetable.specs.Consts.{nPorts, bankSize}
 use Rattle.wavetable.specs.Reads.{tablePosOf, tableIndexOf, blendOf, mixOf}
@@ -36,7 +36,7 @@ newLike s = newWavetable (s .«sample_rate») (s .threshold)
 
 -- 0, or what refuses a state: 1 its rate, 2 its phase or its gate's threshold
 unfoldable pub wavetableRefusalOf : Wavetable → ℕ
-wavetableRefusalOf s = cond (rateOk (s .«sample_rate»)) (cond (phaseOk (s .phase) && thresholdOk (s .threshold)) 0 2) 1
+wavetableRefusalOf s = gatedRefusalOf (s .«sample_rate») (s .phase) (s .threshold)
 
 -- and after them what refuses a bank of this size: 4
 unfoldable pub wavetableTickRefusalOf : Wavetable → ℕ → ℕ
@@ -54,7 +54,7 @@ madeUnless n old new = cond (eqb n 0) (record { outcome = outcome.Done; wavetabl
 unfoldable pub wavetableNewOf : Hertz → Float → WavetableMade
 wavetableNewOf r t = let s = newWavetable r t in madeUnless (wavetableRefusalOf s) s s
 
--- the last sync sample and the threshold as an edge record: the Rust keeps the one plain
+-- the last sync sample and the threshold as an edge record: the Rust keeps the sample plain, and has no threshold
 abbrev pub edgeOf : Wavetable → EdgeDetector
 edgeOf s = record { prev = s .«prev_sync»; threshold = s .threshold }
 

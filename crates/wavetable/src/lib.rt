@@ -247,8 +247,7 @@ impl WavetableControls {
 }
 
 impl Wavetable {
-    // A refused new hands out the state with the bad rate, which every later call refuses.
-    // Of a rate and of the threshold that its gate goes by.
+    // Of a rate and of the threshold that its gate goes by. A refused new hands out the state with the bad one, which every later call refuses.
     pub fn new(sample_rate: Hertz, threshold: f64) -> WavetableMade
         ensures { λ r. ⌜ r ≡ wavetableNewOf «sample_rate» threshold ⌝ }
     {
@@ -279,19 +278,7 @@ impl Wavetable {
     {
         let sample_rate = self.sample_rate;
         let phase = self.phase;
-        if common::rate_ok(sample_rate) {
-            if common::phase_ok(phase) {
-                if common::threshold_ok(self.threshold) {
-                    0
-                } else {
-                    2
-                }
-            } else {
-                2
-            }
-        } else {
-            1
-        }
+        common::gated_refusal(sample_rate, phase, self.threshold)
     }
 
     // The same, then 4 for a bank of another size.

@@ -1,5 +1,4 @@
 use mathlib.Core.Path.{sym}
-use native.Mathlib.Omega.{arith}
 use lib.Ieee.{nan, div, ofBits}
 use lib.ListN.{List·getD-eq-default}
 use borrow.Author.Needs.{needs}
