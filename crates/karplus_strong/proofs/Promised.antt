@@ -179,7 +179,8 @@ gateOf s = s .«trigger_edge» .threshold
 tick-gate : (c : KarplusStrongControls) (draws : List ℕ) (x : Strung) → gateOf (karplusStrongNextOf c draws x .string) ≡ gateOf (x .string)
 tick-gate c draws x =
     let s = x .string in
-    tick-kept gateOf s c draws (x .line) (law.same-gate (struck-step-keeps s c draws (x .line) .edge ∙ law.threshold-kept (s .«trigger_edge») (c .trigger) .rising))
+    let edge = struck-step-keeps s c draws (x .line) .edge ∙ law.threshold-kept (s .«trigger_edge») (c .trigger) .rising in
+    tick-kept gateOf s c draws (x .line) (law.same-gate edge)
 
 made-gate : (k : ℕ) (x y : Strung) → gateOf (y .string) ≡ gateOf (x .string) → gateOf (strungAfter (madeUnless k x y) .string) ≡ gateOf (x .string)
 made-gate k x y h = made-either (λ m. gateOf (m .out .«karplus_strong») ≡ gateOf (x .string)) k x y (λ e. h) (λ n. refl)
