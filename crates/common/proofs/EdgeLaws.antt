@@ -11,7 +11,7 @@ use Rattle.laws.proofs.Order.{eq-ge, eq-le, float-le-trans, le-false, le-lt-tra
 use Rattle.laws.proofs.Tests.{of-true, or-case}
 use Rattle.common.specs.Consts.{gateThreshold, lowGateThreshold, five}
 use Rattle.common.specs.Edge.{resetOf, risesAbove, risingAboveOf, risingOf, crossedAboveOf, crossedOf}
-use Rattle.common.specs.Promises.{Thresholds, SameValue, Threshold-only, Between, Threshold-in, Kept, Threshold-kept}
+use Rattle.common.specs.Promises.{Thresholds, SameValue, Threshold-only, Between, Threshold-in, Threshold-kept}
 use Rattle.common.specs.Promises.{Rises-new, Rises-once, Rising-like, Crossed-is, Rising-once, Rising-comes, Rising-not, Rising-nan, Rising-zero}
 use Rattle.common.specs.Tests.{thresholdOk}
 use Rattle.common.specs.declared.EdgeDetector.{EdgeDetector}

@@ -1,5 +1,5 @@
 -- What every reached Lfo has: a good rate, a phase in [0, 1), a good threshold, and a memo that holds what it would compute. So no call refuses it.
-use mathlib.Core.Bool.{Bool, true, cond, and-false}
+use mathlib.Core.Bool.{true, cond, and-false}
 use mathlib.Core.Logic.{inl}
 use mathlib.Core.Path.{_≡_, refl, sym, ap, _∙_, subst}
 use Prim.Native.Nat.{ℕ, _*_}

@@ -5,7 +5,7 @@ use Rattle.vco.specs.Vco.{newVco}
 use Rattle.player.specs.Begin.{thresholdOf}
 use Rattle.player.specs.Play.{heardFrom, heardOf, playOf}
 use Rattle.player.specs.Player.{playerFrom}
-use Rattle.player.specs.Promises.{Issues, MadeWith, Gate-held, Gate-absent, Gate-idle}
+use Rattle.player.specs.Promises.{Issues, Gate-held, Gate-absent, Gate-idle}
 
 pub issues : Issues
 unfolding thresholdOf

@@ -1,5 +1,5 @@
 -- A Vco that is reached from new has a good rate, a phase in [0, 1), a good threshold and a coherent memo: so no call refuses but for its own input.
-use mathlib.Core.Bool.{Bool, true, cond, and-false}
+use mathlib.Core.Bool.{true, cond, and-false}
 use mathlib.Core.Logic.{inl}
 use mathlib.Core.Path.{_≡_, refl, sym, ap, _∙_, subst}
 use Prim.Native.Nat.{ℕ, _*_}
