@@ -1,0 +1,13 @@
+-- `text::digit`: below 10 and from 10 on.
+use borrow.Author.Rules.{rules}
+use borrow.Author.Tests.{lt-ltb, le-ltb}
+use Rattle.text.specs.Hex.{glyph}
+use Rattle.text.proofs.digit.Goals as goal
+
+pub returns-then-d-lt10 : goal.returns-then-d-lt10
+unfolding glyph
+returns-then-d-lt10 c = simp (lt-ltb _ _ c.if-d-lt10.true)
+
+pub returns-else-d-lt10 : goal.returns-else-d-lt10
+unfolding glyph
+returns-else-d-lt10 c = simp (le-ltb _ _ c.if-d-lt10.false)

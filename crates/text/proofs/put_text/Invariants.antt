@@ -1,0 +1,19 @@
+-- `text::put_text`: after i turns the first i bytes have been put.
+use mathlib.Core.List.{[], ◌∷◌}
+use mathlib.Core.Path.{refl}
+use Prim.Native.Nat.{ℕ, ◌-◌, ◌≤◌}
+use native.Mathlib.Numerals.{add-one}
+use native.Mathlib.Omega.{arith}
+use lib.ListN.{length, take}
+use lib.Seq.{take-suc, take_all}
+use borrow.Author.Rules.{rules}
+use Rattle.text.specs.Promises.{Put}
+use Rattle.text.specs.Put.{place_of}
+use Rattle.text.proofs.PutLaws.{after, within}
+use Rattle.text.proofs.put_text.Given as goal
+
+abbrev pub invariant-loop-i : goal.invariant-loop-i
+invariant-loop-i l = (l.i ≤ length l.t) × Put l.initial.out l.at (take l.i l.t) l.to l.out
+
+abbrev pub decreases-loop-i : goal.decreases-loop-i
+decreases-loop-i l = length l.t - l.i
