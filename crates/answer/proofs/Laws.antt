@@ -13,7 +13,6 @@ use lib.Ieee.{Float, nan, is_nan}
 use lib.ListN.{length, get_or}
 use borrow.Author.Tests.{eqb-true, eq-eqb, eqb-false, ne_eqb}
 use Rattle.laws.proofs.Tests.{both_true}
-use Rattle.laws.specs.Machine.{begun}
 use Rattle.answer.specs.Answer.{mark_number, host_number, volts_of, refusal_of, accepted, answer_of, cleared, notfinite, lost, steered, clean}
 use Rattle.answer.specs.Mark.{all_finite, all_numbers, rule_of, marked_of, mark_of}
 use Rattle.answer.specs.Promises.{MarkSays, MarksInOrder, CleanSteered, NumbersSay, Steers, SoundsAs, ToldNumbers}
@@ -304,21 +303,21 @@ record Taken (t : Tally) (a : Answer) : Type 0 where
   begun : after.begun ≡ t.begun + weight a
 
 module _ (t : Tally) (s : t.begun ≡ sum_of t) where
-  adds_up : adds_up t ≡ true
+  adding : adds_up t ≡ true
   unfolding adds_up
-  adds_up = eq-eqb t.begun (sum_of t) s
+  adding = eq-eqb t.begun (sum_of t) s
 
   not_full : t.begun + 1 ≤ 4294967295 → eqb t.begun 4294967295 ≡ false
   not_full h = ne_eqb t.begun 4294967295 (λ e. omega arith)
 
   takes_one : (a : Answer) → t.begun + weight a ≤ 4294967295 → Taken t a
   unfolding tally_of mark_number counted one_if weight accepted
-  takes_one (answer.Cleared v) h = record { after = counted t cleared; taken = simp (adds_up, not_full h); sum = omega arith; begun = refl }
-  takes_one (answer.NotFinite v) h = record { after = counted t notfinite; taken = simp (adds_up, not_full h); sum = omega arith; begun = refl }
-  takes_one (answer.Lost v) h = record { after = counted t lost; taken = simp (adds_up, not_full h); sum = omega arith; begun = refl }
-  takes_one (answer.Clean v) h = record { after = counted t clean; taken = simp (adds_up, not_full h); sum = omega arith; begun = refl }
-  takes_one (answer.Steered v) h = record { after = counted t steered; taken = simp (adds_up, not_full h); sum = omega arith; begun = refl }
-  takes_one (answer.Refused n) h = record { after = t; taken = simp adds_up; sum = s; begun = omega arith }
+  takes_one (answer.Cleared v) h = record { after = counted t cleared; taken = simp (adding, not_full h); sum = omega arith; begun = refl }
+  takes_one (answer.NotFinite v) h = record { after = counted t notfinite; taken = simp (adding, not_full h); sum = omega arith; begun = refl }
+  takes_one (answer.Lost v) h = record { after = counted t lost; taken = simp (adding, not_full h); sum = omega arith; begun = refl }
+  takes_one (answer.Clean v) h = record { after = counted t clean; taken = simp (adding, not_full h); sum = omega arith; begun = refl }
+  takes_one (answer.Steered v) h = record { after = counted t steered; taken = simp (adding, not_full h); sum = omega arith; begun = refl }
+  takes_one (answer.Refused n) h = record { after = t; taken = simp adding; sum = s; begun = omega arith }
 
 settled : (r : Run) (a : Answer) (k : Taken r.tally a) → settle r a (tally_of r.tally a) ≡ record { tally = k.after; took = a ∷ r.took }
 unfolding settle tallied_number tally_or

@@ -2,6 +2,7 @@
 use Rattle.std.specs.Prelude.{◌≡◌, Bool, List, [], ◌∷◌, ℕ, ◌*◌, eqb, Float, length, set}
 use Rattle.laws.specs.Machine.{Settles}
 use Rattle.answer.specs.Answer.{volts1, volts2, volts4, volts6, mark_number, host_number, volts_of, accepted, answer_of}
+use Rattle.answer.specs.Answer as answers
 use Rattle.answer.specs.Block.{room_for, marks_taken, framed, block_refusal_of}
 use Rattle.answer.specs.Mark.{all_numbers, marked_of, mark_of}
 use Rattle.answer.specs.Tally.{new_tally, tally_of, tally_or}
@@ -34,4 +35,4 @@ pub record Settled : Type 0 where
   pub block_refusal : (ports samples number : ℕ) (t : Tally) (n : ℕ) → Settles (λ (r : ℕ). r ≡ block_refusal_of (eqb samples (ports * n)) number t n)
   -- the samples and the marks that it leaves
   pub put : (a : Answer) (ports i : ℕ) (samples : List Float) (marks : List ℕ)
-      → Settles (λ (r : List Float × List ℕ). (r.0 ≡ framed ports (length marks) i (volts_of a) samples) × (r.1 ≡ set marks i (host_number a)))
+      → Settles (λ (r : List Float × List ℕ). (r.0 ≡ framed ports (length marks) i (volts_of a) samples) × (r.1 ≡ set marks i (answers.host_number a)))

@@ -1,4 +1,6 @@
 // Added by the scope: what a tick answers, how it is marked, and the tally of the answers. One text for all oscillators.
+#![tactic(auto)]
+
 ghost use Rattle.std.specs.Prelude.{◌≡◌, not, ◌&&◌, [], ◌∷◌, ◌<◌, ◌≤◌, ◌+◌, ◌*◌, length, set, eqb};
 ghost use Rattle.std.specs.Float.Ieee.{is_nan};
 ghost use Rattle.std.proofs.lemmas.List.Edits.{sets};
