@@ -1,5 +1,7 @@
 // What every exported oscillator shares: the lengths of what a host lends, the tally as a slice of counts, and the edge record as
 // floats of a flat state. Lengths that don't fit are refused by 50 floats, 51 wholes, 52 samples, 53 counts.
+#![tactic(auto)]
+
 ghost use Rattle.std.specs.Prelude.{◌≡◌, length, get_or, set};
 ghost use Rattle.std.specs.Float.{nan};
 ghost use Rattle.std.proofs.lemmas.List.Edits.{sets};
