@@ -2,6 +2,8 @@
 // Its outputs: p10 out, p11 sub.
 // A tick takes one voice after another, as the Rust does. A block does each line of that loop for all eight oscillators, the sub
 // oscillator last, and skips in a tick where none comes near its step what only a step needs: that is four times as fast.
+#![tactic(auto)]
+
 ghost use Rattle.std.specs.Prelude.{◌≡◌, true, cond, ◌&&◌, List, ◌<◌, ◌*◌, eqb, Float, length};
 ghost use Rattle.laws.specs.Float.{is_fin};
 ghost use Rattle.laws.specs.Lists.{tab};

@@ -1,0 +1,22 @@
+use mathlib.Core.Path.{ap}
+use native.Mathlib.Nat.{le_antisymm}
+use native.Mathlib.Omega.{arith}
+use Rattle.laws.proofs.Over.{over_done, over_none, over_more}
+use Rattle.common.specs.declared.Wrapped.{Wrapped}
+use Rattle.supersaw.specs.Shortcuts.{wraps_of}
+use borrow.Author.Rules.{rules}
+use Rattle.supersaw.proofs.wraps.Goals as goal
+
+pub loop-i-init : goal.loop-i-init
+loop-i-init c = (omega arith, search rules, over_none _ _)
+
+pub loop-i-preserved : goal.loop-i-preserved
+loop-i-preserved c = (
+  omega arith,
+  c.loop-i.invariant.1,
+  over_more _ _ _ _ _ (omega arith) c.loop-i.invariant.2 (ap (λ (w : Wrapped). w.phase.0) c.wrap_phase.ensures),
+)
+
+pub returns : goal.returns
+unfolding wraps_of
+returns c = over_done _ _ 8 _ _ (le_antisymm c.loop-i.invariant.0 c.loop-i-test.false) c.loop-i.invariant.1 c.loop-i.invariant.2
