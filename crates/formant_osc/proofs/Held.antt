@@ -122,13 +122,13 @@ flag_told false = refl
 module _
     (v : VoltsPerOctave) (depth : Float) (rate : Hertz) (d : Driver) (n m : ℕ) (w : m ≡ n) (xs : List Float)
     (ex : xs ≡ tab (λ i. (stride_at v depth rate d i).0) m) where
-  stride_at : (i : ℕ) → i < n → get_or xs i nan ≡ (stride_at v depth rate d i).0
-  stride_at i h = ap (λ (l : List Float). get_or l i nan) ex ∙ get_or_tab nan (λ j. (stride_at v depth rate d j).0) m i (omega arith)
+  stride_is : (i : ℕ) → i < n → get_or xs i nan ≡ (stride_at v depth rate d i).0
+  stride_is i h = ap (λ (l : List Float). get_or l i nan) ex ∙ get_or_tab nan (λ j. (stride_at v depth rate d j).0) m i (omega arith)
 
-  phase_at : (i : ℕ) → i ≤ n → phase_at xs d.phase i ≡ (after_ticks (drive_next v depth rate) i d).phase
+  phase_is : (i : ℕ) → i ≤ n → phase_at xs d.phase i ≡ (after_ticks (drive_next v depth rate) i d).phase
   unfolding phase_at after_ticks drive_next phase_sum stride_at
-  phase_at zero h = refl
-  phase_at (suc i) h = let p = phase_at i (omega arith) in let q = stride_at i (omega arith) in (λ k. (wrap_phase_of (turns (add binary64 (p k).0 (q k)))).phase)
+  phase_is zero h = refl
+  phase_is (suc i) h = let p = phase_is i (omega arith) in let q = stride_is i (omega arith) in (λ k. (wrap_phase_of (turns (add binary64 (p k).0 (q k)))).phase)
 
   pub driven : (s : Driver) (p : Turns) (ys : List Float) (ns : List ℕ) → s ≡ swayed v depth rate m d → p ≡ phase_at xs d.phase n
       → ys ≡ tab (λ i. glottal_pulse (phase_at xs d.phase i).0) n → ns ≡ tab (phase_flag_at xs d.phase) n
@@ -136,14 +136,14 @@ module _
       × ((ys ≡ tab (pulse_at v depth rate d) n) × (ns ≡ tab (flag_at v depth rate d) n))
   unfolding swayed pulse_at flag_at phase_flag_at phase_sum stride_at
   driven s p ys ns es ep ey en =
-      let a : p ≡ (after_ticks (drive_next v depth rate) n d).phase = ep ∙ phase_at n (omega arith) in
+      let a : p ≡ (after_ticks (drive_next v depth rate) n d).phase = ep ∙ phase_is n (omega arith) in
       let e : s ≡ swayed v depth rate n d = es ∙ ap (λ (k : ℕ). swayed v depth rate k d) w in (
         (λ k. driver (a k) (e k).vibrato_phase (e k).freq_memo),
         (
-          ey ∙ tab_ext _ _ n (λ i h. ap (λ (q : Turns). glottal_pulse q.0) (phase_at i (omega arith))),
+          ey ∙ tab_ext _ _ n (λ i h. ap (λ (q : Turns). glottal_pulse q.0) (phase_is i (omega arith))),
           en
               ∙ tab_ext _ _ n
-              (λ i h. let p = phase_at i (omega arith) in let q = stride_at i h in (λ k. flag (is_fin (add binary64 (p k).0 (q k))))),
+              (λ i h. let p = phase_is i (omega arith) in let q = stride_is i h in (λ k. flag (is_fin (add binary64 (p k).0 (q k))))),
         ),
       )
 
@@ -170,13 +170,13 @@ module _ (v : VoltsPerOctave) (depth : Float) (rate : Hertz) (c : List Float) (d
   driver_at : ℕ → Driver
   driver_at i = after_ticks (drive_next v depth rate) i d
 
-  pulse_at : (i : ℕ) → i < n → glottal_pulse (driver_at i).phase.0 ≡ get_or xs i nan
+  pulse_is : (i : ℕ) → i < n → glottal_pulse (driver_at i).phase.0 ≡ get_or xs i nan
   unfolding pulse_at driver_at
-  pulse_at i h = sym (ap (λ (l : List Float). get_or l i nan) ex ∙ get_or_tab nan (pulse_at v depth rate d) n i h)
+  pulse_is i h = sym (ap (λ (l : List Float). get_or l i nan) ex ∙ get_or_tab nan (pulse_at v depth rate d) n i h)
 
-  flag_at : (i : ℕ) → i < n → is_fin (phase_sum v depth rate (driver_at i)) ≡ is_flagged (get_or ms i 0)
+  flag_is : (i : ℕ) → i < n → is_fin (phase_sum v depth rate (driver_at i)) ≡ is_flagged (get_or ms i 0)
   unfolding flag_at driver_at
-  flag_at i h =
+  flag_is i h =
       sym
       (ap (λ (l : List ℕ). is_flagged (get_or l i 0)) em
       ∙ ap is_flagged (get_or_tab 0 (flag_at v depth rate d) n i h)
@@ -187,14 +187,14 @@ module _ (v : VoltsPerOctave) (depth : Float) (rate : Hertz) (c : List Float) (d
   halves zero h = refl
   halves (suc i) h =
       ap (held_next v depth rate c) (halves i (omega arith))
-      ∙ ap (λ (x : Float). moving (drive_next v depth rate (driver_at i)) (rung_of c (cells_at c xs s i) x).state) (pulse_at i (omega arith))
+      ∙ ap (λ (x : Float). moving (drive_next v depth rate (driver_at i)) (rung_of c (cells_at c xs s i) x).state) (pulse_is i (omega arith))
 
   answers_at : (numbers : Bool) (i : ℕ) → i < n
       → answer_at (held_answer numbers v depth rate c) (held_next v depth rate c) (moving d s) i ≡ voiced_at numbers c s xs ms i
   unfolding answer_at voiced_at
   answers_at numbers i h =
       ap (held_answer numbers v depth rate c) (halves i (omega arith))
-      ∙ (λ k. voiced_of (rung_of c (cells_at c xs s i) (pulse_at i h k)).sum (flag_at i h k) numbers)
+      ∙ (λ k. voiced_of (rung_of c (cells_at c xs s i) (pulse_is i h k)).sum (flag_is i h k) numbers)
 
 -- one sample a tick
 joined_one : (f : ℕ → Volts) (n : ℕ) → joined (λ i. ports_of n_ports (f i)) n ≡ tab (λ i. (f i).p10) n

@@ -120,7 +120,7 @@ new_accepts r = (number (rate_ok r), λ ok fit. (r, fit, rw ok refl))
     number false = refl
 
 pub never_refused : NeverRefused
-unfolding reply outcome_number
+unfolding reply outcome_number formant_osc_block_of formant_osc_reset_of formant_osc_set_sample_rate_of formant_osc_rate_refusal_of made_unless
 never_refused s h =
     let g = good h in
     record {
@@ -128,11 +128,10 @@ never_refused s h =
       vibrato_phase = g.vibrato;
       tick = λ c. rw (tick_sounds s c g) (sound_accepted s c);
       play =
-          λ c t o m. unfold formant_osc_block_of in
-          block_refusal n_ports _ _ _ s t o m
+          λ c t o m. block_refusal n_ports _ _ _ s t o m
           ∙ ap (λ (n : ℕ). block_refusal_of (eqb (length o) (n_ports * length m)) n t (length m)) (unrefused s g);
-      reset = unfold formant_osc_reset_of made_unless in simp (unrefused s g);
-      rate = λ r. unfold formant_osc_set_sample_rate_of formant_osc_rate_refusal_of in rates r (rate_ok r);
+      reset = simp (unrefused s g);
+      rate = λ r. rates r (rate_ok r);
     }
   where
     rates : (r : Hertz) (b : Bool) → Told (outcome_number (made_unless (cond b (formant_osc_refusal_of s) 1) s (rated s r)).outcome) ≡ Told (cond b 0 1)

@@ -1,5 +1,7 @@
 // The FormantOsc of oscillators.rs, in its order: a glottal pulse through five resonators tuned to a vowel.
 // Its output: p10 out.
+#![tactic(auto)]
+
 ghost use Rattle.std.specs.Prelude.{◌≡◌, true, ◌&&◌, ◌≤◌, ◌<◌, length, get_or, set};
 ghost use Rattle.std.specs.Float.{nan};
 ghost use Rattle.laws.specs.Lists.{tab};

@@ -1,0 +1,4 @@
+use Rattle.formant_osc.proofs.FormantOscControls.are_numbers.Goals as goal
+
+pub returns : goal.returns
+returns c = c.numbers4.ensures
