@@ -9,7 +9,7 @@ ghost use Rattle.answer.specs.Block.{many_to, cells_of, room_for, grown_by, mark
 
 // Sample volts: a field for each output port number of the Rust, and p15, which is ours. An output that an oscillator doesn't have, or
 // that isn't wanted, reads 0.0.
-#[derive(Drop)]
+#[derive(Clone, Copy)]
 pub struct Volts {
     pub p10: f64,
     pub p11: f64,
@@ -76,7 +76,7 @@ const TOLD_STEERED: u32 = 10 + STEERED;
 
 // What a tick answers: its mark with its samples, or the number that refused it. The marks stand in the order of their numbers, so
 // that a number is computed, and not looked up.
-#[derive(Drop)]
+#[derive(Clone, Copy)]
 pub enum Answer {
     Cleared(Volts),
     NotFinite(Volts),
@@ -87,7 +87,7 @@ pub enum Answer {
 }
 
 // What a call without samples says of itself. It stands beside a state that has an array: an enum that holds one needs proofs by hand.
-#[derive(Drop)]
+#[derive(Clone, Copy)]
 pub enum Outcome {
     Done,
     Refused(u32),
@@ -253,7 +253,7 @@ pub fn mark(v: Volts, zeroed: bool, sums: bool, phases: bool, numbers: bool) -> 
 }
 
 // The counts of the answers that it took: begun is their sum.
-#[derive(Drop)]
+#[derive(Clone, Copy)]
 pub struct Tally {
     pub begun: u32,
     pub finished: u32,
@@ -264,7 +264,7 @@ pub struct Tally {
 }
 
 // The tally after what it was given, or the number that refused that.
-#[derive(Drop)]
+#[derive(Clone, Copy)]
 pub enum Tallied {
     Taken(Tally),
     Refused(u32),

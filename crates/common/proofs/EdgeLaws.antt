@@ -6,7 +6,7 @@ use mathlib.Core.Path.{◌≡◌, refl, ap}
 use lib.Dec.{T}
 use lib.Ieee.{Float, lt, le, neg, of_bits, eq}
 use lib.Ieee.Bits.{is_true}
-use Rattle.laws.specs.Float.{zer, one}
+use Rattle.laws.specs.Float.{zer}
 use Rattle.laws.proofs.Order.{eq_ge, eq_le, float_le_trans, le_false, le_lt_trans, lt_false, lt_nan}
 use Rattle.laws.proofs.Tests.{of_true, or_case}
 use Rattle.common.specs.Consts.{gate_threshold, low_gate_threshold, five}

@@ -1,5 +1,7 @@
 // common.rs of the Rust, item by item: what the oscillators share. After it an output that may be unwanted, and the tests behind refusals 1, 2, 5 and 6.
 // Volts per octave, hertz and turns are three kinds of quantity; each helper takes only its own.
+#![tactic(auto)]
+
 ghost use Rattle.std.specs.Prelude.{cond, ◌≡◌, ◌≤◌, length};
 ghost use Rattle.std.specs.Float.Ieee.{le};
 ghost use Rattle.laws.specs.Float.{zer, one};
@@ -11,15 +13,15 @@ ghost use Rattle.common.specs.Ports.{out_of};
 ghost use Rattle.common.specs.Tests.{rate_ok, phase_ok, threshold_ok, gated_refusal_of, draws_ok, draws_refusal_of};
 
 // A pitch: 0 is middle C, one more is an octave up.
-#[derive(Drop)]
+#[derive(Clone, Copy)]
 pub struct VoltsPerOctave(pub f64);
 
 // A frequency, or a sample rate.
-#[derive(Drop)]
+#[derive(Clone, Copy)]
 pub struct Hertz(pub f64);
 
 // A phase, or what it grows by in a tick: hertz over hertz.
-#[derive(Drop)]
+#[derive(Clone, Copy)]
 pub struct Turns(pub f64);
 
 // Frequency of middle C, the 0 V of a pitch.
@@ -42,7 +44,7 @@ pub fn voct_to_hz(voct: VoltsPerOctave) -> Hertz
 }
 
 // What the Rust's `wrap_phase` says; and beside it, which is ours, whether a whole turn was passed.
-#[derive(Drop)]
+#[derive(Clone, Copy)]
 pub struct Wrapped {
     pub phase: Turns,
     pub turned: bool,
@@ -196,7 +198,7 @@ pub fn restart(phase: Turns, rising: bool) -> Turns
 }
 
 // The Rust's Memo<1, f64> of a frequency. The key is kept as bits, so 0.0 and -0.0 differ.
-#[derive(Drop)]
+#[derive(Clone, Copy)]
 pub struct Memo1 {
     pub key: u64,
     pub val: Hertz,
@@ -250,7 +252,7 @@ impl Memo1 {
 }
 
 // The Rust's Memo<3, f64> of a frequency.
-#[derive(Drop)]
+#[derive(Clone, Copy)]
 pub struct Memo3 {
     pub key0: u64,
     pub key1: u64,
@@ -306,28 +308,28 @@ impl Memo3 {
 }
 
 // Tells when a gate rises: from not above its threshold to above it. The Rust's has no threshold, for there it is GATE_THRESHOLD_V.
-#[derive(Drop)]
+#[derive(Clone, Copy)]
 pub struct EdgeDetector {
     pub prev: f64,
     pub threshold: f64,
 }
 
 // What the Rust's `rising` says, with the detector after it.
-#[derive(Drop)]
+#[derive(Clone, Copy)]
 pub struct Risen {
     pub edge: EdgeDetector,
     pub rising: bool,
 }
 
 // The Rust's Option<f64>: no edge, or where between the two samples it was crossed.
-#[derive(Drop)]
+#[derive(Clone, Copy)]
 pub enum Crossing {
     Nowhere,
     At(f64),
 }
 
 // What the Rust's `rising_frac` says, with the detector after it.
-#[derive(Drop)]
+#[derive(Clone, Copy)]
 pub struct Crossed {
     pub edge: EdgeDetector,
     pub at: Crossing,

@@ -32,7 +32,7 @@ const WRITTEN: usize = 1;
 const NAN: i32 = -2147483648;
 
 // The number of the oscillator, and its inputs in port order, 0 microvolts past the last one.
-#[derive(Drop)]
+#[derive(Clone, Copy)]
 struct Ports {
     osc: u64,
     p0: Control,

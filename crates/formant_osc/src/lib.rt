@@ -23,7 +23,7 @@ use answer::{Answer, Outcome, Tally};
 use common::{Hertz, Memo1, Turns, VoltsPerOctave};
 
 // The Rust's Memo<3, [[f64; 3]; 5]>: b0/norm, a1/norm and a2/norm of each of the five resonators, one after another.
-#[derive(Drop)]
+#[derive(Clone, Copy)]
 pub struct CoefMemo {
     pub key0: u64,
     pub key1: u64,
@@ -33,7 +33,7 @@ pub struct CoefMemo {
 }
 
 // The resonators' cells stand one after another, two for each.
-#[derive(Drop)]
+#[derive(Clone, Copy)]
 pub struct FormantOsc {
     pub phase: Turns,
     pub vibrato_phase: Turns,
@@ -44,7 +44,7 @@ pub struct FormantOsc {
 }
 
 // The inputs, in port order.
-#[derive(Drop)]
+#[derive(Clone, Copy)]
 pub struct FormantOscControls {
     pub v_oct: VoltsPerOctave,
     pub vowel: f64,
@@ -52,14 +52,14 @@ pub struct FormantOscControls {
     pub vibrato: f64,
 }
 
-#[derive(Drop)]
+#[derive(Clone, Copy)]
 pub struct FormantOscTicked {
     pub answer: Answer,
     pub formant_osc: FormantOsc,
 }
 
 // What a block leaves beside its samples and marks: `refused` is 0, or the number that refused it.
-#[derive(Drop)]
+#[derive(Clone, Copy)]
 pub struct FormantOscBlock {
     pub refused: u32,
     pub formant_osc: FormantOsc,
@@ -67,21 +67,21 @@ pub struct FormantOscBlock {
 }
 
 // What new, reset and set_sample_rate say, beside the state after it.
-#[derive(Drop)]
+#[derive(Clone, Copy)]
 pub struct FormantOscMade {
     pub outcome: Outcome,
     pub formant_osc: FormantOsc,
 }
 
 // The lower vowel of two, and how much of the upper.
-#[derive(Drop)]
+#[derive(Clone, Copy)]
 struct Spot {
     index: usize,
     frac: f64,
 }
 
 // One resonator's coefficients.
-#[derive(Drop)]
+#[derive(Clone, Copy)]
 struct Coef {
     b0: f64,
     a1: f64,
@@ -89,7 +89,7 @@ struct Coef {
 }
 
 // What one resonator gives, and its cells after it.
-#[derive(Drop)]
+#[derive(Clone, Copy)]
 struct Resonated {
     out: f64,
     s0: f64,
@@ -97,7 +97,7 @@ struct Resonated {
 }
 
 // What drives the resonators: all of the state that moves in a block but their cells.
-#[derive(Drop)]
+#[derive(Clone, Copy)]
 struct Driver {
     phase: Turns,
     vibrato_phase: Turns,
@@ -105,7 +105,7 @@ struct Driver {
 }
 
 // What the five give together, and their cells after it.
-#[derive(Drop)]
+#[derive(Clone, Copy)]
 struct Rung {
     sum: f64,
     state: [f64; 10],

@@ -25,7 +25,7 @@ use common::{EdgeDetector, Hertz, Memo1, VoltsPerOctave};
 const PORTS: usize = 1;
 
 // The Rust's fields less `max_len`, which follows from the rate, the lent line, of which the length stays, and the noise.
-#[derive(Drop)]
+#[derive(Clone, Copy)]
 pub struct KarplusStrong {
     pub len: usize,
     pub write_pos: usize,
@@ -38,7 +38,7 @@ pub struct KarplusStrong {
 }
 
 // Its inputs in port order.
-#[derive(Drop)]
+#[derive(Clone, Copy)]
 pub struct KarplusStrongControls {
     pub voct: VoltsPerOctave,
     pub trigger: f64,
@@ -48,14 +48,14 @@ pub struct KarplusStrongControls {
 }
 
 // What a tick answers (p10: out), with the string after it.
-#[derive(Drop)]
+#[derive(Clone, Copy)]
 pub struct KarplusStrongTicked {
     pub answer: Answer,
     pub karplus_strong: KarplusStrong,
 }
 
 // What a block leaves beside line, samples and marks: `refused` is 0, or the number that refused it.
-#[derive(Drop)]
+#[derive(Clone, Copy)]
 pub struct KarplusStrongBlock {
     pub refused: u32,
     pub karplus_strong: KarplusStrong,
@@ -63,7 +63,7 @@ pub struct KarplusStrongBlock {
 }
 
 // A refused new hands out a string of no cells, which every call refuses; any other refused call the string as it stood.
-#[derive(Drop)]
+#[derive(Clone, Copy)]
 pub struct KarplusStrongMade {
     pub outcome: Outcome,
     pub karplus_strong: KarplusStrong,
@@ -71,7 +71,7 @@ pub struct KarplusStrongMade {
 
 // What period, damping and stretch make of the loop: its filters, and the delay of its line in whole samples and a fraction. Beside
 // them, whether no control of the tick is NaN.
-#[derive(Drop)]
+#[derive(Clone, Copy)]
 struct Tuning {
     filter_coef: f64,
     ap_coef: f64,

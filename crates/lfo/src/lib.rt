@@ -16,7 +16,7 @@ ghost use Rattle.lfo.specs.Lfo.{lfo_next_of, lfo_block_of, lfo_reset_of, lfo_set
 use answer::{Answer, Outcome, Tally, Volts};
 use common::{EdgeDetector, Hertz, Memo1, Turns};
 
-#[derive(Drop)]
+#[derive(Clone, Copy)]
 pub struct Lfo {
     pub phase: Turns,
     pub sample_rate: Hertz,
@@ -25,21 +25,21 @@ pub struct Lfo {
 }
 
 // The inputs, in port order.
-#[derive(Drop)]
+#[derive(Clone, Copy)]
 pub struct LfoControls {
     pub rate: f64,
     pub depth: f64,
     pub reset: f64,
 }
 
-#[derive(Drop)]
+#[derive(Clone, Copy)]
 pub struct LfoTicked {
     pub answer: Answer,
     pub lfo: Lfo,
 }
 
 // What a block leaves beside its samples and marks: `refused` is 0, or the number that refused it.
-#[derive(Drop)]
+#[derive(Clone, Copy)]
 pub struct LfoBlock {
     pub refused: u32,
     pub lfo: Lfo,
@@ -47,7 +47,7 @@ pub struct LfoBlock {
 }
 
 // What a call without samples leaves: a refused one the old state, and a refused `new` a state that refuses every call.
-#[derive(Drop)]
+#[derive(Clone, Copy)]
 pub struct LfoMade {
     pub outcome: Outcome,
     pub lfo: Lfo,

@@ -99,7 +99,7 @@ fn line_end(text: &[u8], at: usize) -> usize
 
 // ---- a reader, which keeps the text together with its place
 
-#[derive(Drop)]
+#[derive(Clone, Copy)]
 pub struct Reader<'a> {
     pub text: &'a [u8],
     pub at: usize,
@@ -134,7 +134,7 @@ impl<'a> Reader<'a> {
 
 // ---- numbers
 
-#[derive(Drop)]
+#[derive(Clone, Copy)]
 pub enum Number {
     Whole { minus: bool, size: u64 },
     Nan,

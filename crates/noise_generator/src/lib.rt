@@ -22,7 +22,7 @@ use answer::{Answer, Tally};
 use common::Hertz;
 
 // Pink noise: rows of which the counter changes row k at every 2^k-th sample, and their sum as it was rounded on the way.
-#[derive(Drop)]
+#[derive(Clone, Copy)]
 pub struct PinkNoiseState {
     pub rows: [f64; 16],
     pub running_sum: f64,
@@ -30,7 +30,7 @@ pub struct PinkNoiseState {
 }
 
 // The Rust's fields less the random stream, which is lent.
-#[derive(Drop)]
+#[derive(Clone, Copy)]
 pub struct NoiseGenerator {
     pub pink: PinkNoiseState,
     pub pink2: PinkNoiseState,
@@ -39,25 +39,25 @@ pub struct NoiseGenerator {
 }
 
 // The one input: given to this tick, or left to the stored one.
-#[derive(Drop)]
+#[derive(Clone, Copy)]
 pub enum Correlation {
     Given(f64),
     Stored,
 }
 
-#[derive(Drop)]
+#[derive(Clone, Copy)]
 pub struct NoiseGeneratorControls {
     pub correlation: Correlation,
 }
 
-#[derive(Drop)]
+#[derive(Clone, Copy)]
 pub struct NoiseGeneratorTicked {
     pub answer: Answer,
     pub noise_generator: NoiseGenerator,
 }
 
 // What a block leaves beside its samples and marks: `refused` is 0, or the number that refused it.
-#[derive(Drop)]
+#[derive(Clone, Copy)]
 pub struct NoiseGeneratorBlock {
     pub refused: u32,
     pub noise_generator: NoiseGenerator,
@@ -68,7 +68,7 @@ pub struct NoiseGeneratorBlock {
 const PORTS: usize = 4;
 
 // The sums and counters of both pinks, which a turn changes beside the lent rows.
-#[derive(Drop)]
+#[derive(Clone, Copy)]
 struct Rowless {
     sum: f64,
     index: u32,
@@ -77,7 +77,7 @@ struct Rowless {
 }
 
 // What a tick leaves beside its rows, and how many draws it took.
-#[derive(Drop)]
+#[derive(Clone, Copy)]
 struct Turned {
     answer: Answer,
     rest: Rowless,

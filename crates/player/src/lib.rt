@@ -17,7 +17,7 @@ use supersaw::{Supersaw, SupersawControls};
 use vco::{Vco, VcoControls};
 
 // The inputs in volts, which say what is played.
-#[derive(Drop)]
+#[derive(Clone, Copy)]
 pub enum Controls {
     Vco(VcoControls),
     Lfo(LfoControls),
@@ -26,7 +26,7 @@ pub enum Controls {
 }
 
 // One oscillator of each kind, for an enum can't hold the arrays of some; only the one that the controls are for moves.
-#[derive(Drop)]
+#[derive(Clone, Copy)]
 pub struct Player {
     pub controls: Controls,
     pub vco: Vco,
@@ -36,7 +36,7 @@ pub struct Player {
 }
 
 // What playing answers: 0, or the number that refused it, with the player and the tally after it.
-#[derive(Drop)]
+#[derive(Clone, Copy)]
 pub struct Played {
     pub refused: u32,
     pub player: Player,

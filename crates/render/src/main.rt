@@ -14,14 +14,14 @@ use score::{Reading, Score};
 const AT_ONCE: u32 = 400;
 
 // What standard input gave: a text of so many bytes, or a failure.
-#[derive(Drop)]
+#[derive(Clone, Copy)]
 enum Taken {
     Text(usize),
     Failed,
 }
 
 // After a read: there are so many bytes now, or no more come.
-#[derive(Drop)]
+#[derive(Clone, Copy)]
 enum Step {
     On(usize),
     Stop(Taken),

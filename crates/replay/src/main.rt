@@ -369,7 +369,7 @@ fn verdict(text: &[u8], from: usize, end: usize, k: usize, name: &[u8], bank: &[
     if same_case(words, k, bank) { 1 } else { 2 }
 }
 
-#[derive(Drop)]
+#[derive(Clone, Copy)]
 struct Tally {
     lines: u64,
     cases: u64,

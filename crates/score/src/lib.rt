@@ -12,7 +12,7 @@ use line::{Number, Reader};
 
 // ---- what a score says
 
-#[derive(Drop)]
+#[derive(Clone, Copy)]
 pub enum Osc {
     Vco,
     Lfo,
@@ -21,14 +21,14 @@ pub enum Osc {
 }
 
 // An input, for all frames: whole microvolts, or nan.
-#[derive(Drop)]
+#[derive(Clone, Copy)]
 pub enum Control {
     Microvolts(i32),
     Nan,
 }
 
 // The inputs have the Rust's port order and names.
-#[derive(Drop)]
+#[derive(Clone, Copy)]
 pub struct VcoInputs {
     pub voct: Control,
     pub fm: Control,
@@ -37,21 +37,21 @@ pub struct VcoInputs {
     pub fm_lin: Control,
 }
 
-#[derive(Drop)]
+#[derive(Clone, Copy)]
 pub struct LfoInputs {
     pub rate: Control,
     pub depth: Control,
     pub reset: Control,
 }
 
-#[derive(Drop)]
+#[derive(Clone, Copy)]
 pub struct SupersawInputs {
     pub voct: Control,
     pub detune: Control,
     pub mix: Control,
 }
 
-#[derive(Drop)]
+#[derive(Clone, Copy)]
 pub struct FormantInputs {
     pub v_oct: Control,
     pub vowel: Control,
@@ -59,7 +59,7 @@ pub struct FormantInputs {
     pub vibrato: Control,
 }
 
-#[derive(Drop)]
+#[derive(Clone, Copy)]
 pub enum Inputs {
     Vco(VcoInputs),
     Lfo(LfoInputs),
@@ -68,14 +68,14 @@ pub enum Inputs {
 }
 
 // The issue of the bank that a preset belongs to, which says where its gates count as high; absent where no line says it.
-#[derive(Drop)]
+#[derive(Clone, Copy)]
 pub enum Gate {
     Absent,
     Issue(u32),
 }
 
 // The lines between the oscillator and its inputs, and the ranges of their numbers.
-#[derive(Drop)]
+#[derive(Clone, Copy)]
 pub struct Head {
     pub hz: u32,
     pub gate: Gate,
@@ -94,13 +94,13 @@ pub const FRAMES_LEAST: u32 = 1;
 
 pub const FRAMES_MOST: u32 = 480000;
 
-#[derive(Drop)]
+#[derive(Clone, Copy)]
 pub struct Score {
     pub head: Head,
     pub inputs: Inputs,
 }
 
-#[derive(Drop)]
+#[derive(Clone, Copy)]
 pub enum Reading {
     Values(Score),
     Refused(u32),
@@ -152,19 +152,19 @@ pub fn owner_of(inputs: Inputs) -> Osc
 
 // ---- one line: what its value says, or its refusal
 
-#[derive(Drop)]
+#[derive(Clone, Copy)]
 enum OscLine {
     Read(Osc),
     Refused(u32),
 }
 
-#[derive(Drop)]
+#[derive(Clone, Copy)]
 pub enum WholeLine {
     Read(u32),
     Refused(u32),
 }
 
-#[derive(Drop)]
+#[derive(Clone, Copy)]
 pub enum ControlLine {
     Read(Control),
     Refused(u32),
@@ -233,7 +233,7 @@ pub fn control_of(n: Number) -> ControlLine
 }
 
 // A line: whether it is the one asked for, its value as an oscillator's name and as a number, and the place of the next line.
-#[derive(Drop)]
+#[derive(Clone, Copy)]
 struct Line {
     asked: bool,
     osc: OscLine,
@@ -295,26 +295,26 @@ fn control_in(line: Line) -> ControlLine
 // ---- one line after the other
 
 // Where the next line is. After a refusal nothing more is read, and what is held doesn't count.
-#[derive(Drop)]
+#[derive(Clone, Copy)]
 enum Place {
     At(usize),
     Refused(u32),
 }
 
 // What a line held, and the place of the next one.
-#[derive(Drop)]
+#[derive(Clone, Copy)]
 struct TakenWhole {
     whole: u32,
     place: Place,
 }
 
-#[derive(Drop)]
+#[derive(Clone, Copy)]
 struct TakenGate {
     gate: Gate,
     place: Place,
 }
 
-#[derive(Drop)]
+#[derive(Clone, Copy)]
 struct TakenControl {
     control: Control,
     place: Place,
@@ -421,7 +421,7 @@ fn end(text: &[u8], last: TakenControl, score: Score) -> Reading
 // ---- the head
 
 // `before` stands before the first input and has its place.
-#[derive(Drop)]
+#[derive(Clone, Copy)]
 struct TakenHead {
     head: Head,
     before: TakenControl,

@@ -18,7 +18,7 @@ use score::{
 };
 
 // The length of the text that was written, or the number of the refusal.
-#[derive(Drop)]
+#[derive(Clone, Copy)]
 pub enum Writing {
     Length(usize),
     Refused(u32),

@@ -17,7 +17,7 @@ ghost use Rattle.supersaw.specs.Shortcuts.{lanes_steady, mix_to, blend_of, moved
 use answer::{Answer, Outcome, Tally};
 use common::{Hertz, Memo1, Turns, VoltsPerOctave};
 
-#[derive(Drop)]
+#[derive(Clone, Copy)]
 pub struct Supersaw {
     pub phases: [f64; 7],
     pub sub_phase: Turns,
@@ -26,21 +26,21 @@ pub struct Supersaw {
 }
 
 // The inputs, in port order.
-#[derive(Drop)]
+#[derive(Clone, Copy)]
 pub struct SupersawControls {
     pub voct: VoltsPerOctave,
     pub detune: f64,
     pub mix: f64,
 }
 
-#[derive(Drop)]
+#[derive(Clone, Copy)]
 pub struct SupersawTicked {
     pub answer: Answer,
     pub supersaw: Supersaw,
 }
 
 // What a block leaves beside its samples and marks: `refused` is 0, or the number that refused it.
-#[derive(Drop)]
+#[derive(Clone, Copy)]
 pub struct SupersawBlock {
     pub refused: u32,
     pub supersaw: Supersaw,
@@ -48,7 +48,7 @@ pub struct SupersawBlock {
 }
 
 // What a call without samples leaves: a refused one the old state, and a refused `new` a state that refuses every call.
-#[derive(Drop)]
+#[derive(Clone, Copy)]
 pub struct SupersawMade {
     pub outcome: Outcome,
     pub supersaw: Supersaw,
@@ -58,7 +58,7 @@ pub struct SupersawMade {
 const PORTS: usize = 2;
 
 // A tick of the eight oscillators: what it answers, and the phases after it.
-#[derive(Drop)]
+#[derive(Clone, Copy)]
 struct Moved {
     answer: Answer,
     phases: [f64; 8],

@@ -68,7 +68,7 @@ pub fn put_hex(out: &mut [u8], at: usize, x: u64) -> usize
 }
 
 // What 16 digits are read as.
-#[derive(Drop)]
+#[derive(Clone, Copy)]
 pub enum Word {
     Bits(u64),
     Malformed,

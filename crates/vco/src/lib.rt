@@ -19,7 +19,7 @@ ghost use Rattle.vco.specs.Vco.{vco_tick_of, vco_told_of, vco_next_of, vco_block
 use answer::{Answer, Outcome, Tally, Volts};
 use common::{Crossing, EdgeDetector, Hertz, Memo3, Turns, VoltsPerOctave};
 
-#[derive(Drop)]
+#[derive(Clone, Copy)]
 pub struct Vco {
     pub phase: Turns,
     pub sample_rate: Hertz,
@@ -28,7 +28,7 @@ pub struct Vco {
 }
 
 // A volt of fm is an octave; 5 V of fm_lin are the pitch's whole frequency.
-#[derive(Drop)]
+#[derive(Clone, Copy)]
 pub struct VcoControls {
     pub voct: VoltsPerOctave,
     pub fm: VoltsPerOctave,
@@ -37,14 +37,14 @@ pub struct VcoControls {
     pub fm_lin: f64,
 }
 
-#[derive(Drop)]
+#[derive(Clone, Copy)]
 pub struct VcoTicked {
     pub answer: Answer,
     pub vco: Vco,
 }
 
 // What a block leaves beside its samples and marks: `refused` is 0, or the number that refused it.
-#[derive(Drop)]
+#[derive(Clone, Copy)]
 pub struct VcoBlock {
     pub refused: u32,
     pub vco: Vco,
@@ -52,7 +52,7 @@ pub struct VcoBlock {
 }
 
 // What a call without samples leaves: a refused one the old state, and a refused `new` a state that refuses every call.
-#[derive(Drop)]
+#[derive(Clone, Copy)]
 pub struct VcoMade {
     pub outcome: Outcome,
     pub vco: Vco,

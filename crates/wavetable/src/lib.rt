@@ -23,7 +23,7 @@ ghost use Rattle.wavetable.specs.Wavetable.{wavetable_reset_of, wavetable_set_sa
 use answer::{Answer, Outcome, Tally};
 use common::{EdgeDetector, Hertz, Memo1, Turns, VoltsPerOctave};
 
-#[derive(Drop)]
+#[derive(Clone, Copy)]
 pub struct Wavetable {
     pub phase: Turns,
     pub prev_sync: f64,
@@ -33,7 +33,7 @@ pub struct Wavetable {
 }
 
 // The inputs, in port order.
-#[derive(Drop)]
+#[derive(Clone, Copy)]
 pub struct WavetableControls {
     pub v_oct: VoltsPerOctave,
     pub table: f64,
@@ -41,14 +41,14 @@ pub struct WavetableControls {
     pub sync: f64,
 }
 
-#[derive(Drop)]
+#[derive(Clone, Copy)]
 pub struct WavetableTicked {
     pub answer: Answer,
     pub wavetable: Wavetable,
 }
 
 // What a block leaves beside its samples and marks: `refused` is 0, or the number that refused it.
-#[derive(Drop)]
+#[derive(Clone, Copy)]
 pub struct WavetableBlock {
     pub refused: u32,
     pub wavetable: Wavetable,
@@ -56,14 +56,14 @@ pub struct WavetableBlock {
 }
 
 // What new, reset and set_sample_rate say, beside the state after it.
-#[derive(Drop)]
+#[derive(Clone, Copy)]
 pub struct WavetableMade {
     pub outcome: Outcome,
     pub wavetable: Wavetable,
 }
 
 // What is read of the bank: where the levels of two neighbouring tables begin, and how much of the upper one is heard.
-#[derive(Drop)]
+#[derive(Clone, Copy)]
 struct Pair {
     first0: usize,
     first1: usize,
