@@ -1,4 +1,6 @@
 // Lines of a text, each a key, an equals sign, a value and a line feed; and the one form of a number.
+#![tactic(auto)]
+
 ghost use Rattle.std.specs.Prelude.{◌≡◌, length, drop};
 ghost use Rattle.line.specs.Bytes.{same_of, has_of, until_of, past_of};
 ghost use Rattle.line.specs.Line.{value_of, is_line, next_of, moved_on};

@@ -1,4 +1,6 @@
 // The score: osc, hz, the gate where it is said, frames and then the oscillator's inputs, a line each.
+#![tactic(auto)]
+
 ghost use Rattle.std.specs.Prelude.{◌≡◌};
 ghost use Rattle.score.specs.Control.{volts_of, number_in};
 ghost use Rattle.score.specs.Keys.{owner_of};

@@ -3,7 +3,7 @@ use Prim.Native.Nat.{ℕ, zero, suc, ◌≤◌, ◌<◌}
 use mathlib.Core.List.{List, [], ◌∷◌, ◌++◌, map}
 use mathlib.Core.Path.{◌≡◌, refl, ap, ◌∙◌}
 use native.Mathlib.Omega.{arith}
-use lib.Dec.{lit≤, lit<}
+use lib.Dec.{lit<}
 use lib.ListN.{length, drop, replicate, length-replicate}
 use Rattle.line.specs.Bytes.{ascii, same_of, has_of, until_of, past_of}
 use Rattle.line.specs.Line.{line_of, after_line, key_of, value_of, is_line}

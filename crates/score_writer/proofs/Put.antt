@@ -1,15 +1,14 @@
 -- The text of a score put into a buffer of its own, and from there into the lent one. Assumes nothing.
 use Prim.Native.Nat.{ℕ, ◌+◌, ◌<◌, ◌≤◌}
 use mathlib.Core.List.{List, [], ◌++◌, append-nil}
-use mathlib.Core.Path.{◌≡◌, refl, sym, ap, subst, ◌∙◌}
+use mathlib.Core.Path.{◌≡◌, sym, ap, subst, ◌∙◌}
 use native.Mathlib.Omega.{arith}
 use lib.ListN.{length, take, drop}
-use lib.Seq.{sets, sets-eq}
+use lib.Seq.{sets-eq}
 use borrow.Author.Tests.{ne_eqb}
 use Rattle.text.specs.Promises.{Put}
 use Rattle.text.specs.Put.{place_of}
 use Rattle.text.proofs.PutLaws.{put_whole}
-use Rattle.score.specs.Promises.{Valid}
 use Rattle.score.specs.Text.{text_of}
 use Rattle.score.proofs.Longest.{text_short}
 use Rattle.score.specs.declared.Score.{Score}

@@ -1,5 +1,5 @@
 -- There and back, by which number it is refused, and what stands in the buffer. Assumes nothing.
-use Prim.Native.Nat.{ℕ, ◌+◌, ◌≤◌, ◌<◌}
+use Prim.Native.Nat.{ℕ, ◌≤◌, ◌<◌}
 use mathlib.Core.Bool.{Bool, true, false}
 use mathlib.Core.List.{List, ◌++◌}
 use mathlib.Core.Path.{◌≡◌, refl, sym, ap, subst, ◌∙◌}
@@ -18,7 +18,7 @@ use Rattle.score.specs.declared.Score.{Score}
 use Rattle.score.specs.declared.Reading.TheVariants.{Values}
 use Rattle.score_writer.specs.Writing.{left_by, writing_of, written_of}
 use Rattle.score_writer.specs.Promises.{WriteRead, ReadWrite, OnlyText, Unread, UnreadRefused, ShortRefused, Refusals, EnoughRoom}
-use Rattle.score_writer.specs.Promises.{RefusedLeft, Kept, PastStays}
+use Rattle.score_writer.specs.Promises.{RefusedLeft, PastStays}
 use Rattle.score_writer.specs.declared.Writing.{Writing}
 use Rattle.score_writer.specs.declared.Writing.TheVariants.{Length, Refused}
 use Rattle.score_writer.proofs.Wrote.{Wrote, written, short, unread, wrote, not_length, same_refusal, same_length}

@@ -9,7 +9,7 @@ use borrow.Author.Tests.{ltb-true, ltb-false}
 use Rattle.score.specs.Text.{text_of}
 use Rattle.score.specs.Promises.{Valid}
 use Rattle.score.specs.declared.Score.{Score}
-use Rattle.score_writer.specs.Writing.{refusal_of, writing_of}
+use Rattle.score_writer.specs.Writing.{writing_of}
 use Rattle.score_writer.specs.declared.Writing.{Writing}
 use Rattle.score_writer.specs.declared.Writing.TheVariants.{Length, Refused}
 use Rattle.score_writer.proofs.Ranges.{By, taken, refused, score_by}

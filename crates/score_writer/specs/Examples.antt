@@ -7,10 +7,9 @@ use Rattle.score.specs.declared.Control.{Control}
 use Rattle.score.specs.declared.Control.TheVariants.{Microvolts, Nan}
 use Rattle.score.specs.declared.Gate.{Gate}
 use Rattle.score.specs.declared.Gate.TheVariants.{Absent, Issue}
-use Rattle.score.specs.declared.Inputs.TheVariants.{Vco, Lfo, Supersaw, Formant}
+use Rattle.score.specs.declared.Inputs.TheVariants.{Vco, Lfo, Supersaw}
 use Rattle.score.specs.declared.Score.{Score}
 use Rattle.score_writer.specs.Writing.{writing_of, written_of}
-use Rattle.score_writer.specs.declared.Writing.{Writing}
 use Rattle.score_writer.specs.declared.Writing.TheVariants.{Length, Refused}
 
 -- the worked example of the paper

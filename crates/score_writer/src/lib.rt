@@ -1,5 +1,7 @@
 // The writer of a score: values as the reader gives them, written as the only text that reads back to them. The contracts are over the
 // reader's own definitions of the keys and their order, of the ranges and of the form of a number.
+#![tactic(auto)]
+
 ghost use Rattle.std.specs.Prelude.{◌≡◌, [], ◌∷◌, length};
 ghost use Rattle.std.proofs.lemmas.List.Edits.{sets};
 ghost use Rattle.text.specs.Put.{place_of};
