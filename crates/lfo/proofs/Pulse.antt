@@ -1,5 +1,5 @@
 -- The pulse: when it comes, that it stands beside the Rust's five outputs, and that the bits beyond them all do nothing.
-use mathlib.Core.Bool.{Bool, true, false, cond, not, ◌&&◌}
+use mathlib.Core.Bool.{Bool, true, false, cond, ◌&&◌}
 use mathlib.Core.List.{[], ◌∷◌}
 use mathlib.Core.Path.{◌≡◌, refl, sym, ap, ◌∙◌}
 use Prim.Native.Nat.{ℕ}
@@ -15,16 +15,15 @@ use Rattle.answer.specs.declared.Answer.TheVariants as answer
 use Rattle.answer.specs.declared.Volts.{Volts}
 use Rattle.common.proofs.PhaseLaws.{turned_says}
 use Rattle.common.specs.Consts.{five}
-use Rattle.common.specs.Phase.{turns, turned_of}
+use Rattle.common.specs.Phase.{turned_of}
 use Rattle.common.specs.Ports.{wants, WantAlike}
-use Rattle.common.specs.Tests.{phase_ok}
 use Rattle.laws.specs.Float.{zer, is_fin}
 use Rattle.numeric.specs.Floor.{floor_of}
 use Rattle.lfo.proofs.Accepted.{sounds}
 use Rattle.lfo.proofs.Held.{tick_refusal}
 use Rattle.lfo.proofs.Small.{eoc_finite}
 use Rattle.lfo.specs.Lfo.{controls_of, lfo_refusal_of, lfo_outputs_of, lfo_sound_of, lfo_tick_of}
-use Rattle.lfo.specs.Promises.{summed, Pulses, EocSays, Beside, EocBeside, BitsBeyond}
+use Rattle.lfo.specs.Promises.{summed, EocSays, Beside, EocBeside, BitsBeyond}
 use Rattle.lfo.specs.Waves.{sine_of, sin_wave, tri_wave, saw_wave, sqr_wave, sin_uni_wave, eoc_wave}
 use Rattle.lfo.specs.declared.Lfo.{Lfo}
 use Rattle.lfo.specs.declared.LfoControls.{LfoControls}

@@ -1,5 +1,7 @@
 // The Lfo of oscillators.rs, in its order: a slow oscillator with rate, depth and a reset trigger.
 // Its outputs: p10 sin, p11 tri, p12 saw, p13 sqr, p14 sin_uni; and p15 eoc, the end of a cycle, which is ours.
+#![tactic(auto)]
+
 ghost use Rattle.std.specs.Prelude.{◌≡◌, true, false, ◌||◌, ◌<◌, ◌*◌, length};
 ghost use Rattle.laws.specs.Lists.{tab};
 ghost use Rattle.common.specs.Memo.{recall1};

@@ -1,5 +1,7 @@
 // The Vco of oscillators.rs: sine, triangle, saw and square of one phase, with hard sync and two kinds of FM.
 // In an answer's volts p10 is sin, p11 tri, p12 saw and p13 sqr.
+#![tactic(auto)]
+
 ghost use Rattle.std.specs.Prelude.{◌≡◌, true, ◌<◌, ◌*◌, length, set};
 ghost use Rattle.laws.specs.Lists.{tab};
 ghost use Rattle.numeric.specs.Basic.{fabs_of, clamp_of};

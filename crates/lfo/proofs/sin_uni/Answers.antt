@@ -1,0 +1,10 @@
+use Rattle.lfo.specs.Waves.{sin_uni_wave}
+use Rattle.lfo.proofs.sin_uni.Goals as goal
+
+pub returns-then-want : goal.returns-then-want
+unfolding sin_uni_wave
+returns-then-want c = simp c.if-want.true
+
+pub returns-else-want : goal.returns-else-want
+unfolding sin_uni_wave
+returns-else-want c = simp c.if-want.false
