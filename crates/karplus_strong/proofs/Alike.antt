@@ -9,7 +9,7 @@ use Rattle.laws.specs.Lists.{tab, over}
 use Rattle.numeric.specs.Basic.{whole_of, real_of}
 use Rattle.karplus_strong.specs.Consts.{loop_leak}
 use Rattle.karplus_strong.specs.Line.{blank_at, blank_of, excited_at, excited_of, sum_to, mean_of, level_at, level_of, struck_of}
-use Rattle.karplus_strong.specs.Step.{filter_coef_of, ap_coef_of, target_orelay_of, offset_one, offset_two, tap_of}
+use Rattle.karplus_strong.specs.Step.{filter_coef_of, ap_coef_of, target_delay_of, offset_one, offset_two, tap_of}
 use Rattle.karplus_strong.specs.Step.{filtered_of, stretched_of, Ticking, rest_of, wrote_of, cleared_of, step_of}
 use Rattle.karplus_strong.specs.KarplusStrong.{max_len_of, karplus_strong_refusal_of, struck_len, strike_of, strike_if, tick_unless, karplus_strong_sound_of}
 use Rattle.karplus_strong.specs.KarplusStrong.{karplus_strong_tick_of, damping_of, brightness_of, stretch_of, controls_of, period_at, trigger_refusal_of}
@@ -151,8 +151,8 @@ alike_set n i v l m h k = record {
 pub alike_step : (s : KarplusStrong) (p d t : Float) (numbers : Bool) (l m : List Float) → s.write_pos < s.len → s.len ≤ length l → Alike s.len l m
     → SameTick (step_of s p d t numbers l) (step_of s p d t numbers m)
 unfolding step_of
-alike_step s p d t numbers l m h k e = rw (tap_alike l m s.write_pos s.len (target_orelay_of p (filter_coef_of d) (ap_coef_of t)) h e.cells)
-    (go (tap_of m s.write_pos s.len (target_orelay_of p (filter_coef_of d) (ap_coef_of t))))
+alike_step s p d t numbers l m h k e = rw (tap_alike l m s.write_pos s.len (target_delay_of p (filter_coef_of d) (ap_coef_of t)) h e.cells)
+    (go (tap_of m s.write_pos s.len (target_delay_of p (filter_coef_of d) (ap_coef_of t))))
   where
     go : (x : Float) → let y = filtered_of s x (filter_coef_of d) in let z = stretched_of s y (ap_coef_of t) in let v = mul binary64 z loop_leak in
         SameTick (cond (is_fin v) (wrote_of s y z v numbers l) (cleared_of s numbers l)) (cond (is_fin v) (wrote_of s y z v numbers m) (cleared_of s numbers m))

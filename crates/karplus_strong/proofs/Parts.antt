@@ -31,7 +31,7 @@ use Rattle.answer.specs.declared.Outcome.TheVariants as outcome
 use Rattle.karplus_strong.specs.Consts.{twenty, loop_leak}
 use Rattle.karplus_strong.specs.Shortcuts.{Cut}
 use Rattle.karplus_strong.specs.Line.{blank_of, excited_of, sum_to, mean_of, level_of, struck_of}
-use Rattle.karplus_strong.specs.Step.{filter_coef_of, ap_coef_of, filter_delay_of, ap_delay_of, target_orelay_of, offset_one, offset_two}
+use Rattle.karplus_strong.specs.Step.{filter_coef_of, ap_coef_of, filter_delay_of, ap_delay_of, target_delay_of, offset_one, offset_two}
 use Rattle.karplus_strong.specs.Step.{tap_of, filtered_of, stretched_of, heard_of, rest_of, Ticking, wrote_of, cleared_of, step_of}
 use Rattle.karplus_strong.specs.Shortcuts.{tuning_of, tap_at, turn_of}
 use Rattle.karplus_strong.specs.KarplusStrong.{max_len_of, string_of, no_string, Strung, strung, line_ok, room_of, karplus_strong_refusal_of}
@@ -151,8 +151,8 @@ stretched x = clamp_range (finite_or x zer) (neg one) one (unfold le lt eq neg o
 
 -- the delay that is left for the line is at most the period
 pub delay_range : (r f : Hertz) (d s : Float) → rate_ok r ≡ true → T (not (is_nan f.0))
-    → whole_of (target_orelay_of (period_of r f) (filter_coef_of (clamp_of (finite_or d half) zer one)) (ap_coef_of (clamp_of (finite_or s zer) (neg one) one))) ≤ 9610
-unfolding target_orelay_of filter_coef_of ap_coef_of filter_delay_of ap_delay_of
+    → whole_of (target_delay_of (period_of r f) (filter_coef_of (clamp_of (finite_or d half) zer one)) (ap_coef_of (clamp_of (finite_or s zer) (neg one) one))) ≤ 9610
+unfolding target_delay_of filter_coef_of ap_coef_of filter_delay_of ap_delay_of
 delay_range r f d s e q =
     let a = damped d in
     let b = stretched s in
@@ -470,7 +470,7 @@ pub sound_ready : (s u : KarplusStrong) (edge : EdgeDetector) (memo : Memo1) (p 
     (l : List Float) (n k : ℕ) → Sound s → max_len_of s.sample_rate + 2 ≤ n → T (not (is_nan memo.val.0))
     → p ≡ period_of s.sample_rate memo.val → u ≡ (strike_if rising (heard_string s edge memo) p b d l).string → k ≡ n
     → damping ≡ clamp_of (finite_or x half) zer one → stretch ≡ clamp_of (finite_or y zer) (neg one) one
-    → (u.write_pos < u.len) × (u.len ≤ k) × (whole_of (target_orelay_of p (filter_coef_of damping) (ap_coef_of stretch)) ≤ 9610)
+    → (u.write_pos < u.len) × (u.len ≤ k) × (whole_of (target_delay_of p (filter_coef_of damping) (ap_coef_of stretch)) ≤ 9610)
 sound_ready s u edge memo p b x y damping stretch rising d l n k a h q ep eu ek ed es =
     let m = a.most in
     let room = struck_room s.sample_rate memo.val p n ep a.rate q h in
@@ -559,7 +559,7 @@ pub step_either : (P : Ticking → Type 0) (s : KarplusStrong) (p d t : Float) (
 unfolding tuning_of
 step_either P s p d t numbers l h k = subst P (turn_is s p d t numbers l) (turn_either P s (tuning_of p d t numbers) l h k)
 
-pub tuning_by : (p d t : Float) (numbers : Bool) (c a x : Float) (w : ℕ) → c ≡ filter_coef_of d → a ≡ ap_coef_of t → x ≡ target_orelay_of p c a → w ≡ whole_of x
+pub tuning_by : (p d t : Float) (numbers : Bool) (c a x : Float) (w : ℕ) → c ≡ filter_coef_of d → a ≡ ap_coef_of t → x ≡ target_delay_of p c a → w ≡ whole_of x
     → record { filter_coef = c; ap_coef = a; delay = w; fraction = sub binary64 x (real_of w); numbers = numbers } ≡ tuning_of p d t numbers
 unfolding tuning_of
 tuning_by p d t numbers c a x w ec ea ex ew = rw (ew, ex, ec, ea)

@@ -31,7 +31,7 @@ use Rattle.answer.specs.Mark.{all_numbers}
 use Rattle.answer.specs.declared.Answer.{Answer}
 use Rattle.karplus_strong.specs.Consts.{n_ports, loop_leak}
 use Rattle.karplus_strong.specs.Line.{blank_at, blank_of, impulse_of, pulse_of, excited_at, excited_of, sum_to, mean_of, level_at, level_of, struck_of}
-use Rattle.karplus_strong.specs.Step.{filter_coef_of, ap_coef_of, filter_delay_of, ap_delay_of, target_orelay_of, offset_one}
+use Rattle.karplus_strong.specs.Step.{filter_coef_of, ap_coef_of, filter_delay_of, ap_delay_of, target_delay_of, offset_one}
 use Rattle.karplus_strong.specs.Step.{offset_two, tap_of, filtered_of, stretched_of, Ticking, rest_of, step_of}
 use Rattle.karplus_strong.specs.KarplusStrong.{trigger_refusal_of, first_refusal_of, karplus_strong_next_of, karplus_strong_block_of, max_len_of, room_of, made_unless}
 use Rattle.karplus_strong.specs.KarplusStrong.{karplus_strong_reset_of, karplus_strong_set_sample_rate_of, finite_or, period_of, struck_len, strike_of, strike_if}
@@ -203,7 +203,7 @@ leaked_within : (x : Float) → Within 3 x → Within 3 (mul binary64 x loop_lea
 leaked_within x h = (h.0, sized_mul h.0 3 x loop_leak (lit≤ tt) h.1 (part_of 0 loop_leak (unfold of_bits in tt)))
 
 step_calm : (s : KarplusStrong) (p d bend : Float) (numbers : Bool) (l : List Float) → eq bend zer ≡ true → s.write_pos < s.len → s.len ≤ length l
-    → T (le zer d) → T (le d one) → Delay (target_orelay_of p (filter_coef_of d) (ap_coef_of bend)) → Calm s l
+    → T (le zer d) → T (le d one) → Delay (target_delay_of p (filter_coef_of d) (ap_coef_of bend)) → Calm s l
     → CalmTick numbers (step_of s p d bend numbers l)
 unfolding step_of
 step_calm s p d bend numbers l flat h k lo hi g c =
@@ -214,7 +214,7 @@ step_calm s p d bend numbers l flat h k lo hi g c =
     })
   where
     x : Float
-    x = tap_of l s.write_pos s.len (target_orelay_of p (filter_coef_of d) (ap_coef_of bend))
+    x = tap_of l s.write_pos s.len (target_delay_of p (filter_coef_of d) (ap_coef_of bend))
 
     y : Float
     y = filtered_of s x (filter_coef_of d)
@@ -226,7 +226,7 @@ step_calm s p d bend numbers l flat h k lo hi g c =
     v = mul binary64 z loop_leak
 
     filtered : Within 3 y
-    filtered = filtered_within s x d lo hi (tap_within l s.write_pos s.len (target_orelay_of p (filter_coef_of d) (ap_coef_of bend)) h g c.cells) c.lp
+    filtered = filtered_within s x d lo hi (tap_within l s.write_pos s.len (target_delay_of p (filter_coef_of d) (ap_coef_of bend)) h g c.cells) c.lp
 
     bent : Within 3 z
     bent = stretched_within s y bend flat filtered c.x1 c.y1
@@ -253,7 +253,7 @@ finite_positive (fin false m e) a w = a
 
 -- the delay of a tick is such a one
 abbrev delay_at : Hertz → Hertz → Float → Float → Float
-delay_at r f d t = target_orelay_of (period_of r f) (filter_coef_of (clamp_of (finite_or d half) zer one)) (ap_coef_of (clamp_of (finite_or t zer) (neg one) one))
+delay_at r f d t = target_delay_of (period_of r f) (filter_coef_of (clamp_of (finite_or d half) zer one)) (ap_coef_of (clamp_of (finite_or t zer) (neg one) one))
 
 delay_fine : (r f : Hertz) (d t : Float) → rate_ok r ≡ true → T (not (is_nan f.0)) → Delay (delay_at r f d t)
 delay_fine r f d t e q = record { fits = max_fits; sign = finite_positive x (above_of_le one x (unfold of_bits in tt) least) most; least = least; most = most }
@@ -275,10 +275,10 @@ delay_fine r f d t e q = record { fits = max_fits; sign = finite_positive x (abo
 
     max_fits : F64 x
     max_fits =
-        unfold target_orelay_of max_of in cond-fits binary64 (lt one y) y (cond (is_nan one) y one) (sub-fits binary64 left bent) (unfold is_nan fits of_bits in tt)
+        unfold target_delay_of max_of in cond-fits binary64 (lt one y) y (cond (is_nan one) y one) (sub-fits binary64 left bent) (unfold is_nan fits of_bits in tt)
 
     least : T (le one x)
-    least = unfold target_orelay_of max_of in go (lt one y) refl
+    least = unfold target_delay_of max_of in go (lt one y) refl
       where
         go : (b : Bool) → lt one y ≡ b → T (le one (cond b y (cond (is_nan one) y one)))
         go true h = le_of_lt_true one y (of_true (lt one y) h)
@@ -287,7 +287,7 @@ delay_fine r f d t e q = record { fits = max_fits; sign = finite_positive x (abo
 struck_calm : (rising : Bool) (t : KarplusStrong) (p b d bend : Float) (numbers : Bool) (draws : List ℕ) (l : List Float)
     → eq bend zer ≡ true → ◌≡◌ {A = ℕ} (cond rising (draws_refusal_of (struck_len p) draws) 0) 0 → struck_len p ≤ length l → struck_len p ≤ 9611
     → t.write_pos < t.len → t.len ≤ length l → T (le zer b) → T (le b one) → T (le zer d) → T (le d one)
-    → Delay (target_orelay_of p (filter_coef_of d) (ap_coef_of bend)) → Calm t l
+    → Delay (target_delay_of p (filter_coef_of d) (ap_coef_of bend)) → Calm t l
     → CalmTick numbers (step_of (strike_if rising t p b draws l).string p d bend numbers (strike_if rising t p b draws l).line)
 struck_calm false t p b d bend numbers draws l flat e r n h k bl bh dl dh g c = unfold strike_if in step_calm t p d bend numbers l flat h k dl dh g c
 struck_calm true t p b d bend numbers draws l flat e r n h k bl bh dl dh g c =

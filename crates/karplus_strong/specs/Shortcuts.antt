@@ -7,7 +7,7 @@ use Rattle.laws.specs.Float.{one, is_fin}
 use Rattle.numeric.specs.Basic.{whole_of, real_of}
 use Rattle.answer.specs.declared.Answer.{Answer}
 use Rattle.karplus_strong.specs.Consts.{loop_leak}
-use Rattle.karplus_strong.specs.Step.{filter_coef_of, ap_coef_of, target_orelay_of, offset_one, offset_two, filtered_of, stretched_of, Ticking, wrote_of, cleared_of}
+use Rattle.karplus_strong.specs.Step.{filter_coef_of, ap_coef_of, target_delay_of, offset_one, offset_two, filtered_of, stretched_of, Ticking, wrote_of, cleared_of}
 use Rattle.karplus_strong.specs.KarplusStrong.{Strung, strung}
 use Rattle.karplus_strong.specs.declared.KarplusStrong.{KarplusStrong}
 use Rattle.karplus_strong.specs.declared.Tuning.{Tuning}
@@ -22,7 +22,7 @@ unfoldable pub tuning_of : Float → Float → Float → Bool → Tuning
 tuning_of period damping stretch numbers =
     let c = filter_coef_of damping in
     let a = ap_coef_of stretch in
-    let delay = target_orelay_of period c a in
+    let delay = target_delay_of period c a in
     record { filter_coef = c; ap_coef = a; delay = whole_of delay; fraction = sub binary64 delay (real_of (whole_of delay)); numbers = numbers }
 
 -- tap_of at such a delay

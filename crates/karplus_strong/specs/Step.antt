@@ -31,8 +31,8 @@ unfoldable pub filter_delay_of : Float → Float
 filter_delay_of c = div binary64 (sub binary64 one c) c
 
 -- (period - filter_gd - ap_gd).max(1.0)
-unfoldable pub target_orelay_of : Float → Float → Float → Float
-target_orelay_of period c a = max_of (sub binary64 (sub binary64 period (filter_delay_of c)) (ap_delay_of a)) one
+unfoldable pub target_delay_of : Float → Float → Float → Float
+target_delay_of period c a = max_of (sub binary64 (sub binary64 period (filter_delay_of c)) (ap_delay_of a)) one
 
 -- len.saturating_sub(delay_int), and one less
 unfoldable pub offset_one : ℕ → ℕ → ℕ
@@ -112,7 +112,7 @@ unfoldable pub step_of : KarplusStrong → Float → Float → Float → Bool �
 step_of s period damping stretch numbers l =
     let c = filter_coef_of damping in
     let a = ap_coef_of stretch in
-    let sample = tap_of l s.write_pos s.len (target_orelay_of period c a) in
+    let sample = tap_of l s.write_pos s.len (target_delay_of period c a) in
     let filtered = filtered_of s sample c in
     let stretched = stretched_of s filtered a in
     let leaked = mul binary64 stretched loop_leak in

@@ -1,4 +1,6 @@
 // KarplusStrong of oscillators.rs: a plucked string. Its delay line is lent to each call, and so are the draws of its noise.
+#![tactic(auto)]
+
 ghost use Rattle.std.specs.Prelude.{◌≡◌, ◌+◌, ◌-◌, ◌*◌, ◌%◌, ◌<◌, ◌≤◌, true, length, if◌then◌else◌};
 ghost use Rattle.laws.specs.Float.{is_fin, zer, one};
 ghost use Rattle.laws.specs.Lists.{tab};
@@ -9,7 +11,7 @@ ghost use Rattle.answer.specs.Mark.{all_numbers};
 ghost use Rattle.answer.specs.Block.{after_ticks, joined, block, mark_at, frame_at};
 ghost use Rattle.karplus_strong.specs.Consts.{n_ports};
 ghost use Rattle.karplus_strong.specs.Line.{blank_of, pulse_of, excited_of, sum_to, level_of, struck_of};
-ghost use Rattle.karplus_strong.specs.Step.{filter_coef_of, ap_coef_of, target_orelay_of, step_of};
+ghost use Rattle.karplus_strong.specs.Step.{filter_coef_of, ap_coef_of, target_delay_of, step_of};
 ghost use Rattle.karplus_strong.specs.KarplusStrong.{max_len_of, string_of, line_ok, room_of, karplus_strong_refusal_of, karplus_strong_rate_refusal_of};
 ghost use Rattle.karplus_strong.specs.KarplusStrong.{karplus_strong_cells_of, karplus_strong_new_refusal_of, karplus_strong_new_of, finite_or, controls_of};
 ghost use Rattle.karplus_strong.specs.KarplusStrong.{period_of, struck_len, strike_of};
@@ -251,7 +253,7 @@ fn tap(line: &[f64], pos: usize, len: usize, delay_int: usize, delay_frac: f64) 
 
 // The delay that is left for the line once the filters have theirs.
 fn target_delay(period: f64, filter_coef: f64, ap_coef: f64) -> f64
-    ensures { result ≡ target_orelay_of period filter_coef ap_coef }
+    ensures { result ≡ target_delay_of period filter_coef ap_coef }
 {
     let ap_gd = (1.0 - ap_coef) / (1.0 + ap_coef);
     let filter_gd = (1.0 - filter_coef) / filter_coef;
@@ -259,7 +261,7 @@ fn target_delay(period: f64, filter_coef: f64, ap_coef: f64) -> f64
 }
 
 fn tuned(period: f64, damping: f64, stretch: f64, numbers: bool) -> Tuning
-    requires { whole_of (target_orelay_of period (filter_coef_of damping) (ap_coef_of stretch)) ≤ 9610 }
+    requires { whole_of (target_delay_of period (filter_coef_of damping) (ap_coef_of stretch)) ≤ 9610 }
     ensures { result ≡ tuning_of period damping stretch numbers }
 {
     let filter_coef = 0.5 + damping * 0.49;
@@ -533,7 +535,7 @@ impl KarplusStrong {
         line: &mut [f64],
     ) -> KarplusStrongTicked
         requires { (self.write_pos < self.len) × (self.len ≤ length line.old)
-            × (whole_of (target_orelay_of period (filter_coef_of damping) (ap_coef_of stretch)) ≤ 9610) }
+            × (whole_of (target_delay_of period (filter_coef_of damping) (ap_coef_of stretch)) ≤ 9610) }
         ensures { (result ≡ (step_of self period damping stretch numbers line.old).out)
             × (line.new ≡ (step_of self period damping stretch numbers line.old).line) }
     {

@@ -1,5 +1,7 @@
 // The Wavetable of oscillators.rs, in its order: two neighbouring tables of a bank, each read at the level that the pitch
 // allows, and blended. The bank is a slice that the caller lends; bank.rt fills it. Its output: p10 out.
+#![tactic(auto)]
+
 pub mod bank;
 
 ghost use Rattle.std.specs.Prelude.{◌≡◌, ◌≤◌, ◌<◌, ◌+◌, ◌*◌, length, true, false};

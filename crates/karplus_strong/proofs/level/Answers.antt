@@ -1,0 +1,26 @@
+use Rattle.std.proofs.Common.{refl, ap, ◌∙◌, le_antisymm, arith, length-set}
+use lib.Ieee.{nan, binary64, sub}
+use Rattle.laws.specs.Lists.{over}
+use Rattle.laws.proofs.Over.{over_none, over_more, over_at}
+use Rattle.karplus_strong.specs.Line.{level_at, level_of}
+use Rattle.karplus_strong.proofs.level.Goals as goal
+
+pub loop-i-init : goal.loop-i-init
+loop-i-init c = (omega arith, refl, over_none _ _)
+
+pub loop-i-preserved : goal.loop-i-preserved
+unfolding level_at
+loop-i-preserved c = let s = c.loop-i.invariant in (
+  omega arith,
+  simp length-set s.1,
+  over_more _ _ _ _ _ (omega arith) s.2 (ap (λ x. sub binary64 x c.args.mean) (rw s.2 (over_at nan _ _ _ (omega arith)))),
+)
+
+pub shape_of-line : goal.shape_of-line
+shape_of-line c = c.loop-i.invariant.1
+
+pub returns : goal.returns
+unfolding level_of
+returns c = let s = c.loop-i.invariant in
+    s.2 ∙ ap (λ k. over (level_at c.args.mean c.args.line.now) k c.args.line.now)
+    (le_antisymm s.0 c.loop-i-test.false)

@@ -1,0 +1,20 @@
+use mathlib.Core.Path.{◌≡◌}
+use Prim.Native.Nat.{◌-◌, ◌≤◌}
+use lib.ListN.{length}
+use lib.Seq.{sets}
+use Rattle.laws.specs.Lists.{over}
+use Rattle.answer.specs.Block.{after_ticks, mark_at, frame_at, joined}
+use Rattle.wavetable.specs.Consts.{n_ports}
+use Rattle.wavetable.specs.Shortcuts.{held_answer, held_next}
+use Rattle.wavetable.proofs.Wavetable.glide.Given as goal
+
+abbrev pub invariant-loop-i : goal.invariant-loop-i
+invariant-loop-i l = (l.i ≤ length l.initial.marks)
+    × (length l.samples ≡ length l.initial.samples)
+    × (length l.marks ≡ length l.initial.marks)
+    × (l.samples ≡ sets l.initial.samples 0 (joined (frame_at n_ports (held_answer l.bank l.pair l.numbers l.step) (held_next l.step) l.initial.phase) l.i))
+    × (l.marks ≡ over (mark_at (held_answer l.bank l.pair l.numbers l.step) (held_next l.step) l.initial.phase) l.i l.initial.marks)
+    × (l.phase ≡ after_ticks (held_next l.step) l.i l.initial.phase)
+
+abbrev pub decreases-loop-i : goal.decreases-loop-i
+decreases-loop-i l = length l.initial.marks - l.i

@@ -1,9 +1,0 @@
-use borrow.Author.Rules.{rules}
-use Rattle.wavetable.proofs.WavetableControls.are_numbers.Statement.{statement}
-use Rattle.wavetable.proofs.WavetableControls.are_numbers.Tie as tie
-
-returns : tie.Need-returns
-returns c = c.numbers4.ensures
-
-pub are_numbers_spec : {M : Type 1} → statement M
-are_numbers_spec = tie.close (tie.spec (λ c κs. search rules) returns)

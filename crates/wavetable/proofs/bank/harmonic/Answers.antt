@@ -1,0 +1,15 @@
+use borrow.Author.Tests.{eq-eqb, ne_eqb}
+use Rattle.wavetable.specs.Bank.{harmonic_of}
+use Rattle.wavetable.proofs.bank.harmonic.Goals as goal
+
+pub returns-then-table-eq1 : goal.returns-then-table-eq1
+unfolding harmonic_of
+returns-then-table-eq1 c = simp (eq-eqb _ _ c.if-table-eq1.true)
+
+pub returns-then-table-eq3 : goal.returns-then-table-eq3
+unfolding harmonic_of
+returns-then-table-eq3 c = simp (eq-eqb _ _ c.if-table-eq3.true, ne_eqb _ _ c.if-table-eq1.false)
+
+pub returns-else-table-eq3 : goal.returns-else-table-eq3
+unfolding harmonic_of
+returns-else-table-eq3 c = simp (ne_eqb _ _ c.if-table-eq3.false, ne_eqb _ _ c.if-table-eq1.false)
