@@ -1,0 +1,4 @@
+use Rattle.exports.proofs.common_calls.gruttisol_wrap_phase.Goals as goal
+
+pub returns : goal.returns
+returns c = simp c.wrap_phase.ensures
