@@ -31,24 +31,24 @@ fine_there d n i h l = draw_below d n i (draws_fine n d h) l
 
 module _ (r : Rowless) (index index2 n n2 : ℕ)
     (ei : index ≡ next_index r.index) (ei2 : index2 ≡ next_index r.index2) (en : n ≡ changed_of index) (en2 : n2 ≡ changed_of index2) where
-  rows_of : n ≡ changed_of (next_index r.index)
-  rows_of = en ∙ ap changed_of ei
+  rows_taken : n ≡ changed_of (next_index r.index)
+  rows_taken = en ∙ ap changed_of ei
 
-  rows_of2 : n2 ≡ changed_of (next_index r.index2)
-  rows_of2 = en2 ∙ ap changed_of ei2
+  rows_taken2 : n2 ≡ changed_of (next_index r.index2)
+  rows_taken2 = en2 ∙ ap changed_of ei2
 
   pub all_taken : 2 + n + n2 ≡ needed_at r.index r.index2
   unfolding needed_at
-  all_taken = add_assoc 2 n n2 ∙ (λ i. 2 + (rows_of i + rows_of2 i))
+  all_taken = add_assoc 2 n n2 ∙ (λ i. 2 + (rows_taken i + rows_taken2 i))
 
   module _ (correlation : Float) (wanted : ℕ) (d : List ℕ) (rows rows2 to to2 : List Float) (sum sum2 white independent : Float)
       (ew : white ≡ bipolar_of (get_or d 0 0)) (eu : independent ≡ bipolar_of (get_or d 1 0))
       (es : rowed to sum ≡ rows_of d 2 (rowed rows r.sum) n) (es2 : rowed to2 sum2 ≡ rows_of d (2 + n) (rowed rows2 r.sum2) n2) where
     sampled : rows_of d 2 (rowed rows r.sum) (changed_of (next_index r.index)) ≡ rowed to sum
-    sampled = ap (rows_of d 2 (rowed rows r.sum)) (sym rows_of) ∙ sym es
+    sampled = ap (rows_of d 2 (rowed rows r.sum)) (sym rows_taken) ∙ sym es
 
     sampled2 : rows_of d (2 + changed_of (next_index r.index)) (rowed rows2 r.sum2) (changed_of (next_index r.index2)) ≡ rowed to2 sum2
-    sampled2 = sym (es2 ∙ (λ i. rows_of d (2 + rows_of i) (rowed rows2 r.sum2) (rows_of2 i)))
+    sampled2 = sym (es2 ∙ (λ i. rows_of d (2 + rows_taken i) (rowed rows2 r.sum2) (rows_taken2 i)))
 
     -- what is heard are the turn's outputs
     pub outputs : noise_generator_volts_of correlation white independent (div binary64 sum sixteen) (div binary64 sum2 sixteen) wanted

@@ -1,6 +1,8 @@
 // PinkNoiseState and NoiseGenerator of oscillators.rs: white and pink noise, and beside each a second one that is correlated with it.
 // The draws of its noise are lent to each tick. Its outputs: p10 white, p11 pink, p12 white2, p13 pink2.
 // A tick changes few rows, so inside the crate they are lent and changed in place: a block copies them once, not at each tick.
+#![tactic(auto)]
+
 ghost use Rattle.std.specs.Prelude.{◌≡◌, ℕ, ◌+◌, ◌*◌, ◌<◌, ◌≤◌, true, false, length, slice_index, slice_index_or, Float};
 ghost use Rattle.std.specs.Float.{nan};
 ghost use Rattle.laws.specs.Float.{InUnit};
