@@ -32,7 +32,7 @@ tap_at l pos len whole frac =
     let read2 = slice_index_or l ((pos + offset_two len whole) % len) nan in
     add binary64 (mul binary64 read (sub binary64 one frac)) (mul binary64 read2 frac)
 
--- stepOf with such a tuning
+-- step_of with such a tuning
 unfoldable pub turn_of : KarplusStrong → Tuning → List Float → Ticking
 turn_of s t l =
     let sample = tap_at l s.write_pos s.len t.delay t.fraction in

@@ -232,6 +232,7 @@ fn fill_part(part: &mut [f64], table: usize)
 }
 
 // One table into a part of a bank. Refusal 4: a part of another size, or no such table.
+#[tactic(auto, unfolding(crate::specs::Bank::fill_table_of))]
 pub fn fill_table(part: &mut [f64], table: usize) -> Outcome
     ensures { filled result part.new ≡ fill_table_of table part.old }
 {
