@@ -36,7 +36,7 @@ def snake(word):
 
 
 def respelled(name):
-    name = name.replace("getD", "get_or")  # as the library has it now
+    name = re.sub(r"(?<![A-Za-z])getD(?![a-z])", "get_or", name)  # as the library has it now
     if name[0].isupper():
         return "".join(part[:1].upper() + part[1:] for part in name.split("-"))
     return "_".join(snake(part) for part in name.split("-"))

@@ -1,0 +1,16 @@
+use Rattle.boundary.proofs.Flat.{sized, kept_done, kept_refused}
+use Rattle.exports_noise_generator.specs.Calls.{noise_generator_with_correlation_at}
+use borrow.Author.Rules.{rules}
+use Rattle.exports_noise_generator.proofs.gruttisol_noise_generator_with_correlation.Goals as goal
+
+pub store-requires : goal.store-requires
+store-requires c = sized _ _ _ _ _ c.sizes-n.ensures c.if-n-eq0.true
+
+pub returns-then-n-eq0 : goal.returns-then-n-eq0
+unfolding noise_generator_with_correlation_at
+returns-then-n-eq0 c = kept_done _ _ _ _ _ c.sizes-n.ensures c.if-n-eq0.true _ _
+    (simp (c.if-n-eq0.true, c.store.ensures.0, c.store.ensures.1, c.with_correlation.ensures))
+
+pub returns-else-n-eq0 : goal.returns-else-n-eq0
+unfolding noise_generator_with_correlation_at
+returns-else-n-eq0 c = kept_refused _ _ _ _ _ c.sizes-n.ensures c.if-n-eq0.false _
