@@ -5,6 +5,8 @@
 // is told by; of a refused call 5 to 7 as the scope has them, or 50, 51, 52, 53 where floats, wholes, samples or counts have
 // another length. A refused call writes nothing. A block answers 0, with the ticks' samples one after another, their marks by the
 // same numbers, and the tally's counts.
+#![tactic(auto)]
+
 ghost use Rattle.std.specs.Prelude.{◌≡◌, List, ℕ, ◌+◌, ◌≤◌, Float, length};
 ghost use Rattle.std.proofs.lemmas.List.Edits.{sets};
 ghost use Rattle.answer.specs.Block.{block};

@@ -1,6 +1,5 @@
 use mathlib.Core.Path.{refl}
 use Rattle.exports_noise_generator.specs.State.{counter_of}
-use borrow.Author.Rules.{rules}
 use Rattle.exports_noise_generator.proofs.counter.Goals as goal
 
 pub returns : goal.returns

@@ -1,5 +1,4 @@
 use mathlib.Core.Path.{◌∙◌}
-use borrow.Author.Rules.{rules}
 use Rattle.boundary.proofs.Flat.{block_sized, played_done, played_refused}
 use Rattle.exports_noise_generator.specs.Calls.{noise_generator_block_at}
 use Rattle.exports_noise_generator.proofs.gruttisol_noise_generator_block.Goals as goal

@@ -2,7 +2,6 @@ use borrow.Author.Tests.{eq-eqb, ne_eqb}
 use Rattle.noise_generator.specs.NoiseGenerator.{needed_of}
 use Rattle.exports_noise_generator.specs.Calls.{noise_generator_needed_at}
 use Rattle.exports_noise_generator.specs.State.{state_of}
-use borrow.Author.Rules.{rules}
 use Rattle.exports_noise_generator.proofs.gruttisol_noise_generator_needed.Goals as goal
 
 pub returns-then-wholes-eq-WHOLES : goal.returns-then-wholes-eq-WHOLES

@@ -1,6 +1,5 @@
 use Rattle.boundary.proofs.Flat.{sized, kept_done, kept_refused}
 use Rattle.exports_noise_generator.specs.Calls.{noise_generator_new_at}
-use borrow.Author.Rules.{rules}
 use Rattle.exports_noise_generator.proofs.gruttisol_noise_generator_new.Goals as goal
 
 pub store-requires : goal.store-requires

@@ -1,6 +1,5 @@
 use Rattle.boundary.proofs.Flat.{sized, kept_done, kept_refused}
 use Rattle.exports_noise_generator.specs.Calls.{noise_generator_reset_at}
-use borrow.Author.Rules.{rules}
 use Rattle.exports_noise_generator.proofs.gruttisol_noise_generator_reset.Goals as goal
 
 pub state-requires : goal.state-requires

@@ -1,7 +1,6 @@
 use mathlib.Core.Path.{◌∙◌}
 use Rattle.boundary.proofs.Flat.{tick_sized, heard_done, heard_refused}
 use Rattle.exports_noise_generator.specs.Calls.{noise_generator_tick_at}
-use borrow.Author.Rules.{rules}
 use Rattle.exports_noise_generator.proofs.gruttisol_noise_generator_tick.Goals as goal
 
 pub state-requires : goal.state-requires

@@ -1,10 +1,9 @@
-use mathlib.Core.Path.{◌≡◌, refl, ◌∙◌}
-use Prim.Native.Nat.{◌+◌, ◌≤◌, ◌-◌}
+use mathlib.Core.Path.{refl, ◌∙◌}
+use Prim.Native.Nat.{◌+◌}
 use native.Mathlib.Nat.{le_antisymm}
 use native.Mathlib.Omega.{arith}
 use lib.Ieee.{nan}
-use lib.ListN.{length, length-set, get_or, take}
-use lib.Seq.{sets}
+use lib.ListN.{length-set, get_or}
 use Rattle.exports_noise_generator.proofs.Slices.{rows_more, rows_done}
 use Rattle.exports_noise_generator.proofs.put_rows.Goals as goal
 
@@ -14,7 +13,7 @@ loop-i-init c = (omega arith, refl, refl)
 pub loop-i-preserved : goal.loop-i-preserved
 loop-i-preserved c = let l = c.loop-i in
     let a = c.args in
-    (omega arith, length-set l.floats (a.at + l.i) (get_or a.t1 l.i nan) ∙ l.invariant.1, rows_more _ _ _ _ _ (omega arith) l.invariant.2)
+    (omega arith, length-set l.floats (a.at + l.i) (get_or a.rows l.i nan) ∙ l.invariant.1, rows_more _ _ _ _ _ (omega arith) l.invariant.2)
 
 pub shape_of-floats : goal.shape_of-floats
 shape_of-floats c = c.loop-i.invariant.1

@@ -1,12 +1,8 @@
-use mathlib.Core.Path.{◌≡◌, refl}
+use mathlib.Core.Path.{◌≡◌}
 use Prim.Native.Nat.{◌+◌, ◌≤◌, ◌-◌}
-use native.Mathlib.Nat.{le_antisymm}
-use native.Mathlib.Omega.{arith}
 use lib.Ieee.{nan}
 use lib.ListN.{get_or}
-use Rattle.laws.proofs.Over.{over_none, over_more, over_done}
 use Rattle.laws.specs.Lists.{over}
-use Rattle.exports_noise_generator.specs.State.{rows_at}
 use Rattle.exports_noise_generator.proofs.rows_at.Given as goal
 
 abbrev pub invariant-loop-i : goal.invariant-loop-i

@@ -1,5 +1,4 @@
 use Rattle.exports_noise_generator.specs.State.{state_of}
-use borrow.Author.Rules.{rules}
 use Rattle.exports_noise_generator.proofs.state.Goals as goal
 
 pub returns : goal.returns
