@@ -68,7 +68,7 @@ def entries(text, at):
             start = i + 1
 
 
-TACTICS = "simp|rw|rw⁻¹|grw|search|cc|omega"
+TACTICS = "simp|rw|rw⁻¹|grw|search|cc|omega|grind"
 
 
 def listed(text, m):
@@ -83,7 +83,11 @@ def listed(text, m):
 
 
 def opened(text):
-    """The names that a proof looks into, as (place, name): of `unfolding`, `unfold .. in`, heads in the lists of tactics and sets of them."""
+    """The names that a proof looks into, as (place, name): of `unfolding`, `unfold .. in`, heads in the lists of tactics and sets of them, and
+    what a function of Rust's has its tactics use or unfold."""
+    for m in re.finditer(r"\b(?:using|unfolding)\s*(?=\()", text):
+        for name in re.split(r"[\s,]+", text[m.end() + 1 : past(text, m.end()) - 1].replace("::", ".")):
+            yield m.start(), name
     for m in re.finditer(rf"(?<!{APART})unfolding(?!{APART})", text):
         for name in listed(text, m):
             yield m.start(), name
@@ -101,7 +105,7 @@ def below(files):
     """Modules of numeric's proofs that look into sine, cosine or powers."""
     for path, _, text in of_crates(files, ["proofs"], ".antt"):
         if path.startswith("crates/numeric/") and re.search(r"\.specs\.(?:Trig|Power)\b", text):
-            yield path.split("/")[-1].removesuffix(".antt")
+            yield path.split("/proofs/")[1].removesuffix(".antt").replace("/", r"\.")
 
 
 def last(name):
@@ -110,9 +114,9 @@ def last(name):
 
 def only_promises(files):
     """No crate but numeric looks into sine, cosine and powers, or names what is below them or a law of them that is no promise."""
-    promises = {name.lower() for name in re.findall(r"^abbrev pub ([A-Z]\S*) :", files[PROMISES], re.M)}
-    outer = r"Rattle·numeric\S*?\.specs\.(?:Trig|Power)\b(?:\.\{([^}]*)\}|\.(\w+))?"
-    inner = rf"Rattle·numeric\S*?\.proofs\.(?:{'|'.join(below(files))})\b(?:\.\{{([^}}]*)\}}|\.([\w-]+))?"
+    promises = {statements.proof_of(name) for name in re.findall(r"^abbrev pub ([A-Z]\S*) :", files[PROMISES], re.M)}
+    outer = r"Rattle\.numeric\.specs\.(?:Trig|Power)\b(?:\.\{([^}]*)\}|\.(\w+))?"
+    inner = rf"Rattle\.numeric\.proofs\.(?:{'|'.join(below(files))})\b(?:\.\{{([^}}]*)\}}|\.(\w+))?"
     defined = {name for path in OWNERS for name in re.findall(r"^unfoldable pub (\S+)", files[path], re.M)}
     if not PROMISED < defined:
         yield f"{OWNERS}: without {PROMISED - defined}"
@@ -131,7 +135,7 @@ def only_promises(files):
                 if re.match("unfoldable|abbrev", part) and PROMISED & {last(named) for _, named in opened(part)}:
                     yield f"{path}: whoever unfolds {name} looks into sine or powers"
             continue
-        for m in re.finditer(r"Rattle·numeric(?!(?:·specs|·proofs)?\.(?:specs|proofs)\.\w)", text):
+        for m in re.finditer(r"Rattle\.numeric\b(?!\.(?:specs|proofs)\.\w)", text):
             yield f"{at_line(m.start())}: names numeric, or all of its specs/ or proofs/, and not a module of it"
         for pattern, allowed in [(outer, PROMISED), (inner, promises)]:
             for m in re.finditer(pattern, text):
@@ -185,8 +189,8 @@ def repeated(files):
 
 
 def proves(text, module, name, proof):
-    """Whether a proof file has a proof of a module's statement."""
-    return brings(text, module, name) and re.search(rf"^pub {re.escape(proof)} : {re.escape(name)} *$", text, re.M)
+    """Whether a proof file has a proof of a module's statement, `_lem` after its name where something else is called so."""
+    return brings(text, module, name) and re.search(rf"^pub {re.escape(proof)}(?:_lem)? : {re.escape(name)} *$", text, re.M)
 
 
 def proved(files):
@@ -200,7 +204,7 @@ def proved(files):
         yield f"{path}: no statement names {name}"
     for path, name, proof in statements.stated(files):
         crate, module = path.split("/")[1], path.split("/")[3].removesuffix(".antt")
-        if not any(proves(text, f"Rattle·{crate}·specs.specs.{module}", name, proof) for text in modules.get(crate, [])):
+        if not any(proves(text, f"Rattle.{crate}.specs.{module}", name, proof) for text in modules.get(crate, [])):
             yield f"{path}: proofs/ has no `pub {proof} : {name}`"
 
 
@@ -362,8 +366,6 @@ def controls_asked(files):
                 yield f"{source}: no {stated} in specs"
 
 
-# every edit of these is tried from nothing; of any other crate one is
-LIGHT = {"laws", "values", "examples"}
 # no edit of these changes definition and code together
 WITHOUT_BOTH = {
     "laws": "it has no code",
@@ -374,9 +376,15 @@ WITHOUT_BOTH = {
 
 
 def edits_stand(files):
-    """Each crate has three to sixteen edits, in must-fail/ all of a light crate and one of another, and what an edit takes out stands once."""
+    """Each crate has three to sixteen edits, right in must-fail/, where rt tries them, and what an edit takes out stands once."""
     found = {path.split("/")[1]: [] for path in files if re.match("crates/[^/]+/(src|specs)/", path)}
-    for path, crate, text in of_crates(files, {"must-fail", "wrong"}, ".edit"):
+    for path, text in files.items():
+        if not path.endswith(".edit"):
+            continue
+        if not re.fullmatch(r"crates/\w+/must-fail/[\w.-]+", path):
+            yield f"{path}: nothing tries it"
+            continue
+        crate = path.split("/")[1]
         found.setdefault(crate, []).append(path)
         try:
             edits.applied(text, lambda file: files.get(f"crates/{crate}/{file}", ""))
@@ -384,30 +392,28 @@ def edits_stand(files):
             yield f"{path}: {wrong}"
     for crate, paths in found.items():
         if not 3 <= len(paths) <= 16:
-            yield f"crates/{crate}/must-fail/: {len(paths)} edits, with those of wrong/"
+            yield f"crates/{crate}/must-fail/: {len(paths)} edits"
         if crate not in WITHOUT_BOTH and not any(edits.both(files[path]) for path in paths):
             yield f"crates/{crate}/must-fail/: no edit changes definition and code together"
-        inside = sum("/must-fail/" in path for path in paths)
-        if inside != (len(paths) if crate in LIGHT else 1):
-            yield f"crates/{crate}/must-fail/: {inside} edits of {len(paths)}"
 
 
-STATED = {"crates/x/specs/Promises.antt": "abbrev pub Kept : Type 0\nKept = Type 0\n\npub record Settled : Type 0 where\n"}
-# what the prover says where a law fails, a promise that rests on it and a function that cites it
-REFUSAL = f"""/x/crates/x/proofs/Laws.antt:3:5: error: `small`: the two types differ
-/x/crates/x/proofs/Promises.antt:9:5: error: `kept`: `small` {edits.FOLLOWS}
-/x/crates/x/proofs/X/f/Proof.antt:5:5: error: `returns`: `small` {edits.FOLLOWS}
-fn x::X::f: not proved
-fn x::g: not proved; it calls `x::X::f`, which is not proved
-logic=not-proved modules=3
-"""
+# a crate with a promise, a lemma that it rests on and one that it doesn't, and an edit of definition and code
+JUDGED = {
+    "crates/x/specs/Promises.antt": "abbrev pub KeptWhole : Type 0\nKeptWhole = Type 0\n\npub record Settled : Type 0 where\n",
+    "crates/x/proofs/Laws.antt": "-- two\nsmall : A\nsmall = refl\n\nlarge : A\nlarge = refl\n",
+    "crates/x/proofs/Promises.antt": "use Rattle.x.proofs.Laws.{small as tiny}\nuse Rattle.x.proofs.Laws as laws\n\npub kept_whole : KeptWhole\n"
+    "kept_whole = inner\n\ninner : B\ninner = tiny\n\npub settled : Settled\nsettled = laws.large\n",
+    "crates/x/must-fail/both.edit": "file: specs/Promises.antt\nold: a\nnew: b\nfile: src/lib.rt\nold: a\nnew: b\n",
+}
+# what rt says where a lemma fails
+REFUSAL = "rt: must-fail x/both.edit: refused, as it must be: ./proofs/Laws.antt:3:9: error: `small`: the two types differ\n"
 
 
 def refusals_judged(files):
-    """A refusal of an edit of definition and code counts where a fact and a promise fail, and no function's own proof."""
-    wrong = edits.judge(files.get(".ci/refusal", REFUSAL), edits.promised(STATED))
-    if wrong:
-        yield f".ci/refusal: {wrong}"
+    """A refusal of an edit counts where a fact fails, and of an edit of definition and code where a promise rests on that."""
+    for path, wrong in edits.judged(files.get(".ci/refusal", REFUSAL), {**JUDGED, **{path: files[path] for path in JUDGED if path in files}}):
+        if wrong:
+            yield f".ci/refusal: {path}: {wrong}"
 
 
 # ---- the count of the host's tests
@@ -456,7 +462,7 @@ def skips_fail(files):
 
 # ---- the checks, each with examples that it must refuse
 
-SETTLES = "use Rattle·laws.specs.Machine.{Settles}\n"
+SETTLES = "use Rattle.laws.specs.Machine.{Settles}\n"
 
 
 def settling(contract, equation, binders, brought=SETTLES):
@@ -476,7 +482,7 @@ def header(old, new):
     return changed(boundary.HEADER, old, new)
 
 
-KEPT = "use Rattle·x·specs.specs.Promises.{Kept}\n"
+KEPT = "use Rattle.x.specs.Promises.{Kept}\n"
 
 
 def keeping(proof, listed="pub mod A\n"):
@@ -493,22 +499,24 @@ CHECKS = {
         {"crates/x/proofs/A.antt": "a : A\nunfolding lt sin_of\na = refl\n"},
         {"crates/x/proofs/A.antt": "a = ap f (unfold lt\n    trig.cos_of in refl)\n"},
         {"crates/x/proofs/A.antt": "a c = simp (c .if1 (b, d), ← exp2_of, e)\n"},
-        {"crates/x/proofs/A.antt": "use Rattle·numeric.specs.Trig.{sin_of, kernel_sin}\n"},
-        {"crates/x/specs/A.antt": "use Rattle·numeric.specs.Power as power\n"},
-        {"crates/x/proofs/A.antt": "use Rattle·numeric.proofs.TrigLaws.{sin-inside, kernel-inside}\n"},
-        {"crates/x/proofs/A.antt": "use Rattle·numeric.proofs.PowerLaws as laws\n"},
+        {"crates/x/proofs/A.antt": "use Rattle.numeric.specs.Trig.{sin_of, kernel_sin}\n"},
+        {"crates/x/specs/A.antt": "use Rattle.numeric.specs.Power as power\n"},
+        {"crates/x/proofs/A.antt": "use Rattle.numeric.proofs.TrigLaws.{sin_inside, kernel_inside}\n"},
+        {"crates/x/proofs/A.antt": "use Rattle.numeric.proofs.PowerLaws as laws\n"},
         {"crates/x/proofs/A.antt": "a : A\nunfolding lt\n    sin_of\na = refl\n"},
-        {"crates/x/proofs/A.antt": "a : A\nunfolding «sinOf»\na = refl\n"},
+        {"crates/x/proofs/A.antt": "a : A\nunfolding «sin_of»\na = refl\n"},
         {"crates/x/proofs/A.antt": "a : A\n{- -- -} unfolding sin_of\na = refl\n"},
         {"crates/x/proofs/A.antt": "ruleset waves = (b, sin_of)\n"},
-        {"crates/x/proofs/A.antt": "use Rattle·numeric.specs.Trig.{sin_of as wave}\n"},
-        {"crates/x/proofs/A.antt": "use Rattle·y.specs.Waves.{sin_of as wave}\n"},
-        {"crates/x/specs/A.antt": "unfoldable pub use Rattle·numeric.specs.Trig.{sin_of}\n"},
-        {"crates/x/proofs/A.antt": "use Rattle·numeric.specs as below\n"},
-        {"crates/x/proofs/A.antt": "use Rattle·numeric as below\n"},
-        {"crates/x/proofs/A.antt": "use Rattle·numeric.specs.{Trig.kernel_sin}\n"},
+        {"crates/x/proofs/A.antt": "a = grind (arith, sin_of)\n"},
+        {"crates/x/src/lib.rt": "#[tactic(auto, unfolding(numeric::specs::Trig::sin_of))]\nfn f() {}\n"},
+        {"crates/x/proofs/A.antt": "use Rattle.numeric.specs.Trig.{sin_of as wave}\n"},
+        {"crates/x/proofs/A.antt": "use Rattle.y.specs.Waves.{sin_of as wave}\n"},
+        {"crates/x/specs/A.antt": "unfoldable pub use Rattle.numeric.specs.Trig.{sin_of}\n"},
+        {"crates/x/proofs/A.antt": "use Rattle.numeric.specs as below\n"},
+        {"crates/x/proofs/A.antt": "use Rattle.numeric as below\n"},
+        {"crates/x/proofs/A.antt": "use Rattle.numeric.specs.{Trig.kernel_sin}\n"},
         {"crates/numeric/specs/Key.antt": "unfoldable pub key : Type 0\nunfolding sin_of\nkey = Type 0\n"},
-        {"crates/numeric/specs/Key.antt": "unfoldable pub use Rattle·numeric·specs.specs.Trig.{kernel_sin}\n"},
+        {"crates/numeric/specs/Key.antt": "unfoldable pub use Rattle.numeric.specs.Trig.{kernel_sin}\n"},
     ],
     settled: [
         {"crates/x/src/lib.rt": "pub fn f(x: [u8; 2]) -> [u8; 2] // ensures { x }\n{\n    x\n}\n"},
@@ -532,7 +540,7 @@ CHECKS = {
         settling("r ≡ sin_of x", "a ≡ sin_of b", "(b : Float) (no : ⊥) → "),
         settling("r ≡ wrap_of (x .0)", "a ≡ wrap_of (b .0)", "(b : Float × ⊥) → "),
         settling("r ≡ sin_of x", "a ≡ sin_of b", "(b : Float) → ", ""),
-        settling("r ≡ sin_of x", "a ≡ sin_of b", "(b : Float) → ", "use Rattle·x·specs.specs.Weak.{Settles}\n"),
+        settling("r ≡ sin_of x", "a ≡ sin_of b", "(b : Float) → ", "use Rattle.x.specs.Weak.{Settles}\n"),
         settling("r ≡ sin_of x", "a ≡ sin_of b", "(b : Float) → ", f"{SETTLES}abbrev pub Settles : (Float → Type 0) → Type 0\n"),
         {"crates/x/specs/Weak.antt": "abbrev pub Settles : (Float → Type 0) → Type 0\nSettles P = ⊤\n"},
     ],
@@ -546,7 +554,7 @@ CHECKS = {
         keeping(f"{KEPT}\n{{-\npub kept : Kept\n-}}\n"),
         keeping(f"{KEPT}\npub kept : Kept\n", "-- pub mod A\n"),
         keeping(f"{KEPT}\nabbrev Kept : Type 0\npub kept : Kept\n"),
-        keeping("use Rattle·x·specs.specs.Promises.{Kept as Other}\nuse lib.Any.{Any as Kept}\npub kept : Kept\n"),
+        keeping("use Rattle.x.specs.Promises.{Kept as Other}\nuse lib.Any.{Any as Kept}\npub kept : Kept\n"),
         keeping(f"{KEPT}use lib.Any.{{Any as Kept}}\npub kept : Kept\n"),
         {"crates/x/specs/Promises.antt": "pub record Keeping (n : ℕ) : Type 0 where\n"},
     ],
@@ -627,27 +635,30 @@ CHECKS = {
     ],
     refusals_judged: [
         {".ci/refusal": ""},
-        {".ci/refusal": "logic=proved modules=3\n"},  # a comment was edited
-        {".ci/refusal": "logic=not-proved modules=3\n"},
-        {".ci/refusal": REFUSAL.replace("the two types differ", "`smal` is not in scope")},
-        {".ci/refusal": REFUSAL.replace("the two types differ", "`X` has no field `y`")},
-        {".ci/refusal": REFUSAL.replace("the two types differ", f"`less` {edits.FOLLOWS}")},
+        {".ci/refusal": REFUSAL.replace("refused, as it must be", "NOT REFUSED")},
+        {".ci/refusal": REFUSAL.replace("refused, as it must be: ./", "BAD EDIT: ")},
+        {".ci/refusal": REFUSAL.replace("must be", "must be (only by a limit of the prover)")},
+        {".ci/refusal": REFUSAL.replace("must be", "must be (only because a proof file names what the edit took away)")},
+        {".ci/refusal": REFUSAL.split(": ./")[0] + "\n"},
         {".ci/refusal": REFUSAL.replace("proofs/Laws.antt", "specs/Laws.antt")},
-        {".ci/refusal": REFUSAL.replace("proofs/Laws.antt", "proofs/X/f/Proof.antt")},
-        {".ci/refusal": REFUSAL.replace("`kept`", "`large`")},
-        {".ci/refusal": REFUSAL.replace("`kept`", "`settled`")},
-        {".ci/refusal": REFUSAL.replace("fn x::g: not proved;", "fn x::h: not proved\nfn x::g: not proved;")},
+        {".ci/refusal": REFUSAL.replace("proofs/Laws.antt", "proofs/f/Answers.antt")},
+        {".ci/refusal": REFUSAL.replace("./proofs/Laws.antt:3:9: error: `small`:", "note: src/lib.rt:3:9: it is not proved that")},
+        {".ci/refusal": REFUSAL.replace("Laws.antt:3", "Laws.antt:6")},  # settled alone rests on it
+        {".ci/refusal": REFUSAL.replace("Laws.antt:3", "Laws.antt:1")},
+        {".ci/refusal": REFUSAL, "crates/x/proofs/Promises.antt": JUDGED["crates/x/proofs/Promises.antt"].replace("inner = tiny", "inner = refl")},
+        {".ci/refusal": REFUSAL, "crates/x/proofs/Promises.antt": JUDGED["crates/x/proofs/Promises.antt"].replace("proofs.Laws.{", "proofs.Low.{")},
     ],
     edits_stand: [
         {"crates/laws/must-fail/x.edit": "file: specs/Lists.antt\nold: pub\nnew: y\n"},
         {"crates/laws/must-fail/x.edit": "file: specs/Lists.antt\nold: no such text\nnew: y\n"},
-        {"crates/x/src/lib.rt": "y\n", "crates/x/wrong/y.edit": "file: src/lib.rt\nold: y\nnew: z\nold: z\nnew: v\nold: y\nnew: w\n"},
+        {"crates/x/must-fail/y.edit": "file: src/lib.rt\nold: y\nnew: z\nold: z\nnew: v\nold: y\nnew: w\n", "crates/x/src/lib.rt": "y\n"},
         {"crates/lfo/must-fail/": "", "crates/lfo/must-fail/y.edit": "file: crates.txt\nold: y\nnew: z\n"},
-        {"crates/laws/must-fail/": "", "crates/laws/wrong/y.edit": "file: crates.txt\nold: y\nnew: z\n"},
+        {"crates/laws/wrong/y.edit": "file: specs/Lists.antt\nold: y\nnew: z\n"},
+        {"crates/laws/must-fail/more/y.edit": "file: specs/Lists.antt\nold: y\nnew: z\n"},
         {
             "crates/x/must-fail/": "",
             "crates/x/src/lib.rt": "y\n",
-            **{f"crates/x/{part}.edit": "file: src/lib.rt\nold: y\nnew: z\n" for part in ("must-fail/a", "wrong/b", "wrong/c")},
+            **{f"crates/x/must-fail/{name}.edit": "file: src/lib.rt\nold: y\nnew: z\n" for name in "abc"},
         },
         {"crates/x/must-fail/": "", "crates/x/must-fail/y.edit": "file: src/lib.rt\nold: y\nnew: z\n", "crates/x/src/lib.rt": "y\n"},
     ],

@@ -4,7 +4,7 @@ A contract is read as equations. Its left sides are what the call leaves, each o
 that was lent to be written, alone or gathered by a definition that makes a record of its arguments. Its right sides are definitions
 of specs/ (or of the kit, KIT) over what the call was given. The field's equations, over its own variables, must have the contract's right
 sides as an instance: what stands under `Settles` is then the contract's own text, and not something weaker. For that a lent slice is
-called by its name (`now (x .entry)` is `x`), an escaped name is the bare one, and a name is written without its module.
+called by its name (`x.now` and `x.old` are `x`), an escaped name is the bare one, and a name is written without its module.
 
 A field's variables are of types that are a name or a list. One that its equations don't use would make the field say nothing if
 its type had no members: it has the type of one of the function's inputs. `Settles` is that of the crate laws.
@@ -13,25 +13,40 @@ import re
 
 from texts import APART, blanked, brings, declares, line, past
 
-KIT = {"toBits", "of_bits", "set", "sets", "min"}
-MACHINE = "Rattle·laws.specs.Machine"  # where Settles is
+KIT = {"to_bits", "of_bits", "set", "sets", "min"}
+MACHINE = "Rattle.laws.specs.Machine"  # where Settles is
+ANSWER = "result"  # as clauses call what a call answers
 NAME = f"{APART}+"
-TOKEN = re.compile(rf"[(){{}};,@]|«[^»]*»|\.(?:{NAME}|«[^»]*»)|(?:{NAME}\.)*{NAME}|\.|\S")
+TOKEN = re.compile(rf"[(){{}};,@]|\.?(?:(?:{NAME}|«[^»]*»)\.)*(?:{NAME}|«[^»]*»)|\.|\S")
 
 
-def tree(text):
-    """A term as nested lists of names; brackets around one thing are none."""
-    stack = [[]]
-    for token in TOKEN.findall(text):
-        if token in "({":
+def tree(text, modules=()):
+    """A term as nested lists of names; brackets around one thing are none, and what is projected stands in one with its fields, `(f x).a` as
+    f, x, .a. A path begins with a capital or a name that the file gives a module: of it the last name counts."""
+    stack, end = [[]], 0
+    for m in TOKEN.finditer(text):
+        tight, end = m.start() == end, m.end()
+        bare = m[0].replace("«", "").replace("»", "")
+        if bare in "({":
             stack.append([])
-        elif token in ")}" and len(stack) > 1:
+        elif bare in ")}" and len(stack) > 1:
             inner = stack.pop()
             stack[-1].append(inner[0] if len(inner) == 1 else inner)
+        elif bare == "." or not bare.startswith("."):
+            first, *rest = bare.split(".") if bare != "." else bare
+            path = first[:1].isupper() or first in modules
+            stack[-1].append(bare.split(".")[-1] if path or not rest else [first, *(f".{field}" for field in rest)])
+        elif tight and stack[-1]:
+            fields = [f".{field}" for field in bare[1:].split(".")]
+            stack[-1][-1] = [*(stack[-1][-1] if isinstance(stack[-1][-1], list) else [stack[-1][-1]]), *fields]
         else:
-            bare = token.replace("«", "").replace("»", "")
-            stack[-1].append(bare if bare.startswith(".") else bare.split(".")[-1])
+            stack[-1].append(bare)
     return stack[0]
+
+
+def named_modules(text):
+    """The names that a file gives modules."""
+    return set(re.findall(rf"^\s*(?:ghost use|(?:unfoldable )?(?:pub )?use)\s+[^\s;{{}}]+\s+as\s+({NAME})", text, re.M))
 
 
 def whole(term):
@@ -55,34 +70,26 @@ def leaves(term):
 
 def replaced(term, given):
     """The term with names replaced."""
-    return given.get(term, term) if isinstance(term, str) else whole([replaced(item, given) for item in term])
+    if isinstance(term, str):
+        return given.get(term, term)
+    first, *rest = [replaced(item, given) for item in term] or [[]]
+    projected = rest and isinstance(first, list) and all(isinstance(item, str) and item.startswith(".") for item in rest)
+    return whole([*first, *rest] if projected else [first, *rest])
 
 
-def called(term, answer):
-    """A contract's term with a lent slice by its name, `x'` for what it holds after the call, and a slice that is the answer likewise."""
+def called(term):
+    """A contract's term with a lent slice by its name, and `x'` for what it holds after the call."""
     if isinstance(term, str):
         return term
     found = []
-    for item in term:
-        item = called(item, answer)
-        if found and found[-1] == "now" and isinstance(item, list) and item[1:] == [".entry"]:
-            found[-1] = item[0]
-        elif found and found[-1] == "now" and isinstance(item, list) and item[1:] == [".exit"]:
-            found[-1] = item[0] + "'"
-        elif found and found[-1] == "now" and item == answer:
-            found[-1] = item
+    for item in map(called, term):
+        if item in (".old", ".now") and found:
+            continue
+        if item == ".new" and found and isinstance(found[-1], str):
+            found[-1] += "'"
         else:
             found.append(item)
-    if found[0] == "self" and found[1:2] == [".entry"] and len(found) != 2:
-        del found[1]
     return whole(found)
-
-
-def without_entry(term):
-    """A value that is no slice, by its name."""
-    if isinstance(term, str):
-        return term
-    return whole([without_entry(item) for item in term if item != ".entry"])
 
 
 def equations(term):
@@ -101,25 +108,21 @@ def functions(text):
             inputs[0].append(re.findall(r"^impl(?:<[^>]*>)?\s+(\w+)", text[: m.start()], re.M)[-1])
         answer = re.compile(r"\s*->\s*([^{]*?)\s*(?=\b(?:ensures|requires)\b|\{)").match(text, end)
         at, clauses = answer.end() if answer else end, []
-        while clause := re.compile(r"\s*(ensures|requires)\s*(?=\{)").match(text, at):
+        while clause := re.compile(r"\s*(ensures|requires)(\*?)(?:\s+\w+)?\s*(?=\{)").match(text, at):
             at = past(text, clause.end())
-            clauses.append((clause[1], text[clause.end() + 1 : at - 1]))
+            clauses.append((clause[1], clause[2] + text[clause.end() + 1 : at - 1]))
         yield m.start(), m[1], inputs, answer[1] if answer else None, clauses
 
 
-def contract(clauses):
-    """The name of the answer and the contract's equations, or None."""
-    found, name = [], None
+def contract(clauses, modules=()):
+    """The contract's equations, or None."""
+    found = []
     for _, said in clauses:
-        head = re.fullmatch(r"\s*λ (\S+)\. ⌜ (.*) ⌝\s*", said, re.S)
-        if not head or name not in (None, head[1]) and head[1] != "_":
-            return None
-        name = head[1] if head[1] != "_" or name is None else name
-        sides = equations(tree(head[2]))
+        sides = equations(tree(said, modules))
         if sides is None:
             return None
-        found += [tuple(without_entry(called(side, name)) for side in pair) for pair in sides]
-    return (name, found) if found else None
+        found += [tuple(map(called, pair)) for pair in sides]
+    return found or None
 
 
 def definitions(files):
@@ -127,11 +130,11 @@ def definitions(files):
     found = {}
     for path, text in files.items():
         if re.match(r"crates/\w+/specs/", path):
-            text = blanked(path, text)
+            text, modules = blanked(path, text), named_modules(text)
             for m in re.finditer(rf"^(?:unfoldable |abbrev )+pub ({NAME}|«[^»]*») :", text, re.M):
                 name = m[1].strip("«»")
                 clauses = re.findall(rf"^{re.escape(m[1])}((?: {NAME})*) =((?:.*\n)(?:[ \t].*\n)*)", text, re.M)
-                found[name] = (clauses[0][0].split(), tree(clauses[0][1])) if len(clauses) == 1 else None
+                found[name] = (clauses[0][0].split(), tree(clauses[0][1], modules)) if len(clauses) == 1 else None
     return found
 
 
@@ -146,15 +149,15 @@ def gathers(defined, name):
     return sorted(str(part[-1]) for part in fields) == sorted(arguments) and all(len(part) == 3 and part[1] == "=" for part in fields)
 
 
-def gathered(defined, term, answer):
-    """What a left side gathers, as names: the answer, `r .field`, `x'`; None where it does something else to them."""
+def gathered(defined, term):
+    """What a left side gathers, as names: the answer, a field of it, `x'`; None where it does something else to them."""
     if isinstance(term, str):
         return [term]
-    if term[0] == answer and len(term) == 2 and term[1].startswith("."):
-        return [" ".join(term)]
-    if not gathers(defined, term[0]):
+    if term[0] == ANSWER and len(term) == 2 and term[1].startswith("."):
+        return ["".join(term)]
+    if not isinstance(term[0], str) or not gathers(defined, term[0]):
         return None
-    parts = [gathered(defined, part, answer) for part in term[1:]]
+    parts = [gathered(defined, part) for part in term[1:]]
     return None if None in parts else sum(parts, [])
 
 
@@ -185,11 +188,11 @@ def bound_by(groups):
 
 def fields(text, defined):
     """The fields of the record Settled, as (name, variables, equations or None)."""
-    text = blanked(".antt", text)
+    text, modules = blanked(".antt", text), named_modules(text)
     own = brings(text, MACHINE, "Settles")
     for record in re.findall(r"^pub record Settled : Type 0 where\n((?:  .*\n|\s*\n)+)", text, re.M):
         for m in re.finditer(r"^  pub (\S+) :((?:.*\n)(?:    .*\n)*)", record, re.M):
-            *binders, body = parted(tree(m[2]), "→")
+            *binders, body = parted(tree(m[2], modules), "→")
             groups = [group for binder in binders for group in (binder if isinstance(binder[0], list) else [binder])]
             variables, free = bound_by(groups)
             body = opened(defined, body)
@@ -219,27 +222,25 @@ def repeats(variables, sides, rights, inputs):
     return all(variables[name] in types for name in variables.keys() - given.keys())
 
 
-def wrong_contract(defined, structs, inputs, kind, clauses):
+def wrong_contract(defined, structs, inputs, kind, sides):
     """What is wrong with a contract itself, or ''."""
-    found = contract([clause for clause in clauses if clause[0] == "ensures"])
-    if not found:
+    if not sides:
         return "its contract is no equations"
-    name, sides = found
-    left = [gathered(defined, side, name) for side, _ in sides]
+    left = [gathered(defined, side) for side, _ in sides]
     if None in left:
         return "a left side of its contract is more than what the call leaves"
     written = {given[0] + "'" for given in inputs if len(given) > 1 and given[1].startswith("&mut")}
-    whole_answer = {name} if kind else set()
-    by_fields = {f"{name} .{field}" for field in structs.get(kind, [])}
+    whole_answer = {ANSWER} if kind else set()
+    by_fields = {f"{ANSWER}.{field}" for field in structs.get(kind, [])}
     leaves_there = sum(left, [])
     if len(leaves_there) != len(set(leaves_there)) or set(leaves_there) - written not in ([whole_answer, by_fields] if by_fields else [whole_answer]) \
             or not written <= set(leaves_there):
         return f"its contract speaks of {leaves_there}, and the call leaves {sorted(whole_answer | written)}"
     for _, right in sides:
         head = right if isinstance(right, str) else right[0]
-        if name in leaves(right) or written & leaves(right):
+        if ANSWER in leaves(right) or written & leaves(right):
             return "a right side of its contract names what the call leaves"
-        if head not in defined and head not in KIT:
+        if not isinstance(head, str) or head not in defined and head not in KIT:
             return f"a right side of its contract is no definition: {head}"
     return ""
 
@@ -256,15 +257,16 @@ def differences(files):
     for path, text in files.items():
         if not re.match(r"crates/\w+/src/.*\.rt$", path):
             continue
-        crate = path.split("/")[1]
+        crate, modules = path.split("/")[1], named_modules(text)
         sources = "".join(other for there, other in files.items() if there.startswith(f"crates/{crate}/src/"))
         structs = {m[1]: re.findall(r"pub (\w+):", m[2]) for m in re.finditer(r"struct (\w+)[^{;(]*\{([^}]*)\}", sources)}
         for at, name, inputs, kind, clauses in functions(text):
             place = f"{path}:{line(text, at)}: {name}"
-            wrong = wrong_contract(defined, structs, inputs, kind, clauses)
+            sides = contract([clause for clause in clauses if clause[0] == "ensures"], modules)
+            wrong = wrong_contract(defined, structs, inputs, kind, sides)
             if wrong:
                 yield f"{place}: {wrong}"
                 continue
-            rights = [right for _, right in contract([clause for clause in clauses if clause[0] == "ensures"])[1]]
+            rights = [right for _, right in sides]
             if not any(named_after(field, name) and repeats(variables, sides, rights, inputs) for field, variables, sides in settled.get(crate, [])):
                 yield f"{place}: no field of Settled has its contract's text under Settles"

@@ -1,40 +1,25 @@
 #!/usr/bin/env python3
-"""Tries edits that the prover must refuse, over what `rt ci` has just proved, and judges every refusal.
+"""Judges what `rt ci` says of each edit that the prover must refuse.
 
-    edits.py [CRATE..]    the edits crates/NAME/wrong/*.edit of these crates, or of all
+    edits.py LOG    LOG: what `rt ci` or `rt must-fail` printed
 
-An edit has rt's form (file:, old:, new:). rt itself tries those of must-fail/, each with its whole crate from nothing. Those of
-wrong/ are tried here, each in a repository of its own made of links, by `rt dev`, which takes what the edit leaves unchanged from an
-incremental folder: a copy of the modules in target/rlib/NAME.rlib, which `rt ci` wrote once it had proved them; of a program, what
-a first `rt dev` checks. The crate unchanged must be proved over that folder.
+rt tries each edit of crates/NAME/must-fail and prints one line about it, with the first thing that failed. It calls an edit bad whose
+text doesn't stand once or can't be read, where a name is unknown or a contract no longer well formed, and says where only a name is
+missing in a proof file, or only a limit was met. Neither is a refusal here, and nor is a definition of specs/ that is no longer well formed or a
+line that names nothing: refused is an edit after which a fact of proofs/ or of the code no longer holds.
 
-Refused is an edit after which a fact no longer holds. An unknown name, a text that isn't read, a definition or contract that is no
-longer well formed and a proof file that no longer fits its function are none (`judge`). rt's own refusals are judged by the logs that it
-left in target/must-fail. Of an edit that changes definition and code together a promise must fail, which Settled isn't, as any definition
-fulfils it, and no fact of a function's own proof may: a function that cites a law that fails, or calls such a one, is then not
-proved either, and may be. Where a function isn't proved though its proof cites nothing that fails, the edit is no refusal.
-
-What the script says is tried first: of a comment that was edited it must say that the crate is still proved, of a name that isn't
-there that this is no refusal. The last line is 'N passed, M failed'.
+Of an edit that changes definition and code together a promise must fail, which Settled isn't, as any definition fulfils it: what fails first must be a
+lemma, and no function's own proof, and one that the proof of a promise rests on by the names that it cites. The last line is 'N passed, M failed'.
 """
-import concurrent.futures
-import os
 import pathlib
 import re
-import shutil
-import subprocess
 import sys
-import time
 
 sys.dont_write_bytecode = True  # no folder of compiled files beside this one
 import statements
+from texts import APART, blanked, line
 
 ROOT = pathlib.Path(__file__).resolve().parent.parent
-TARGET = ROOT / "target"
-LOGS = TARGET / "edits"
-ROOMS = LOGS / "rooms"
-JOBS = int(os.environ.get("RT_JOBS") or min(os.cpu_count() or 1, 4))
-TRIED = "text"  # the crate that the script itself is tried on: a light one
 
 
 # ---- edits
@@ -68,205 +53,92 @@ def both(edit):
     return {"specs", "src"} <= folders
 
 
-# ---- what the prover said
+# ---- what the promises of a crate rest on
 
-ERROR = re.compile(r"^\S*?/(?:crates/\w+|must-fail/\w+/[\w-]+)/((?:src|specs|proofs)/\S+?):\d+:\d+: error(?:\[[\w-]+\])?: (.*)$", re.M)
-FOLLOWS = "was not admitted (it has holes or undetermined implicits, or was rejected), so this cannot be checked"
-STILL = "the crate is still proved"
-UNFIT = re.compile(r"is not in scope|that can be named from here|has no field")
+DECLARED = re.compile(rf"^(?:(?:unfoldable|abbrev|pub|opaque|record|data) )*({APART}+) :(?=\s)", re.M)
+BROUGHT = re.compile(r"^(?:pub )?use Rattle\.(\w+)\.proofs\.(\w+)(?:\.\{([^}]*)\}| as (\S+))", re.M)
 
 
-def errors(log):
-    """The errors of a log, as (file within the crate, name of the declaration or '', what is said)."""
-    for m in ERROR.finditer(log):
-        name = re.match(r"`([^`]*)`: ", m[2])
-        yield m[1], name[1] if name else "", m[2]
+def lemmas(files, crate):
+    """The lemmas of a crate, as {(module, name): (first line, what it cites)}, cited ones likewise."""
+    texts = {}
+    for path, text in files.items():
+        if m := re.fullmatch(rf"crates/{crate}/proofs/(\w+)\.antt", path):
+            texts[m[1]] = blanked(path, text)
+    starts = {module: list(DECLARED.finditer(text)) for module, text in texts.items()}
+    found = {}
+    for module, text in texts.items():
+        known = {m[1]: (module, m[1]) for m in starts[module]}
+        for owner, other, names, alias in BROUGHT.findall(text):
+            if owner == crate and alias:
+                known.update({f"{alias}.{m[1]}": (other, m[1]) for m in starts.get(other, [])})
+            elif owner == crate:
+                for name in filter(None, map(str.strip, names.split(","))):
+                    known[name.split(" as ")[-1].strip()] = other, name.split(" as ")[0].strip()
+        for m, end in zip(starts[module], [*(m.start() for m in starts[module][1:]), len(text)]):
+            words = re.findall(rf"{APART}+(?:\.{APART}+)*", text[m.start() : end])
+            cited = {known[name] for word in words for name in {word, word.split(".")[0]} & known.keys()}
+            found[module, m[1]] = line(text, m.start()), cited
+    return found
 
 
-def judge(log, promises=None):
-    """What is wrong with a refusal, by its log, or ''. Given the proofs of promises, one of them must fail, and no fact of a function's own."""
-    verdicts = re.findall(r"^logic=(proved|not-proved)\b", log, re.M)
-    if not verdicts:
-        return "it didn't reach the prover"
-    if verdicts[-1] == "proved":  # the last: what stands below is proved before it, if it isn't yet
-        return STILL
-    found = list(errors(log))
-    roots = [(file, name, said) for file, name, said in found if FOLLOWS not in said]
-    if not roots:
-        return "no fact fails: no proof was found, and that is all"
-    for file, name, said in roots:
-        if not file.startswith("proofs/"):
-            return f"{file} is no longer well formed: {said[:200]}"
-        if not name or UNFIT.search(said):
-            return f"a name or a shape is unknown in {file}: {said[:200]}"
-    if promises is not None:
-        for file, _, _ in roots:
-            if file.count("/") > 1:
-                return f"{file} fails, a function's own proof"
-        for function in re.findall(r"^fn \w+::(\S+): not proved$", log, re.M):
-            if not any(f"/{file}".endswith(f"/{function.replace('::', '/')}/Proof.antt") for file, _, _ in found):
-                return f"{function} isn't proved, and cites nothing that fails"
-        if not promises & {name for _, name, _ in found}:
-            return "no promise fails"
+def rested_on(files, crate):
+    """The lemmas that the proofs of a crate's promises rest on, themselves among them, without Settled."""
+    found = lemmas(files, crate)
+    proofs = {proof for path, _, proof in statements.stated(files) if path.startswith(f"crates/{crate}/")} - {"settled"}
+    rests, new = set(), {key for key in found if key[1].removesuffix("_lem") in proofs}
+    while new:
+        rests |= new
+        new = set().union(*(found[key][1] for key in new if key in found)) - rests
+    return rests
+
+
+def lemma_at(files, crate, module, row):
+    """The lemma of a module that stands at a line."""
+    starts = sorted((first, key) for key, (first, _) in lemmas(files, crate).items() if key[0] == module and first <= row)
+    return starts[-1][1] if starts else None
+
+
+# ---- what rt said
+
+SAID = re.compile(r"^rt: must-fail (\w+)/([\w.-]+)\.edit: (.*)$", re.M)
+REFUSED = "refused, as it must be"
+
+
+def judge(said, files, crate, both=False):
+    """What is wrong with a refusal, by what rt says of the edit, or ''. Of an edit of definition and code a promise must fail."""
+    if not said.startswith(REFUSED):
+        return said
+    fact = re.match(rf"{REFUSED}: (?:\./)?(proofs/\S+?)\.antt:(\d+):\d+: error: `", said)
+    goal = re.match(rf"{REFUSED}: note: (?:\./)?src/\S+?:\d+:\d+: it is not proved ", said)
+    if not fact and not goal:
+        return f"no fact fails: {said.removeprefix(REFUSED).lstrip(': ') or 'rt names nothing'}"
+    if both and (goal or fact[1].count("/") > 1):
+        return f"a function's own proof fails first: {said.removeprefix(REFUSED).lstrip(': ')}"
+    if both and lemma_at(files, crate, fact[1].split("/")[1], int(fact[2])) not in rested_on(files, crate):
+        return f"no promise rests on what fails first: {said.removeprefix(REFUSED).lstrip(': ')}"
     return ""
 
 
-def first(log):
-    """Where a log's first error is."""
-    return next((f"{file}: {name}" for file, name, _ in errors(log)), "nowhere")
+def judged(log, files):
+    """Each edit of must-fail/ with what is wrong with its refusal, or ''."""
+    said = {(crate, name): what for crate, name, what in SAID.findall(log)}
+    for path, text in sorted(files.items()):
+        if m := re.fullmatch(r"crates/(\w+)/must-fail/([\w.-]+)\.edit", path):
+            yield path, judge(said.get((m[1], m[2]), "rt said nothing of it"), files, m[1], both(text))
 
 
-# ---- rooms
-
-def dependencies():
-    """The crates of crates.txt, each with those that it depends on."""
-    rows = (row.partition("#")[0].partition(":") for row in (ROOT / "crates.txt").read_text().splitlines())
-    return {name.strip(): below.split() for name, _, below in rows if name.strip()}
-
-
-DEPENDENCIES = dependencies()
-
-
-def below(name):
-    """The crates of the repository that a crate reaches."""
-    direct = {other for other in DEPENDENCIES[name] if other in DEPENDENCIES}
-    return direct.union(*map(below, direct))
-
-
-def room(work, name, edit):
-    """Makes a repository in `work` that has the crate NAME with the edit, and links to what it depends on."""
-    (work / "crates").mkdir(parents=True)
-    shutil.copy(ROOT / "crates.txt", work)
-    for other in below(name):
-        (work / "crates" / other).symlink_to(ROOT / "crates" / other)
-    for part in ("src", "specs", "proofs"):
-        if (ROOT / "crates" / name / part).is_dir():
-            shutil.copytree(ROOT / "crates" / name / part, work / "crates" / name / part)
-    for file, text in applied(edit, lambda file: (work / "crates" / name / file).read_text()).items():
-        (work / "crates" / name / file).write_text(text)
-    (work / "target" / "log").mkdir(parents=True)
-    for part in ("rlib", "stamp"):
-        (work / "target" / part).symlink_to(TARGET / part)
-
-
-def dev(work, name):
-    """What `rt dev NAME` says."""
-    done = subprocess.run(["rt", "dev", name], cwd=work, capture_output=True, text=True, errors="replace")
-    return done.stdout + done.stderr
-
-
-def seed(name):
-    """An incremental folder that holds NAME as it stands, and what is wrong with it, or ''."""
-    unproved = [other for other in sorted(below(name) | {name}) if not (TARGET / "stamp" / other).is_file()]
-    if unproved:
-        return None, f"not proved: {' '.join(unproved)}"
-    work = ROOMS / name / ".unchanged"
-    room(work, name, "")
-    folder = work / "target" / "inc" / name
-    library = TARGET / "rlib" / f"{name}.rlib"
-    if (library / "format").is_file():
-        build = re.search(r"^rattle-build (\S+)", (library / "format").read_text(), re.M)[1].replace("/", "_")
-        shutil.copytree(library / "toolchain" / "checked", folder / build)
-    said = dev(work, name)
-    return folder, "" if judge(said) == STILL else f"the crate unchanged isn't proved: {said[-500:]}"
-
-
-def attempt(name, label, edit, folder):
-    """What `rt dev` says of NAME with the edit, over a copy of the folder."""
-    work = ROOMS / name / label
-    try:
-        room(work, name, edit)
-        shutil.copytree(folder, work / "target" / "inc" / name)
-        return dev(work, name)
-    except ValueError as wrong:
-        return str(wrong)
-    finally:
-        shutil.rmtree(work, ignore_errors=True)
-
-
-# ---- the run
-
-def promised(files):
-    """The names of the proofs of statements, without Settled."""
-    return {proof for _, _, proof in statements.stated(files)} - {"settled"}
-
-
-def promises(name):
-    """The names of the proofs of a crate's promises."""
-    folder = ROOT / "crates" / name / "specs"
-    return promised({f"crates/{name}/specs/{path.name}": path.read_text() for path in folder.glob("*.antt")})
-
-
-def try_edit(name, path, folder):
-    """Whether an edit of wrong/ is refused, and a line about it."""
-    began = time.time()
-    edit = path.read_text()
-    log = attempt(name, path.stem, edit, folder)
-    (LOGS / name).mkdir(parents=True, exist_ok=True)
-    (LOGS / name / f"{path.stem}.log").write_text(log)
-    wrong = judge(log, promises(name) if both(edit) else None)
-    return not wrong, f"{name}/{path.stem}: {f'NO REFUSAL: {wrong}' if wrong else f'refused ({first(log)})'}, {time.time() - began:.0f} s"
-
-
-def judge_tried(name, path):
-    """Whether rt's refusal of an edit of must-fail/ is one, and a line about it."""
-    edit = path.read_text()
-    log = TARGET / "must-fail" / name / path.stem / ".log"
-    wrong = judge(log.read_text(errors="replace"), promises(name) if both(edit) else None) if log.is_file() else "rt left no log"
-    return not wrong, f"{name}/{path.stem}: {f'NO REFUSAL: {wrong}' if wrong else f'refused from nothing ({first(log.read_text())})'}"
-
-
-def try_script(seeded):
-    """Whether the script tells, over the seed of TRIED: a comment that is edited, a name that isn't there; and a line about it."""
-    folder, wrong = seeded.result()
-    if wrong:
-        return False, f"{TRIED}: {wrong}"
-    source = (ROOT / "crates" / TRIED / "src" / "lib.rt").read_text()
-    comment = source.splitlines()[0]
-    contract = next(row for row in source.splitlines() if "ensures" in row and source.count(row) == 1)
-    asked = {
-        STILL: f"old: {comment}\nnew: {comment} More.\n",
-        "src/lib.rt is no longer well formed": f"old: {contract}\nnew: {contract.replace('≡', '≡ unheard-of')}\n",
-    }
-    for expected, edit in asked.items():
-        said = judge(attempt(TRIED, ".tried", f"file: src/lib.rt\n{edit}", folder))
-        if not said.startswith(expected):
-            return False, f"the script itself: of {edit!r} it says {said!r}"
-    return True, "the script itself: an edited comment and an unknown name are no refusals"
-
-
-def main(names):
-    shutil.rmtree(ROOMS, ignore_errors=True)
+def main(log):
+    parts = [path for part in ("specs", "proofs", "must-fail") for path in ROOT.glob(f"crates/*/{part}/*") if path.is_file()]
+    files = {str(path.relative_to(ROOT)): path.read_text() for path in parts}
     passed = failed = 0
-
-    def count(done):
-        nonlocal passed, failed
-        good, said = done
-        print(said, flush=True)
-        passed, failed = passed + good, failed + (not good)
-
-    listed = lambda part: {name: sorted((ROOT / "crates" / name / part).glob("*.edit")) for name in names or DEPENDENCIES}
-    with concurrent.futures.ThreadPoolExecutor(JOBS) as pool:
-        seeds = {name: pool.submit(seed, name) for name, paths in listed("wrong").items() if paths}
-        tried = seeds.get(TRIED) or pool.submit(seed, TRIED)
-        script = pool.submit(try_script, tried)
-        tries = []
-        for name, asked in seeds.items():
-            folder, wrong = asked.result()
-            if wrong:
-                count((False, f"{name}: none of its edits was tried, {wrong}"))
-            else:
-                tries += [pool.submit(try_edit, name, path, folder) for path in listed("wrong")[name]]
-        for done in [script, *tries]:
-            count(done.result())
-    shutil.rmtree(ROOMS, ignore_errors=True)
-    if not names:
-        for name, paths in listed("must-fail").items():
-            for path in paths:
-                count(judge_tried(name, path))
+    for path, wrong in judged(pathlib.Path(log).read_text(errors="replace"), files):
+        if wrong:
+            print(f"{path}: NO REFUSAL: {wrong}")
+        passed, failed = passed + (not wrong), failed + bool(wrong)
     print(f"{passed} passed, {failed} failed")
     return failed > 0
 
 
 if __name__ == "__main__":
-    sys.exit(main(sys.argv[1:]))
+    sys.exit(main(*sys.argv[1:]))

@@ -2,7 +2,7 @@
 
 Statement files are Promises, Settled and Examples of a crate's specs/, and every file of the crate `examples`. A statement is a
 closed type that such a file declares, `pub NAME : Type 0`, abbreviated or not, or `pub record NAME : Type 0 where`; its proof is called as
-it is, with a small first letter. A closed record of which the file has a list is none: a table's rows are made of it. A type with
+it is, in small letters, `pub NeverLost` by `never_lost`. A closed record of which the file has a list is none: a table's rows are made of it. A type with
 parameters is a part of statements: some other declaration of specs/ must name it, or nothing claims it.
 """
 import re
@@ -30,6 +30,11 @@ def names(text, name):
     return re.search(rf"(?<!{APART}){re.escape(name)}(?!{APART})", text) is not None
 
 
+def proof_of(name):
+    """The name of a statement's proof."""
+    return re.sub(r"(?<=[a-z0-9])(?=[A-Z])", "_", name).lower()
+
+
 def types(files):
     """The types that statement files declare, named ones and records, as (path, name, whether it is closed)."""
     for path, text in files.items():
@@ -45,7 +50,7 @@ def stated(files):
     """The statements, as (path, name, name of the proof)."""
     for path, name, closed in types(files):
         if closed and not names(blanked(path, files[path]), f"List {name}"):
-            yield path, name, name[0].lower() + name[1:]
+            yield path, name, proof_of(name)
 
 
 def unclaimed(files):

@@ -27,7 +27,8 @@ length_over f n l h =
 -- the cell that a turn is about to store is still l's
 pub over_at : {A : Type 0} (d : A) (f : ℕ → A) (i : ℕ) (l : List A) → i < length l → get_or (over f i l) i d ≡ get_or l i d
 unfolding over
-over_at {A} d f i l h = ap (λ (t : List A). get_or (tab f i ++ t) i d) (drop-cons l i d h) ∙ get_or_at (tab f i) (get_or l i d) (drop (suc i) l) d i (length_tab f i)
+over_at {A} d f i l h = ap (λ (t : List A). get_or (tab f i ++ t) i d) (drop-cons l i d h)
+    ∙ get_or_at (tab f i) (get_or l i d) (drop (suc i) l) d i (length_tab f i)
 
 over_suc : {A : Type 0} (d : A) (f : ℕ → A) (i : ℕ) (l : List A) → i < length l → set (over f i l) i (f i) ≡ over f (suc i) l
 unfolding over tab

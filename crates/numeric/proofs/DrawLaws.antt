@@ -1,5 +1,6 @@
 -- The draw is exact, and twice it less 1 too, which is from -1 to 1.
-use Rattle.std.proofs.Common.{◌≡◌, ℕ, ◌-◌, ◌*◌, ◌^◌, ◌<◌, ◌≤◌, Bool, true, false, cond, not, T, ltb, pos, negsuc, sym, refl, ap, ◌∙◌, subst, le_of_lt, zero-lt-suc, mul-one, arith, lit<, lit≤, ltb→lt, nltb→le}
+use Rattle.std.proofs.Common.{◌≡◌, ℕ, ◌-◌, ◌*◌, ◌^◌, ◌<◌, ◌≤◌, Bool, true, false, cond, not, T, ltb, pos, negsuc, sym, refl, ap, ◌∙◌, subst, le_of_lt}
+use Rattle.std.proofs.Common.{zero-lt-suc, mul-one, arith, lit<, lit≤, ltb→lt, nltb→le}
 use lib.Ieee.{Float, binary64, fin, mul, of_bits, of_int, round, sum}
 use lib.Ieee.Exact.{HasValue}
 use lib.Ieee.Scale.{round_same}

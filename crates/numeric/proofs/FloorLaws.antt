@@ -1,5 +1,7 @@
 -- The floor of a finite number is a whole number, not above it and less than 1 below it. So it is finite, and what is left over it, rounded, lies from 0 to 1.
-use Rattle.std.proofs.Common.{◌≡◌, ℕ, zero, suc, ◌+◌, ◌-◌, ◌*◌, ◌/◌, ◌%◌, ◌^◌, ◌<◌, ◌≤◌, Bool, true, false, cond, not, T, eqb, ℤ, pos, negsuc, sym, refl, ap, ◌∙◌, subst, le_trans, le_of_eq, lt_of_le_of_lt, le_of_lt, mod-lt, zero-lt-suc, div-add-mod', mul-one, div-le_self, arith, lit<, pow_pos, eqb-true}
+use Rattle.std.proofs.Common.{◌≡◌, ℕ, zero, suc, ◌+◌, ◌-◌, ◌*◌, ◌/◌, ◌%◌, ◌^◌, ◌<◌, ◌≤◌, Bool, true, false, cond, not, T, eqb, ℤ, pos, negsuc, sym, refl, ap}
+use Rattle.std.proofs.Common.{◌∙◌, subst, le_trans, le_of_eq, lt_of_le_of_lt, le_of_lt, mod-lt, zero-lt-suc, div-add-mod', mul-one, div-le_self, arith, lit<}
+use Rattle.std.proofs.Common.{pow_pos, eqb-true}
 use lib.Ieee.{Float, binary64, down, fin, inf, le, nan, neg, of_bits, of_int, up}
 use lib.Ieee.Fits.{down_pos}
 use lib.Ieee.Order.{le_of_values}

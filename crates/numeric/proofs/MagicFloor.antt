@@ -1,6 +1,7 @@
 -- The body of floor: a number from 0 to below 2 ^ 52, plus 2 ^ 52 and less it again, is the whole number nearest to it; the floor is that or one less.
 -- Below 0 the signs are turned; from 2 ^ 52 on there is no fraction.
-use Rattle.std.proofs.Common.{◌≡◌, ℕ, zero, suc, ◌+◌, ◌-◌, ◌*◌, ◌<◌, ◌≤◌, Bool, true, false, cond, ◌&&◌, eqb, ltb, ℤ, pos, sym, refl, ap, ◌∙◌, subst, true≢false, zero-le, le_trans, add-mul, zero-mul, mul-one, arith, lit<, lit≤, ltb-false, ltb-true, eqb-true}
+use Rattle.std.proofs.Common.{◌≡◌, ℕ, zero, suc, ◌+◌, ◌-◌, ◌*◌, ◌<◌, ◌≤◌, Bool, true, false, cond, ◌&&◌, eqb, ltb, ℤ, pos, sym, refl, ap, ◌∙◌, subst}
+use Rattle.std.proofs.Common.{true≢false, zero-le, le_trans, add-mul, zero-mul, mul-one, arith, lit<, lit≤, ltb-false, ltb-true, eqb-true}
 use mathlib.Core.Bool.{false≢true}
 use lib.Arith.{lt_of_le-ne}
 use lib.Ieee.{Float, add, binary64, down, eq, fin, inf, level, lt, nan, neg, of_bits, of_int, round, sub, sum, up}

@@ -1,5 +1,6 @@
 -- A number is split by a sum with a large whole number B: the sum has no room for a fraction, and less B it is the whole number nearest to the number.
-use Rattle.std.proofs.Common.{◌≡◌, ℕ, ◌+◌, ◌-◌, ◌*◌, ◌<◌, ◌≤◌, Bool, true, false, ltb, ◌⊎◌, sym, refl, ap, ◌∙◌, subst, inl, inr, le-add_right, mul-le-mul_right, add-mul, add_comm, le_antisymm, mul-one, sub-le, arith, lit<, ltb-false, ltb-true}
+use Rattle.std.proofs.Common.{◌≡◌, ℕ, ◌+◌, ◌-◌, ◌*◌, ◌<◌, ◌≤◌, Bool, true, false, ltb, ◌⊎◌, sym, refl, ap, ◌∙◌, subst, inl, inr, le-add_right, mul-le-mul_right}
+use Rattle.std.proofs.Common.{add-mul, add_comm, le_antisymm, mul-one, sub-le, arith, lit<, ltb-false, ltb-true}
 use lib.Ieee.{Float, add, binary64, round, sub, sum}
 use lib.Ieee.Back.{round_whole}
 use lib.Ieee.Exact.{HasValue}

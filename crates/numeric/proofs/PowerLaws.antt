@@ -1,5 +1,6 @@
 -- 2 ^ x is exact at whole x, +infinity from 1024 on, 0 below -1022 and NaN of NaN; 3000 ^ r is right at 0, at 1 and at NaN.
-use Rattle.std.proofs.Common.{◌≡◌, ℕ, suc, ◌+◌, ◌-◌, ◌*◌, ◌/◌, ◌%◌, ◌^◌, ◌<◌, ◌≤◌, Bool, true, false, cond, not, ◌||◌, T, leb, ℤ, pos, negsuc, sym, refl, ap, ◌∙◌, subst, le_trans, mod-eq_of_lt, zero-lt-suc, mul-one, mul-div_cancel, arith, lit<, lit≤, leb→le, pow_pos}
+use Rattle.std.proofs.Common.{◌≡◌, ℕ, suc, ◌+◌, ◌-◌, ◌*◌, ◌/◌, ◌%◌, ◌^◌, ◌<◌, ◌≤◌, Bool, true, false, cond, not, ◌||◌, T, leb, ℤ, pos, negsuc, sym, refl, ap}
+use Rattle.std.proofs.Common.{◌∙◌, subst, le_trans, mod-eq_of_lt, zero-lt-suc, mul-one, mul-div_cancel, arith, lit<, lit≤, leb→le, pow_pos}
 use native.Mathlib.Nat.{mul-mod_left}
 use lib.Dec.{nleb→lt}
 use lib.Ieee.{Float, add, binary64, eq, fin, inf, is_nan, le, lt, minus, mul, neg, odd, of_bits, of_fields, of_int, round, size, sub, sum, to_bits}

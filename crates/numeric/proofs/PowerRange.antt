@@ -1,5 +1,6 @@
 -- 2 ^ x and 3000 ^ r of a number are numbers: x is split into a whole number and a rest from -1 to 1, of which the polynomial is finite.
-use Rattle.std.proofs.Common.{◌≡◌, ℕ, zero, suc, ◌+◌, ◌-◌, ◌*◌, ◌<◌, ◌≤◌, Bool, true, false, cond, not, T, ℤ, pos, sym, refl, ◌∙◌, subst, inl, inr, le_trans, le_of_eq, not-suc-le-zero, mul-le-mul_right, mul-one, arith, lit<, lit≤, ltb→lt}
+use Rattle.std.proofs.Common.{◌≡◌, ℕ, zero, suc, ◌+◌, ◌-◌, ◌*◌, ◌<◌, ◌≤◌, Bool, true, false, cond, not, T, ℤ, pos, sym, refl, ◌∙◌, subst, inl, inr, le_trans}
+use Rattle.std.proofs.Common.{le_of_eq, not-suc-le-zero, mul-le-mul_right, mul-one, arith, lit<, lit≤, ltb→lt}
 use native.Mathlib.Nat.{suc-le-suc_iff}
 use lib.Ieee.{Float, add, binary64, down, eq, fin, inf, is_nan, le, lt, mul, nan, neg, of_bits, round, sub, up}
 use lib.Ieee.Exact.{HasValue}

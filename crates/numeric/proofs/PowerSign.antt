@@ -87,13 +87,13 @@ sum_plus x y p h w =
 -- ---- the polynomial, where |f| is at most 1
 abbrev even : Float → Float
 even z =
-    six_of z (of_bits binary64 0x3ff0000000000000) (of_bits binary64 0x3fcebfbdff82c598) (of_bits binary64 0x3f83b2ab6fba1dda) (of_bits binary64 0x3f2430913096fd9f)
-    (of_bits binary64 0x3eb62bfd47773353) (of_bits binary64 0x3e3e6063f7217bc6)
+    six_of z (of_bits binary64 0x3ff0000000000000) (of_bits binary64 0x3fcebfbdff82c598) (of_bits binary64 0x3f83b2ab6fba1dda)
+    (of_bits binary64 0x3f2430913096fd9f) (of_bits binary64 0x3eb62bfd47773353) (of_bits binary64 0x3e3e6063f7217bc6)
 
 abbrev odd : Float → Float
 odd z =
-    six_of z (of_bits binary64 0x3fe62e42fefa39ef) (of_bits binary64 0x3fac6b08d704a0c2) (of_bits binary64 0x3f55d87fe78a5276) (of_bits binary64 0x3eeffcbfc670dcd4)
-    (of_bits binary64 0x3e7b524fae627834) (of_bits binary64 0x3dfe9d3fe3952179)
+    six_of z (of_bits binary64 0x3fe62e42fefa39ef) (of_bits binary64 0x3fac6b08d704a0c2) (of_bits binary64 0x3f55d87fe78a5276)
+    (of_bits binary64 0x3eeffcbfc670dcd4) (of_bits binary64 0x3e7b524fae627834) (of_bits binary64 0x3dfe9d3fe3952179)
 
 part_plus : (i : ℕ) (x : Float) → Part i x → Plus x
 part_plus i nan p = tt
@@ -125,8 +125,7 @@ odd_unit : (z : Float) → Part 0 z → Within 0 (odd z)
 unfolding of_bits
 odd_unit z Z =
     odd_within z (of_bits binary64 0x3fe62e42fefa39ef) (of_bits binary64 0x3fac6b08d704a0c2) (of_bits binary64 0x3f55d87fe78a5276)
-    (of_bits binary64 0x3eeffcbfc670dcd4)
-    (of_bits binary64 0x3e7b524fae627834) (of_bits binary64 0x3dfe9d3fe3952179) Z
+    (of_bits binary64 0x3eeffcbfc670dcd4) (of_bits binary64 0x3e7b524fae627834) (of_bits binary64 0x3dfe9d3fe3952179) Z
     (6243314768165359, 9007199254740992, lit< tt, lit≤ tt, (refl, refl)) tt tt tt tt tt
 
 exp_plus : (f : Float) → Within 0 f → Plus (exp_part f)

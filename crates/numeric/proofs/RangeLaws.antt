@@ -1,6 +1,8 @@
 -- Where clamp, min, max and the casts land, and the casts that oscillators make:
 -- of a clamped period, of a rate over 20, of a phase over 256 cells, of a share of n.
-use Rattle.std.proofs.Common.{◌≡◌, ℕ, zero, suc, ◌+◌, ◌-◌, ◌*◌, ◌/◌, ◌%◌, ◌^◌, ◌<◌, ◌≤◌, min, Bool, true, false, cond, not, T, eqb, ◌⊎◌, pos, sym, refl, ap, ◌∙◌, subst, inl, inr, true≢false, zero-le, le_trans, le_of_eq, le_refl, not-suc-le-zero, lt_of_le_of_lt, mul-le-mul_right, div-lt_iff_lt-mul, div-add-mod', mul-one, div-one, arith, lit<, lit≤, le→leb, eqb→eq, ltb→lt}
+use Rattle.std.proofs.Common.{◌≡◌, ℕ, zero, suc, ◌+◌, ◌-◌, ◌*◌, ◌/◌, ◌%◌, ◌^◌, ◌<◌, ◌≤◌, min, Bool, true, false, cond, not, T, eqb, ◌⊎◌, pos, sym, refl, ap}
+use Rattle.std.proofs.Common.{◌∙◌, subst, inl, inr, true≢false, zero-le, le_trans, le_of_eq, le_refl, not-suc-le-zero, lt_of_le_of_lt, mul-le-mul_right}
+use Rattle.std.proofs.Common.{div-lt_iff_lt-mul, div-add-mod', mul-one, div-one, arith, lit<, lit≤, le→leb, eqb→eq, ltb→lt}
 use native.Mathlib.Nat.{min-le_left, min-le_right, zero-div}
 use lib.Ieee.{Float, binary64, div, down, eq, fin, in_float, inf, is_nan, le, lt, nan, of_bits, of_int, round, sub, to_unsigned, up}
 use lib.Ieee.Back.{unsigned_back, whole_unique}

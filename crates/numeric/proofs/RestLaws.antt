@@ -1,7 +1,9 @@
 -- What is left of x after the nearest number of right angles is taken off lies from -1 to 1.
 -- The whole number K is nearest to a rounded product. No word on its error is needed: K - 33/64 and K + 33/64 are floats, and rounding keeps an order,
 -- so the exact product lies between them; and 33/64 of a right angle is 0.81.
-use Rattle.std.proofs.Common.{◌≡◌, ℕ, zero, suc, ◌+◌, ◌-◌, ◌*◌, ◌<◌, ◌≤◌, Bool, false, not, ltb, sym, refl, ap, ◌∙◌, subst, inl, inr, zero-le, le_trans, le_of_eq, lt_of_lt_of_le, le_of_lt, mul-le-mul_right, mul_assoc, add-mul, mul-pos, zero-mul, mul-one, mul_right_comm, arith, lit<, lit≤, lt→ltb}
+use Rattle.std.proofs.Common.{◌≡◌, ℕ, zero, suc, ◌+◌, ◌-◌, ◌*◌, ◌<◌, ◌≤◌, Bool, false, not, ltb, sym, refl, ap, ◌∙◌, subst, inl, inr, zero-le, le_trans}
+use Rattle.std.proofs.Common.{le_of_eq, lt_of_lt_of_le, le_of_lt, mul-le-mul_right, mul_assoc, add-mul, mul-pos, zero-mul, mul-one, mul_right_comm, arith, lit<}
+use Rattle.std.proofs.Common.{lit≤, lt→ltb}
 use lib.Ieee.{Float, add, binary64, mul, neg, of_bits, round, sub}
 use lib.Ieee.Bits.{is_true}
 use lib.Ieee.Exact.{HasValue}

@@ -1,6 +1,7 @@
 -- Above 0 and up to 2 the sine has no minus sign: no right angle is taken off, or one. Then it is the sine of x, or the cosine of the rest;
 -- and each is a number less a part of it.
-use Rattle.std.proofs.Common.{◌≡◌, ℕ, zero, suc, ◌+◌, ◌*◌, ◌%◌, ◌<◌, ◌≤◌, Bool, true, false, cond, not, T, pos, sym, refl, ap, ◌∙◌, subst, le_trans, le_of_eq, mul-pos, mul-one, arith, lit<, lit≤, ltb→lt}
+use Rattle.std.proofs.Common.{◌≡◌, ℕ, zero, suc, ◌+◌, ◌*◌, ◌%◌, ◌<◌, ◌≤◌, Bool, true, false, cond, not, T, pos, sym, refl, ap, ◌∙◌, subst, le_trans, le_of_eq}
+use Rattle.std.proofs.Common.{mul-pos, mul-one, arith, lit<, lit≤, ltb→lt}
 use lib.Ieee.{Float, add, binary64, down, eq, fin, inf, le, lt, mul, nan, neg, of_bits, sub, to_bits, up}
 use lib.Ieee.Bits.{of_bits-fits}
 use lib.Ieee.Exact.{HasValue}

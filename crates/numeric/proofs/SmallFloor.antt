@@ -1,5 +1,7 @@
 -- The floor of a number above -1 and below 2, worked out by comparisons alone, and what is left over it: what a phase needs.
-use Rattle.std.proofs.Common.{◌≡◌, ℕ, zero, suc, ◌+◌, ◌-◌, ◌*◌, ◌/◌, ◌%◌, ◌^◌, ◌<◌, ◌≤◌, Bool, true, false, cond, eqb, ℤ, pos, negsuc, sym, refl, ap, ◌∙◌, subst, zero-le, le_trans, le_of_eq, le_of_lt, zero-lt-suc, div-add-mod', zero-mul, mul-one, arith, lit<, lit≤, pow_pos, ltb-false, ltb-true, eqb-true}
+use Rattle.std.proofs.Common.{◌≡◌, ℕ, zero, suc, ◌+◌, ◌-◌, ◌*◌, ◌/◌, ◌%◌, ◌^◌, ◌<◌, ◌≤◌, Bool, true, false, cond, eqb, ℤ, pos, negsuc, sym, refl, ap, ◌∙◌}
+use Rattle.std.proofs.Common.{subst, zero-le, le_trans, le_of_eq, le_of_lt, zero-lt-suc, div-add-mod', zero-mul, mul-one, arith, lit<, lit≤, pow_pos, ltb-false}
+use Rattle.std.proofs.Common.{ltb-true, eqb-true}
 use mathlib.Core.Bool.{false≢true}
 use native.Mathlib.Nat.{div-eq_of_lt-le, mul-mod_left}
 use lib.Arith.{lt_of_le-ne}

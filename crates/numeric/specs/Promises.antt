@@ -111,7 +111,8 @@ DrawExact = (k : ℕ) → k < 2 ^ 53 → HasValue (draw_of k) false k (2 ^ 53)
 
 -- (2 k - 2 ^ 53) / 2 ^ 53, free of rounding: below 0 exactly where 2 k is below 2 ^ 53
 abbrev pub BipolarExact : Type 0
-BipolarExact = (k : ℕ) → k < 2 ^ 53 → HasValue (bipolar_of k) (nat_lt (2 * k) (2 ^ 53)) (cond (nat_lt (2 * k) (2 ^ 53)) (2 ^ 53 - 2 * k) (2 * k - 2 ^ 53)) (2 ^ 53)
+BipolarExact = (k : ℕ) → k < 2 ^ 53
+    → HasValue (bipolar_of k) (nat_lt (2 * k) (2 ^ 53)) (cond (nat_lt (2 * k) (2 ^ 53)) (2 ^ 53 - 2 * k) (2 * k - 2 ^ 53)) (2 ^ 53)
 
 -- ---- the floor
 -- v is the whole number q or -q, not above ±m * 2 ^ e and less than 1 below it

@@ -1,5 +1,6 @@
 -- For each public function: any two answers that its contract allows are equal. The contract is the equation under Settles.
-use Rattle.std.specs.Prelude.{◌≡◌, ℕ, min, Bool, from_bits, to_bits, Float}
+use Rattle.std.specs.Prelude.{◌≡◌, ℕ, min, Bool, Float}
+use Rattle.std.specs.Float.Ieee as Ieee
 use Rattle.std.specs.Float.{binary64}
 use Rattle.laws.specs.Float.{is_fin}
 use Rattle.laws.specs.Machine.{Settles}
@@ -20,8 +21,8 @@ pub record Settled : Type 0 where
   pub to_u64 : (x : Float) → Settles (λ (r : ℕ). r ≡ whole_of x)
   pub to_usize : (x : Float) → Settles (λ (r : ℕ). r ≡ whole_of x)
   pub of_u64 : (n : ℕ) → Settles (λ (r : Float). r ≡ real_of n)
-  pub bits : (x : Float) → Settles (λ (r : ℕ). r ≡ to_bits binary64 x)
-  pub of_bits : (b : ℕ) → Settles (λ (r : Float). r ≡ from_bits binary64 b)
+  pub bits : (x : Float) → Settles (λ (r : ℕ). r ≡ Ieee.to_bits binary64 x)
+  pub of_bits : (b : ℕ) → Settles (λ (r : Float). r ≡ Ieee.of_bits binary64 b)
   pub floor : (x : Float) → Settles (λ (r : Float). r ≡ floor_of x)
   pub draw : (k : ℕ) → Settles (λ (r : Float). r ≡ draw_of k)
   pub bipolar : (k : ℕ) → Settles (λ (r : Float). r ≡ bipolar_of k)

@@ -1,5 +1,7 @@
 // The numeric floor: small functions on f64 as Rust has them, and this project's sine, cosine and powers.
 // Every public function is total; its contract is one equation with a definition of specs/.
+#![tactic(auto)]
+
 ghost use Rattle.std.specs.Prelude.{◌≡◌, ◌≤◌, min, not, T, if◌then◌else◌};
 ghost use Rattle.std.specs.Float.Ieee as Ieee;
 ghost use Rattle.std.specs.Float.{binary64};

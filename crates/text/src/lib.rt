@@ -1,5 +1,7 @@
 // Numbers as text. A text is put into a lent buffer at a place; what has no room is cut off, so that one text put
 // after another is the two put as one. The answer is the place after it, at most the buffer's length.
+#![tactic(auto)]
+
 ghost use Rattle.std.specs.Prelude.{◌≡◌, [], ◌∷◌, ◌<◌, min};
 ghost use Rattle.std.proofs.lemmas.List.Edits.{sets};
 ghost use Rattle.text.specs.Put.{place_of};

@@ -1,5 +1,4 @@
 -- bipolar: twice what draw ensures, less 1.
-use Rattle.std.proofs.Common.{rules}
 use Rattle.numeric.specs.Draw.{bipolar_of}
 use Rattle.numeric.proofs.bipolar.Goals as goal
 

@@ -1,5 +1,4 @@
 -- cos: near what kernel_cos ensures, else what far does.
-use Rattle.std.proofs.Common.{rules}
 use Rattle.numeric.specs.Trig.{cos_of}
 use Rattle.numeric.proofs.cos.Goals as goal
 

@@ -1,5 +1,5 @@
 -- draw: below 2 ^ 53 the cast loses nothing; from there on it is what of_u64 ensures; times 2 ^ -53.
-use Rattle.std.proofs.Common.{refl, le_of_lt, le→leb, rules}
+use Rattle.std.proofs.Common.{refl, le_of_lt, le→leb}
 use lib.Ieee.{in_float}
 use Rattle.numeric.specs.Draw.{draw_of}
 use Rattle.numeric.proofs.draw.Goals as goal

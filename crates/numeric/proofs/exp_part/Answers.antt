@@ -1,5 +1,4 @@
 -- exp_part: what six ensures of the even powers and of the odd ones.
-use Rattle.std.proofs.Common.{rules}
 use Rattle.numeric.specs.Power.{exp_part}
 use Rattle.numeric.proofs.exp_part.Goals as goal
 

@@ -1,5 +1,5 @@
 -- floor: the four ways of MagicFloor.
-use Rattle.std.proofs.Common.{sym, ◌∙◌, rules}
+use Rattle.std.proofs.Common.{sym, ◌∙◌}
 use lib.Ieee.{binary64, fits}
 use Rattle.laws.proofs.Tests.{of_true}
 use Rattle.numeric.proofs.MagicFloor.{floor_down, floor_high, floor_low, floor_up}

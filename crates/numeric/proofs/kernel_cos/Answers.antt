@@ -1,5 +1,4 @@
 -- kernel_cos: what pairs ensures, times z, off 1.
-use Rattle.std.proofs.Common.{rules}
 use Rattle.numeric.specs.Trig.{kernel_cos}
 use Rattle.numeric.proofs.kernel_cos.Goals as goal
 

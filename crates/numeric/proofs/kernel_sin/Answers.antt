@@ -1,5 +1,4 @@
 -- kernel_sin: what pairs ensures, times z and r, off r.
-use Rattle.std.proofs.Common.{rules}
 use Rattle.numeric.specs.Trig.{kernel_sin}
 use Rattle.numeric.proofs.kernel_sin.Goals as goal
 

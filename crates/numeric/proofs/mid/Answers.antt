@@ -1,6 +1,5 @@
 -- mid: what exp_part and scale ensure; x plus the bias is a number, as scale asks.
 use lib.Ieee.{of_bits}
-use Rattle.std.proofs.Common.{rules}
 use Rattle.laws.proofs.Number.{add_number}
 use Rattle.numeric.specs.Power.{biased, mid_of, scaled_of}
 use Rattle.numeric.proofs.mid.Goals as goal

@@ -1,5 +1,4 @@
 -- pow3000: 3000 at 1, else what exp2 ensures.
-use Rattle.std.proofs.Common.{rules}
 use Rattle.numeric.specs.Power.{pow3000_of}
 use Rattle.numeric.proofs.pow3000.Goals as goal
 

@@ -1,5 +1,4 @@
 -- quadrant_of: each branch is a case of quadrant.
-use Rattle.std.proofs.Common.{rules}
 use Rattle.laws.proofs.Tests.{eqb_no, eqb_yes}
 use Rattle.numeric.specs.Trig.{quadrant}
 use Rattle.numeric.proofs.quadrant_of.Goals as goal

@@ -1,5 +1,5 @@
 -- scale: a multiple of 2 ^ 52 is no NaN's pattern.
-use Rattle.std.proofs.Common.{refl, rules}
+use Rattle.std.proofs.Common.{refl}
 use Rattle.laws.proofs.Values.{no_nan_bits}
 use Rattle.numeric.specs.Power.{scale_of}
 use Rattle.numeric.proofs.scale.Goals as goal

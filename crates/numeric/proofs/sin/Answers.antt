@@ -1,5 +1,4 @@
 -- sin: near what kernel_sin ensures, else what far does.
-use Rattle.std.proofs.Common.{rules}
 use Rattle.numeric.specs.Trig.{sin_of}
 use Rattle.numeric.proofs.sin.Goals as goal
 

@@ -1,5 +1,5 @@
 -- to_u64: between the tests the library's cast, outside them an end of the range.
-use Rattle.std.proofs.Common.{T, sym, subst, rules}
+use Rattle.std.proofs.Common.{T, sym, subst}
 use lib.Ieee.{neg, of_bits}
 use Rattle.numeric.proofs.BasicLaws.{high_is, low_is}
 use Rattle.numeric.proofs.to_u64.Goals as goal

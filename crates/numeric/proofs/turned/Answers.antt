@@ -1,6 +1,5 @@
 -- turned: what rest and quadrant_of ensure; the sum with the shift is a number, whose bits are taken.
 use lib.Ieee.{of_bits}
-use Rattle.std.proofs.Common.{rules}
 use Rattle.laws.proofs.Number.{add_number, mul_number}
 use Rattle.numeric.specs.Trig.{shift, shifted_of, turned_of}
 use Rattle.numeric.proofs.turned.Goals as goal

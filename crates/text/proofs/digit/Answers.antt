@@ -1,5 +1,4 @@
 -- `text::digit`: below 10 and from 10 on.
-use borrow.Author.Rules.{rules}
 use borrow.Author.Tests.{lt-ltb, le-ltb}
 use Rattle.text.specs.Hex.{glyph}
 use Rattle.text.proofs.digit.Goals as goal

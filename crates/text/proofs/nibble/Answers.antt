@@ -1,5 +1,4 @@
 -- `text::nibble`: each answer by the tests that lead to it.
-use borrow.Author.Rules.{rules}
 use borrow.Author.Tests.{lt-ltb, le-ltb}
 use Rattle.text.specs.Hex.{nibble_of}
 use Rattle.text.proofs.nibble.Goals as goal

@@ -1,10 +1,7 @@
-use mathlib.Core.List.{List, [], ◌∷◌, ◌++◌}
-use mathlib.Core.Path.{◌≡◌, refl}
-use Prim.Native.Nat.{ℕ, ◌≤◌}
+use mathlib.Core.List.{[], ◌∷◌, ◌++◌}
+use mathlib.Core.Path.{refl}
 use native.Mathlib.Omega.{arith}
-use borrow.Author.Rules.{rules}
-use Rattle.text.specs.Hex.{hex_from, hex_text}
-use Rattle.text.specs.Promises.{Put}
+use Rattle.text.specs.Hex.{hex_text}
 use Rattle.text.specs.Put.{place_of}
 use Rattle.text.proofs.HexLaws.{hex_next, hex_end}
 use Rattle.text.proofs.PutLaws.{after, within}

@@ -1,14 +1,9 @@
 -- `text::put_hex`: the digits d have been put, and k are left.
-use mathlib.Core.List.{List, [], ◌∷◌, ◌++◌}
-use mathlib.Core.Path.{◌≡◌, refl}
+use mathlib.Core.List.{List, ◌++◌}
+use mathlib.Core.Path.{◌≡◌}
 use Prim.Native.Nat.{ℕ, ◌≤◌}
-use native.Mathlib.Omega.{arith}
-use borrow.Author.Rules.{rules}
 use Rattle.text.specs.Hex.{hex_from, hex_text}
 use Rattle.text.specs.Promises.{Put}
-use Rattle.text.specs.Put.{place_of}
-use Rattle.text.proofs.HexLaws.{hex_next, hex_end}
-use Rattle.text.proofs.PutLaws.{after, within}
 use Rattle.text.proofs.put_hex.Given as goal
 
 abbrev pub invariant-loop-k : goal.invariant-loop-k

@@ -1,15 +1,7 @@
 -- `text::put_text`: after i turns the first i bytes have been put.
-use mathlib.Core.List.{[], ◌∷◌}
-use mathlib.Core.Path.{refl}
-use Prim.Native.Nat.{ℕ, ◌-◌, ◌≤◌}
-use native.Mathlib.Numerals.{add-one}
-use native.Mathlib.Omega.{arith}
+use Prim.Native.Nat.{◌-◌, ◌≤◌}
 use lib.ListN.{length, take}
-use lib.Seq.{take-suc, take_all}
-use borrow.Author.Rules.{rules}
 use Rattle.text.specs.Promises.{Put}
-use Rattle.text.specs.Put.{place_of}
-use Rattle.text.proofs.PutLaws.{after, within}
 use Rattle.text.proofs.put_text.Given as goal
 
 abbrev pub invariant-loop-i : goal.invariant-loop-i

@@ -1,10 +1,7 @@
-use mathlib.Core.Path.{◌≡◌, sym, ◌∙◌}
-use Prim.Native.Nat.{◌-◌, ◌^◌, ◌≤◌, ◌<◌}
+use mathlib.Core.Path.{sym, ◌∙◌}
 use native.Mathlib.Omega.{arith}
-use lib.ListN.{length, drop}
-use borrow.Author.Rules.{rules}
 use borrow.Author.Tests.{ne_eqb, eq-eqb}
-use Rattle.text.specs.Hex.{word_from, word_of}
+use Rattle.text.specs.Hex.{word_of}
 use Rattle.text.proofs.HexLaws.{word_stops, word_next, word_end, sixteen_fold, sixteen_fits}
 use Rattle.text.proofs.read_hex.Goals as goal
 

@@ -1,12 +1,8 @@
 -- `text::read_hex`: the whole is read as what is left is, from the number so far; i digits stay below 16 ^ i.
-use mathlib.Core.Path.{◌≡◌, sym, ◌∙◌}
+use mathlib.Core.Path.{◌≡◌}
 use Prim.Native.Nat.{◌-◌, ◌^◌, ◌≤◌, ◌<◌}
-use native.Mathlib.Omega.{arith}
 use lib.ListN.{length, drop}
-use borrow.Author.Rules.{rules}
-use borrow.Author.Tests.{ne_eqb, eq-eqb}
 use Rattle.text.specs.Hex.{word_from, word_of}
-use Rattle.text.proofs.HexLaws.{word_stops, word_next, word_end, sixteen_fold, sixteen_fits}
 use Rattle.text.proofs.read_hex.Given as goal
 
 abbrev pub invariant-loop-i : goal.invariant-loop-i
