@@ -1,4 +1,6 @@
 // What `render` prints: the text of a frame, of the end and of a refusal. A text is put as crates/text puts one.
+#![tactic(auto)]
+
 ghost use Rattle.std.specs.Prelude.{◌≡◌, ◌≤◌, ◌+◌, ◌*◌, length};
 ghost use Rattle.std.proofs.lemmas.List.Edits.{sets};
 ghost use Rattle.text.specs.Promises.{Put};

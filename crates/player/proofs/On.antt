@@ -75,7 +75,7 @@ counted_add t f k n =
 run_last : (r : Run) (xs : List Answer) (a : Answer) → run r (xs ++ (a ∷ [])) ≡ settle (run r xs) a (tally_of (run r xs).tally a)
 unfolding run
 run_last r [] a = refl
-run_last r (x ∷ xs) a = run_last _ xs a
+run_last r (x ∷ xs) a = run_last (settle r x (tally_of r.tally x)) xs a
 
 settle_kept : (r : Run) (a : Answer) (u : Tallied) → (settle r a u).tally ≡ tally_or r.tally u
 unfolding settle tallied_number tally_or

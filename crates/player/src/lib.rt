@@ -1,4 +1,6 @@
 // A score is played in blocks of frames, as many at a time as there are marks: samples and marks, and no text.
+#![tactic(auto)]
+
 ghost use Rattle.std.specs.Prelude.{◌≡◌};
 ghost use Rattle.answer.specs.Block.{block};
 ghost use Rattle.vco.specs.Vco.{new_vco};
