@@ -4,11 +4,11 @@ use mathlib.Core.Bool.{Bool, true, false, cond}
 use mathlib.Core.List.{List, [], ◌∷◌, map}
 use mathlib.Core.Path.{◌≡◌, refl, sym, ap, subst, ◌∙◌}
 use native.Mathlib.Omega.{arith}
-use lib.Dec.{ltb, eqb, lit≤}
+use lib.Dec.{eqb, lit≤}
 use lib.IntN.{ℤ, pos, negsuc}
 use lib.ListN.{length, get_or, drop}
 use lib.Seq.{sets}
-use borrow.Author.Tests.{le-ltb, ne_eqb, eq-eqb, eqb-true}
+use borrow.Author.Tests.{ne_eqb, eq-eqb, eqb-true}
 use mir.Syntax.{w32}
 use mir.Val.{to_z, of_z, SFits}
 use mir.ValLaws.{to_z-of_z}
@@ -17,7 +17,7 @@ use Rattle.laws.proofs.Over.{by_cells}
 use Rattle.laws.proofs.Slices.{stored}
 use Rattle.score.specs.Control.{volts_of}
 use Rattle.score.specs.Keys.{input_keys, inputs_from}
-use Rattle.score.specs.Promises.{ValidInput, ValidGate, ValidHead, ValidInputs, Valid}
+use Rattle.score.specs.Promises.{ValidInput, ValidGate, ValidInputs, Valid}
 use Rattle.score.specs.declared.Control.{Control}
 use Rattle.score.specs.declared.Control.TheVariants.{Microvolts, Nan}
 use Rattle.score.specs.declared.Osc.{Osc}

@@ -1,7 +1,7 @@
 -- What one call reads the other writes, and back; by which number it is refused, and what is then left.
 use Prim.Native.Nat.{ℕ, ◌≤◌, ◌<◌}
 use mathlib.Core.Bool.{Bool, true, false, cond}
-use mathlib.Core.List.{List, [], ◌∷◌, ◌++◌, map}
+use mathlib.Core.List.{List, [], ◌∷◌, ◌++◌}
 use mathlib.Core.Path.{◌≡◌, refl, sym, ap, subst, ◌∙◌}
 use native.Mathlib.Omega.{arith}
 use lib.Dec.{ltb, eqb}
@@ -10,7 +10,6 @@ use lib.IntN.{ℤ}
 use lib.ListN.{length, get_or, take, drop}
 use borrow.Author.Tests.{eq-eqb, eqb-true, ltb-true, ltb-false}
 use Rattle.boundary.specs.Flat.{sizes_of, kept, kept_sized}
-use Rattle.score.specs.Control.{volts_of}
 use Rattle.score.specs.Score.{score_of}
 use Rattle.score.specs.Promises.{ValidHead}
 use Rattle.score.proofs.Text.{read_valid, score_text}
@@ -25,7 +24,7 @@ use Rattle.score_writer.proofs.Texts as writer
 use Rattle.score_writer.proofs.Texts.{write_read, read_write}
 use Rattle.score_writer.specs.declared.Writing.{Writing}
 use Rattle.score_writer.specs.declared.Writing.TheVariants as W
-use Rattle.exports_score.specs.Cells.{floats_of, wholes_of, microvolts_of, control_at, head_at, score_at}
+use Rattle.exports_score.specs.Cells.{wholes_of, microvolts_of, head_at, score_at}
 use Rattle.exports_score.specs.Shortcuts.{held_at}
 use Rattle.exports_score.specs.Calls.{kept_of, score_read_at, Told, told, told_of, score_values_at, Saved, saved, saved_by, saved_of, score_write_at}
 use Rattle.exports_score.specs.Examples.{blank, none}

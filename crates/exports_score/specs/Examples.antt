@@ -2,7 +2,7 @@
 use Rattle.std.specs.Prelude.{List, [], ◌∷◌, map, ◌≡◌, ℕ, ℤ, pos, negsuc}
 use Prim.Native.String.{String}
 use Rattle.line.specs.Bytes.{ascii}
-use Rattle.exports_score.specs.Calls.{Told, told, score_values_at, Saved, saved, score_write_at}
+use Rattle.exports_score.specs.Calls.{told, score_values_at, saved, score_write_at}
 
 -- cells to write on
 abbrev pub blank : List ℤ

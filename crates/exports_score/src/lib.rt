@@ -4,6 +4,8 @@
 // A call answers a number: 0 done; before all, 50, 54, 51 and 55 where floats, microvolts, wholes or written have another length;
 // of a text 20 to 23 as the scope refuses it; of a score that is handed over 23 where no text reads as it, and last 24 where its text
 // has no room. A refused call writes nothing.
+#![tactic(auto)]
+
 ghost use Rattle.std.specs.Prelude.{◌≡◌, ◌<◌, pos, length, get_or, drop};
 ghost use Rattle.boundary.specs.Flat.{kept};
 ghost use Rattle.score.specs.declared.Inputs.TheVariants as I;

@@ -1,0 +1,17 @@
+-- `gruttisol_score_values`: the lengths are asked first, and then the text.
+use mathlib.Core.Path.{◌∙◌}
+use borrow.Author.Tests.{ne_eqb, eq-eqb}
+use Rattle.exports_score.specs.Calls.{score_values_at}
+use Rattle.exports_score.proofs.gruttisol_score_values.Goals as goal
+
+pub returns-then-microvolts-ne-MICROVOLTS : goal.returns-then-microvolts-ne-MICROVOLTS
+unfolding score_values_at
+returns-then-microvolts-ne-MICROVOLTS c = simp (ne_eqb _ _ c.if-microvolts-ne-MICROVOLTS.true)
+
+pub returns-then-wholes-ne-WHOLES : goal.returns-then-wholes-ne-WHOLES
+unfolding score_values_at
+returns-then-wholes-ne-WHOLES c = simp (eq-eqb _ _ c.if-microvolts-ne-MICROVOLTS.false, ne_eqb _ _ c.if-wholes-ne-WHOLES.true)
+
+pub returns : goal.returns
+unfolding score_values_at
+returns c = c.put_values.ensures ∙ simp (eq-eqb _ _ c.if-microvolts-ne-MICROVOLTS.false, eq-eqb _ _ c.if-wholes-ne-WHOLES.false, c.read.ensures)
