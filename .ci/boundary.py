@@ -1,4 +1,4 @@
-"""What hosts call: functions as the crates export them, as the C header declares them, and as the safe crate does; the header's numbers.
+"""What hosts call: functions as the static library exports them, as the C header declares them, and as the safe crate does; the header's numbers.
 
 A function is what it answers and its inputs in order, each a name and a kind: `f64`, or, of a lent slice, `mut f64` or `const f64`.
 In C and in the archive a slice is two arguments, the address of its first cell and its length. A number of the header is held against
@@ -6,6 +6,7 @@ each place of the crates that says it (`said`); refusals and how much is enough 
 """
 import re
 
+import handed
 from texts import blanked
 
 HEADER = "host/c/gruttisol.h"
@@ -20,10 +21,10 @@ def parts(text):
 
 
 def exported(files):
-    """What the crates export, as {name: (answer, inputs)}."""
+    """What the static library exports, as {name: (answer, inputs)}."""
     found = {}
     for path, text in files.items():
-        if re.match(r"crates/\w+/src/.*\.rt$", path):
+        if re.match(rf"crates/{handed.CRATE}/src/.*\.rt$", path):
             text = blanked(path, text)
             for m in re.finditer(r"\bextern\s+\"C\"\s+fn\s+(\w+)\s*\(([^)]*)\)\s*(?:->\s*(\w+))?", text):
                 inputs = [re.split(r"\s*:\s*", part) for part in parts(m[2])]

@@ -18,6 +18,7 @@ import boundary
 import contracts
 import counts
 import edits
+import handed
 import kept
 import statements
 from texts import APART, blanked, brings, line, past
@@ -172,6 +173,7 @@ def instances(files):
     for path, crate, text in of_crates(files, ["proofs"], ".antt"):
         if re.search(r"^pub \S+ : Settled$", text, re.M):
             proved.add(crate)
+    functions.pop(handed.CRATE, None)  # it has the contracts of other crates
     for crate, found in functions.items():
         for place, name in found:
             if not any(contracts.named_after(field, name) for field in fields.get(crate, ("", []))[1]):
@@ -208,6 +210,11 @@ def proved(files):
             yield f"{path}: proofs/ has no `pub {proof} : {name}`"
 
 
+def handed_out(files):
+    """The static library for C is each exported function of the libraries with its contract, word for word, and a call of it."""
+    return handed.differences(files)
+
+
 def boundary_holds(files):
     """Every exported function is in the C header and in the safe crate, with its types and order, and nothing else is; the header's numbers are the crates'."""
     return boundary.differences(files)
@@ -241,10 +248,10 @@ def short_lines(files):
 
 
 def stages_named(files):
-    """No path of a proof goes six or more `.before` back in a row, but where that place is given its name (`let tuned = c .before .. in`)."""
+    """No path of a proof goes six or more `.before` back in a row, but where that place is given its name (`let tuned = c.before.. in`)."""
     for path, _, text in of_crates(files, ["proofs"], ".antt"):
         text = blanked(path, text)
-        for m in re.finditer(rf"((?<!{APART})let\s+\S+\s+=\s+\S+)?((?:\s+\.before)+)(?!{APART})(\s+in(?!{APART}))?", text):
+        for m in re.finditer(rf"((?<!{APART})let\s+\S+\s+=\s+{APART}+)?((?:\.before)+)(?!{APART})(\s+in(?!{APART}))?", text):
             if m[2].count(".before") > BEFORES and not (m[1] and m[3]):
                 yield f"{path}:{line(text, m.end(2))}: {m[2].count('.before')} times .before"
 
@@ -349,7 +356,7 @@ def sheet_is_table(files):
 
 def controls_asked(files):
     """Each control of an oscillator stands in the list that steered asks, and each that is a number in that of the promise NanSteers."""
-    named = lambda text: re.findall(r"\bc \.«?(\w+)", text)
+    named = lambda text: re.findall(r"\bc\.«?(\w+)", text)
     for source in [path for path in files if re.fullmatch(r"crates/\w+/src/lib.rt", path)]:
         controls = re.search(r"^pub struct \w+Controls \{\n(.*?)^\}", files[source], re.M | re.S)
         fields = re.findall(r"^    pub (\w+): (\w+),$", controls[1], re.M) if controls else []
@@ -372,6 +379,7 @@ WITHOUT_BOTH = {
     "examples": "it has no code",
     **dict.fromkeys(["values", "replay"], "it states nothing: a program that prints, held to its file stdout"),
     **dict.fromkeys(["exports", "exports_score"], "it states nothing but Settled, which any definition fulfils"),
+    handed.CRATE: "it has no definitions",
 }
 
 
@@ -468,7 +476,7 @@ SETTLES = "use Rattle.laws.specs.Machine.{Settles}\n"
 def settling(contract, equation, binders, brought=SETTLES):
     """A crate with one function and what its record Settled says of it."""
     return {
-        "crates/x/src/lib.rt": f"pub fn f(x: f64, y: f64, z: f64) -> f64\n    ensures {{ λ r. ⌜ {contract} ⌝ }}\n{{ x }}\n",
+        "crates/x/src/lib.rt": f"pub fn f(x: f64, y: f64, z: f64) -> f64\n    ensures value {{ {contract} }}\n{{ x }}\n",
         "crates/x/specs/Settled.antt": f"{brought}\npub record Settled : Type 0 where\n  pub f : {binders}Settles (λ (a : Float). {equation})\n",
     }
 
@@ -520,7 +528,7 @@ CHECKS = {
     ],
     settled: [
         {"crates/x/src/lib.rt": "pub fn f(x: [u8; 2]) -> [u8; 2] // ensures { x }\n{\n    x\n}\n"},
-        {"crates/x/src/lib.rt": 'pub extern "C" fn f(x: u8) -> u8\n    ensures { x }\n    requires { x }\n{ x }\n'},
+        {"crates/x/src/lib.rt": 'pub extern "C" fn f(x: u8) -> u8\n    ensures same { x }\n    requires small { x }\n{ x }\n'},
         {"crates/x/src/lib.rt": "pub(crate) fn f(x: u8) -> u8\n{\n    x\n}\n"},
         {"crates/x/src/lib.rt": "pub const unsafe fn f<'a>(x: u8) -> u8\n{\n    x\n}\n"},
     ],
@@ -530,25 +538,27 @@ CHECKS = {
         {"crates/x/specs/Settled.antt": "pub record Settled : Type 0 where\n  pub f : Type 0\n"},
     ],
     repeated: [
-        {"crates/x/src/lib.rt": "pub fn f(x: u8) -> u8\n    ensures { λ r. ⌜ r ≡ r ⌝ }\n{ x }\n"},
-        {"crates/x/src/lib.rt": "pub fn f(x: u8) -> u8\n    ensures { λ r. ⌜ r ≡ sin_of r ⌝ }\n{ x }\n"},
-        {"crates/x/src/lib.rt": "pub fn f(x: u8) -> u8\n    ensures { λ r. ⌜ r ≡ x ⌝ }\n{ x }\n"},
-        settling("r ≡ sin_of x", "a ≡ cos_of b", "(b : Float) → "),
-        settling("r ≡ sin_of x", "a ≡ a", "(b : Float) → "),
-        settling("r ≡ clamp_of x x x", "a ≡ clamp_of b c d", "(b c d : Float) → b ≡ c → "),
-        settling("r ≡ clamp_of x y z", "a ≡ clamp_of b b c", "(b c : Float) → "),
-        settling("r ≡ sin_of x", "a ≡ sin_of b", "(b : Float) (no : ⊥) → "),
-        settling("r ≡ wrap_of (x .0)", "a ≡ wrap_of (b .0)", "(b : Float × ⊥) → "),
-        settling("r ≡ sin_of x", "a ≡ sin_of b", "(b : Float) → ", ""),
-        settling("r ≡ sin_of x", "a ≡ sin_of b", "(b : Float) → ", "use Rattle.x.specs.Weak.{Settles}\n"),
-        settling("r ≡ sin_of x", "a ≡ sin_of b", "(b : Float) → ", f"{SETTLES}abbrev pub Settles : (Float → Type 0) → Type 0\n"),
+        {"crates/x/src/lib.rt": "pub fn f(x: u8) -> u8\n    ensures { result ≡ result }\n{ x }\n"},
+        {"crates/x/src/lib.rt": "pub fn f(x: u8) -> u8\n    ensures { result ≡ sin_of result }\n{ x }\n"},
+        {"crates/x/src/lib.rt": "pub fn f(x: u8) -> u8\n    ensures { result ≡ x }\n{ x }\n"},
+        {"crates/x/src/lib.rt": "pub fn f(x: u8) -> u8\n    ensures* { result ≡ sin_of x }\n{ x }\n"},
+        settling("result ≡ sin_of x", "a ≡ cos_of b", "(b : Float) → "),
+        settling("result ≡ sin_of x", "a ≡ a", "(b : Float) → "),
+        settling("result ≡ clamp_of x x x", "a ≡ clamp_of b c d", "(b c d : Float) → b ≡ c → "),
+        settling("result ≡ clamp_of x y z", "a ≡ clamp_of b b c", "(b c : Float) → "),
+        settling("result ≡ sin_of x", "a ≡ sin_of b", "(b : Float) (no : ⊥) → "),
+        settling("result ≡ wrap_of x.0", "a ≡ wrap_of b.0", "(b : Float × ⊥) → "),
+        settling("result ≡ wrap_of x.0", "a ≡ wrap_of b.1", "(b : Float) → "),
+        settling("result ≡ sin_of x", "a ≡ sin_of b", "(b : Float) → ", ""),
+        settling("result ≡ sin_of x", "a ≡ sin_of b", "(b : Float) → ", "use Rattle.x.specs.Weak.{Settles}\n"),
+        settling("result ≡ sin_of x", "a ≡ sin_of b", "(b : Float) → ", f"{SETTLES}abbrev pub Settles : (Float → Type 0) → Type 0\n"),
         {"crates/x/specs/Weak.antt": "abbrev pub Settles : (Float → Type 0) → Type 0\nSettles P = ⊤\n"},
     ],
     proved: [
-        {"crates/lfo/specs/Promises.antt": "abbrev pub Never-lost : Type 0\nNever-lost = Type 0\n"},
-        {"crates/lfo/specs/Promises.antt": "abbrev pub Never-lost : Type 0\nNever-lost = Type 0\n-- List Never-lost\n"},
-        {"crates/lfo/specs/Promises.antt": "pub Never-lost : Type 0\nNever-lost = Type 0\n"},
-        {"crates/lfo/specs/Promises.antt": "abbrev pub Never-lost\n  : Type 0\nNever-lost = Type 0\n"},
+        {"crates/lfo/specs/Promises.antt": "abbrev pub NeverLost : Type 0\nNeverLost = Type 0\n"},
+        {"crates/lfo/specs/Promises.antt": "abbrev pub NeverLost : Type 0\nNeverLost = Type 0\n-- List NeverLost\n"},
+        {"crates/lfo/specs/Promises.antt": "pub NeverLost : Type 0\nNeverLost = Type 0\n"},
+        {"crates/lfo/specs/Promises.antt": "abbrev pub NeverLost\n  : Type 0\nNeverLost = Type 0\n"},
         keeping(f"{KEPT}\nkept : Kept\n"),
         keeping("abbrev Kept : Type 0\n\npub kept : Kept\n"),
         keeping(f"{KEPT}\n{{-\npub kept : Kept\n-}}\n"),
@@ -558,8 +568,17 @@ CHECKS = {
         keeping(f"{KEPT}use lib.Any.{{Any as Kept}}\npub kept : Kept\n"),
         {"crates/x/specs/Promises.antt": "pub record Keeping (n : ℕ) : Type 0 where\n"},
     ],
+    handed_out: [
+        changed("crates/exports_c/src/numeric_calls.rt", "gruttisol_sin(x)", "gruttisol_cos(x)"),
+        changed("crates/exports_c/src/numeric_calls.rt", "result ≡ sin_of x", "result ≡ cos_of x"),
+        changed("crates/exports_c/src/lfo_calls.rt", "exports_lfo.specs.Calls", "exports_lfo.specs.Other"),
+        changed("crates/exports_c/src/lib.rt", "mod lfo_calls;\n", ""),
+        {"crates/exports_c/src/more.rt": 'pub extern "C" fn more(x: f64) -> f64\n'},
+        {"crates/exports_x/src/lib.rt": handed.EXPORTED + "more(x: f64) -> f64\n    ensures { result ≡ x }\n{\n", "crates/exports_c/src/": ""},
+        {"crates/lfo/src/lib.rt": handed.EXPORTED + "more(x: f64) -> f64\n    ensures { result ≡ x }\n{\n"},
+    ],
     boundary_holds: [
-        {"crates/x/src/lib.rt": 'pub extern "C" fn gruttisol_more(x: f64) -> f64\n', "host/": ""},
+        {"crates/exports_c/src/more.rt": 'pub extern "C" fn gruttisol_more(x: f64) -> f64\n', "host/": ""},
         header("gruttisol_sin(double x)", "gruttisol_sin(double y)"),
         header("GRUTTISOL_VCO_FLOATS 5", "GRUTTISOL_VCO_FLOATS 4"),
         header("GRUTTISOL_GATE_ISSUE_2 1.0", "GRUTTISOL_GATE_ISSUE_2 1.5"),
@@ -579,6 +598,10 @@ CHECKS = {
         changed(kept.TOOL, "kept=target/native/$triple", "kept=target/native/any"),
         changed(kept.TOOL, '[ "$(key)" = "$made_from" ]', "true"),
         changed(kept.TOOL, '|| rm -f "$old"', "|| true"),
+        changed(kept.TOOL, "host/tools/native host/tools/by_function", "host/tools/native"),
+        changed(kept.TOOL, '[ "${GRUTTISOL_PROVED:-}" = 1 ] || return 1', "true"),
+        changed(kept.TOOL, '&& [ ! -e "crates/$crate/out/rlib/stamp" ]', ""),
+        changed(kept.TOOL, 'grep -q "^rt: running', 'true || grep -q "^rt: running'),
     ],
     no_hole: [{"crates/x/proofs/f/Proof.antt": "returns c = ?\n"}],
     short_lines: [
@@ -587,9 +610,9 @@ CHECKS = {
         {"crates/x/proofs/f/Proof.antt": f"{161 * 'a'}\n"},
     ],
     stages_named: [
-        {"crates/x/proofs/f/Proof.antt": f"returns c = simp (c{6 * ' .before'} .hits)\n"},
-        {"crates/x/proofs/f/Proof.antt": f"returns c = let a = c{3 * ' .before'}\n   {3 * ' .before'} .hits in a\n"},
-        {"crates/x/proofs/f/Proof.antt": f"returns c = let a = f c{6 * ' .before'} in a\n"},
+        {"crates/x/proofs/f/Proof.antt": f"returns c = simp (c{6 * '.before'}.hits)\n"},
+        {"crates/x/proofs/f/Proof.antt": f"returns c = let a = c{6 * '.before'}.hits in a\n"},
+        {"crates/x/proofs/f/Proof.antt": f"returns c = let a = f c{6 * '.before'} in a\n"},
     ],
     own_words: [{"docs/x.md": "built in /" + "work/ here\n"}],
     no_copy: [{"x.rs": COPY}],
@@ -616,10 +639,10 @@ CHECKS = {
         {TABLE: "", SHEET: "## The sheet\n| wave | 0 | 1 | 2 | 3 | 4 | 5 | 6 | 7 |\n## \n"},
     ],
     controls_asked: [
-        changed("crates/vco/specs/Vco.antt", "c .pw ∷ c .sync ∷", "c .sync ∷"),
-        changed("crates/wavetable/specs/Promises.antt", "∷ c .table ∷ c .morph ∷", "∷ c .morph ∷"),
-        changed("crates/lfo/specs/Lfo.antt", "controls_of c = c .rate ∷ c .depth", "controls_of c = c .rate ∷ c .rate"),
-        changed("crates/noise_generator/specs/NoiseGenerator.antt", "given_in (c .correlation)", "[]"),
+        changed("crates/vco/specs/Vco.antt", "c.pw ∷ c.sync ∷", "c.sync ∷"),
+        changed("crates/wavetable/specs/Promises.antt", "∷ c.table ∷ c.morph ∷", "∷ c.morph ∷"),
+        changed("crates/lfo/specs/Lfo.antt", "controls_of c = c.rate ∷ c.depth", "controls_of c = c.rate ∷ c.rate"),
+        changed("crates/noise_generator/specs/NoiseGenerator.antt", "given_in c.correlation", "[]"),
         {"crates/x/src/lib.rt": "pub struct XControls {\n    pub y: f64,\n}\n"},
     ],
     tests_counted: [

@@ -4,13 +4,15 @@ A contract is read as equations. Its left sides are what the call leaves, each o
 that was lent to be written, alone or gathered by a definition that makes a record of its arguments. Its right sides are definitions
 of specs/ (or of the kit, KIT) over what the call was given. The field's equations, over its own variables, must have the contract's right
 sides as an instance: what stands under `Settles` is then the contract's own text, and not something weaker. For that a lent slice is
-called by its name (`x.now` and `x.old` are `x`), an escaped name is the bare one, and a name is written without its module.
+called by its name (`x.now`, `x.old` and `x.entry` are `x`), an escaped name is the bare one, and a name is written without its module.
 
 A field's variables are of types that are a name or a list. One that its equations don't use would make the field say nothing if
-its type had no members: it has the type of one of the function's inputs. `Settles` is that of the crate laws.
+its type had no members: it has the type of one of the function's inputs. `Settles` is that of the crate laws. What the static library hands out
+has the contracts of other crates, word for word, by a check of its own (handed).
 """
 import re
 
+import handed
 from texts import APART, blanked, brings, declares, line, past
 
 KIT = {"to_bits", "of_bits", "set", "sets", "min"}
@@ -83,10 +85,8 @@ def called(term):
         return term
     found = []
     for item in map(called, term):
-        if item in (".old", ".now") and found:
-            continue
-        if item == ".new" and found and isinstance(found[-1], str):
-            found[-1] += "'"
+        if len(found) == 1 and isinstance(found[0], str) and item in (".old", ".now", ".entry", ".new"):
+            found[0] += "'" * (item == ".new")
         else:
             found.append(item)
     return whole(found)
@@ -255,7 +255,7 @@ def differences(files):
             if not path.startswith("crates/laws/") and declares(blanked(path, text), "Settles"):
                 yield f"{path}: declares a Settles of its own"
     for path, text in files.items():
-        if not re.match(r"crates/\w+/src/.*\.rt$", path):
+        if not re.match(r"crates/\w+/src/.*\.rt$", path) or path.startswith(f"crates/{handed.CRATE}/"):
             continue
         crate, modules = path.split("/")[1], named_modules(text)
         sources = "".join(other for there, other in files.items() if there.startswith(f"crates/{crate}/src/"))

@@ -1,13 +1,14 @@
 #!/usr/bin/env python3
 """Counts of what must be read and believed, as the table of docs/PROOFS.md has them.
 
-    counts.py            prints the table
-    counts.py --write    puts it into docs/PROOFS.md, between its two marks
+    counts.py                  prints the table
+    counts.py --write [LOG]    puts it into docs/PROOFS.md, between its two marks
+    counts.py --held LOG       says whether the page has the axioms that LOG names
 
 Columns: lines of definitions and of statements in specs/, without blank lines, comments, `use` and `pub mod`; a statement file is
 Promises, Settled or Examples, and all of the crate examples. Public functions in src/; those of them that an instance of `Settles` is
-stated for; edits that the prover must refuse, of must-fail/ and wrong/. Axioms of a program are those that the prover named when it last
-proved it, in target/log; where it has not, those of the page.
+stated for, and of the static library those whose library's functions have one; edits that the prover must refuse. Axioms of a program are those that
+the prover named when it proved it, in what `rt ci` printed (LOG); where it has not, as where it kept the proof, those of the page.
 """
 import pathlib
 import re
@@ -15,6 +16,7 @@ import sys
 
 sys.dont_write_bytecode = True  # no folder of compiled files beside this one
 import contracts
+import handed
 import statements
 
 ROOT = pathlib.Path(__file__).resolve().parent.parent
@@ -24,6 +26,7 @@ BEGIN, END = "<!-- counts -->\n", "<!-- end of counts -->"
 
 def lines(text):
     """How many lines of a specification say something."""
+    text = re.sub(r"^((?:pub )?use )[^{\n]*\{[^}]*\}", r"\1", text, flags=re.M)
     return sum(not re.match(r"\s*(--.*|use .*|pub mod .*)?$", row) for row in text.splitlines())
 
 
@@ -37,7 +40,7 @@ def crate_counts(files):
     """For each crate: definitions, statements, public functions, settled ones, edits."""
     counts = {}
     for path, text in files.items():
-        match = re.fullmatch(r"crates/(\w+)/(specs|src|must-fail|wrong)/[\w-]+\.(?:antt|rt|edit)", path)
+        match = re.fullmatch(r"crates/(\w+)/(specs|src|must-fail)/[\w-]+\.(?:antt|rt|edit)", path)
         if not match:
             continue
         crate, folder = match.groups()
@@ -46,31 +49,35 @@ def crate_counts(files):
             row[statements.is_statement_file(path)] += lines(text)
             row[3] += settled(text)
         elif folder == "src":
-            row[2] += len(list(contracts.functions(text)))
+            functions = len(list(contracts.functions(text)))
+            row[2] += functions
+            row[3] += functions if crate == handed.CRATE else 0
         else:
             row[4] += 1
     return counts
 
 
-def axioms(files, crate):
+def axioms(files, crate, log=""):
     """What the prover named as a program's axioms, or the page does."""
-    log = ROOT / "target" / "log" / f"{crate}.out"
-    said = log.read_text(errors="replace") if log.exists() else ""
-    if re.search(r"^logic=proved .*\baxioms=", said, re.M):
-        return ", ".join(re.findall(r"^axioms \S+: (.*) \(\d+ of the \d+ declared\)$", said, re.M)) or "none"
+    part = re.search(rf"^== {crate}\n((?:.*\n)*?)rt: {crate} proved$", log, re.M)
+    if part:
+        return ", ".join(re.findall(r"^axioms \S+: (.*) \(\d+ of the \d+ declared\)$", part[1], re.M)) or "none"
     said = re.search(rf"^\| `{crate}` \| (.*) \|$", files.get(PAGE, ""), re.M)
     return said[1] if said else "not known"
 
 
-def tables(files):
+def programs(files):
+    return sorted(path.split("/")[1] for path in files if re.fullmatch(r"crates/\w+/src/main\.rt", path))
+
+
+def tables(files, log=""):
     counts = crate_counts(files)
     rows = ["| crate | definitions | statements | public functions | of them settled | edits that must fail |"]
     rows.append("|---|---|---|---|---|---|")
     rows += [f"| {crate} | " + " | ".join(map(str, counts[crate])) + " |" for crate in sorted(counts)]
     rows.append("| all | " + " | ".join(str(sum(column)) for column in zip(*counts.values())) + " |")
-    programs = sorted(path.split("/")[1] for path in files if re.fullmatch(r"crates/\w+/src/main\.rt", path))
     rows += ["", "| program | its axioms |", "|---|---|"]
-    rows += [f"| `{crate}` | {axioms(files, crate)} |" for crate in programs]
+    rows += [f"| `{crate}` | {axioms(files, crate, log)} |" for crate in programs(files)]
     return "\n".join(rows) + "\n"
 
 
@@ -79,15 +86,21 @@ def placed(page, table):
     return page[: page.index(BEGIN) + len(BEGIN)] + table + page[page.index(END) :]
 
 
-def main():
+def main(word="", log=""):
     files = {str(path.relative_to(ROOT)): path.read_text() for path in sorted(ROOT.glob("crates/*/*/*")) if path.is_file()}
     files[PAGE] = (ROOT / PAGE).read_text()
-    table = tables(files)
-    if sys.argv[1:] == ["--write"]:
+    said = pathlib.Path(log).read_text(errors="replace") if log else ""
+    table = tables(files, said)
+    if word == "--write":
         (ROOT / PAGE).write_text(placed(files[PAGE], table))
+    elif word == "--held":
+        wrong = [crate for crate in programs(files) if axioms(files, crate) != axioms(files, crate, said)]
+        print(*(f"{PAGE}: {crate} has the axioms {axioms(files, crate, said)}\n" for crate in wrong), sep="", end="")
+        return bool(wrong)
     else:
         print(table, end="")
+    return False
 
 
 if __name__ == "__main__":
-    main()
+    sys.exit(main(*sys.argv[1:]))

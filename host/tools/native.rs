@@ -9,10 +9,17 @@ use std::{env, fs};
 pub fn make(tool: &str, words: impl IntoIterator<Item = impl AsRef<OsStr>>) {
     let package = PathBuf::from(env::var_os("CARGO_MANIFEST_DIR").unwrap());
     let host = package.parent().unwrap();
-    for read in ["tools/native", "tools/library", "../crates.txt", "../crates"] {
+    for read in ["tools/native", "tools/by_function", "tools/library", "../crates.txt"] {
         println!("cargo:rerun-if-changed={}", host.join(read).display());
     }
-    println!("cargo:rerun-if-env-changed=RATTLE_HOME");
+    // of a crate all but what rt leaves in its out/
+    for folder in fs::read_dir(host.join("../crates")).into_iter().flatten().flatten() {
+        for part in ["src", "specs", "proofs", "stdin", "stdout", "args", "data"].map(|part| folder.path().join(part)) {
+            if part.exists() {
+                println!("cargo:rerun-if-changed={}", part.display());
+            }
+        }
+    }
     let tool = host.join("tools").join(tool);
     match Command::new(&tool).args(words).arg(env::var_os("TARGET").unwrap()).status() {
         Ok(status) if status.success() => {}

@@ -2,6 +2,6 @@
 // with the project's prefix. A contract says what the crate's own function says.
 #![tactic(auto)]
 
-mod answer_calls;
-mod common_calls;
-mod numeric_calls;
+pub mod answer_calls;
+pub mod common_calls;
+pub mod numeric_calls;
