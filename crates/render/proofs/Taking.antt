@@ -6,12 +6,11 @@ use mathlib.Core.Path.{◌≡◌, refl, sym, ap, subst, ◌∙◌}
 use native.Mathlib.Nat.{not-suc-le-zero}
 use native.Mathlib.Omega.{arith}
 use lib.Dec.{eqb}
-use lib.IntN.{ℤ, pos, negsuc}
+use lib.IntN.{ℤ, pos, negsuc, nat_abs}
 use lib.ListN.{length, take}
 use lib.Seq.{length-take-le}
 use lib.Signed.{lt_z}
 use borrow.Author.Tests.{ltb-true, eqb-false, eq-eqb, ne_eqb}
-use Rattle.io.specs.Counts.{clamp_len}
 use Rattle.render.specs.Reads.{step_of, step_by, Within, Reaches, taken_of}
 use Rattle.render.specs.Promises.{FailedRead}
 use Rattle.render.specs.declared.Taken.{Taken}
@@ -25,12 +24,12 @@ unfolding step_of
 failed n room (pos k) e = absurd (not-suc-le-zero (ltb-true k 0 e))
 failed n room (negsuc k) e = refl
 
-ended : (n room more : ℕ) (got : ℤ) → lt_z got (pos 0) ≡ false → more ≡ clamp_len got room → more ≡ 0 → Stop (Text n) ≡ step_of n got room
+ended : (n room more : ℕ) (got : ℤ) → lt_z got (pos 0) ≡ false → more ≡ min (nat_abs got) room → more ≡ 0 → Stop (Text n) ≡ step_of n got room
 unfolding step_of
 ended n room more (pos k) e m z = rw (eq-eqb (min k room) 0 (sym m ∙ z)) refl
 ended n room more (negsuc k) e m z = absurd (true≢false e)
 
-goes_on : (n room more : ℕ) (got : ℤ) → lt_z got (pos 0) ≡ false → more ≡ clamp_len got room → (more ≡ 0 → ⊥) → On (n + more) ≡ step_of n got room
+goes_on : (n room more : ℕ) (got : ℤ) → lt_z got (pos 0) ≡ false → more ≡ min (nat_abs got) room → (more ≡ 0 → ⊥) → On (n + more) ≡ step_of n got room
 unfolding step_of
 goes_on n room more (pos k) e m z = rw (ne_eqb (min k room) 0 (λ q. z (m ∙ q))) (ap (λ (j : ℕ). On (n + j)) m)
 goes_on n room more (negsuc k) e m z = absurd (true≢false e)
@@ -40,11 +39,11 @@ module _ (n room more : ℕ) (z got : ℤ) (back : z ≡ got) where
   pub step_failed : lt_z z (pos 0) ≡ true → Stop Failed ≡ step_of n got room
   step_failed e = failed n room got (ap (λ (z : ℤ). lt_z z (pos 0)) (sym back) ∙ e)
 
-  pub step_ended : lt_z z (pos 0) ≡ false → more ≡ clamp_len z room → more ≡ 0 → Stop (Text n) ≡ step_of n got room
-  step_ended e m = ended n room more got (ap (λ (z : ℤ). lt_z z (pos 0)) (sym back) ∙ e) (m ∙ ap (λ (z : ℤ). clamp_len z room) back)
+  pub step_ended : lt_z z (pos 0) ≡ false → more ≡ min (nat_abs z) room → more ≡ 0 → Stop (Text n) ≡ step_of n got room
+  step_ended e m = ended n room more got (ap (λ (z : ℤ). lt_z z (pos 0)) (sym back) ∙ e) (m ∙ ap (λ (z : ℤ). min (nat_abs z) room) back)
 
-  pub step_on : lt_z z (pos 0) ≡ false → more ≡ clamp_len z room → (more ≡ 0 → ⊥) → On (n + more) ≡ step_of n got room
-  step_on e m = goes_on n room more got (ap (λ (z : ℤ). lt_z z (pos 0)) (sym back) ∙ e) (m ∙ ap (λ (z : ℤ). clamp_len z room) back)
+  pub step_on : lt_z z (pos 0) ≡ false → more ≡ min (nat_abs z) room → (more ≡ 0 → ⊥) → On (n + more) ≡ step_of n got room
+  step_on e m = goes_on n room more got (ap (λ (z : ℤ). lt_z z (pos 0)) (sym back) ∙ e) (m ∙ ap (λ (z : ℤ). min (nat_abs z) room) back)
 
 -- ---- it reaches no further than what was lent
 reaches : (n room : ℕ) (got : ℤ) (input : List ℕ) → n + room ≤ length input → Reaches (step_of n got room) n input

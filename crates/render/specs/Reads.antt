@@ -1,6 +1,6 @@
 -- What the program takes its standard input to say.
-use Rattle.std.specs.Prelude.{ℕ, ◌+◌, ◌≤◌, ◌<◌, min, Bool, true, false, List, eqb, ℤ, pos, negsuc, length, take}
-use Rattle.io.specs.Counts.{IsPrefixLen}
+use Rattle.std.specs.Prelude.{ℕ, ◌+◌, ◌≤◌, ◌<◌, min, Bool, true, false, List, eqb, ℤ, pos, negsuc, length, take, Result, Ok, Err}
+use Rattle.std.specs.Counts.{IsPrefixLen}
 use Rattle.score.specs.Score.{score_of}
 use Rattle.score.specs.declared.Reading.{Reading}
 use Rattle.score.specs.declared.Reading.TheVariants.{Refused}
@@ -8,6 +8,11 @@ use Rattle.render.specs.declared.Taken.{Taken}
 use Rattle.render.specs.declared.Taken.TheVariants.{Text, Failed}
 use Rattle.render.specs.declared.Step.{Step}
 use Rattle.render.specs.declared.Step.TheVariants.{On, Stop}
+
+-- a read's answer as one number: how many bytes came, or -1 where it failed
+abbrev pub number_of : {E : Type 0} → Result ℕ E → ℤ
+number_of (Ok n) = pos n
+number_of (Err e) = negsuc 0
 
 abbrev pub step_by : Bool → ℕ → ℕ → Step
 step_by true n more = Stop (Text n)

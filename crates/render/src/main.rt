@@ -1,14 +1,17 @@
 // Reads a score from standard input and prints what it plays, or its refusal. A read or write that fails is told on standard error.
-ghost use Rattle.std.specs.Prelude.{true, ◌≡◌, ◌+◌, ◌≤◌, ◌<◌, min, length};
+#![tactic(auto)]
+
+ghost use Rattle.std.specs.Prelude.{true, ◌≡◌, ◌+◌, ◌≤◌, ◌<◌, min, length, IfOk};
 ghost use Rattle.frame.specs.End.{refused_text};
 ghost use Rattle.score.specs.declared.Reading.TheVariants.{Values, Refused};
-ghost use Rattle.render.specs.Reads.{step_of, Within, Reaches, taken_of};
+ghost use Rattle.render.specs.Reads.{number_of, step_of, Within, Reaches, taken_of};
 ghost use Rattle.render.specs.Writes.{piece_of, Begins, end_of};
 
 use answer::Tally;
-use libc::{STDERR_FILENO, STDIN_FILENO, STDOUT_FILENO};
 use player::Player;
 use score::{Reading, Score};
+use std::io;
+use std::io::Read;
 
 // So many frames are written at once: their texts fit into the buffer.
 const AT_ONCE: u32 = 400;
@@ -31,6 +34,7 @@ enum Step {
 // that nothing follows a write that failed
 
 fn write_piece(
+    rt: &impl Print,
     text: &[u8],
     input: &[u8],
     taken: Taken,
@@ -40,22 +44,40 @@ fn write_piece(
 ) -> bool
     requires { (taken_of taken input.now ≡ Values score) × (text.now ≡ piece_of score frame 400) × Begins score frame × (wrote ≡ true) }
 {
-    io::write_all(STDOUT_FILENO, text)
+    rt.write_all(text).is_ok()
 }
 
-fn write_end(text: &[u8], input: &[u8], taken: Taken, score: Score, wrote: bool) -> bool
+fn write_end(
+    rt: &impl Print,
+    text: &[u8],
+    input: &[u8],
+    taken: Taken,
+    score: Score,
+    wrote: bool,
+) -> bool
     requires { (taken_of taken input.now ≡ Values score) × (text.now ≡ end_of score) × (wrote ≡ true) }
 {
-    io::write_all(STDOUT_FILENO, text)
+    rt.write_all(text).is_ok()
 }
 
-fn write_refused(text: &[u8], input: &[u8], taken: Taken, n: u32) -> bool
+fn write_refused(rt: &impl Print, text: &[u8], input: &[u8], taken: Taken, n: u32) -> bool
     requires { (taken_of taken input.now ≡ Refused n) × (text.now ≡ refused_text n) }
 {
-    io::write_all(STDOUT_FILENO, text)
+    rt.write_all(text).is_ok()
 }
 
 // ---- what is read
+
+// A read's answer as one number: how many bytes came, or -1 where it failed.
+fn count_of(read: io::Result<usize>) -> isize
+    requires { IfOk read (λ n. n < 4096) }
+    ensures { result ≡ number_of read }
+{
+    match read {
+        Ok(n) => n as isize,
+        Err(_) => -1,
+    }
+}
 
 fn after_read(n: usize, got: isize, room: &[u8]) -> Step
     requires { n + length room.now < 4096 }
@@ -64,7 +86,7 @@ fn after_read(n: usize, got: isize, room: &[u8]) -> Step
     if got < 0 {
         return Step::Stop(Taken::Failed);
     }
-    let more = io::count(got, room);
+    let more = (got as usize).min(room.len());
     if more == 0 {
         return Step::Stop(Taken::Text(n));
     }
@@ -72,22 +94,22 @@ fn after_read(n: usize, got: isize, room: &[u8]) -> Step
 }
 
 // One read, behind the first n bytes.
-fn read_on(input: &mut [u8], n: usize) -> Step
+fn read_on(from: &mut impl Read, input: &mut [u8], n: usize) -> Step
     requires { (n ≤ length input.old) × (length input.old < 4096) }
     ensures { Reaches result n input.new }
 {
-    let got = libc::read(STDIN_FILENO, &mut input[n..]);
+    let got = count_of(from.read(&mut input[n..]));
     after_read(n, got, &input[n..])
 }
 
 // Room for more than a score may have: of a longer text so much is read that it is refused, and no more.
-fn read_text(input: &mut [u8]) -> Taken
+fn read_text(from: &mut impl Read, input: &mut [u8]) -> Taken
     requires { (1024 < length input.old) × (length input.old < 4096) }
     ensures { Within result input.new }
 {
     let mut n = 0;
     while n < input.len() {
-        match read_on(&mut *input, n) {
+        match read_on(&mut *from, &mut *input, n) {
             Step::On(more) => n = more,
             Step::Stop(taken) => return taken,
         }
@@ -114,7 +136,7 @@ fn lesser(a: u32, b: u32) -> u32
 }
 
 // The score that was read of the input, piece by piece, until nothing is left or a write fails. It answers whether all was written.
-fn play(out: &mut [u8], input: &[u8], taken: Taken, score: Score) -> bool
+fn play(rt: &impl Print, out: &mut [u8], input: &[u8], taken: Taken, score: Score) -> bool
     requires { (length out.old ≡ 65536) × (taken_of taken input.now ≡ Values score) }
 {
     // six samples a frame at most
@@ -140,40 +162,38 @@ fn play(out: &mut [u8], input: &[u8], taken: Taken, score: Score) -> bool
         let counts = played.tally;
         tally = counts;
         let to = frame::put_frames(&mut *out, 0, osc, first, &samples[..room], &marks[..size]);
-        wrote = write_piece(&out[..to], input, taken, score, first, wrote);
+        wrote = write_piece(rt, &out[..to], input, taken, score, first, wrote);
         if !wrote {
             return false;
         }
         first += n;
     }
     let to = frame::put_end(&mut *out, 0, frames, tally);
-    write_end(&out[..to], input, taken, score, wrote)
+    write_end(rt, &out[..to], input, taken, score, wrote)
 }
 
 // It answers whether all was written.
-fn print(out: &mut [u8], input: &[u8], taken: Taken) -> bool
+fn print(rt: &impl Print, out: &mut [u8], input: &[u8], taken: Taken) -> bool
     requires { (length out.old ≡ 65536) × Within taken input.now }
 {
     match reading(input, taken) {
-        Reading::Values(s) => play(out, input, taken, s),
+        Reading::Values(s) => play(rt, out, input, taken, s),
         Reading::Refused(k) => {
             let to = frame::put_refused(&mut *out, 0, k);
-            write_refused(&out[..to], input, taken, k)
+            write_refused(rt, &out[..to], input, taken, k)
         }
     }
 }
 
-fn main() {
+fn main(rt: HostRuntime) {
     let mut input = [0u8; 1025];
-    let taken = read_text(&mut input);
+    let taken = read_text(&mut rt.stdin(), &mut input);
+    // a message that can't be written is let go
     if let Taken::Failed = taken {
-        io::write_all(STDERR_FILENO, b"render: a read of standard input failed\n");
+        let _ = eprintln!(rt; "render: a read of standard input failed");
     }
-    let mut out = io::large_buffer();
-    if !print(&mut out, &input, taken) {
-        io::write_all(
-            STDERR_FILENO,
-            b"render: a write to standard output failed\n",
-        );
+    let mut out = [0u8; 65536];
+    if !print(&rt, &mut out, &input, taken) {
+        let _ = eprintln!(rt; "render: a write to standard output failed");
     }
 }
