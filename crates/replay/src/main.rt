@@ -1,11 +1,12 @@
 // Reads cases from standard input, a line each, runs each and says how many there are and how many differ.
 // A case is a name and words, each a space and 16 hexadecimal digits: what goes in, and then what must come out. Of an oscillator a state,
 // controls and what is lent go in; the tick's number, the state after it, the samples and a string's line must come out.
-// What is printed is held to the file `stdout`. A contract here says only what the safety of its callers needs.
-ghost use Rattle.std.specs.Prelude.{◌≡◌, ◌≤◌, length, take};
+// What is printed is held to the file `stdout`. A contract here says only what the safety of its callers needs, but for `find`, which was a library's.
+#![tactic(auto)]
 
-use bytes::scan::find;
-use check::same;
+ghost use Rattle.std.specs.Prelude.{◌≡◌, ◌≢◌, ℕ, ◌≤◌, ◌<◌, length, take, slice_index, IfOk};
+ghost use Rattle.std.specs.Counts.{IsPrefixLen};
+
 use exports_formant_osc::gruttisol_formant_osc_tick;
 use exports_karplus_strong::gruttisol_karplus_strong_tick;
 use exports_lfo::gruttisol_lfo_tick;
@@ -13,8 +14,9 @@ use exports_noise_generator::gruttisol_noise_generator_tick;
 use exports_supersaw::gruttisol_supersaw_tick;
 use exports_vco::gruttisol_vco_tick;
 use exports_wavetable::{gruttisol_wavetable_fill_bank, gruttisol_wavetable_tick};
-use libc::{STDIN_FILENO, STDOUT_FILENO};
 use numeric::bits;
+use std::io;
+use std::io::Read;
 use std::num::{wrapping_add_u64, wrapping_sub_u64, wrapping_sub_usize};
 use text::Word;
 
@@ -354,12 +356,30 @@ fn same_case(words: &[u8], k: usize, bank: &[f64]) -> bool {
 
 // ---- the list
 
+// Where such a byte first stands, from one place on and before another, which is the answer where none stands there.
+fn find(text: &[u8], from: usize, end: usize, byte: u8) -> usize
+    requires { (from ≤ end) × (end ≤ length text.now) }
+    ensures low { from ≤ result }
+    ensures high { result ≤ end }
+    ensures before { (k : ℕ) → from ≤ k → k < result → slice_index text.now k ≢ byte }
+    ensures found { result < end → slice_index text.now result ≡ byte }
+{
+    let mut at = from;
+    while at < end {
+        if text[at] == byte {
+            return at;
+        }
+        at += 1;
+    }
+    end
+}
+
 // 1 for a line, from one place to another, that is a case of the k-th name, 2 where it differs, 0 for any other.
 fn verdict(text: &[u8], from: usize, end: usize, k: usize, name: &[u8], bank: &[f64]) -> u64
     requires { (from ≤ end) × (end ≤ length text.now) }
 {
     let n = find(text, from, end, b' ');
-    if !same(&text[from..n], name) {
+    if &text[from..n] != name {
         return 0;
     }
     let words = &text[n..end];
@@ -397,25 +417,17 @@ fn tallied(text: &[u8], k: usize, name: &[u8], bank: &[f64]) -> Tally {
     }
 }
 
-fn say_name(name: &[u8], cases: u64, differences: u64) {
-    io::write_all(STDOUT_FILENO, name);
-    io::write_all(STDOUT_FILENO, b" cases=");
-    io::print_decimal(STDOUT_FILENO, cases);
-    io::write_all(STDOUT_FILENO, b" differences=");
-    io::print_decimal(STDOUT_FILENO, differences);
-    io::write_all(STDOUT_FILENO, b"\n");
+fn say_name(rt: &impl Print, name: &[u8], cases: u64, differences: u64) -> io::Result<()> {
+    rt.write_all(name)?;
+    println!(rt; " cases={cases} differences={differences}")
 }
 
-fn say_lines(lines: u64, malformed: u64) {
-    io::write_all(STDOUT_FILENO, b"lines=");
-    io::print_decimal(STDOUT_FILENO, lines);
-    io::write_all(STDOUT_FILENO, b" malformed=");
-    io::print_decimal(STDOUT_FILENO, malformed);
-    io::write_all(STDOUT_FILENO, b"\n");
+fn say_lines(rt: &impl Print, lines: u64, malformed: u64) -> io::Result<()> {
+    println!(rt; "lines={lines} malformed={malformed}")
 }
 
 // A line for each name, and one for the whole text. No line is a case of two names, so what is left over is malformed.
-fn replay(text: &[u8], names: &[u8], bank: &[f64]) {
+fn replay(rt: &impl Print, text: &[u8], names: &[u8], bank: &[f64]) -> io::Result<()> {
     let mut lines = 0;
     let mut cases = 0;
     let mut k = 0;
@@ -424,13 +436,13 @@ fn replay(text: &[u8], names: &[u8], bank: &[f64]) {
         let to = find(names, at, names.len(), b'\n');
         let name = &names[at..to];
         let t = tallied(text, k, name, bank);
-        say_name(name, t.cases, t.differences);
+        say_name(rt, name, t.cases, t.differences)?;
         lines = t.lines;
         cases = wrapping_add_u64(cases, t.cases);
         k += 1;
         at = to + 1;
     }
-    say_lines(lines, wrapping_sub_u64(lines, cases))
+    say_lines(rt, lines, wrapping_sub_u64(lines, cases))
 }
 
 // Room for a whole list.
@@ -440,14 +452,28 @@ fn room() -> [u8; 2097152]
     [0; 2097152]
 }
 
-fn main() {
+// Reads until the room is full or the input ends, and says how many bytes came.
+fn read_full(from: &mut impl Read, room: &mut [u8]) -> io::Result<usize>
+    ensures { IfOk result (λ n. IsPrefixLen n room.new) }
+{
+    let mut done = 0;
+    while done < room.len() {
+        let more = from.read(&mut room[done..])?;
+        if more == 0 {
+            break;
+        }
+        done += more;
+    }
+    Ok(done)
+}
+
+fn main(rt: HostRuntime) -> io::Result<()> {
     let mut input = room();
-    let n = io::read_full(STDIN_FILENO, &mut input);
+    let n = read_full(&mut rt.stdin(), &mut input)?;
     if n == input.len() {
-        io::write_all(STDOUT_FILENO, b"too long\n");
-        return;
+        return println!(rt; "too long");
     }
     let mut bank = [0.0; 16384];
     gruttisol_wavetable_fill_bank(&mut bank);
-    replay(&input[..n], &NAMES, &bank)
+    replay(&rt, &input[..n], &NAMES, &bank)
 }
