@@ -80,7 +80,8 @@ clean_steered v zeroed sums phases numbers h =
     go false false c d e = absurd (omega arith)
 
 -- volts that are known to be finite needn't be tested
-pub mark_known : (v : Volts) (zeroed phases numbers : Bool) → all_finite v ≡ true → marked_of v zeroed true phases numbers ≡ mark_of v zeroed true phases numbers
+pub mark_known : (v : Volts) (zeroed phases numbers : Bool) → all_finite v ≡ true → marked_of v zeroed true phases numbers
+    ≡ mark_of v zeroed true phases numbers
 unfolding mark_of
 mark_known v zeroed phases numbers h = simp h
 
@@ -198,7 +199,8 @@ refused_by {T} told n x y h e = go (eqb n 0) refl
 -- ---- the tally
 -- the five marks of an accepted answer: one of the counts grows by one
 mark_one : (a : Answer) → (mark_number a ≡ 0 → ⊥)
-    → one_if (mark_number a) clean + one_if (mark_number a) cleared + one_if (mark_number a) notfinite + one_if (mark_number a) lost + one_if (mark_number a) steered
+    → one_if (mark_number a) clean + one_if (mark_number a) cleared + one_if (mark_number a) notfinite + one_if (mark_number a) lost + one_if (mark_number a)
+    steered
     ≡ 1
 unfolding mark_number one_if
 mark_one (answer.Cleared v) h = refl

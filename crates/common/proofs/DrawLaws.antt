@@ -74,11 +74,13 @@ unfolding draws_ok
 draws_same d e zero h = refl
 draws_same d e (suc n) h = let a = draws_same d e n (λ i l. h i (omega arith)) in let b = h n (omega arith) in simp (a, b)
 
-pub refusal_draws : (n : ℕ) (d e : List ℕ) → n ≤ length d → n ≤ length e → ((i : ℕ) → i < n → get_or d i 0 ≡ get_or e i 0) → draws_refusal_of n d ≡ draws_refusal_of n e
+pub refusal_draws : (n : ℕ) (d e : List ℕ) → n ≤ length d → n ≤ length e → ((i : ℕ) → i < n → get_or d i 0 ≡ get_or e i 0) → draws_refusal_of n d
+    ≡ draws_refusal_of n e
 unfolding draws_refusal_of
 refusal_draws n d e h k s = simp (le-leb n (length d) h, le-leb n (length e) k, draws_same d e n s)
 
 -- one turn of a loop that gathers digits: they are below 2 ^ 53 as long as each draw is
-pub digits_more : (d : List ℕ) (i digits : ℕ) → ltb digits 9007199254740992 ≡ draws_ok d i → ltb (bit_or digits (get_or d i 0)) 9007199254740992 ≡ draws_ok d (i + 1)
+pub digits_more : (d : List ℕ) (i digits : ℕ) → ltb digits 9007199254740992 ≡ draws_ok d i → ltb (bit_or digits (get_or d i 0)) 9007199254740992
+    ≡ draws_ok d (i + 1)
 unfolding draws_ok
 digits_more d i digits h = rw (add-one, ← h) (or_below 53 digits (get_or d i 0))

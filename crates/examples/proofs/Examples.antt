@@ -15,7 +15,8 @@ use Rattle.examples.specs.Table.{Examples, ◌also◌, none}
 
 pub examples : Examples
 unfolding wrap_of turned_of floor_of polyblep_of draw_of bipolar_of rises_above rising_above_of rising_of frac_above crossed_above_of crossed_of max_len_of
-    max_harmonic allowed_of level_from select_level offset_one offset_two table_pos_of table_index_of blend_of fabs_of clamp_of min_of max_of sub mul div neg le eq ne
+    max_harmonic allowed_of level_from select_level offset_one offset_two table_pos_of table_index_of blend_of fabs_of clamp_of min_of max_of sub mul div neg le
+    eq ne
     is_nan of_int to_unsigned of_bits
 examples =
     refl also refl also refl

@@ -1,7 +1,8 @@
 -- Theorems about the exported calls: the statements. proofs/ proves each under the same name in small letters.
 use Rattle.std.specs.Prelude.{List, ◌≡◌, ℕ, Float}
 use Rattle.laws.specs.Machine.{Settles}
-use Rattle.exports_karplus_strong.specs.Calls.{Left, Sounded, Rung, karplus_strong_cells_at, karplus_strong_new_at, karplus_strong_tick_at, karplus_strong_block_at}
+use Rattle.exports_karplus_strong.specs.Calls.{Left, Sounded, Rung, karplus_strong_cells_at, karplus_strong_new_at, karplus_strong_tick_at}
+use Rattle.exports_karplus_strong.specs.Calls.{karplus_strong_block_at}
 use Rattle.exports_karplus_strong.specs.Calls.{karplus_strong_reset_at, karplus_strong_set_sample_rate_at}
 use Rattle.exports_karplus_strong.specs.State.{state_of, floats_of, wholes_of}
 use Rattle.karplus_strong.specs.declared.KarplusStrong.{KarplusStrong}

@@ -10,7 +10,8 @@ use borrow.Author.Tests.{eq-eqb}
 use Rattle.laws.proofs.Over.{by_cells}
 use Rattle.laws.proofs.Settled as laws
 use Rattle.noise_generator.specs.NoiseGenerator.{needed_of, needed_by}
-use Rattle.exports_noise_generator.specs.Calls.{noise_generator_new_at, noise_generator_with_correlation_at, noise_generator_needed_at, noise_generator_needed_by_at}
+use Rattle.exports_noise_generator.specs.Calls.{noise_generator_new_at, noise_generator_with_correlation_at, noise_generator_needed_at}
+use Rattle.exports_noise_generator.specs.Calls.{noise_generator_needed_by_at}
 use Rattle.exports_noise_generator.specs.Calls.{noise_generator_tick_at, noise_generator_block_at, noise_generator_reset_at, noise_generator_set_sample_rate_at}
 use Rattle.exports_noise_generator.specs.Promises.{ReadBack, NeededTold, Settled}
 use Rattle.exports_noise_generator.specs.State.{n_wholes, rows_at, counter_of, state_of, floats_of, wholes_of}

@@ -44,4 +44,5 @@ noise_generator_tick_at given c wanted f w draws o =
 -- a block: 0, the state, the counts, the samples and the marks after it, or what refused it
 unfoldable pub noise_generator_block_at : ℕ → Float → ℕ → List Float → List ℕ → List ℕ → List ℕ → List Float → List ℕ → Played
 noise_generator_block_at given c wanted f w draws k o m =
-    played_sized n_floats n_wholes (λ t. played_of floats_of wholes_of (noise_generator_block_of (state_of f w) (controls_of given c) wanted draws t o m) f w k) f w k o m
+    played_sized n_floats n_wholes (λ t. played_of floats_of wholes_of (noise_generator_block_of (state_of f w) (controls_of given c) wanted draws t o m) f w k)
+    f w k o m

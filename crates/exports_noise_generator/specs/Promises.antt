@@ -5,7 +5,8 @@ use Rattle.laws.specs.Machine.{Settles}
 use Rattle.noise_generator.specs.NoiseGenerator.{needed_of, needed_by}
 use Rattle.noise_generator.specs.declared.NoiseGenerator.{NoiseGenerator}
 use Rattle.noise_generator.specs.declared.PinkNoiseState.{PinkNoiseState}
-use Rattle.exports_noise_generator.specs.Calls.{noise_generator_new_at, noise_generator_with_correlation_at, noise_generator_needed_at, noise_generator_needed_by_at}
+use Rattle.exports_noise_generator.specs.Calls.{noise_generator_new_at, noise_generator_with_correlation_at, noise_generator_needed_at}
+use Rattle.exports_noise_generator.specs.Calls.{noise_generator_needed_by_at}
 use Rattle.exports_noise_generator.specs.Calls.{noise_generator_tick_at, noise_generator_block_at, noise_generator_reset_at, noise_generator_set_sample_rate_at}
 use Rattle.exports_noise_generator.specs.State.{n_wholes, state_of, floats_of, wholes_of}
 

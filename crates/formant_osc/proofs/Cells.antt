@@ -31,7 +31,8 @@ second_wild : (b0 a1 a2 s0 s1 x : Float) → is_fin s1 ≡ false → is_fin (res
 unfolding resonate_of
 second_wild b0 a1 a2 s0 s1 x h = add_wild_r _ _ h
 
-rung_second : (c l : List Float) (x : Float) (i : ℕ) → i < 5 → is_fin (get_or l (2 * i + 1) nan) ≡ false → is_fin (get_or (rung_of c l x).state (2 * i) nan) ≡ false
+rung_second : (c l : List Float) (x : Float) (i : ℕ) → i < 5 → is_fin (get_or l (2 * i + 1) nan) ≡ false → is_fin (get_or (rung_of c l x).state (2 * i) nan)
+    ≡ false
 unfolding rung_of
 rung_second c l x zero h e = second_wild _ _ _ _ _ x e
 rung_second c l x (suc zero) h e = second_wild _ _ _ _ _ x e

@@ -135,7 +135,8 @@ pub dead_spoiled : DeadSpoiled
 dead_spoiled s d = (0, lit< tt, ap is_fin d)
 
 -- ---- the ticks of a block: each state in it is reached
-pub reached_at : (s : FormantOsc) → ReachedFormantOsc s → (c : FormantOscControls) → Fit c → (i : ℕ) → ReachedFormantOsc (after_ticks (formant_osc_next_of c) i s)
+pub reached_at : (s : FormantOsc) → ReachedFormantOsc s → (c : FormantOscControls) → Fit c → (i : ℕ)
+    → ReachedFormantOsc (after_ticks (formant_osc_next_of c) i s)
 unfolding after
 reached_at s h c f i = ticks_keep ReachedFormantOsc (formant_osc_next_of c) (λ r k. more k (Tick c) f) s h i
 

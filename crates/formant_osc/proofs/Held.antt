@@ -128,7 +128,8 @@ module _
   phase_is : (i : ℕ) → i ≤ n → phase_at xs d.phase i ≡ (after_ticks (drive_next v depth rate) i d).phase
   unfolding phase_at after_ticks drive_next phase_sum stride_at
   phase_is zero h = refl
-  phase_is (suc i) h = let p = phase_is i (omega arith) in let q = stride_is i (omega arith) in (λ k. (wrap_phase_of (turns (add binary64 (p k).0 (q k)))).phase)
+  phase_is (suc i) h = let p = phase_is i (omega arith) in let q = stride_is i (omega arith)
+      in (λ k. (wrap_phase_of (turns (add binary64 (p k).0 (q k)))).phase)
 
   pub driven : (s : Driver) (p : Turns) (ys : List Float) (ns : List ℕ) → s ≡ swayed v depth rate m d → p ≡ phase_at xs d.phase n
       → ys ≡ tab (λ i. glottal_pulse (phase_at xs d.phase i).0) n → ns ≡ tab (phase_flag_at xs d.phase) n
@@ -356,7 +357,8 @@ pub ran : (s : FormantOsc) (c : FormantOscControls) (n : ℕ) (depth : Float) (p
       coef_memo = coefs;
     }
     ≡ after_ticks (formant_osc_next_of c) n s)
-    × ((ys ≡ joined (frame_at n_ports (formant_osc_told_of c) (formant_osc_next_of c) s) n) × (ns ≡ tab (mark_at (formant_osc_told_of c) (formant_osc_next_of c) s) n))
+    × ((ys ≡ joined (frame_at n_ports (formant_osc_told_of c) (formant_osc_next_of c) s) n)
+    × (ns ≡ tab (mark_at (formant_osc_told_of c) (formant_osc_next_of c) s) n))
 ran s c n depth pitch memo coefs end xs ms cells ys ns numbers e z eq ed ep em b ee ex ek el ey en =
     let a : memo ≡ freq_memo_of s c =
     unfold freq_memo_of in

@@ -91,7 +91,8 @@ rung_sum c l x (suc (suc (suc zero))) h e = plus_sum _ _ _ (plus_out _ _ _ (out_
 rung_sum c l x (suc (suc (suc (suc zero)))) h e = plus_out _ _ _ (out_wild _ _ _ _ _ x e)
 rung_sum c l x (suc (suc (suc (suc (suc i))))) h e = absurd (omega arith)
 
-pub rung_cell : (c l : List Float) (x : Float) (i : ℕ) → i < 5 → is_fin (get_or l (2 * i) nan) ≡ false → is_fin (get_or (rung_of c l x).state (2 * i) nan) ≡ false
+pub rung_cell : (c l : List Float) (x : Float) (i : ℕ) → i < 5 → is_fin (get_or l (2 * i) nan) ≡ false → is_fin (get_or (rung_of c l x).state (2 * i) nan)
+    ≡ false
 unfolding rung_of
 rung_cell c l x zero h e = cell_wild _ _ _ _ _ x e
 rung_cell c l x (suc zero) h e = cell_wild _ _ _ _ _ x e

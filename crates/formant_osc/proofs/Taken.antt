@@ -24,7 +24,8 @@ block_taken : (s : FormantOsc) (c : FormantOscControls) (t : Tally) (o : List Fl
     → formant_osc_refusal_of s ≡ 0
 unfolding formant_osc_block_of
 block_taken s c t o m r =
-    (block_fits n_ports (formant_osc_refusal_of s) t o m _ (block_refusal n_ports (formant_osc_refusal_of s) (formant_osc_told_of c) (formant_osc_next_of c) s t o m) r).1
+    (block_fits n_ports (formant_osc_refusal_of s) t o m _
+    (block_refusal n_ports (formant_osc_refusal_of s) (formant_osc_told_of c) (formant_osc_next_of c) s t o m) r).1
 
 pub taken_accepts : (s : FormantOsc) (c : FormantOscControls) (t : Tally) (o : List Float) (m : List ℕ) → (formant_osc_block_of s c t o m).refused ≡ 0
     → AllAccepted (formant_osc_told_of c) (formant_osc_next_of c) s
@@ -51,7 +52,8 @@ unfolding host_number
 is_told a h = simp h
 
 pub taken_mark : (s : FormantOsc) (c : FormantOscControls) (t : Tally) (o : List Float) (m : List ℕ) → (formant_osc_block_of s c t o m).refused ≡ 0
-    → (i : ℕ) → i < length m → get_or (formant_osc_block_of s c t o m).marks i 0 ≡ told (mark_number (answer_at (formant_osc_told_of c) (formant_osc_next_of c) s i))
+    → (i : ℕ) → i < length m → get_or (formant_osc_block_of s c t o m).marks i 0
+    ≡ told (mark_number (answer_at (formant_osc_told_of c) (formant_osc_next_of c) s i))
 taken_mark s c t o m r i l =
     ap (λ (n : List ℕ). get_or n i 0) (taken_marks s c t o m r)
     ∙ get_or_tab 0 (mark_at (formant_osc_told_of c) (formant_osc_next_of c) s) (length m) i l

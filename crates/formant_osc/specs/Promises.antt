@@ -48,7 +48,8 @@ SumMarks = (s : FormantOsc) (c : FormantOscControls) → is_fin (formant_osc_run
 -- so the sum of a clean tick is finite, and of a steered one
 abbrev pub CleanFinite : Type 0
 CleanFinite = (s : FormantOsc) (c : FormantOscControls)
-    → (mark_number (formant_osc_tick_of s c).answer ≡ clean) ⊎ (mark_number (formant_osc_tick_of s c).answer ≡ steered) → is_fin (formant_osc_rung s c).sum ≡ true
+    → (mark_number (formant_osc_tick_of s c).answer ≡ clean) ⊎ (mark_number (formant_osc_tick_of s c).answer ≡ steered) → is_fin (formant_osc_rung s c).sum
+    ≡ true
 
 -- ---- a clean tick is there: the first of a new one at 48,000 Hz, with every control 0
 abbrev pub first_rate : Hertz

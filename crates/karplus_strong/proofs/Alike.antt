@@ -1,5 +1,6 @@
 -- Two lines of one size that agree below the string's length stay so through a tick, and it answers alike.
-use Rattle.std.proofs.Common.{◌≡◌, ℕ, zero, suc, ◌+◌, ◌%◌, ◌<◌, ◌≤◌, Bool, true, false, cond, ltb, List, length, get_or, drop, set, sym, refl, ap, ◌∙◌, subst, not-suc-le-zero, mod-lt, arith, length-set, get_or-set_other, get_or-set_same, ltb-true}
+use Rattle.std.proofs.Common.{◌≡◌, ℕ, zero, suc, ◌+◌, ◌%◌, ◌<◌, ◌≤◌, Bool, true, false, cond, ltb, List, length, get_or, drop, set, sym, refl, ap, ◌∙◌, subst}
+use Rattle.std.proofs.Common.{not-suc-le-zero, mod-lt, arith, length-set, get_or-set_other, get_or-set_same, ltb-true}
 use native.Mathlib.Decide.{ℕ_discrete}
 use lib.ListN.{get_or-append}
 use lib.Ieee.{Float, nan, binary64, mul, div}
@@ -157,7 +158,8 @@ alike_step s p d t numbers l m h k e = rw (tap_alike l m s.write_pos s.len (targ
     go : (x : Float) → let y = filtered_of s x (filter_coef_of d) in let z = stretched_of s y (ap_coef_of t) in let v = mul binary64 z loop_leak in
         SameTick (cond (is_fin v) (wrote_of s y z v numbers l) (cleared_of s numbers l)) (cond (is_fin v) (wrote_of s y z v numbers m) (cleared_of s numbers m))
     go x = pick (is_fin (mul binary64 (stretched_of s (filtered_of s x (filter_coef_of d)) (ap_coef_of t)) loop_leak)) (filtered_of s x (filter_coef_of d))
-        (stretched_of s (filtered_of s x (filter_coef_of d)) (ap_coef_of t)) (mul binary64 (stretched_of s (filtered_of s x (filter_coef_of d)) (ap_coef_of t)) loop_leak)
+        (stretched_of s (filtered_of s x (filter_coef_of d)) (ap_coef_of t))
+        (mul binary64 (stretched_of s (filtered_of s x (filter_coef_of d)) (ap_coef_of t)) loop_leak)
       where
         pick : (b : Bool) (y z v : Float)
             → SameTick (cond b (wrote_of s y z v numbers l) (cleared_of s numbers l)) (cond b (wrote_of s y z v numbers m) (cleared_of s numbers m))
@@ -194,7 +196,8 @@ alike_sound : (s : KarplusStrong) (c : KarplusStrongControls) (draws : List ℕ)
 unfolding karplus_strong_sound_of
 alike_sound s c draws l m a r e =
     let q = a.most in
-    alike_sounded _ (trigger_refusal_of s c draws) s _ (period_at s c) (brightness_of c) (damping_of c) (stretch_of c) (all_numbers (controls_of c)) draws l m e e
+    alike_sounded _ (trigger_refusal_of s c draws) s _ (period_at s c) (brightness_of c) (damping_of c) (stretch_of c) (all_numbers (controls_of c)) draws l m e
+    e
     a.place (omega arith)
     (struck_fits s c a (length l) r)
 

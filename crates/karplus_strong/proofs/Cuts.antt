@@ -1,5 +1,7 @@
 -- A number from 1 to below 2 ^ 52 has its fraction in the low digits of its bits.
-use Rattle.std.proofs.Common.{◌≡◌, ℕ, zero, suc, ◌+◌, ◌-◌, ◌*◌, ◌/◌, ◌%◌, ◌^◌, ◌<◌, ◌≤◌, Bool, true, false, cond, not, T, eqb, leb, pos, sym, refl, ap, subst, zero-le, le_trans, le_of_eq, le-add_right, mod-eq_of_lt, mul-le-mul, lt_of_not-le, mul-one, not-le_of_lt, lit<, lit≤, ltb→lt, pow_pos, pow_mono}
+use Rattle.std.proofs.Common.{◌≡◌, ℕ, zero, suc, ◌+◌, ◌-◌, ◌*◌, ◌/◌, ◌%◌, ◌^◌, ◌<◌, ◌≤◌, Bool, true, false, cond, not, T, eqb, leb, pos, sym, refl, ap, subst}
+use Rattle.std.proofs.Common.{zero-le, le_trans, le_of_eq, le-add_right, mod-eq_of_lt, mul-le-mul, lt_of_not-le, mul-one, not-le_of_lt, lit<, lit≤, ltb→lt}
+use Rattle.std.proofs.Common.{pow_pos, pow_mono}
 use lib.Dec.{nleb→lt}
 use lib.Ieee.{Float, nan, inf, fin, binary64, lt, le, odd, is_nan, of_bits, of_fields, to_bits, to_unsigned}
 use lib.Bits.{bit_and, bit_or}

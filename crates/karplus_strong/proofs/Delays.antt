@@ -1,5 +1,6 @@
 -- The filters take time off a period and never add any, so the delay that is left for the line isn't longer than the period.
-use Rattle.std.proofs.Common.{◌≡◌, ℕ, ◌+◌, ◌-◌, ◌*◌, ◌<◌, ◌≤◌, Bool, true, false, cond, not, T, pos, negsuc, sym, refl, subst, le_trans, le_of_eq, one-mul, arith, lit<}
+use Rattle.std.proofs.Common.{◌≡◌, ℕ, ◌+◌, ◌-◌, ◌*◌, ◌<◌, ◌≤◌, Bool, true, false, cond, not, T, pos, negsuc, sym, refl, subst, le_trans, le_of_eq, one-mul}
+use Rattle.std.proofs.Common.{arith, lit<}
 use lib.Ieee.{Float, nan, inf, fin, binary64, up, down, add, sub, mul, div, neg, sum, round, lt, le, eq, is_nan, of_bits, fits}
 use lib.Ieee.Bits.{is_true}
 use lib.Ieee.Fits.{down_pos, sub-fits}

@@ -1,5 +1,6 @@
 -- A block's ticks are turns of the loop alone: its trigger and its controls stand still.
-use Rattle.std.proofs.Common.{◌≡◌, ℕ, ◌+◌, ◌<◌, ◌≤◌, Bool, true, false, cond, eqb, List, length, sym, refl, ap, ◌∙◌, subst, add-one, arith, ne_eqb, eqb-true, le-leb}
+use Rattle.std.proofs.Common.{◌≡◌, ℕ, ◌+◌, ◌<◌, ◌≤◌, Bool, true, false, cond, eqb, List, length, sym, refl, ap, ◌∙◌, subst, add-one, arith, ne_eqb, eqb-true}
+use Rattle.std.proofs.Common.{le-leb}
 use lib.Ieee.{Float}
 use borrow.Author.Tests.{eqb-false}
 use Rattle.laws.specs.Float.{zer}
@@ -18,7 +19,8 @@ use Rattle.karplus_strong.specs.Consts.{n_ports}
 use Rattle.karplus_strong.specs.Step.{Ticking}
 use Rattle.karplus_strong.specs.KarplusStrong.{max_len_of, room_of, karplus_strong_refusal_of, finite_or, period_of, struck_len, Strung, strike_if}
 use Rattle.karplus_strong.specs.KarplusStrong.{heard_string, tick_unless, karplus_strong_tick_of, strung, trigger_refusal_of, first_refusal_of}
-use Rattle.karplus_strong.specs.KarplusStrong.{karplus_strong_told_of, karplus_strong_next_of, damping_of, brightness_of, stretch_of, controls_of, memo_at, period_at}
+use Rattle.karplus_strong.specs.KarplusStrong.{karplus_strong_told_of, karplus_strong_next_of, damping_of, brightness_of, stretch_of, controls_of, memo_at}
+use Rattle.karplus_strong.specs.KarplusStrong.{period_at}
 use Rattle.answer.specs.Mark.{all_numbers}
 use Rattle.karplus_strong.specs.Shortcuts.{tuning_of, turn_of, held_answer, held_next}
 use Rattle.karplus_strong.specs.Promises.{taken}
@@ -36,7 +38,8 @@ pub heard : (t : Tuning) (x : Strung) (i : ℕ) (s : KarplusStrong) (l : List Fl
 unfolding answer_at held_answer
 heard t x i s l r e z = ap (λ (u : KarplusStrongTicked). u.answer) e ∙ ap (λ (y : Strung). (turn_of y.string t y.line).out.answer) z
 
-pub moved : (t : Tuning) (x : Strung) (i : ℕ) (s : KarplusStrong) (l m : List Float) (r : KarplusStrongTicked) → r ≡ (turn_of s t l).out → m ≡ (turn_of s t l).line
+pub moved : (t : Tuning) (x : Strung) (i : ℕ) (s : KarplusStrong) (l m : List Float) (r : KarplusStrongTicked) → r ≡ (turn_of s t l).out → m
+    ≡ (turn_of s t l).line
     → strung s l ≡ after_ticks (held_next t) i x
     → strung r.karplus_strong m ≡ after_ticks (held_next t) (i + 1) x
 unfolding after_ticks held_next
@@ -153,7 +156,8 @@ first_tick s c draws l h k = tick_steps s c draws l h k ∙ struck_turn s c draw
 
 pub holds : (s : KarplusStrong) (c : KarplusStrongControls) (draws : List ℕ) (l : List Float) → karplus_strong_refusal_of s (length l) ≡ 0
     → trigger_refusal_of s c draws ≡ 0
-    → Holds (karplus_strong_told_of c draws) (karplus_strong_next_of c draws) (held_answer (tune_of s c)) (held_next (tune_of s c)) (λ (x : Strung). x) (Held s c)
+    → Holds (karplus_strong_told_of c draws) (karplus_strong_next_of c draws) (held_answer (tune_of s c)) (held_next (tune_of s c)) (λ (x : Strung). x)
+    (Held s c)
     (strung s l) (struck_by s c draws l)
 holds s c draws l h k =
     record {

@@ -1,5 +1,6 @@
 -- How the parts of a call make up the whole, over plain values, and what an accepted call has.
-use Rattle.std.proofs.Common.{◌≡◌, ℕ, zero, suc, ◌+◌, ◌-◌, ◌%◌, ◌<◌, ◌≤◌, min, Bool, true, false, cond, not, ◌&&◌, T, eqb, ltb, leb, List, length, get_or, set, pos, sym, refl, ap, ◌∙◌, subst, true≢false, le_trans, arith, lit≤, le→leb, ltb-true, lt-ltb, ne_eqb, eqb-true, le-leb, leb-true}
+use Rattle.std.proofs.Common.{◌≡◌, ℕ, zero, suc, ◌+◌, ◌-◌, ◌%◌, ◌<◌, ◌≤◌, min, Bool, true, false, cond, not, ◌&&◌, T, eqb, ltb, leb, List, length, get_or, set}
+use Rattle.std.proofs.Common.{pos, sym, refl, ap, ◌∙◌, subst, true≢false, le_trans, arith, lit≤, le→leb, ltb-true, lt-ltb, ne_eqb, eqb-true, le-leb, leb-true}
 use lib.Ieee.{Float, nan, inf, fin, binary64, add, sub, mul, div, neg, in_float, lt, le, eq, fits, is_nan, of_bits}
 use lib.Ieee.Fits.{cond-fits, div-fits, sub-fits}
 use lib.Ieee.Bits.{is_false}
@@ -35,10 +36,12 @@ use Rattle.karplus_strong.specs.Step.{filter_coef_of, ap_coef_of, filter_delay_o
 use Rattle.karplus_strong.specs.Step.{tap_of, filtered_of, stretched_of, heard_of, rest_of, Ticking, wrote_of, cleared_of, step_of}
 use Rattle.karplus_strong.specs.Shortcuts.{tuning_of, tap_at, turn_of}
 use Rattle.karplus_strong.specs.KarplusStrong.{max_len_of, string_of, no_string, Strung, strung, line_ok, room_of, karplus_strong_refusal_of}
-use Rattle.karplus_strong.specs.KarplusStrong.{karplus_strong_rate_refusal_of, Making, making, made_unless, karplus_strong_new_refusal_of, karplus_strong_new_of}
+use Rattle.karplus_strong.specs.KarplusStrong.{karplus_strong_rate_refusal_of, Making, making, made_unless, karplus_strong_new_refusal_of}
+use Rattle.karplus_strong.specs.KarplusStrong.{karplus_strong_new_of}
 use Rattle.karplus_strong.specs.KarplusStrong.{karplus_strong_reset_of, place_of, karplus_strong_set_sample_rate_of, finite_or, period_of}
 use Rattle.karplus_strong.specs.KarplusStrong.{struck_len, strike_of, strike_if, heard_string, refused_tick, tick_unless, karplus_strong_sound_of}
-use Rattle.karplus_strong.specs.KarplusStrong.{karplus_strong_tick_of, damping_of, brightness_of, stretch_of, controls_of, memo_at, period_at, trigger_refusal_of}
+use Rattle.karplus_strong.specs.KarplusStrong.{karplus_strong_tick_of, damping_of, brightness_of, stretch_of, controls_of, memo_at, period_at}
+use Rattle.karplus_strong.specs.KarplusStrong.{trigger_refusal_of}
 use Rattle.karplus_strong.specs.declared.KarplusStrong.{KarplusStrong}
 use Rattle.karplus_strong.specs.declared.KarplusStrongControls.{KarplusStrongControls}
 use Rattle.karplus_strong.specs.declared.KarplusStrongTicked.{KarplusStrongTicked}
@@ -151,7 +154,8 @@ stretched x = clamp_range (finite_or x zer) (neg one) one (unfold le lt eq neg o
 
 -- the delay that is left for the line is at most the period
 pub delay_range : (r f : Hertz) (d s : Float) → rate_ok r ≡ true → T (not (is_nan f.0))
-    → whole_of (target_delay_of (period_of r f) (filter_coef_of (clamp_of (finite_or d half) zer one)) (ap_coef_of (clamp_of (finite_or s zer) (neg one) one))) ≤ 9610
+    → whole_of (target_delay_of (period_of r f) (filter_coef_of (clamp_of (finite_or d half) zer one)) (ap_coef_of (clamp_of (finite_or s zer) (neg one) one)))
+    ≤ 9610
 unfolding target_delay_of filter_coef_of ap_coef_of filter_delay_of ap_delay_of
 delay_range r f d s e q =
     let a = damped d in

@@ -1,5 +1,6 @@
 -- Periods: a rate over 20 can be cut, and a rate over 20 Hz or more lies below the clamp's upper end.
-use Rattle.std.proofs.Common.{◌≡◌, ℕ, ◌+◌, ◌-◌, ◌*◌, ◌/◌, ◌%◌, ◌<◌, ◌≤◌, min, true, false, not, T, ltb, sym, refl, ap, ◌∙◌, le_trans, le_of_eq, mod-lt, add-mul, div-add-mod', arith, lit<, lt→ltb}
+use Rattle.std.proofs.Common.{◌≡◌, ℕ, ◌+◌, ◌-◌, ◌*◌, ◌/◌, ◌%◌, ◌<◌, ◌≤◌, min, true, false, not, T, ltb, sym, refl, ap, ◌∙◌, le_trans, le_of_eq, mod-lt, add-mul}
+use Rattle.std.proofs.Common.{div-add-mod', arith, lit<, lt→ltb}
 use lib.Ieee.{Float, nan, inf, fin, binary64, up, down, lt, le, eq, sub, div, is_nan, of_bits, to_unsigned}
 use lib.Ieee.Bits.{is_true}
 use lib.Ieee.Order.{le_of_values}

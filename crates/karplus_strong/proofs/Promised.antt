@@ -93,7 +93,13 @@ new_accepts rate threshold l = (unfold karplus_strong_new_of karplus_strong_new_
   where
     first : rate_ok rate ≡ true → threshold_ok threshold ≡ true → room_of rate (length l) ≡ 0 → First (new_strung rate threshold l)
     first e k h =
-        record { rate = rate; threshold = threshold; lent = l; is_new = unfold karplus_strong_new_of karplus_strong_new_refusal_of made_unless in simp (e, k, h) }
+        record {
+          rate = rate;
+          threshold = threshold;
+          lent = l;
+          is_new = unfold karplus_strong_new_of karplus_strong_new_refusal_of made_unless in simp
+              (e, k, h);
+        }
 
 pub like_size : (x : Strung) → ReachedKarplusStrong x → (l : List Float) → length l ≡ length x.line → length (new_like x l).line ≡ length x.line
 like_size x h l e = let r = (reached_good x h).room in length_blank 0 (max_len_of x.string.sample_rate) l (omega arith) ∙ e

@@ -1,5 +1,6 @@
 -- What holds of every string that was made new and then called: refusals 1 to 3 let it pass, and its memo is coherent.
-use Rattle.std.proofs.Common.{◌≡◌, ℕ, zero, suc, ◌+◌, ◌<◌, ◌≤◌, min, Bool, true, false, cond, eqb, ltb, List, length, get_or, sym, refl, ap, subst, inl, arith, ltb-true, eqb-true}
+use Rattle.std.proofs.Common.{◌≡◌, ℕ, zero, suc, ◌+◌, ◌<◌, ◌≤◌, min, Bool, true, false, cond, eqb, ltb, List, length, get_or, sym, refl, ap, subst, inl, arith}
+use Rattle.std.proofs.Common.{ltb-true, eqb-true}
 use lib.Ieee.{Float, nan, inf, fin, fits, is_nan, of_bits}
 use Rattle.laws.proofs.Always.{always}
 use Rattle.laws.proofs.Over.{length_over}

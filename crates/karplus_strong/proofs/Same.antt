@@ -1,5 +1,6 @@
 -- Two strings that are equal, over lines that are alike below their length: no call tells them apart, and each leaves them so.
-use Rattle.std.proofs.Common.{◌≡◌, ℕ, zero, suc, ◌*◌, ◌<◌, min, Bool, true, false, cond, eqb, List, [], ◌∷◌, ◌++◌, length, get_or, drop, refl, ap, subst, not-suc-le-zero, arith}
+use Rattle.std.proofs.Common.{◌≡◌, ℕ, zero, suc, ◌*◌, ◌<◌, min, Bool, true, false, cond, eqb, List, [], ◌∷◌, ◌++◌, length, get_or, drop, refl, ap, subst}
+use Rattle.std.proofs.Common.{not-suc-le-zero, arith}
 use lib.Ieee.{Float, nan}
 use Rattle.laws.proofs.Over.{tab_ext}
 use Rattle.laws.specs.Lists.{tab, over}
@@ -12,7 +13,8 @@ use Rattle.answer.specs.declared.Tally.{Tally}
 use Rattle.karplus_strong.specs.Consts.{n_ports}
 use Rattle.karplus_strong.specs.Line.{blank_of}
 use Rattle.karplus_strong.specs.KarplusStrong.{max_len_of, room_of, karplus_strong_refusal_of, karplus_strong_rate_refusal_of, Making, made_unless}
-use Rattle.karplus_strong.specs.KarplusStrong.{karplus_strong_reset_of, karplus_strong_set_sample_rate_of, karplus_strong_tick_of, Strung, strung, first_refusal_of}
+use Rattle.karplus_strong.specs.KarplusStrong.{karplus_strong_reset_of, karplus_strong_set_sample_rate_of, karplus_strong_tick_of, Strung, strung}
+use Rattle.karplus_strong.specs.KarplusStrong.{first_refusal_of}
 use Rattle.karplus_strong.specs.KarplusStrong.{karplus_strong_told_of, karplus_strong_next_of, karplus_strong_block_of, restarted, rated, rated_line}
 use Rattle.karplus_strong.specs.Calls.{Call, Tick, Play, Reset, SetSampleRate, Lend, Ticked, Played, Told, strung_after, lent_of, unstrung, after, reply}
 use Rattle.karplus_strong.specs.Promises.{Alike, SameTick, Same, SameReplies}

@@ -1,5 +1,6 @@
 -- A tick is its strike and step, unless a refusal's number stands before them. What it answers is clean, steered or cleared.
-use Rattle.std.proofs.Common.{◌≡◌, ℕ, zero, suc, ◌+◌, Bool, true, false, cond, not, eqb, ◌⊎◌, List, length, sym, refl, ap, ◌∙◌, subst, inl, inr, true≢false, arith, ne_eqb, le-leb}
+use Rattle.std.proofs.Common.{◌≡◌, ℕ, zero, suc, ◌+◌, Bool, true, false, cond, not, eqb, ◌⊎◌, List, length, sym, refl, ap, ◌∙◌, subst, inl, inr, true≢false}
+use Rattle.std.proofs.Common.{arith, ne_eqb, le-leb}
 use lib.Ieee.{Float}
 use Rattle.answer.specs.Answer.{volts1, answer_of, cleared, steered, clean, mark_number, volts_of, refusal_of, accepted}
 use Rattle.answer.specs.Mark.{all_numbers, marked_of, rule_of}
@@ -119,7 +120,8 @@ tick_is s c draws l = ap (tick_unless (karplus_strong_refusal_of s (length l)) s
 pub nan_steers : NanSteers
 nan_steers s c draws l =
     rw (tick_is s c draws l)
-    (twice_steers (controls_of c) (karplus_strong_refusal_of s (length l)) (trigger_refusal_of s c draws) s l (struck_step s c draws l) (struck_steers s c draws l))
+    (twice_steers (controls_of c) (karplus_strong_refusal_of s (length l)) (trigger_refusal_of s c draws) s l (struck_step s c draws l)
+    (struck_steers s c draws l))
 
 -- ---- a good string's tick is refused by its draws alone
 pub good_refusal : (s : KarplusStrong) (n m : ℕ) → Good s n → karplus_strong_refusal_of s m ≡ room_of s.sample_rate m
@@ -137,7 +139,8 @@ pub good_tick : (s : KarplusStrong) (c : KarplusStrongControls) (draws : List �
     → karplus_strong_tick_of s c draws l ≡ tick_unless (trigger_refusal_of s c draws) s l (struck_step s c draws l)
 unfolding tick_unless
 good_tick s c draws l g =
-    tick_is s c draws l ∙ ap (λ (k : ℕ). tick_unless k s l (tick_unless (trigger_refusal_of s c draws) s l (struck_step s c draws l))) (good_none s (length l) g)
+    tick_is s c draws l ∙ ap (λ (k : ℕ). tick_unless k s l (tick_unless (trigger_refusal_of s c draws) s l (struck_step s c draws l)))
+    (good_none s (length l) g)
 
 -- and so is a block's first
 pub good_first : (s : KarplusStrong) (c : KarplusStrongControls) (draws : List ℕ) (n k : ℕ) → Good s n

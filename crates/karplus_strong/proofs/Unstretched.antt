@@ -1,5 +1,7 @@
 -- A string whose stretch counts as 0.0 is never cleared: no cell of its line and no filter ever holds more than 8 V.
-use Rattle.std.proofs.Common.{◌≡◌, ℕ, zero, suc, ◌+◌, ◌-◌, ◌*◌, ◌/◌, ◌%◌, ◌^◌, ◌<◌, ◌≤◌, min, Bool, true, false, cond, not, T, eqb, ltb, List, length, get_or, set, sym, refl, ◌∙◌, subst, true≢false, le_trans, le_of_eq, not-suc-le-zero, add-le-add, mul-le-mul_right, mod-lt, mul-pos, mul-one, arith, lit<, lit≤, get_or-set_other, get_or-set_same, ltb-true}
+use Rattle.std.proofs.Common.{◌≡◌, ℕ, zero, suc, ◌+◌, ◌-◌, ◌*◌, ◌/◌, ◌%◌, ◌^◌, ◌<◌, ◌≤◌, min, Bool, true, false, cond, not, T, eqb, ltb, List, length, get_or}
+use Rattle.std.proofs.Common.{set, sym, refl, ◌∙◌, subst, true≢false, le_trans, le_of_eq, not-suc-le-zero, add-le-add, mul-le-mul_right, mod-lt, mul-pos}
+use Rattle.std.proofs.Common.{mul-one, arith, lit<, lit≤, get_or-set_other, get_or-set_same, ltb-true}
 use native.Mathlib.Decide.{ℕ_discrete}
 use lib.Ieee.{Float, nan, inf, fin, binary64, add, sub, mul, neg, lt, le, eq, is_nan, fits, of_bits, to_unsigned}
 use lib.Ieee.Bits.{is_true}
@@ -33,8 +35,10 @@ use Rattle.karplus_strong.specs.Consts.{n_ports, loop_leak}
 use Rattle.karplus_strong.specs.Line.{blank_at, blank_of, impulse_of, pulse_of, excited_at, excited_of, sum_to, mean_of, level_at, level_of, struck_of}
 use Rattle.karplus_strong.specs.Step.{filter_coef_of, ap_coef_of, filter_delay_of, ap_delay_of, target_delay_of, offset_one}
 use Rattle.karplus_strong.specs.Step.{offset_two, tap_of, filtered_of, stretched_of, Ticking, rest_of, step_of}
-use Rattle.karplus_strong.specs.KarplusStrong.{trigger_refusal_of, first_refusal_of, karplus_strong_next_of, karplus_strong_block_of, max_len_of, room_of, made_unless}
-use Rattle.karplus_strong.specs.KarplusStrong.{karplus_strong_reset_of, karplus_strong_set_sample_rate_of, finite_or, period_of, struck_len, strike_of, strike_if}
+use Rattle.karplus_strong.specs.KarplusStrong.{trigger_refusal_of, first_refusal_of, karplus_strong_next_of, karplus_strong_block_of, max_len_of, room_of}
+use Rattle.karplus_strong.specs.KarplusStrong.{made_unless}
+use Rattle.karplus_strong.specs.KarplusStrong.{karplus_strong_reset_of, karplus_strong_set_sample_rate_of, finite_or, period_of, struck_len, strike_of}
+use Rattle.karplus_strong.specs.KarplusStrong.{strike_if}
 use Rattle.karplus_strong.specs.KarplusStrong.{tick_unless, karplus_strong_tick_of, Strung, strung, damping_of, brightness_of, stretch_of, controls_of}
 use Rattle.karplus_strong.specs.KarplusStrong.{memo_at, period_at}
 use Rattle.karplus_strong.specs.Calls.{Call, Tick, Play, Reset, SetSampleRate, Lend, strung_after, lent_of, after, FitCall, First}
@@ -147,7 +151,8 @@ record Delay (x : Float) : Type 0 where
   least : T (le one x)
   most : whole_of x ≤ 9610
 
-tap_within : (l : List Float) (from len : ℕ) (x : Float) → from < len → Delay x → ((i : ℕ) → i < len → Within 3 (get_or l i nan)) → Within 3 (tap_of l from len x)
+tap_within : (l : List Float) (from len : ℕ) (x : Float) → from < len → Delay x → ((i : ℕ) → i < len → Within 3 (get_or l i nan))
+    → Within 3 (tap_of l from len x)
 unfolding tap_of
 tap_within l from len x h d k =
     let w = tap_weights x d.fits d.sign d.least d.most in
@@ -253,7 +258,8 @@ finite_positive (fin false m e) a w = a
 
 -- the delay of a tick is such a one
 abbrev delay_at : Hertz → Hertz → Float → Float → Float
-delay_at r f d t = target_delay_of (period_of r f) (filter_coef_of (clamp_of (finite_or d half) zer one)) (ap_coef_of (clamp_of (finite_or t zer) (neg one) one))
+delay_at r f d t = target_delay_of (period_of r f) (filter_coef_of (clamp_of (finite_or d half) zer one))
+    (ap_coef_of (clamp_of (finite_or t zer) (neg one) one))
 
 delay_fine : (r f : Hertz) (d t : Float) → rate_ok r ≡ true → T (not (is_nan f.0)) → Delay (delay_at r f d t)
 delay_fine r f d t e q = record { fits = max_fits; sign = finite_positive x (above_of_le one x (unfold of_bits in tt) least) most; least = least; most = most }
@@ -275,7 +281,8 @@ delay_fine r f d t e q = record { fits = max_fits; sign = finite_positive x (abo
 
     max_fits : F64 x
     max_fits =
-        unfold target_delay_of max_of in cond-fits binary64 (lt one y) y (cond (is_nan one) y one) (sub-fits binary64 left bent) (unfold is_nan fits of_bits in tt)
+        unfold target_delay_of max_of in cond-fits binary64 (lt one y) y (cond (is_nan one) y one) (sub-fits binary64 left bent)
+        (unfold is_nan fits of_bits in tt)
 
     least : T (le one x)
     least = unfold target_delay_of max_of in go (lt one y) refl

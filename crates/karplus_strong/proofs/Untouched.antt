@@ -1,5 +1,6 @@
 -- What a call leaves alone: the cells from the string's length on, and the draws that it doesn't need.
-use Rattle.std.proofs.Common.{◌≡◌, ℕ, zero, suc, ◌+◌, ◌-◌, ◌*◌, ◌<◌, ◌≤◌, min, Bool, true, false, cond, eqb, List, ◌++◌, length, get_or, drop, sym, refl, ap, ◌∙◌, subst, arith, length-set, get_or-drop, get_or-set_other, get_or-append-add, eqb-true}
+use Rattle.std.proofs.Common.{◌≡◌, ℕ, zero, suc, ◌+◌, ◌-◌, ◌*◌, ◌<◌, ◌≤◌, min, Bool, true, false, cond, eqb, List, ◌++◌, length, get_or, drop, sym, refl, ap}
+use Rattle.std.proofs.Common.{◌∙◌, subst, arith, length-set, get_or-drop, get_or-set_other, get_or-append-add, eqb-true}
 use lib.Ieee.{Float, nan}
 use Rattle.laws.proofs.Over.{length_tab, length_over, tab_ext}
 use Rattle.laws.specs.Lists.{tab, over}
@@ -99,7 +100,8 @@ past_sound : (s : KarplusStrong) (c : KarplusStrongControls) (draws : List ℕ) 
 unfolding karplus_strong_sound_of
 past_sound s c draws l a r =
     let q = a.most in
-    past_sounded _ (trigger_refusal_of s c draws) s _ (period_at s c) (brightness_of c) (damping_of c) (stretch_of c) (all_numbers (controls_of c)) draws l a.place
+    past_sounded _ (trigger_refusal_of s c draws) s _ (period_at s c) (brightness_of c) (damping_of c) (stretch_of c) (all_numbers (controls_of c)) draws l
+    a.place
     (omega arith)
     (struck_fits s c a (length l) r)
 

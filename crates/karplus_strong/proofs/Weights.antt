@@ -1,6 +1,7 @@
 -- The two taps have weights that add up to 1 exactly, since a delay of 1 and more is a multiple of 2 ^ -52; and so has the one-pole
 -- filter, whose coefficient is one of 2 ^ -53.
-use Rattle.std.proofs.Common.{◌≡◌, ℕ, ◌+◌, ◌-◌, ◌*◌, ◌/◌, ◌%◌, ◌^◌, ◌<◌, ◌≤◌, min, true, false, T, sym, refl, ap, ◌∙◌, subst, ⊎_elim, le_trans, le_of_eq, mul-le-mul_right, mod-lt, eq-or-lt_of_le, div-add-mod', mul-one, le_of_mul-le-mul_right, arith, lit<, lit≤}
+use Rattle.std.proofs.Common.{◌≡◌, ℕ, ◌+◌, ◌-◌, ◌*◌, ◌/◌, ◌%◌, ◌^◌, ◌<◌, ◌≤◌, min, true, false, T, sym, refl, ap, ◌∙◌, subst, ⊎_elim, le_trans, le_of_eq}
+use Rattle.std.proofs.Common.{mul-le-mul_right, mod-lt, eq-or-lt_of_le, div-add-mod', mul-one, le_of_mul-le-mul_right, arith, lit<, lit≤}
 use lib.Ieee.{Float, nan, inf, fin, binary64, up, down, add, sub, mul, round, le, of_bits, to_unsigned}
 use lib.Ieee.Exact.{HasValue}
 use lib.Ieee.Fits.{down_pos, add-fits}

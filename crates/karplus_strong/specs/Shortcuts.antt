@@ -7,7 +7,8 @@ use Rattle.laws.specs.Float.{one, is_fin}
 use Rattle.numeric.specs.Basic.{whole_of, real_of}
 use Rattle.answer.specs.declared.Answer.{Answer}
 use Rattle.karplus_strong.specs.Consts.{loop_leak}
-use Rattle.karplus_strong.specs.Step.{filter_coef_of, ap_coef_of, target_delay_of, offset_one, offset_two, filtered_of, stretched_of, Ticking, wrote_of, cleared_of}
+use Rattle.karplus_strong.specs.Step.{filter_coef_of, ap_coef_of, target_delay_of, offset_one, offset_two, filtered_of, stretched_of, Ticking, wrote_of}
+use Rattle.karplus_strong.specs.Step.{cleared_of}
 use Rattle.karplus_strong.specs.KarplusStrong.{Strung, strung}
 use Rattle.karplus_strong.specs.declared.KarplusStrong.{KarplusStrong}
 use Rattle.karplus_strong.specs.declared.Tuning.{Tuning}

@@ -78,7 +78,8 @@ unfolding lfo_sound_of held_told held_next restart_of
 held_sound s c wanted p = simp (recall1_again rate_to_hz s.freq_memo c.rate, rising_once s.reset_edge c.reset)
 
 pub holds : (s : Lfo) (c : LfoControls) (wanted : ℕ) → lfo_refusal_of s ≡ 0
-    → Holds (lfo_told_of c wanted) (lfo_next_of c wanted) (told_of s c wanted) (held_next (step_of s c)) (state_of s c) (λ p. phase_ok p ≡ true) s (start_of s c)
+    → Holds (lfo_told_of c wanted) (lfo_next_of c wanted) (told_of s c wanted) (held_next (step_of s c)) (state_of s c) (λ p. phase_ok p ≡ true) s
+    (start_of s c)
 holds s c wanted h =
     record {
       good = restart_in s.phase (rising_of s.reset_edge c.reset).rising (accepts s h).1;

@@ -24,7 +24,8 @@ use Rattle.laws.specs.Float.{zer}
 use Rattle.lfo.proofs.Accepted.{accepts, sounds}
 use Rattle.lfo.specs.Calls.{Call, Tick, Play, Reset, SetSampleRate, Told, Fit, FitCall, after, reply, First, ReachedLfo}
 use Rattle.lfo.specs.Consts.{n_ports}
-use Rattle.lfo.specs.Lfo.{new_lfo, lfo_refusal_of, lfo_rate_refusal_of, made_unless, lfo_new_of, lfo_sound_of, lfo_tick_of, lfo_block_of, restarted, lfo_reset_of}
+use Rattle.lfo.specs.Lfo.{new_lfo, lfo_refusal_of, lfo_rate_refusal_of, made_unless, lfo_new_of, lfo_sound_of, lfo_tick_of, lfo_block_of, restarted}
+use Rattle.lfo.specs.Lfo.{lfo_reset_of}
 use Rattle.lfo.specs.Lfo.{rated, lfo_set_sample_rate_of}
 use Rattle.lfo.specs.Promises.{NewAccepts, NeverRefused, GateSays, ThresholdKept}
 use Rattle.lfo.specs.Waves.{rate_to_hz}

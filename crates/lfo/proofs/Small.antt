@@ -66,7 +66,8 @@ outputs_finite wanted p d turned h k = simp (sin_finite, tri_finite, saw_finite,
 
     sin_finite : is_fin (sin_wave (wants wanted 1) (sine_of p) scale) ≡ true
     sin_finite =
-        unfold sin_wave in finite_if (wants wanted 1) 33 (mul binary64 (sine_of p) scale) (within_mul 0 33 (sine_of p) scale (lit≤ tt) (sine_within p phase) loud)
+        unfold sin_wave in finite_if (wants wanted 1) 33 (mul binary64 (sine_of p) scale)
+        (within_mul 0 33 (sine_of p) scale (lit≤ tt) (sine_within p phase) loud)
 
     tri_finite : is_fin (tri_wave (wants wanted 2) p scale) ≡ true
     tri_finite =

@@ -17,7 +17,8 @@ use Rattle.numeric.specs.Floor.{floor_of}
 use Rattle.laws.specs.Machine.{replies, Settles}
 use Rattle.lfo.specs.Calls.{Call, Tick, Reset, SetSampleRate, Told, Fit, after, reply, First, ReachedLfo}
 use Rattle.lfo.specs.Consts.{ten, n_ports}
-use Rattle.lfo.specs.Lfo.{new_lfo, new_like, lfo_refusal_of, lfo_new_of, lfo_tick_of, lfo_told_of, lfo_next_of, lfo_block_of, lfo_reset_of, lfo_set_sample_rate_of}
+use Rattle.lfo.specs.Lfo.{new_lfo, new_like, lfo_refusal_of, lfo_new_of, lfo_tick_of, lfo_told_of, lfo_next_of, lfo_block_of, lfo_reset_of}
+use Rattle.lfo.specs.Lfo.{lfo_set_sample_rate_of}
 use Rattle.lfo.specs.Lfo.{restarted, rated}
 use Rattle.lfo.specs.Small.{is_small}
 use Rattle.lfo.specs.Waves.{rate_to_hz}
@@ -116,7 +117,8 @@ summed s c =
 -- not in [0, 1). Else it is 0.0, in a lost tick too. The depth says nothing
 pub record Pulses (s : Lfo) (c : LfoControls) (wanted : ℕ) : Type 0 where
   pub by_floor : (volts_of (lfo_tick_of s c wanted).answer).p15 ≡ cond (wants wanted 32 && (is_fin (summed s c) && ne (floor_of (summed s c)) zer)) five zer
-  pub by_range : (volts_of (lfo_tick_of s c wanted).answer).p15 ≡ cond (wants wanted 32 && (is_fin (summed s c) && not (phase_ok (turns (summed s c))))) five zer
+  pub by_range : (volts_of (lfo_tick_of s c wanted).answer).p15
+      ≡ cond (wants wanted 32 && (is_fin (summed s c) && not (phase_ok (turns (summed s c))))) five zer
   pub in_lost : mark_number (lfo_tick_of s c wanted).answer ≡ lost → (volts_of (lfo_tick_of s c wanted).answer).p15 ≡ zer
 
 abbrev pub EocSays : Type 0
@@ -150,6 +152,7 @@ BlockTallies = (s : Lfo) (c : LfoControls) (wanted : ℕ) → lfo_refusal_of s �
 pub record Settled : Type 0 where
   pub new : (r : Hertz) (t : Float) → Settles (λ (m : LfoMade). m ≡ lfo_new_of r t)
   pub tick : (s : Lfo) (c : LfoControls) (wanted : ℕ) → Settles (λ (t : LfoTicked). t ≡ lfo_tick_of s c wanted)
-  pub block : (s : Lfo) (c : LfoControls) (wanted : ℕ) (t : Tally) (o : List Float) (m : List ℕ) → Settles (λ (b : Block Lfo). b ≡ lfo_block_of s c wanted t o m)
+  pub block : (s : Lfo) (c : LfoControls) (wanted : ℕ) (t : Tally) (o : List Float) (m : List ℕ)
+      → Settles (λ (b : Block Lfo). b ≡ lfo_block_of s c wanted t o m)
   pub reset : (s : Lfo) → Settles (λ (m : LfoMade). m ≡ lfo_reset_of s)
   pub set_sample_rate : (s : Lfo) (r : Hertz) → Settles (λ (m : LfoMade). m ≡ lfo_set_sample_rate_of s r)

@@ -120,7 +120,8 @@ drop_back s k = tests (leb k (length s)) refl
 
 -- the parts before and after a byte, by how many stand before it
 module _ (x b : ℕ) (bs : List ℕ) where
-  take_step : (e : Bool) → take (length (until_of x bs)) bs ≡ until_of x bs → take (length (cond e [] (b ∷ until_of x bs))) (b ∷ bs) ≡ cond e [] (b ∷ until_of x bs)
+  take_step : (e : Bool) → take (length (until_of x bs)) bs ≡ until_of x bs → take (length (cond e [] (b ∷ until_of x bs))) (b ∷ bs)
+      ≡ cond e [] (b ∷ until_of x bs)
   take_step true h = refl
   take_step false h = ap (λ (l : List ℕ). b ∷ l) h
 
@@ -174,7 +175,8 @@ pub after_line_lem : (s : List ℕ) (at n : ℕ) → n ≡ next_of s at → afte
 after_line_lem s at n e = sym (next_rest s at) ∙ ap (λ (i : ℕ). drop i s) (sym e)
 
 -- the parts of a text that has the byte make the text
-split_step : (x b : ℕ) (bs : List ℕ) (e : Bool) → eqb b x ≡ e → (has_of x bs ≡ true → until_of x bs ++ (x ∷ past_of x bs) ≡ bs) → cond e true (has_of x bs) ≡ true
+split_step : (x b : ℕ) (bs : List ℕ) (e : Bool) → eqb b x ≡ e → (has_of x bs ≡ true → until_of x bs ++ (x ∷ past_of x bs) ≡ bs) → cond e true (has_of x bs)
+    ≡ true
     → cond e [] (b ∷ until_of x bs) ++ (x ∷ cond e bs (past_of x bs)) ≡ b ∷ bs
 split_step x b bs true e f p = ap (λ (i : ℕ). i ∷ bs) (sym (eqb-true b x e))
 split_step x b bs false e f p = ap (λ (l : List ℕ). b ∷ l) (f p)

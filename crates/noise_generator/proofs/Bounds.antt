@@ -1,5 +1,7 @@
 -- The rows of a pink noise stay from -1 to 1 and their running sum from -2 ^ 54 to 2 ^ 54, where 1 more or less is rounded away.
-use Rattle.std.proofs.Common.{◌≡◌, ℕ, zero, suc, ◌+◌, ◌-◌, ◌*◌, ◌^◌, ◌<◌, ◌≤◌, Bool, true, false, cond, ◌&&◌, T, ltb, List, length, get_or, set, pos, sym, refl, ◌∙◌, subst, inl, inr, le_trans, le_of_eq, le_of_lt, add-le-add, mul-le-mul_right, mul-pos, mul-one, arith, lit<, lit≤, length-set, get_or-set_other, get_or-set_same}
+use Rattle.std.proofs.Common.{◌≡◌, ℕ, zero, suc, ◌+◌, ◌-◌, ◌*◌, ◌^◌, ◌<◌, ◌≤◌, Bool, true, false, cond, ◌&&◌, T, ltb, List, length, get_or, set, pos, sym, refl}
+use Rattle.std.proofs.Common.{◌∙◌, subst, inl, inr, le_trans, le_of_eq, le_of_lt, add-le-add, mul-le-mul_right, mul-pos, mul-one, arith, lit<, lit≤, length-set}
+use Rattle.std.proofs.Common.{get_or-set_other, get_or-set_same}
 use mathlib.Core.Bool.{beq}
 use native.Mathlib.Decide.{ℕ_discrete}
 use native.Mathlib.Nat.{min-le_right}
@@ -205,7 +207,8 @@ calm_first s (inr (c, e)) = subst CalmNoise (sym e) (unfold with_correlation in 
 calm_after : (s : NoiseGenerator) (c : Call) → CalmNoise s → CalmNoise (after s c)
 unfolding after
 calm_after s (Tick c wanted draws) h = calm_tick s c wanted draws h
-calm_after s (Play c wanted draws t o m) h = unfold noise_generator_block_of in block_keeps n_ports _ _ _ CalmDrawing (calm_next c wanted) (drawing s draws) h t o m
+calm_after s (Play c wanted draws t o m) h = unfold noise_generator_block_of in block_keeps n_ports _ _ _ CalmDrawing (calm_next c wanted) (drawing s draws) h
+    t o m
 calm_after s Reset h = calm_reset s
 calm_after s (SetSampleRate r) h = unfold rated in h
 

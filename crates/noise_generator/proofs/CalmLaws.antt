@@ -1,5 +1,6 @@
 -- The test of rows; and a block of a calm generator, each tick of which has finite outputs.
-use Rattle.std.proofs.Common.{◌≡◌, ℕ, ◌+◌, ◌-◌, ◌<◌, Bool, true, false, not, List, length, get_or, take, drop, sym, refl, ap, ◌∙◌, subst, ⊎_elim, true≢false, le_of_suc-le-suc, not-suc-le-zero, le_of_lt, eq-or-lt_of_le, add-one}
+use Rattle.std.proofs.Common.{◌≡◌, ℕ, ◌+◌, ◌-◌, ◌<◌, Bool, true, false, not, List, length, get_or, take, drop, sym, refl, ap, ◌∙◌, subst, ⊎_elim, true≢false}
+use Rattle.std.proofs.Common.{le_of_suc-le-suc, not-suc-le-zero, le_of_lt, eq-or-lt_of_le, add-one}
 use lib.Ieee.{Float, nan}
 use Rattle.laws.proofs.Interval.{unit_within}
 use Rattle.laws.specs.Float.{InUnit}

@@ -1,5 +1,6 @@
 -- Marks: a tick of a calm state whose correlation is a number is clean, and a NaN correlation is told.
-use Rattle.std.proofs.Common.{◌≡◌, ℕ, suc, ◌+◌, ◌*◌, ◌<◌, ◌≤◌, Bool, true, false, not, ◌&&◌, ◌||◌, T, List, get_or, sym, refl, ap, ◌∙◌, subst, le_trans, mul-pos, arith, lit<, lit≤}
+use Rattle.std.proofs.Common.{◌≡◌, ℕ, suc, ◌+◌, ◌*◌, ◌<◌, ◌≤◌, Bool, true, false, not, ◌&&◌, ◌||◌, T, List, get_or, sym, refl, ap, ◌∙◌, subst, le_trans}
+use Rattle.std.proofs.Common.{mul-pos, arith, lit<, lit≤}
 use mathlib.Core.Bool.{false≢true}
 use lib.Ieee.Bits.{is_false}
 use lib.Ieee.{Float, nan, binary64, eq, is_nan, le, lt, mul, neg, of_bits, sub}
@@ -24,7 +25,8 @@ use Rattle.answer.specs.Mark.{all_finite, all_numbers, mark_of, rule_of}
 use Rattle.answer.specs.declared.Volts.{Volts}
 use Rattle.noise_generator.specs.Shortcuts.{turn_volts}
 use Rattle.noise_generator.specs.Consts.{sixteen}
-use Rattle.noise_generator.specs.NoiseGenerator.{needed_of, given_or, given_in, mix_of, noise_generator_volts_of, turn_of, correlation_of, noise_generator_tick_of}
+use Rattle.noise_generator.specs.NoiseGenerator.{needed_of, given_or, given_in, mix_of, noise_generator_volts_of, turn_of, correlation_of}
+use Rattle.noise_generator.specs.NoiseGenerator.{noise_generator_tick_of}
 use Rattle.noise_generator.specs.NoiseGenerator.{drawing, noise_generator_told_of, noise_generator_next_of}
 use Rattle.noise_generator.specs.Pink.{next_index, changed_of, sampled_of, pink_of}
 use Rattle.noise_generator.specs.Promises.{NanTold, Clean, Number, AlwaysClean, BlockClean}
@@ -87,7 +89,8 @@ volts_finite c white1 independent pink1 pink2 wanted C W I P Q = simp (white, pi
     both = out_finite (wants wanted 8) 52 (mix_of pink1 pink2 c) (lit≤ tt) (mix_within 50 pink1 pink2 c (lit≤ tt) P Q C)
 
 -- ---- so a tick of a calm state is clean
-pub turn_finite : (c : Float) (numbers : Bool) (s : NoiseGenerator) (wanted : ℕ) (draws : List ℕ) → draws_ok draws (needed_of s) ≡ true → Within 0 c → CalmNoise s
+pub turn_finite : (c : Float) (numbers : Bool) (s : NoiseGenerator) (wanted : ℕ) (draws : List ℕ) → draws_ok draws (needed_of s) ≡ true → Within 0 c
+    → CalmNoise s
     → all_finite (turn_volts c s.pink s.pink2 wanted draws) ≡ true
 unfolding turn_of
 turn_finite c numbers s wanted draws e h calm =

@@ -1,5 +1,6 @@
 -- The rows that change in n ticks, by halves of the index.
-use Rattle.std.proofs.Common.{◌≡◌, ℕ, zero, suc, ◌+◌, ◌-◌, ◌*◌, ◌/◌, ◌%◌, ◌^◌, ◌<◌, ◌≤◌, min, sym, refl, ap, ◌∙◌, ap₂, add-zero, add-suc, mod-lt, zero-add, arith, lit<, lit≤}
+use Rattle.std.proofs.Common.{◌≡◌, ℕ, zero, suc, ◌+◌, ◌-◌, ◌*◌, ◌/◌, ◌%◌, ◌^◌, ◌<◌, ◌≤◌, min, sym, refl, ap, ◌∙◌, ap₂, add-zero, add-suc, mod-lt, zero-add}
+use Rattle.std.proofs.Common.{arith, lit<, lit≤}
 use native.Mathlib.Nat.{sub-zero, mod-add-mod}
 use lib.Arith.{digits_div, digits_mod}
 use lib.Count.{under, count_trailing_zeros}

@@ -1,10 +1,12 @@
 -- Only the draws that it needs count, to a tick and to a block.
-use Rattle.std.proofs.Common.{◌≡◌, ℕ, zero, suc, ◌+◌, ◌*◌, ◌<◌, ◌≤◌, Bool, true, false, cond, eqb, List, ◌++◌, length, get_or, drop, sym, refl, ap, ◌∙◌, ap₂, le_refl, arith, length-drop, get_or-drop, eqb-true}
+use Rattle.std.proofs.Common.{◌≡◌, ℕ, zero, suc, ◌+◌, ◌*◌, ◌<◌, ◌≤◌, Bool, true, false, cond, eqb, List, ◌++◌, length, get_or, drop, sym, refl, ap, ◌∙◌, ap₂}
+use Rattle.std.proofs.Common.{le_refl, arith, length-drop, get_or-drop, eqb-true}
 use lib.Ieee.{Float}
 use Rattle.common.proofs.DrawLaws.{refusal_draws}
 use Rattle.common.specs.Tests.{draws_refusal_of}
 use Rattle.answer.proofs.Blocks.{many_ext, block_fits}
-use Rattle.answer.specs.Block.{after_ticks, answer_at, mark_at, frame_at, ports_of, joined, counted_to, many_to, ticks_of, Block, block, block_of, block_refusal_of}
+use Rattle.answer.specs.Block.{after_ticks, answer_at, mark_at, frame_at, ports_of, joined, counted_to, many_to, ticks_of, Block, block, block_of}
+use Rattle.answer.specs.Block.{block_refusal_of}
 use Rattle.answer.specs.Answer.{host_number, volts_of, cleared, notfinite, lost, steered, clean, told}
 use Rattle.answer.specs.declared.Answer.{Answer}
 use Rattle.answer.specs.declared.Tally.{Tally}
@@ -118,7 +120,8 @@ block_same : (s : NoiseGenerator) (c : NoiseGeneratorControls) (wanted : ℕ) (d
     → SameTo (needed_by s (length m)) d e → noise_generator_block_of s c wanted d t o m ≡ noise_generator_block_of s c wanted e t o m
 unfolding noise_generator_block_of block_of
 block_same s c wanted d e t o m h =
-    ap (λ (k : ℕ). undrawn (block_of n_ports k (noise_generator_told_of c wanted) (noise_generator_next_of c wanted) (drawing s d) t o m)) number ∙ go (eqb n 0) refl
+    ap (λ (k : ℕ). undrawn (block_of n_ports k (noise_generator_told_of c wanted) (noise_generator_next_of c wanted) (drawing s d) t o m)) number
+    ∙ go (eqb n 0) refl
   where
     number : draws_refusal_of (needed_by s (length m)) d ≡ draws_refusal_of (needed_by s (length m)) e
     number = refusal_draws (needed_by s (length m)) d e h.0 h.1 h.2

@@ -1,5 +1,6 @@
 -- The row counter: how it climbs, and which rows change when it comes to an index.
-use Rattle.std.proofs.Common.{◌≡◌, ℕ, zero, suc, ◌+◌, ◌-◌, ◌*◌, ◌/◌, ◌%◌, ◌^◌, ◌<◌, ◌≤◌, min, Bool, true, false, cond, eqb, ltb, leb, sym, refl, ap, ◌∙◌, ap₂, mod-lt, pow-suc, arith, lit<, pow_pos, eq-eqb, ne_eqb, eqb-true}
+use Rattle.std.proofs.Common.{◌≡◌, ℕ, zero, suc, ◌+◌, ◌-◌, ◌*◌, ◌/◌, ◌%◌, ◌^◌, ◌<◌, ◌≤◌, min, Bool, true, false, cond, eqb, ltb, leb, sym, refl, ap, ◌∙◌, ap₂}
+use Rattle.std.proofs.Common.{mod-lt, pow-suc, arith, lit<, pow_pos, eq-eqb, ne_eqb, eqb-true}
 use native.Mathlib.Nat.{mod-one}
 use lib.Arith.{digits_div, digits_mod, mod-mul}
 use lib.Bits.{bit_xor, differ, xor_step, xor_self}

@@ -1,5 +1,6 @@
 -- A tick that its draws don't refuse is one turn; and the state before each tick of a block, with the draws that are left to it.
-use Rattle.std.proofs.Common.{◌≡◌, ℕ, zero, suc, ◌+◌, ◌<◌, ◌≤◌, Bool, true, false, cond, eqb, List, length, get_or, drop, sym, refl, ap, ◌∙◌, ap₂, le_refl, add-one, arith, length-drop, get_or-drop, drop-drop, lt-ltb, eqb-true}
+use Rattle.std.proofs.Common.{◌≡◌, ℕ, zero, suc, ◌+◌, ◌<◌, ◌≤◌, Bool, true, false, cond, eqb, List, length, get_or, drop, sym, refl, ap, ◌∙◌, ap₂, le_refl}
+use Rattle.std.proofs.Common.{add-one, arith, length-drop, get_or-drop, drop-drop, lt-ltb, eqb-true}
 use native.Mathlib.Decide.{le_ind}
 use lib.Ieee.{Float}
 use borrow.Author.Tests.{eqb-false}
@@ -163,23 +164,24 @@ module _ (s : NoiseGenerator) (c : NoiseGeneratorControls) (wanted : ℕ) (draws
 
   -- a turn of the block's loop, whose state is x and whose draws start at `at`
   module _ (i : ℕ) (l : i < n) (x : NoiseGenerator) (at : ℕ) (t : NoiseGeneratorTicked)
-      (z : x ≡ (drawing_at s c wanted draws i).noise) (f : at ≡ needed_by s i) (e : t ≡ turn_of (correlation_of s c) (numbers_of c) x wanted (drop at draws)) where
-    ticked : t ≡ noise_generator_tick_of (drawing_at s c wanted draws i).noise c wanted (drawing_at s c wanted draws i).draws
-    ticked =
-        let a : At s c wanted draws n i (drawing_at s c wanted draws i) = ticks_at i (omega arith) in
-        let left : drop at draws ≡ (drawing_at s c wanted draws i).draws = ap (λ (k : ℕ). drop k draws) f ∙ sym a.left in
-        e ∙ ap₂ (λ (y : NoiseGenerator) (d : List ℕ). turn_of (correlation_of s c) (numbers_of c) y wanted d) z left ∙ sym (a.turns l)
+      (z : x ≡ (drawing_at s c wanted draws i).noise) (f : at ≡ needed_by s i) (e : t ≡ turn_of (correlation_of s c) (numbers_of c) x wanted (drop at draws))
+    where
+      ticked : t ≡ noise_generator_tick_of (drawing_at s c wanted draws i).noise c wanted (drawing_at s c wanted draws i).draws
+      ticked =
+          let a : At s c wanted draws n i (drawing_at s c wanted draws i) = ticks_at i (omega arith) in
+          let left : drop at draws ≡ (drawing_at s c wanted draws i).draws = ap (λ (k : ℕ). drop k draws) f ∙ sym a.left in
+          e ∙ ap₂ (λ (y : NoiseGenerator) (d : List ℕ). turn_of (correlation_of s c) (numbers_of c) y wanted d) z left ∙ sym (a.turns l)
 
-    pub heard : t.answer ≡ answer_at (noise_generator_told_of c wanted) (noise_generator_next_of c wanted) (drawing s draws) i
-    unfolding answer_at
-    heard = ap (λ (u : NoiseGeneratorTicked). u.answer) ticked
+      pub heard : t.answer ≡ answer_at (noise_generator_told_of c wanted) (noise_generator_next_of c wanted) (drawing s draws) i
+      unfolding answer_at
+      heard = ap (λ (u : NoiseGeneratorTicked). u.answer) ticked
 
-    pub moved : t.noise_generator ≡ (drawing_at s c wanted draws (i + 1)).noise
-    unfolding after_ticks
-    moved = rw add-one (ap (λ (u : NoiseGeneratorTicked). u.noise_generator) ticked)
+      pub moved : t.noise_generator ≡ (drawing_at s c wanted draws (i + 1)).noise
+      unfolding after_ticks
+      moved = rw add-one (ap (λ (u : NoiseGeneratorTicked). u.noise_generator) ticked)
 
-    pub advanced : at + needed_of x ≡ needed_by s (i + 1)
-    advanced = ap₂ (λ (k : ℕ) (y : NoiseGenerator). k + needed_of y) f z ∙ (ticks_at i (omega arith)).needs
+      pub advanced : at + needed_of x ≡ needed_by s (i + 1)
+      advanced = ap₂ (λ (k : ℕ) (y : NoiseGenerator). k + needed_of y) f z ∙ (ticks_at i (omega arith)).needs
 
-    pub reaches : at + needed_of x ≤ length draws
-    reaches = let a = (ticks_at (i + 1) (omega arith)).fits in let b = advanced in omega arith
+      pub reaches : at + needed_of x ≤ length draws
+      reaches = let a = (ticks_at (i + 1) (omega arith)).fits in let b = advanced in omega arith

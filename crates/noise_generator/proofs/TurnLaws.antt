@@ -1,5 +1,6 @@
 -- A turn from what its parts ensure.
-use Rattle.std.proofs.Common.{◌≡◌, ℕ, ◌+◌, ◌-◌, ◌<◌, ◌≤◌, Bool, true, false, List, length, get_or, take, drop, sym, ap, ◌∙◌, le_of_eq, add_assoc, arith, length-drop, take_all}
+use Rattle.std.proofs.Common.{◌≡◌, ℕ, ◌+◌, ◌-◌, ◌<◌, ◌≤◌, Bool, true, false, List, length, get_or, take, drop, sym, ap, ◌∙◌, le_of_eq, add_assoc, arith}
+use Rattle.std.proofs.Common.{length-drop, take_all}
 use lib.Ieee.{Float, binary64, div}
 use Rattle.numeric.specs.Draw.{bipolar_of}
 use Rattle.common.proofs.DrawLaws.{draw_below, draws_fine}
@@ -57,7 +58,8 @@ module _ (r : Rowless) (index index2 n n2 : ℕ)
     outputs = simp (sampled, sampled2, ew, eu)
 
     pub turned : (numbers : Bool) (a : Answer)
-        → a ≡ mark_of (noise_generator_volts_of correlation white independent (div binary64 sum sixteen) (div binary64 sum2 sixteen) wanted) false true true numbers
+        → a ≡ mark_of (noise_generator_volts_of correlation white independent (div binary64 sum sixteen) (div binary64 sum2 sixteen) wanted) false true true
+        numbers
         → (stored last : Float) → ticked a (whole to to2 (record { sum = sum; index = index; sum2 = sum2; index2 = index2 }) stored white)
         ≡ turn_of correlation numbers (whole rows rows2 r stored last) wanted d
     unfolding turn_of sampled_of pink_of

@@ -123,7 +123,8 @@ undrawn b = block b.refused b.state.noise b.tally b.samples b.marks
 unfoldable pub noise_generator_block_of : NoiseGenerator → NoiseGeneratorControls → ℕ → List ℕ → Tally → List Float → List ℕ → Block NoiseGenerator
 noise_generator_block_of s c wanted draws t o m =
     undrawn
-    (block_of n_ports (draws_refusal_of (needed_by s (length m)) draws) (noise_generator_told_of c wanted) (noise_generator_next_of c wanted) (drawing s draws) t o m)
+    (block_of n_ports (draws_refusal_of (needed_by s (length m)) draws) (noise_generator_told_of c wanted) (noise_generator_next_of c wanted) (drawing s draws)
+    t o m)
 
 -- ---- reset: both pinks are new, and the correlation stays
 unfoldable pub restarted : NoiseGenerator → NoiseGenerator

@@ -1,5 +1,6 @@
 -- Theorems about the NoiseGenerator: the statements. proofs/ proves each under the same name in small letters.
-use Rattle.std.specs.Prelude.{◌≡◌, ℕ, ◌+◌, ◌*◌, ◌%◌, ◌^◌, ◌<◌, ◌≤◌, min, true, false, cond, not, ◌||◌, T, List, [], ◌∷◌, length, drop, ◌==◌, from_bits, is_nan, nat_lt, slice_index, slice_index_or, Float}
+use Rattle.std.specs.Prelude.{◌≡◌, ℕ, ◌+◌, ◌*◌, ◌%◌, ◌^◌, ◌<◌, ◌≤◌, min, true, false, cond, not, ◌||◌, T, List, [], ◌∷◌, length, drop, ◌==◌, from_bits, is_nan}
+use Rattle.std.specs.Prelude.{nat_lt, slice_index, slice_index_or, Float}
 use Rattle.std.specs.Int.Count.{count_trailing_zeros}
 use Rattle.std.specs.Float.{nan, binary64}
 use Rattle.std.specs.Float.Ieee.{le, neg}

@@ -56,7 +56,8 @@ volts : Volts
 volts = volts4 (of_bits binary64 0) (of_bits binary64 0xc014000000000000) (of_bits binary64 0xc014000000000000) (of_bits binary64 0x4014000000000000)
 
 is_read : score_of given ≡ Values score
-unfolding given score inputs same_of has_of until_of past_of line_of after_line key_of value_of is_line digits_from digits_of negative_of signed_of number_of osc_of within_of
+unfolding given score inputs same_of has_of until_of past_of line_of after_line key_of value_of is_line digits_from digits_of negative_of signed_of number_of
+    osc_of within_of
     control_of osc_line whole_line control_line osc whole control end_of inputs_of gate head_of lines_of score_of
 is_read = refl
 

@@ -10,6 +10,7 @@ use Rattle.score.specs.Score.{osc, whole, gate, control, end_of, inputs_of, head
 use Rattle.score.specs.Examples.{ScoreExamples}
 
 pub score_examples : ScoreExamples
-unfolding same_of has_of until_of past_of line_of after_line key_of value_of is_line digits_from digits_of negative_of signed_of number_of volts_of osc_of within_of control_of
+unfolding same_of has_of until_of past_of line_of after_line key_of value_of is_line digits_from digits_of negative_of signed_of number_of volts_of osc_of
+    within_of control_of
     osc_line whole_line control_line osc whole gate control end_of inputs_of head_of lines_of score_of to_bits div of_int of_bits
 score_examples = (refl, refl)

@@ -118,7 +118,8 @@ abbrev its_text : List ℕ
 its_text = ascii "osc=formant\nhz=192000\ngate=2\nframes=480000\nv_oct=-10000000\nvowel=-10000000\nformant_shift=-10000000\nvibrato=-10000000\n"
 
 its_reading : score_of its_text ≡ Values longest
-unfolding same_of has_of until_of past_of line_of after_line key_of value_of is_line digits_from digits_of negative_of signed_of number_of osc_of within_of control_of
+unfolding same_of has_of until_of past_of line_of after_line key_of value_of is_line digits_from digits_of negative_of signed_of number_of osc_of within_of
+    control_of
     osc_line whole_line control_line osc whole gate control end_of inputs_of head_of lines_of score_of
 its_reading = refl
 

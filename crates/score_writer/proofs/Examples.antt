@@ -25,7 +25,8 @@ ReadAll [] = Unit {0}
 ReadAll (r ∷ rs) = Reads r × ReadAll rs
 
 read_all : ReadAll texts
-unfolding same_of has_of until_of past_of line_of after_line key_of value_of is_line digits_from digits_of negative_of signed_of number_of osc_of within_of control_of
+unfolding same_of has_of until_of past_of line_of after_line key_of value_of is_line digits_from digits_of negative_of signed_of number_of osc_of within_of
+    control_of
     osc_line whole_line control_line osc whole gate control end_of inputs_of head_of lines_of score_of
 read_all = (refl, (refl, (refl, (refl, (refl, tt)))))
 

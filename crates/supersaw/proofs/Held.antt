@@ -77,7 +77,8 @@ first_good s h = let a = accepts s h in record { whole = refl; phases = a.1.0; l
 
 sum_at : (t dt : List Float) (i : ℕ) → i < 8 → at (wraps_of (sums_of t dt)) i ≡ wrap_of (add binary64 (at t i) (at dt i))
 unfolding wraps_of sums_of
-sum_at t dt i l = get_or_tab nan (λ (j : ℕ). wrap_of (at (sums_of t dt) j)) 8 i l ∙ ap wrap_of (get_or_tab nan (λ (j : ℕ). add binary64 (at t j) (at dt j)) 8 i l)
+sum_at t dt i l = get_or_tab nan (λ (j : ℕ). wrap_of (at (sums_of t dt) j)) 8 i l
+    ∙ ap wrap_of (get_or_tab nan (λ (j : ℕ). add binary64 (at t j) (at dt j)) 8 i l)
 
 wraps_good : (t dt : List Float) → Good (wraps_of (sums_of t dt))
 wraps_good t dt = record { whole = unfold wraps_of tab in refl; phases = seven; low = ok 7 (lit< tt) }
@@ -125,7 +126,8 @@ quiet_held s c detune base dt mix numbers h d i t q =
     quiet_ramped detune base s.sample_rate t dt D (accepts s h).0 i q mix numbers
 
 pub holds : (s : Supersaw) (c : SupersawControls) → supersaw_refusal_of s ≡ 0 → length s.phases ≡ 7
-    → Holds (supersaw_told_of c) (supersaw_next_of c) (held_told (held_incs s c) (held_mix c) (held_numbers c)) (held_next (held_incs s c) (held_mix c) (held_numbers c))
+    → Holds (supersaw_told_of c) (supersaw_next_of c) (held_told (held_incs s c) (held_mix c) (held_numbers c))
+    (held_next (held_incs s c) (held_mix c) (held_numbers c))
     (state_of s c) Good s (lanes_of s.phases s.sub_phase)
 holds s c h k =
     record {

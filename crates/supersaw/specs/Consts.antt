@@ -14,7 +14,8 @@ detune_ratios = of_bits binary64 0xbfbc2a79d1274f7a ∷ of_bits binary64 0xbfb01
 
 -- MIX_LEVELS: 0.5, 0.7, 0.9, 1.0, 0.9, 0.7, 0.5
 abbrev pub mix_levels : List Float
-mix_levels = of_bits binary64 0x3fe0000000000000 ∷ of_bits binary64 0x3fe6666666666666 ∷ of_bits binary64 0x3feccccccccccccd ∷ of_bits binary64 0x3ff0000000000000
+mix_levels = of_bits binary64 0x3fe0000000000000 ∷ of_bits binary64 0x3fe6666666666666 ∷ of_bits binary64 0x3feccccccccccccd
+    ∷ of_bits binary64 0x3ff0000000000000
     ∷ of_bits binary64 0x3feccccccccccccd ∷ of_bits binary64 0x3fe6666666666666 ∷ of_bits binary64 0x3fe0000000000000 ∷ []
 
 -- 7

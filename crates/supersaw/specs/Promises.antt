@@ -52,6 +52,7 @@ BlockTallies = (s : Supersaw) (c : SupersawControls) → length s.phases ≡ 7 �
 pub record Settled : Type 0 where
   pub new : (r : Hertz) → Settles (λ (m : SupersawMade). m ≡ supersaw_new_of r)
   pub tick : (s : Supersaw) (c : SupersawControls) → Settles (λ (t : SupersawTicked). t ≡ supersaw_tick_of s c)
-  pub block : (s : Supersaw) (c : SupersawControls) (t : Tally) (o : List Float) (m : List ℕ) → Settles (λ (b : Block Supersaw). b ≡ supersaw_block_of s c t o m)
+  pub block : (s : Supersaw) (c : SupersawControls) (t : Tally) (o : List Float) (m : List ℕ)
+      → Settles (λ (b : Block Supersaw). b ≡ supersaw_block_of s c t o m)
   pub reset : (s : Supersaw) → Settles (λ (m : SupersawMade). m ≡ supersaw_reset_of s)
   pub set_sample_rate : (s : Supersaw) (r : Hertz) → Settles (λ (m : SupersawMade). m ≡ supersaw_set_sample_rate_of s r)

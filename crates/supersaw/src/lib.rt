@@ -11,8 +11,10 @@ ghost use Rattle.answer.specs.Mark.{all_numbers};
 ghost use Rattle.answer.specs.Block.{after_ticks, joined, block, mark_at, frame_at};
 ghost use Rattle.supersaw.specs.Consts.{n_ports};
 ghost use Rattle.supersaw.specs.Voices.{at, freq_of, saw_of, sub_dt_of};
-ghost use Rattle.supersaw.specs.Supersaw.{start_phases, phases_ok, controls_of, supersaw_refusal_of, supersaw_rate_refusal_of, supersaw_new_of, supersaw_sound_of};
-ghost use Rattle.supersaw.specs.Supersaw.{supersaw_tick_of, supersaw_told_of, supersaw_next_of, supersaw_block_of, supersaw_reset_of, supersaw_set_sample_rate_of};
+ghost use Rattle.supersaw.specs.Supersaw.{start_phases, phases_ok, controls_of, supersaw_refusal_of, supersaw_rate_refusal_of, supersaw_new_of};
+ghost use Rattle.supersaw.specs.Supersaw.{supersaw_sound_of};
+ghost use Rattle.supersaw.specs.Supersaw.{supersaw_tick_of, supersaw_told_of, supersaw_next_of, supersaw_block_of, supersaw_reset_of};
+ghost use Rattle.supersaw.specs.Supersaw.{supersaw_set_sample_rate_of};
 ghost use Rattle.supersaw.specs.Shortcuts.{lanes_of, incs_of, saws_of, ramps_of, sums_of, wraps_of, lanes_finite, steady_of};
 ghost use Rattle.supersaw.specs.Shortcuts.{lanes_steady, mix_to, blend_of, moved_of, stepped_of, ramped_of, quiet_of, held_told, held_next};
 

@@ -23,7 +23,8 @@ use Rattle.vco.proofs.Reached.{Good, good_unrefused, good_new, after_tick, Remem
 use Rattle.vco.specs.Calls.{Tick, Fit, after, reply}
 use Rattle.vco.specs.Consts.{n_ports}
 use Rattle.vco.specs.Promises.{taken, Forgets, BlockForgets, EdgeComes}
-use Rattle.vco.specs.Vco.{new_vco, new_like, made_unless, vco_new_of, frequency_of, crosses_of, vco_volts_of, vco_answer_of, vco_sound_of, vco_tick_of, vco_told_of}
+use Rattle.vco.specs.Vco.{new_vco, new_like, made_unless, vco_new_of, frequency_of, crosses_of, vco_volts_of, vco_answer_of, vco_sound_of, vco_tick_of}
+use Rattle.vco.specs.Vco.{vco_told_of}
 use Rattle.vco.specs.Vco.{vco_next_of, vco_block_of}
 use Rattle.vco.specs.declared.Vco.{Vco}
 use Rattle.vco.specs.declared.VcoControls.{VcoControls}

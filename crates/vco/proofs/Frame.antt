@@ -62,7 +62,8 @@ unfolding all_numbers is_nan neg of_bits
 numbers = refl
 
 -- so the tick is one without an edge, from phase 0 by 0
-frame_answer : (vco_sound_of (new_vco frame_rate gate_threshold) frame_controls 15).answer ≡ vco_answer_of Nowhere zer zer (clamp_of half pw_low pw_high) zer 15 true
+frame_answer : (vco_sound_of (new_vco frame_rate gate_threshold) frame_controls 15).answer
+    ≡ vco_answer_of Nowhere zer zer (clamp_of half pw_low pw_high) zer 15 true
 unfolding vco_sound_of new_vco crosses_of restart_of increment_of recall3 hits3 filled3
 frame_answer = simp (crossed_is, no_edge, still, no_step, numbers)
 

@@ -81,7 +81,8 @@ phase_value (fin false m e) h =
       bottom = down e;
       bottom_pos = down_pos e;
       below = less (m * up e) (down e)
-          (ltb→lt (m * up e * 1) (1 * down e) (and_r (le zer (fin false m e)) (ltb (m * up e * 1) (1 * down e)) (of_true (phase_ok (turns (fin false m e))) h)));
+          (ltb→lt (m * up e * 1) (1 * down e)
+          (and_r (le zer (fin false m e)) (ltb (m * up e * 1) (1 * down e)) (of_true (phase_ok (turns (fin false m e))) h)));
       value = (refl, refl);
       zero_if = λ t. absurd (false≢true t);
       fine = fine_of m e;

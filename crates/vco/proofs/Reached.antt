@@ -25,7 +25,8 @@ use Rattle.vco.specs.Calls.{Call, Tick, Play, Reset, SetSampleRate, Told, Fit, F
 use Rattle.vco.specs.Consts.{n_ports}
 use Rattle.vco.proofs.StateLaws.{unrefused}
 use Rattle.vco.specs.Promises.{Accepts, NewAccepts, NeverRefused, GateSays, ThresholdKept}
-use Rattle.vco.specs.Vco.{new_vco, vco_refusal_of, vco_rate_refusal_of, made_unless, vco_new_of, frequency_of, vco_answer_of, vco_sound_of, vco_tick_of, vco_block_of}
+use Rattle.vco.specs.Vco.{new_vco, vco_refusal_of, vco_rate_refusal_of, made_unless, vco_new_of, frequency_of, vco_answer_of, vco_sound_of, vco_tick_of}
+use Rattle.vco.specs.Vco.{vco_block_of}
 use Rattle.vco.specs.Vco.{restarted, vco_reset_of, rated, vco_set_sample_rate_of}
 use Rattle.vco.specs.declared.Vco.{Vco}
 use Rattle.vco.specs.declared.VcoControls.{VcoControls}

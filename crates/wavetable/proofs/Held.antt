@@ -109,7 +109,8 @@ unfolding wavetable_sound_of held_answer held_next restart_of
 held_sound s c bank p = simp (recall1_again voct_to_hz_at s.freq_memo c.v_oct.0, no_second, mix_pair)
 
 pub holds : (s : Wavetable) (c : WavetableControls) (bank : List Float) → wavetable_tick_refusal_of s (length bank) ≡ 0
-    → Holds (wavetable_told_of c bank) (wavetable_next_of c bank) (told_of s c bank) (held_next (step_of s c)) (state_of s c) (λ p. phase_ok p ≡ true) s (first_of s c)
+    → Holds (wavetable_told_of c bank) (wavetable_next_of c bank) (told_of s c bank) (held_next (step_of s c)) (state_of s c) (λ p. phase_ok p ≡ true) s
+    (first_of s c)
 holds s c bank h =
     record {
       good = restart_in s.phase (taken s c) (accepts s (length bank) h).1;

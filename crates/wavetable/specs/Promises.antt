@@ -37,7 +37,8 @@ pub record Accepts (s : Wavetable) : Type 0 where
   pub five : lt s.threshold five ≡ true
   pub tick : (c : WavetableControls) (bank : List Float) → accepted (wavetable_tick_of s c bank).answer ≡ eqb (length bank) bank_size
   pub play : (c : WavetableControls) (t : Tally) (bank o : List Float) (m : List ℕ)
-      → (wavetable_block_of s c t bank o m).refused ≡ block_refusal_of (eqb (length o) (n_ports * length m)) (cond (eqb (length bank) bank_size) 0 4) t (length m)
+      → (wavetable_block_of s c t bank o m).refused
+      ≡ block_refusal_of (eqb (length o) (n_ports * length m)) (cond (eqb (length bank) bank_size) 0 4) t (length m)
   pub reset : reply s Reset ≡ Told 0
   pub rate : (r : Hertz) → reply s (SetSampleRate r) ≡ Told (cond (rate_ok r) 0 1)
 

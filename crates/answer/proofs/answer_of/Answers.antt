@@ -12,11 +12,18 @@ returns-then-number-eq-TOLD_NOTFINITE c = simp (eq-eqb _ _ c.if-number-eq-TOLD_N
 
 pub returns-then-number-eq-TOLD_LOST : goal.returns-then-number-eq-TOLD_LOST
 unfolding answer_of
-returns-then-number-eq-TOLD_LOST c = simp (eq-eqb _ _ c.if-number-eq-TOLD_LOST.true, ne_eqb _ _ c.if-number-eq-TOLD_NOTFINITE.false, ne_eqb _ _ c.if-number-eq-TOLD_CLEARED.false)
+returns-then-number-eq-TOLD_LOST c = simp
+    (eq-eqb _ _ c.if-number-eq-TOLD_LOST.true, ne_eqb _ _ c.if-number-eq-TOLD_NOTFINITE.false, ne_eqb _ _ c.if-number-eq-TOLD_CLEARED.false)
 
 pub returns-then-number-eq-TOLD_STEERED : goal.returns-then-number-eq-TOLD_STEERED
 unfolding answer_of
-returns-then-number-eq-TOLD_STEERED c = simp (eq-eqb _ _ c.if-number-eq-TOLD_STEERED.true, ne_eqb _ _ c.if-number-eq-TOLD_LOST.false, ne_eqb _ _ c.if-number-eq-TOLD_NOTFINITE.false, ne_eqb _ _ c.if-number-eq-TOLD_CLEARED.false)
+returns-then-number-eq-TOLD_STEERED c = simp (
+  eq-eqb _ _ c.if-number-eq-TOLD_STEERED.true,
+  ne_eqb _ _ c.if-number-eq-TOLD_LOST.false,
+  ne_eqb _ _ c.if-number-eq-TOLD_NOTFINITE.false,
+  ne_eqb _ _
+      c.if-number-eq-TOLD_CLEARED.false,
+)
 
 pub returns-then-number-eq-TOLD_CLEAN : goal.returns-then-number-eq-TOLD_CLEAN
 unfolding answer_of

@@ -15,7 +15,8 @@ returns-then-wholes-ne-WHOLES c = simp (eq-eqb _ _ c.if-microvolts-ne-MICROVOLTS
 
 pub returns-then-written-ne-WRITTEN : goal.returns-then-written-ne-WRITTEN
 unfolding score_write_at
-returns-then-written-ne-WRITTEN c = simp (eq-eqb _ _ c.if-microvolts-ne-MICROVOLTS.false, eq-eqb _ _ c.if-wholes-ne-WHOLES.false, ne_eqb _ _ c.if-written-ne-WRITTEN.true)
+returns-then-written-ne-WRITTEN c = simp
+    (eq-eqb _ _ c.if-microvolts-ne-MICROVOLTS.false, eq-eqb _ _ c.if-wholes-ne-WHOLES.false, ne_eqb _ _ c.if-written-ne-WRITTEN.true)
 
 pub returns : goal.returns
 unfolding score_write_at

@@ -14,7 +14,8 @@ returns-then-frames-gt4294967295 c = simp (le-ltb _ _ c.if-hz-gt4294967295.false
 
 pub returns-then-issue-gt4294967295 : goal.returns-then-issue-gt4294967295
 unfolding held_at score_at
-returns-then-issue-gt4294967295 c = simp (le-ltb _ _ c.if-hz-gt4294967295.false, le-ltb _ _ c.if-frames-gt4294967295.false, lt-ltb _ _ c.if-issue-gt4294967295.true)
+returns-then-issue-gt4294967295 c = simp
+    (le-ltb _ _ c.if-hz-gt4294967295.false, le-ltb _ _ c.if-frames-gt4294967295.false, lt-ltb _ _ c.if-issue-gt4294967295.true)
 
 pub returns : goal.returns
 unfolding held_at score_at

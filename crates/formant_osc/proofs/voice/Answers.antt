@@ -47,4 +47,9 @@ pub returns : goal.returns
 returns c = let s = c.loop-i.invariant in
     let a = c.args in
     let n : c.loop-i.i ≡ length a.marks.now = le_antisymm s.0 (omega arith) in
-    record { value = s.5 ∙ ap (λ k. cells_at a.c a.samples.now a.start k) n; samples_after = over_done _ _ _ _ _ n c.requires s.3; marks_after = over_done _ _ _ _ _ n refl s.4 }
+    record {
+      value = s.5 ∙ ap (λ k. cells_at a.c a.samples.now a.start k) n;
+      samples_after = over_done _ _ _ _ _ n c.requires s.3;
+      marks_after = over_done _ _ _
+          _ _ n refl s.4;
+    }

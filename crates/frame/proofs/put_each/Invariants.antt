@@ -7,7 +7,8 @@ use Rattle.frame.specs.Frames.{ports_in, told_texts}
 use Rattle.frame.proofs.put_each.Given as goal
 
 abbrev pub invariant-loop-i : goal.invariant-loop-i
-invariant-loop-i l = (l.i ≤ length l.marks) × (l.first + length l.marks ≤ 4294967295) × (length l.samples ≡ ports_in l.osc * length l.marks) × (l.ports ≡ ports_in l.osc)
+invariant-loop-i l = (l.i ≤ length l.marks) × (l.first + length l.marks ≤ 4294967295) × (length l.samples ≡ ports_in l.osc * length l.marks)
+    × (l.ports ≡ ports_in l.osc)
     × Put l.initial.out l.at (told_texts l.osc l.first l.samples l.marks l.i) l.to l.out
 
 abbrev pub decreases-loop-i : goal.decreases-loop-i

@@ -8,7 +8,8 @@ returns-in-Cleared c = record { value = rw c.in-Cleared.is c.put_marked.ensures.
 
 pub returns-in-NotFinite : goal.returns-in-NotFinite
 unfolding frame_text
-returns-in-NotFinite c = record { value = rw c.in-NotFinite.is c.put_marked-in-NotFinite.ensures.value; out_after = rw c.in-NotFinite.is c.put_marked-in-NotFinite.ensures.out_after }
+returns-in-NotFinite c = record
+    { value = rw c.in-NotFinite.is c.put_marked-in-NotFinite.ensures.value; out_after = rw c.in-NotFinite.is c.put_marked-in-NotFinite.ensures.out_after }
 
 pub returns-in-Lost : goal.returns-in-Lost
 unfolding frame_text
@@ -16,11 +17,13 @@ returns-in-Lost c = record { value = rw c.in-Lost.is c.put_marked-in-Lost.ensure
 
 pub returns-in-Clean : goal.returns-in-Clean
 unfolding frame_text
-returns-in-Clean c = record { value = rw c.in-Clean.is c.put_marked-in-Clean.ensures.value; out_after = rw c.in-Clean.is c.put_marked-in-Clean.ensures.out_after }
+returns-in-Clean c = record
+    { value = rw c.in-Clean.is c.put_marked-in-Clean.ensures.value; out_after = rw c.in-Clean.is c.put_marked-in-Clean.ensures.out_after }
 
 pub returns-in-Steered : goal.returns-in-Steered
 unfolding frame_text
-returns-in-Steered c = record { value = rw c.in-Steered.is c.put_marked-in-Steered.ensures.value; out_after = rw c.in-Steered.is c.put_marked-in-Steered.ensures.out_after }
+returns-in-Steered c = record
+    { value = rw c.in-Steered.is c.put_marked-in-Steered.ensures.value; out_after = rw c.in-Steered.is c.put_marked-in-Steered.ensures.out_after }
 
 pub returns-in-Refused : goal.returns-in-Refused
 unfolding frame_text

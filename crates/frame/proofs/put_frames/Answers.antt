@@ -16,4 +16,8 @@ returns-then-are_frames c = let both = after _ _ _ _ (c.put_text-start.ensures.v
 
 pub returns-else-are_frames : goal.returns-else-are_frames
 unfolding played_text
-returns-else-are_frames c = record { value = rw (sym c.are_frames.ensures ∙ c.if-are_frames.false) c.put_text-start.ensures.value; out_after = rw (sym c.are_frames.ensures ∙ c.if-are_frames.false) c.put_text-start.ensures.out_after }
+returns-else-are_frames c = record {
+  value = rw (sym c.are_frames.ensures ∙ c.if-are_frames.false) c.put_text-start.ensures.value;
+  out_after = rw
+      (sym c.are_frames.ensures ∙ c.if-are_frames.false) c.put_text-start.ensures.out_after;
+}

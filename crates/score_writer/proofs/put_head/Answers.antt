@@ -6,5 +6,6 @@ use Rattle.score_writer.proofs.put_head.Goals as goal
 
 pub returns : goal.returns
 unfolding number_text count_line
-returns c = let both = after _ _ _ _ (c.put_count-a.ensures.value, c.put_count-a.ensures.out_after) (after _ _ _ _ (c.put_gate-b.ensures.value, c.put_gate-b.ensures.out_after) (c.put_count.ensures.value, c.put_count.ensures.out_after)) in
+returns c = let both = after _ _ _ _ (c.put_count-a.ensures.value, c.put_count-a.ensures.out_after)
+    (after _ _ _ _ (c.put_gate-b.ensures.value, c.put_gate-b.ensures.out_after) (c.put_count.ensures.value, c.put_count.ensures.out_after)) in
     record { value = both.0; out_after = both.1 }

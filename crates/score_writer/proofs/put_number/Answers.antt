@@ -8,7 +8,8 @@ use Rattle.score_writer.proofs.put_number.Goals as goal
 
 pub returns-then-minus : goal.returns-then-minus
 unfolding number_text word_line count_line
-returns-then-minus c = let both = after _ _ _ _ (c.put_text-a.ensures.value, c.put_text-a.ensures.out_after) (c.put_count.ensures.value, c.put_count.ensures.out_after) in
+returns-then-minus c = let both = after _ _ _ _ (c.put_text-a.ensures.value, c.put_text-a.ensures.out_after)
+    (c.put_count.ensures.value, c.put_count.ensures.out_after) in
     record {
       value = rw (
         c.in-Whole.is,
@@ -24,7 +25,11 @@ returns-then-minus c = let both = after _ _ _ _ (c.put_text-a.ensures.value, c.p
 
 pub returns-else-minus : goal.returns-else-minus
 unfolding number_text word_line count_line
-returns-else-minus c = record { value = rw (c.in-Whole.is, c.if-minus.false) c.put_count-else-minus.ensures.value; out_after = rw (c.in-Whole.is, c.if-minus.false) c.put_count-else-minus.ensures.out_after }
+returns-else-minus c = record {
+  value = rw (c.in-Whole.is, c.if-minus.false) c.put_count-else-minus.ensures.value;
+  out_after = rw (c.in-Whole.is, c.if-minus.false)
+      c.put_count-else-minus.ensures.out_after;
+}
 
 pub returns-in-Nan : goal.returns-in-Nan
 unfolding number_text word_line count_line
@@ -32,4 +37,5 @@ returns-in-Nan c = record { value = rw c.in-Nan.is c.put_word.ensures.value; out
 
 pub returns-in-Malformed : goal.returns-in-Malformed
 unfolding number_text word_line count_line
-returns-in-Malformed c = record { value = rw c.in-Malformed.is c.put_word-in-Malformed.ensures.value; out_after = rw c.in-Malformed.is c.put_word-in-Malformed.ensures.out_after }
+returns-in-Malformed c = record
+    { value = rw c.in-Malformed.is c.put_word-in-Malformed.ensures.value; out_after = rw c.in-Malformed.is c.put_word-in-Malformed.ensures.out_after }

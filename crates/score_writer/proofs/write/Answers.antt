@@ -10,7 +10,8 @@ returns-then-refused-ne0 c = let both = refused_at _ _ _ c.refusal-refused.ensur
     record { value = both.0; out_after = both.1 }
 
 pub returns-then-out-n : goal.returns-then-out-n
-returns-then-out-n c = let both = short_at _ _ _ _ _ refl (sym c.refusal-refused.ensures ∙ c.if-refused-ne0.false) (c.put_score-n.ensures.value, c.put_score-n.ensures.out_after) c.if-out-n.true in
+returns-then-out-n c = let both = short_at _ _ _ _ _ refl (sym c.refusal-refused.ensures ∙ c.if-refused-ne0.false)
+    (c.put_score-n.ensures.value, c.put_score-n.ensures.out_after) c.if-out-n.true in
     record { value = both.0; out_after = both.1 }
 
 pub slice_bounds-bytes-end : goal.slice_bounds-bytes-end
@@ -20,6 +21,7 @@ pub slice_bounds-put_text-end : goal.slice_bounds-put_text-end
 slice_bounds-put_text-end c = sym (length-take-le _ _ (within _ _ _ (c.put_score-n.ensures.value, c.put_score-n.ensures.out_after)).0)
 
 pub returns : goal.returns
-returns c = let both = written_at _ _ _ _ _ refl (sym c.refusal-refused.ensures ∙ c.if-refused-ne0.false) (c.put_score-n.ensures.value, c.put_score-n.ensures.out_after) c.if-out-n.false
+returns c = let both = written_at _ _ _ _ _ refl (sym c.refusal-refused.ensures ∙ c.if-refused-ne0.false)
+    (c.put_score-n.ensures.value, c.put_score-n.ensures.out_after) c.if-out-n.false
     (c.put_text.ensures.value, c.put_text.ensures.out_after) in
     record { value = both.0; out_after = both.1 }

@@ -20,4 +20,6 @@ returns c = let a = c.args in
     let known = ap (λ (vowel : Float). coef_recall a.self.coef_memo vowel a.c.formant_shift a.self.sample_rate.0) c.clamp-vowel.ensures in
     let said = ran a.self a.c (length a.marks.now) _ _ _ _ _ _ _ _ _ _ _ p.0 p.1 c.are_numbers-numbers.ensures c.clamp-depth.ensures
     c.pitch.ensures
-    c.voct_to_hz.ensures (c.recall-coef_memo.ensures ∙ known) c.drive-end.ensures.value c.drive-end.ensures.samples_after c.drive-end.ensures.marks_after c.voice.ensures.value c.voice.ensures.samples_after c.voice.ensures.marks_after in record { value = said.0; samples_after = said.1.0; marks_after = said.1.1 }
+    c.voct_to_hz.ensures (c.recall-coef_memo.ensures ∙ known) c.drive-end.ensures.value c.drive-end.ensures.samples_after c.drive-end.ensures.marks_after
+    c.voice.ensures.value c.voice.ensures.samples_after c.voice.ensures.marks_after in record
+    { value = said.0; samples_after = said.1.0; marks_after = said.1.1 }

@@ -25,7 +25,8 @@ unfolding karplus_strong_block_of
 returns-else-n-eq0 c = let a = c.args in
     let judged = rw c.first_refusal-first.ensures at c.block_refusal-refused.ensures in
     block_done n_ports _ _ _ (strung a.self a.line.now) a.tally a.samples.now a.marks.now _ judged c.if-refused-eq0.true
-    _ _ _ _ c.run-karplus_strong.ensures.line_after c.run-karplus_strong.ensures.samples_after c.run-karplus_strong.ensures.marks_after (c.or.ensures ∙ ap (tally_or a.tally) c.take_marks.ensures)
+    _ _ _ _ c.run-karplus_strong.ensures.line_after c.run-karplus_strong.ensures.samples_after c.run-karplus_strong.ensures.marks_after
+    (c.or.ensures ∙ ap (tally_or a.tally) c.take_marks.ensures)
 
 pub returns-else-refused-eq0 : goal.returns-else-refused-eq0
 unfolding karplus_strong_block_of

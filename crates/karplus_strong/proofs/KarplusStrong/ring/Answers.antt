@@ -44,4 +44,9 @@ shape_of-marks c = c.loop-i.invariant.3
 pub returns : goal.returns
 returns c = let s = c.loop-i.invariant in
     let a = c.args in
-    let n = le_antisymm s.0 (omega arith) in record { line_after = s.6 ∙ ap (λ k. after_ticks (held_next a.t) k (strung a.self a.line.now)) n; samples_after = frames_done n_ports one_port _ _ _ _ _ _ _ n c.requires.3 s.4; marks_after = marks_done n_ports one_port _ _ _ _ _ _ _ n refl s.5 }
+    let n = le_antisymm s.0 (omega arith) in record {
+      line_after = s.6 ∙ ap (λ k. after_ticks (held_next a.t) k (strung a.self a.line.now)) n;
+      samples_after = frames_done n_ports one_port _ _ _ _ _ _ _ n
+          c.requires.3 s.4;
+      marks_after = marks_done n_ports one_port _ _ _ _ _ _ _ n refl s.5;
+    }

@@ -24,7 +24,8 @@ unfolding lfo_block_of
 returns-else-n-eq0 c = let a = c.args in
     let e = rw c.refusal.ensures at c.block_refusal-refused.ensures in
     let u = c.or.ensures ∙ ap (tally_or a.tally) c.take_marks.ensures in
-    block_done n_ports _ _ _ a.self a.tally a.samples.now a.marks.now _ e c.if-refused-eq0.true _ _ _ _ c.run-lfo.ensures.value c.run-lfo.ensures.samples_after c.run-lfo.ensures.marks_after u
+    block_done n_ports _ _ _ a.self a.tally a.samples.now a.marks.now _ e c.if-refused-eq0.true _ _ _ _ c.run-lfo.ensures.value c.run-lfo.ensures.samples_after
+    c.run-lfo.ensures.marks_after u
 
 pub returns-else-refused-eq0 : goal.returns-else-refused-eq0
 unfolding lfo_block_of

@@ -59,7 +59,8 @@ loop-i-preserved c = let s = c.loop-i in
       omega arith,
       c.put.auto.samples ∙ s.invariant.1,
       c.put.auto.marks ∙ s.invariant.2,
-      rw c.put.ensures.samples_after (frames_more n_ports four_ports _ _ _ _ (length a.marks.now) _ _ _ _ s.invariant.2 (omega arith) s.invariant.1 s.invariant.3 told),
+      rw c.put.ensures.samples_after
+          (frames_more n_ports four_ports _ _ _ _ (length a.marks.now) _ _ _ _ s.invariant.2 (omega arith) s.invariant.1 s.invariant.3 told),
       rw c.put.ensures.marks_after (marks_more n_ports four_ports _ _ _ _ _ _ _ (omega arith) s.invariant.4 told),
       moved a.self a.c a.wanted a.draws.now _ h s.i (omega arith) x s.at _ s.invariant.5 s.invariant.6 e,
       ap (λ k. s.at + k) c.turn-turned.ensures.taken_value ∙ place,
@@ -75,4 +76,9 @@ shape_of-marks c = c.loop-i.invariant.2
 pub returns : goal.returns
 returns c = let s = c.loop-i in
     let a = c.args in
-    let n = le_antisymm s.invariant.0 (omega arith) in record { value = s.invariant.5 ∙ ap (λ k. (drawing_at a.self a.c a.wanted a.draws.now k).noise) n; samples_after = frames_done n_ports four_ports _ _ _ _ _ _ _ n c.requires.1 s.invariant.3; marks_after = marks_done n_ports four_ports _ _ _ _ _ _ _ n refl s.invariant.4 }
+    let n = le_antisymm s.invariant.0 (omega arith) in record {
+      value = s.invariant.5 ∙ ap (λ k. (drawing_at a.self a.c a.wanted a.draws.now k).noise) n;
+      samples_after = frames_done n_ports four_ports _ _ _ _ _ _ _
+          n c.requires.1 s.invariant.3;
+      marks_after = marks_done n_ports four_ports _ _ _ _ _ _ _ n refl s.invariant.4;
+    }

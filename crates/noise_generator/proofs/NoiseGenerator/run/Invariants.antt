@@ -13,7 +13,8 @@ abbrev pub invariant-loop-i : goal.invariant-loop-i
 invariant-loop-i l = (l.i ≤ length l.initial.marks)
     × (length l.samples ≡ n_ports * length l.initial.marks)
     × (length l.marks ≡ length l.initial.marks)
-    × (l.samples ≡ sets l.initial.samples 0 (joined (frame_at n_ports (noise_generator_told_of l.c l.wanted) (noise_generator_next_of l.c l.wanted) (drawing l.self l.draws)) l.i))
+    × (l.samples ≡ sets l.initial.samples 0
+    (joined (frame_at n_ports (noise_generator_told_of l.c l.wanted) (noise_generator_next_of l.c l.wanted) (drawing l.self l.draws)) l.i))
     × (l.marks ≡ over (mark_at (noise_generator_told_of l.c l.wanted) (noise_generator_next_of l.c l.wanted) (drawing l.self l.draws)) l.i l.initial.marks)
     × (whole l.rows l.rows2 l.rest l.self.correlation l.last_white ≡ (drawing_at l.self l.c l.wanted l.draws l.i).noise)
     × (l.at ≡ needed_by l.self l.i)

@@ -11,7 +11,8 @@ pub sound-requires : goal.sound-requires
 sound-requires c = not_refused _ _ _ _ c.needed.ensures c.draws_refusal-refused.ensures c.if-refused-eq0.true
 
 pub returns-then-refused-eq0 : goal.returns-then-refused-eq0
-returns-then-refused-eq0 c = c.sound.ensures ∙ sym (tick_taken _ _ _ _ (not_refused _ _ _ _ c.needed.ensures c.draws_refusal-refused.ensures c.if-refused-eq0.true))
+returns-then-refused-eq0 c = c.sound.ensures
+    ∙ sym (tick_taken _ _ _ _ (not_refused _ _ _ _ c.needed.ensures c.draws_refusal-refused.ensures c.if-refused-eq0.true))
 
 pub returns-else-refused-eq0 : goal.returns-else-refused-eq0
 unfolding noise_generator_tick_of

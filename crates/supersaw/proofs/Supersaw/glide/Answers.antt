@@ -39,4 +39,9 @@ shape_of-marks c = c.loop-i.invariant.2
 pub returns : goal.returns
 returns c = let a = c.args in
     let s = c.loop-i.invariant in
-    let n : c.loop-i.i ≡ length a.marks.now = le_antisymm s.0 (omega arith) in record { value = s.5 ∙ ap (λ k. after_ticks (held_next a.dt a.mix a.numbers) k a.first) n; samples_after = frames_done n_ports two_ports _ _ _ _ _ _ _ n c.requires.samples_len s.3; marks_after = marks_done n_ports two_ports _ _ _ _ _ _ _ n refl s.4 }
+    let n : c.loop-i.i ≡ length a.marks.now = le_antisymm s.0 (omega arith) in record {
+      value = s.5 ∙ ap (λ k. after_ticks (held_next a.dt a.mix a.numbers) k a.first) n;
+      samples_after = frames_done n_ports two_ports _ _ _ _ _ _ _ n
+          c.requires.samples_len s.3;
+      marks_after = marks_done n_ports two_ports _ _ _ _ _ _ _ n refl s.4;
+    }

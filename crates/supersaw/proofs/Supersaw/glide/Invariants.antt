@@ -11,7 +11,8 @@ use Rattle.supersaw.proofs.Supersaw.glide.Given as goal
 abbrev pub invariant-loop-i : goal.invariant-loop-i
 invariant-loop-i l = (l.i ≤ length l.initial.marks) × (length l.samples ≡ n_ports * length l.initial.marks) × (length l.marks ≡ length l.initial.marks)
     × (l.samples ≡ sets l.initial.samples 0 (joined (frame_at n_ports (held_told l.dt l.mix l.numbers) (held_next l.dt l.mix l.numbers) l.initial.t) l.i))
-    × (l.marks ≡ over (mark_at (held_told l.dt l.mix l.numbers) (held_next l.dt l.mix l.numbers) l.initial.t) l.i l.initial.marks) × (l.t ≡ after_ticks (held_next l.dt l.mix l.numbers) l.i l.initial.t)
+    × (l.marks ≡ over (mark_at (held_told l.dt l.mix l.numbers) (held_next l.dt l.mix l.numbers) l.initial.t) l.i l.initial.marks)
+    × (l.t ≡ after_ticks (held_next l.dt l.mix l.numbers) l.i l.initial.t)
 
 abbrev pub decreases-loop-i : goal.decreases-loop-i
 decreases-loop-i l = length l.initial.marks - l.i

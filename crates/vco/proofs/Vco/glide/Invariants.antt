@@ -14,7 +14,8 @@ abbrev pub invariant-loop-i : goal.invariant-loop-i
 invariant-loop-i l = (l.i ≤ length l.initial.marks)
     × (length l.samples ≡ length l.initial.samples)
     × (length l.marks ≡ length l.initial.marks)
-    × (l.samples ≡ sets l.initial.samples 0 (joined (frame_at n_ports (held_told l.wanted l.pw l.numbers l.dt) (held_next l.dt) (held l.initial.p_old l.initial.at)) l.i))
+    × (l.samples ≡ sets l.initial.samples 0
+    (joined (frame_at n_ports (held_told l.wanted l.pw l.numbers l.dt) (held_next l.dt) (held l.initial.p_old l.initial.at)) l.i))
     × (l.marks ≡ over (mark_at (held_told l.wanted l.pw l.numbers l.dt) (held_next l.dt) (held l.initial.p_old l.initial.at)) l.i l.initial.marks)
     × (held l.p_old l.at ≡ after_ticks (held_next l.dt) l.i (held l.initial.p_old l.initial.at))
     × (phase_ok l.p_old ≡ true)

@@ -5,7 +5,11 @@ pub returns-then-calm : goal.returns-then-calm
 returns-then-calm c = let a = c.args in
     let quiet = c.calm.ensures c.if-calm.true in
     let e = quiet_answer a.at a.phase.0 a.p_old.0 a.pw a.dt.0 a.wanted a.numbers c.requires.0 quiet in
-    record { samples_after = simp (c.put.ensures.samples_after, c.marked.ensures, c.plain-volts.ensures, e); marks_after = simp (c.put.ensures.marks_after, c.marked.ensures, c.plain-volts.ensures, e) }
+    record {
+      samples_after = simp (c.put.ensures.samples_after, c.marked.ensures, c.plain-volts.ensures, e);
+      marks_after = simp
+          (c.put.ensures.marks_after, c.marked.ensures, c.plain-volts.ensures, e);
+    }
 
 pub returns-else-calm : goal.returns-else-calm
 returns-else-calm c = let h = c.smoothed.ensures in

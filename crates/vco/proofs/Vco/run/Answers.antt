@@ -18,4 +18,10 @@ returns c = let a = c.args in
     let edge = c.rising_frac-crossed.ensures in
     let step = c.increment-dt.ensures in
     let memo = c.tuned-freq_memo.ensures in
-    let numbers = c.are_numbers-numbers.ensures in record { value = simp (c.glide.ensures.value, pw, edge, step, memo) (left a.self a.c a.wanted n c.requires.0 c.requires.1); samples_after = c.glide.ensures.samples_after ∙ simp (pw, edge, step, memo, numbers) (sym (held_frames _ _ _ _ _ _ _ _ w n_ports n)); marks_after = c.glide.ensures.marks_after ∙ simp (pw, edge, step, memo, numbers) (sym (held_marks _ _ _ _ _ _ _ _ w n)) }
+    let numbers = c.are_numbers-numbers.ensures in record {
+      value = simp (c.glide.ensures.value, pw, edge, step, memo) (left a.self a.c a.wanted n c.requires.0 c.requires.1);
+      samples_after = c.glide.ensures.samples_after
+          ∙ simp (pw, edge, step, memo, numbers) (sym (held_frames _ _ _ _ _ _ _ _ w n_ports n));
+      marks_after = c.glide.ensures.marks_after
+          ∙ simp (pw, edge, step, memo, numbers) (sym (held_marks _ _ _ _ _ _ _ _ w n));
+    }

@@ -23,7 +23,8 @@ pub returns-else-n-eq0 : goal.returns-else-n-eq0
 unfolding wavetable_block_of
 returns-else-n-eq0 c = let a = c.args in
     block_done n_ports _ _ _ a.self a.tally a.samples.now a.marks.now _
-    (rw c.tick_refusal-number.ensures at c.block_refusal-refused.ensures) c.if-refused-eq0.true _ _ _ _ c.run-wavetable.ensures.value c.run-wavetable.ensures.samples_after
+    (rw c.tick_refusal-number.ensures at c.block_refusal-refused.ensures) c.if-refused-eq0.true _ _ _ _ c.run-wavetable.ensures.value
+    c.run-wavetable.ensures.samples_after
     c.run-wavetable.ensures.marks_after (c.or.ensures ∙ ap (tally_or a.tally) c.take_marks.ensures)
 
 pub returns-else-refused-eq0 : goal.returns-else-refused-eq0
