@@ -596,6 +596,7 @@ CHECKS = {
         changed(kept.TOOL, 'for crate in $name $needed; do echo "$crate: $(given "$crate")"; done', ""),
         changed(kept.TOOL, "        rt version\n", ""),
         changed(kept.TOOL, "kept=target/native/$triple", "kept=target/native/any"),
+        changed(kept.TOOL, 'mkdir -p "$kept"\n', ""),
         changed(kept.TOOL, '[ "$(key)" = "$made_from" ]', "true"),
         changed(kept.TOOL, '|| rm -f "$old"', "|| true"),
         changed(kept.TOOL, "host/tools/native host/tools/by_function", "host/tools/native"),
