@@ -84,6 +84,7 @@ def main(root):
     words = {n: respelled(n) for n in declared if n not in ("T",) and respelled(n) != n and (CAMEL.search(n) and n[0].islower() or "-" in n)}
 
     def turn(text, keep=(), apart=APART):
+        """The text with its names respelled, but for strings."""
         def new(m):
             if m[0] in keep:
                 return m[0]
@@ -91,7 +92,8 @@ def main(root):
                 return apart[m[0]]
             return words.get(m[0], m[0])
 
-        return TOKEN.sub(new, text)
+        strings = [(m.start(), m.end()) for m in re.finditer(r'"(?:[^"\\\n]|\\.)*"', text)]
+        return TOKEN.sub(lambda m: m[0] if any(a < m.start() < b for a, b in strings) else new(m), text)
 
     shaped = {n for n in words if CAMEL.search(n) or n[0].isupper()}
 

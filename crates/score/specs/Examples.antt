@@ -156,7 +156,7 @@ table =
     ∷ row "osc=VCO\n" (Refused 21)
     ∷ row "osc=wavetable\n" (Refused 21)
     ∷ row "osc=vco\r\n" (Refused 21)
-    ∷ row "osc=lfo\n_hz=x\n" (Refused 21)
+    ∷ row "osc=lfo\nHz=x\n" (Refused 21)
     ∷ row "osc=lfo\nhz =48000\n" (Refused 21)
     ∷ row (worked ++ "\n") (Refused 21)
     ∷ row (worked ++ "fm_lin=0\n") (Refused 21)
