@@ -12,6 +12,7 @@ Of an edit that changes definition and code together a promise must fail, which 
 more, must be a lemma then, and no function's own proof or a place in the code. The proof of a promise cites it, or cites what does; or else a promise speaks
 of the definition that was changed. The last line is 'N passed, M failed'.
 """
+import functools
 import pathlib
 import re
 import sys
@@ -113,19 +114,21 @@ def promises(files, crate):
     return {(path.split("/")[-1].removesuffix(".antt"), name) for path, name, _ in stated}, {proof for _, _, proof in stated}
 
 
-def promised(files, crate, module, row, edit):
-    """Whether a promise rests on the lemma at a line, or speaks of a definition that an edit changes."""
-    said, proved = promises(files, crate)
-    lemmas, definitions = declarations(files, crate, "proofs"), declarations(files, crate, "specs")
-    if declared_at(lemmas, module, row) in rested_on(lemmas, {key for key in lemmas if key[1].removesuffix("_lem") in proved}):
-        return True
-    spoken_of = rested_on(definitions, said)
-    for file, old, _ in changes(edit):
-        text = files.get(f"crates/{crate}/{file}", "")
-        if file.startswith("specs/") and old in text:
-            if declared_at(definitions, file.split("/")[-1].removesuffix(".antt"), line(text, text.index(old))) in spoken_of:
-                return True
-    return False
+class Promised:
+    """What the promises of a crate rest on and speak of."""
+
+    def __init__(self, files, crate):
+        self.texts = {path.removeprefix(f"crates/{crate}/"): text for path, text in files.items() if path.startswith(f"crates/{crate}/specs/")}
+        self.lemmas, self.definitions = declarations(files, crate, "proofs"), declarations(files, crate, "specs")
+        said, proved = promises(files, crate)
+        self.rested_on = rested_on(self.lemmas, {key for key in self.lemmas if key[1].removesuffix("_lem") in proved})
+        self.spoken_of = rested_on(self.definitions, said)
+
+    def touched(self, module, row, edit):
+        """Whether a promise rests on the lemma at a line, or speaks of a definition that an edit changes."""
+        changed = [(file.split("/")[-1].removesuffix(".antt"), self.texts[file], old) for file, old, _ in changes(edit) if file in self.texts]
+        definitions = {declared_at(self.definitions, there, line(text, text.find(old))) for there, text, old in changed if old in text}
+        return declared_at(self.lemmas, module, row) in self.rested_on or not definitions.isdisjoint(self.spoken_of)
 
 
 # ---- what rt said
@@ -134,8 +137,9 @@ SAID = re.compile(r"^rt: must-fail (\w+)/([\w.-]+)\.edit: (.*)$", re.M)
 REFUSED = "refused, as it must be"
 
 
-def judge(said, files, crate, edit):
-    """What is wrong with the refusal of an edit, by what rt says of it, or ''. Of one of definition and code a promise must fail."""
+def judge(said, edit, promised):
+    """What is wrong with the refusal of an edit, by what rt says of it, or ''. Of one of definition and code a promise must fail: `promised` gives the
+    crate's."""
     if not said.startswith(REFUSED):
         return said
     first = said.removeprefix(REFUSED).lstrip(": ") or "rt names nothing"
@@ -145,7 +149,7 @@ def judge(said, files, crate, edit):
         return f"no fact fails: {first}"
     if both(edit) and (goal or fact[1].count("/") > 1):
         return f"a function's own proof fails first: {first}"
-    if both(edit) and not promised(files, crate, fact[1].split("/")[1], int(fact[2]), edit):
+    if both(edit) and not promised().touched(fact[1].split("/")[1], int(fact[2]), edit):
         return f"no promise rests on what fails first, or speaks of what is changed: {first}"
     return ""
 
@@ -153,9 +157,10 @@ def judge(said, files, crate, edit):
 def judged(log, files):
     """Each edit of must-fail/ with what is wrong with its refusal, or ''."""
     said = {(crate, name): what for crate, name, what in SAID.findall(log)}
+    promised = functools.cache(lambda crate: Promised(files, crate))
     for path, text in sorted(files.items()):
         if m := re.fullmatch(r"crates/(\w+)/must-fail/([\w.-]+)\.edit", path):
-            yield path, judge(said.get((m[1], m[2]), "rt said nothing of it"), files, m[1], text)
+            yield path, judge(said.get((m[1], m[2]), "rt said nothing of it"), text, lambda: promised(m[1]))
 
 
 def main(log):
