@@ -405,20 +405,26 @@ def edits_stand(files):
             yield f"crates/{crate}/must-fail/: no edit changes definition and code together"
 
 
-# a crate with a promise, a lemma that it rests on and one that it doesn't, and an edit of definition and code
+# a crate with a promise, a lemma that it rests on and one that it doesn't, a definition that it speaks of and one that it doesn't; an edit of definition and code
 JUDGED = {
-    "crates/x/specs/Promises.antt": "abbrev pub KeptWhole : Type 0\nKeptWhole = Type 0\n\npub record Settled : Type 0 where\n",
-    "crates/x/proofs/Laws.antt": "-- two\nsmall : A\nsmall = refl\n\nlarge : A\nlarge = refl\n",
+    "crates/x/specs/Promises.antt": "use Rattle.x.specs.Words.{half}\n\nabbrev pub KeptWhole : Type 0\nKeptWhole = half ≡ half\n\n"
+    "pub record Settled : Type 0 where\n  pub f : Settles other\n",
+    "crates/x/specs/Words.antt": "abbrev pub half : A\nhalf = one\n\nabbrev pub other : A\nother = two\n",
+    "crates/x/proofs/Laws.antt": "module _ (n : ℕ) where\n  small : A\n  small = refl\n\nlarge : A\nlarge = refl\n",
     "crates/x/proofs/Promises.antt": "use Rattle.x.proofs.Laws.{small as tiny}\nuse Rattle.x.proofs.Laws as laws\n\npub kept_whole : KeptWhole\n"
     "kept_whole = inner\n\ninner : B\ninner = tiny\n\npub settled : Settled\nsettled = laws.large\n",
-    "crates/x/must-fail/both.edit": "file: specs/Promises.antt\nold: a\nnew: b\nfile: src/lib.rt\nold: a\nnew: b\n",
+    "crates/x/must-fail/both.edit": "file: specs/Words.antt\nold: two\nnew: b\nfile: src/lib.rt\nold: a\nnew: b\n",
 }
 # what rt says where a lemma fails
 REFUSAL = "rt: must-fail x/both.edit: refused, as it must be: ./proofs/Laws.antt:3:9: error: `small`: the two types differ\n"
 
 
 def refusals_judged(files):
-    """A refusal of an edit counts where a fact fails, and of an edit of definition and code where a promise rests on that."""
+    """A refusal of an edit counts where a fact fails, and of an edit of definition and code where a promise rests on that, or speaks of what is changed."""
+    spoken_of = JUDGED["crates/x/must-fail/both.edit"].replace("old: two", "old: one")
+    for path, wrong in edits.judged(REFUSAL.replace("Laws.antt:3", "Laws.antt:6"), {**JUDGED, "crates/x/must-fail/both.edit": spoken_of}):
+        if wrong:
+            yield f"{path}: a promise speaks of what it changes: {wrong}"
     for path, wrong in edits.judged(files.get(".ci/refusal", REFUSAL), {**JUDGED, **{path: files[path] for path in JUDGED if path in files}}):
         if wrong:
             yield f".ci/refusal: {path}: {wrong}"

@@ -87,7 +87,8 @@ def placed(page, table):
 
 
 def main(word="", log=""):
-    files = {str(path.relative_to(ROOT)): path.read_text() for path in sorted(ROOT.glob("crates/*/*/*")) if path.is_file()}
+    paths = [path for part in ("specs", "src", "must-fail") for path in sorted(ROOT.glob(f"crates/*/{part}/*")) if path.is_file()]
+    files = {str(path.relative_to(ROOT)): path.read_text() for path in paths}
     files[PAGE] = (ROOT / PAGE).read_text()
     said = pathlib.Path(log).read_text(errors="replace") if log else ""
     table = tables(files, said)

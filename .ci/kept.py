@@ -22,7 +22,8 @@ run)
     echo "$*" >>"$kit/asked"
     if grep -q wrong ../*/src/*; then exit 1; fi
     mkdir -p out
-    cat ../*/src/* >out/high
+    cat ../*/src/* >out/high.$$
+    mv -f out/high.$$ out/high
     if [ -e "$kit/meddles" ]; then mv "$kit/meddles" ../low/src/lib.rt; fi
     echo "rt: running out/high; to give it other input, run that file yourself" >&2
     exit 7

@@ -223,6 +223,7 @@ pub fn numbers5(a: f64, b: f64, c: f64, d: f64, e: f64) -> bool
 // A tick's answer, by the first rule that applies: each mark is made here. `zeroed`: the string zeroed its line. `finite`: the
 // volts are, and what stands before an output's clamp. `phases`: each phase plus its increment is finite. `numbers`: no control
 // given to the tick is NaN.
+#[tactic(auto, unfolding(crate::specs::Mark::marked_of, crate::specs::Mark::rule_of, crate::specs::Answer::answer_of))]
 pub fn marked(v: Volts, zeroed: bool, finite: bool, phases: bool, numbers: bool) -> Answer
     ensures { result ≡ marked_of v zeroed finite phases numbers }
 {
