@@ -177,6 +177,7 @@ fn digits_of(v: &[u8]) -> Number
 }
 
 // A number with a minus sign before it; -0 is none.
+#[tactic(auto, unfolding(crate::specs::Number::negative_of))]
 fn negative_of(n: Number) -> Number
     ensures { result ≡ negative_of n }
 {

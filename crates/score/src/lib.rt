@@ -214,6 +214,7 @@ pub fn within(n: Number, least: u32, most: u32) -> WholeLine
     }
 }
 
+#[tactic(auto, unfolding(crate::specs::Lines::control_of))]
 pub fn control_of(n: Number) -> ControlLine
     ensures { result ≡ control_of n }
 {
@@ -404,6 +405,7 @@ fn take_control(text: &[u8], key: &[u8], before: TakenControl) -> TakenControl
 }
 
 // The values, where nothing stands after the last line.
+#[tactic(auto, unfolding(crate::specs::Places::from, crate::specs::Score::end_of))]
 fn end(text: &[u8], last: TakenControl, score: Score) -> Reading
     ensures { result ≡ from text.now last.place (end_of score) }
 {
