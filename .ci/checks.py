@@ -151,25 +151,26 @@ def only_promises(files):
 # ---- contracts
 
 def settled(files):
-    """Every public function has an `ensures` and no `requires`."""
-    for path, _, text in of_crates(files, ["src"], ".rt"):
-        for at, name, _, _, clauses in contracts.functions(text):
-            words = [word for word, _ in clauses]
-            if "ensures" not in words:
-                yield f"{path}:{line(text, at)}: {name} has no ensures"
-            if "requires" in words:
-                yield f"{path}:{line(text, at)}: {name} has a requires"
+    """Every public function has an `ensures` and no `requires`, but that a closure may be called; what a trait's functions ask only a crate's own types have."""
+    for path, _, function in contracts.public(files):
+        words = [word for word, _ in function.clauses]
+        if "ensures" not in words:
+            yield f"{path}:{line(files[path], function.at)}: {function.name} has no ensures"
+        if "requires" in words:
+            yield f"{path}:{line(files[path], function.at)}: {function.name} has a requires"
+    for place, what in contracts.asking(files):
+        yield f"{place}: {what}"
 
 
 def instances(files):
     """Every public function has its instance of Settles in the crate's record Settled, which is proved."""
     functions, fields, proved = {}, {}, set()
-    for path, crate, text in of_crates(files, ["src"], ".rt"):
-        for at, name, *_ in contracts.functions(text):
-            functions.setdefault(crate, []).append((f"{path}:{line(text, at)}", name))
+    for path, crate, function in contracts.public(files):
+        functions.setdefault(crate, []).append((f"{path}:{line(files[path], function.at)}", function.name))
     for path, crate, text in of_crates(files, ["specs"], ".antt"):
-        for record in re.findall(r"^pub record Settled : Type 0 where\n((?:  .*\n)+)", text, re.M):
-            fields[crate] = path, re.findall(r"^  pub (\S+) :(?:.*|.*\n    .*)\b(?:Settles|PutSettles)\b", record, re.M)
+        for record in re.findall(r"^pub record Settled : Type [01] where\n((?:  .*\n)+)", text, re.M):
+            said = re.findall(r"^  pub (\S+) :((?:.*\n)(?:    .*\n)*)", record, re.M)
+            fields[crate] = path, [name for name, text in said if re.search(r"\b(?:Settles|PutSettles)\b", text)]
     for path, crate, text in of_crates(files, ["proofs"], ".antt"):
         if re.search(r"^pub \S+ : Settled$", text, re.M):
             proved.add(crate)
@@ -384,7 +385,7 @@ WITHOUT_BOTH = {
 
 
 def edits_stand(files):
-    """Each crate has three to sixteen edits, right in must-fail/, where rt tries them, and what an edit takes out stands once."""
+    """Each crate has three to eighteen edits, right in must-fail/, where rt tries them, and what an edit takes out stands once."""
     found = {path.split("/")[1]: [] for path in files if re.match("crates/[^/]+/(src|specs)/", path)}
     for path, text in files.items():
         if not path.endswith(".edit"):
@@ -399,7 +400,7 @@ def edits_stand(files):
         except ValueError as wrong:
             yield f"{path}: {wrong}"
     for crate, paths in found.items():
-        if not 3 <= len(paths) <= 16:
+        if not 3 <= len(paths) <= 18:
             yield f"crates/{crate}/must-fail/: {len(paths)} edits"
         if crate not in WITHOUT_BOTH and not any(edits.both(files[path]) for path in paths):
             yield f"crates/{crate}/must-fail/: no edit changes definition and code together"
@@ -537,6 +538,9 @@ CHECKS = {
         {"crates/x/src/lib.rt": 'pub extern "C" fn f(x: u8) -> u8\n    ensures same { x }\n    requires small { x }\n{ x }\n'},
         {"crates/x/src/lib.rt": "pub(crate) fn f(x: u8) -> u8\n{\n    x\n}\n"},
         {"crates/x/src/lib.rt": "pub const unsafe fn f<'a>(x: u8) -> u8\n{\n    x\n}\n"},
+        {"crates/x/src/lib.rt": "pub fn f<F: FnOnce() -> u8>(g: F) -> u8\n{\n    g()\n}\n"},
+        {"crates/x/src/lib.rt": "pub fn f<F: FnOnce() -> u8>(g: F, x: u8) -> u8\n    requires { F.pre x }\n    ensures { x }\n{ x }\n"},
+        {"crates/x/src/lib.rt": "pub fn f<F: Copy>(g: F) -> u8\n    requires { F.pre g }\n    ensures { x }\n{ 0 }\n"},
     ],
     instances: [
         {"crates/x/src/lib.rt": "pub fn f(x: u8) -> u8\n    ensures { x }\n{ x }\n"},
@@ -548,6 +552,9 @@ CHECKS = {
         {"crates/x/src/lib.rt": "pub fn f(x: u8) -> u8\n    ensures { result ≡ sin_of result }\n{ x }\n"},
         {"crates/x/src/lib.rt": "pub fn f(x: u8) -> u8\n    ensures { result ≡ x }\n{ x }\n"},
         {"crates/x/src/lib.rt": "pub fn f(x: u8) -> u8\n    ensures* { result ≡ sin_of x }\n{ x }\n"},
+        {"crates/x/src/lib.rt": "impl<'a> X<'a> {\n    pub fn f(&mut self)\n        ensures { self.new ≡ sin_of self.new }\n{ }\n}\n"},
+        {"crates/x/src/lib.rt": "impl X {\n    pub fn f(&mut self, x: &mut u8)\n        ensures { self.new ≡ sin_of self.old }\n{ }\n}\n"},
+        {"crates/x/src/lib.rt": "impl X {\n    pub fn f(&self) -> u8\n        ensures { result ≡ self.now }\n{ self.a }\n}\n"},
         settling("result ≡ sin_of x", "a ≡ cos_of b", "(b : Float) → "),
         settling("result ≡ sin_of x", "a ≡ a", "(b : Float) → "),
         settling("result ≡ clamp_of x x x", "a ≡ clamp_of b c d", "(b c d : Float) → b ≡ c → "),
@@ -555,6 +562,12 @@ CHECKS = {
         settling("result ≡ sin_of x", "a ≡ sin_of b", "(b : Float) (no : ⊥) → "),
         settling("result ≡ wrap_of x.0", "a ≡ wrap_of b.0", "(b : Float × ⊥) → "),
         settling("result ≡ wrap_of x.0", "a ≡ wrap_of b.1", "(b : Float) → "),
+        settling("refused_number result ≡ sin_of x", "a ≡ sin_of b", "(b : Float) → "),
+        settling("result ≡ sin_of x", "refused_number a ≡ sin_of b", "(b : Float) → "),
+        settling("(v : V) → Gives (F.post y) z → result ≡ sin_of v", "a ≡ sin_of b", "(b : Float) → "),
+        settling("(v : V) → Lies (F.post y) v → result ≡ sin_of v", "a ≡ sin_of b", "(b : Float) → "),
+        settling("result ≡ sin_of x", "a ≡ sin_of b", "(b : Float) (no : IsTrue c) → "),
+        settling("result ≡ sin_of x", "a ≡ sin_of b", "{no : Never} (b : Float) → "),
         settling("result ≡ sin_of x", "a ≡ sin_of b", "(b : Float) → ", ""),
         settling("result ≡ sin_of x", "a ≡ sin_of b", "(b : Float) → ", "use Rattle.x.specs.Weak.{Settles}\n"),
         settling("result ≡ sin_of x", "a ≡ sin_of b", "(b : Float) → ", f"{SETTLES}abbrev pub Settles : (Float → Type 0) → Type 0\n"),
@@ -573,6 +586,7 @@ CHECKS = {
         keeping("use Rattle.x.specs.Promises.{Kept as Other}\nuse lib.Any.{Any as Kept}\npub kept : Kept\n"),
         keeping(f"{KEPT}use lib.Any.{{Any as Kept}}\npub kept : Kept\n"),
         {"crates/x/specs/Promises.antt": "pub record Keeping (n : ℕ) : Type 0 where\n"},
+        {"crates/x/specs/Promises.antt": "abbrev pub Kept : Type 1\nKept = (A : Type 0) → A\n"},
     ],
     handed_out: [
         changed("crates/exports_c/src/numeric_calls.rt", "gruttisol_sin(x)", "gruttisol_cos(x)"),

@@ -48,12 +48,11 @@ def crate_counts(files):
         if folder == "specs":
             row[statements.is_statement_file(path)] += lines(text)
             row[3] += settled(text)
-        elif folder == "src":
-            functions = len(list(contracts.functions(text)))
-            row[2] += functions
-            row[3] += functions if crate == handed.CRATE else 0
-        else:
+        elif folder == "must-fail":
             row[4] += 1
+    for _, crate, _ in contracts.public(files):
+        counts[crate][2] += 1
+        counts[crate][3] += crate == handed.CRATE
     return counts
 
 

@@ -42,8 +42,8 @@ def types(files):
             for name, part in declarations(blanked(path, text)):
                 head = re.match(r"(?:unfoldable |abbrev )*pub (?!data )(?:record )?\S+(.*(?:\n[ \t]+.*)*)", part)
                 said = " ".join(re.split(r"\bwhere\b", head[1])[0].split()) if head else ""
-                if re.search(r"(?:→ |: )Type 0$", said):
-                    yield path, name, said == ": Type 0"
+                if re.search(r"(?:→ |: )Type [01]$", said):
+                    yield path, name, said in (": Type 0", ": Type 1")
 
 
 def stated(files):

@@ -1,6 +1,7 @@
 -- Laws of blocks: room in a tally, marks counted one by one, samples joined frame by frame.
 use mathlib.Core.Bool.{Bool, true, false, cond, ◌&&◌, false≢true}
 use mathlib.Core.List.{List, [], ◌∷◌, ◌++◌}
+use Rattle.std.specs.Prelude.{Ok, Err}
 use mathlib.Core.Path.{◌≡◌, refl, sym, ap, ◌∙◌, subst}
 use Prim.Native.Nat.{ℕ, zero, suc, ◌+◌, ◌-◌, ◌*◌, ◌/◌, ◌%◌, ◌≤◌, ◌<◌}
 use native.Mathlib.Nat.{zero-add, add-zero, mul-zero, div-add-mod', mul_comm, eq_of_mul-eq-mul_right, mul-mod_left, mul-le-mul_left}
@@ -23,7 +24,7 @@ use Rattle.answer.specs.declared.Volts.{Volts}
 use Rattle.answer.specs.declared.Answer.{Answer}
 use Rattle.answer.specs.declared.Answer.TheVariants as answer
 use Rattle.answer.specs.declared.Tally.{Tally}
-use Rattle.answer.specs.declared.Tallied.TheVariants as tallied
+use Rattle.common.specs.declared.Refusal.TheVariants as refusal
 use Rattle.answer.specs.Promises.{BlockCounts, AllAccepted, AllTaken, AcceptedTo, TakenTo}
 use Rattle.answer.proofs.Laws.{takes}
 
@@ -120,7 +121,7 @@ counted_tab t f n h = go (length_tab f n)
     same k = many_ext k (cells_of (tab f n)) f n (λ i l. get_or_tab 0 f n i l)
 
     go : length (tab f n) ≡ n
-        → tally_or t (cond (room_for t (length (tab f n))) (tallied.Taken (counted_to t (cells_of (tab f n)) (length (tab f n)))) (tallied.Refused 7))
+        → tally_or t (cond (room_for t (length (tab f n))) (Ok (counted_to t (cells_of (tab f n)) (length (tab f n)))) (Err refusal.Tally))
         ≡ counted_to t f n
     go e = simp (e, h, same (told cleared), same (told notfinite), same (told lost), same (told steered), same (told clean))
 
@@ -491,7 +492,7 @@ module _ (t : Tally) (a : ℕ → Answer) (n : ℕ) (h : (i : ℕ) → i < n →
         steered = more_of t.steered (told steered) i j;
       }
 
-  taken_at : (i : ℕ) → room_for t n ≡ true → i < n → tally_of (counted_to t marks i) (a i) ≡ tallied.Taken (counted_to t marks (suc i))
+  taken_at : (i : ℕ) → room_for t n ≡ true → i < n → tally_of (counted_to t marks i) (a i) ≡ Ok (counted_to t marks (suc i))
   unfolding tally_of adds_up
   taken_at i r l =
       let w = room_says t n r in

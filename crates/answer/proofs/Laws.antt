@@ -2,6 +2,7 @@
 -- given while there is room.
 use mathlib.Core.Bool.{Bool, ◌&&◌, true, false, cond, not, true≢false}
 use mathlib.Core.List.{List, [], ◌∷◌}
+use Rattle.std.specs.Prelude.{Ok, Err}
 use mathlib.Core.Path.{◌≡◌, refl, sym, ap, ◌∙◌, subst}
 use Prim.Native.Nat.{ℕ, zero, suc, ◌+◌, ◌≤◌, ◌<◌}
 use native.Mathlib.Nat.{add-zero, not-suc-le-zero, le_of_suc-le-suc}
@@ -13,16 +14,17 @@ use lib.Ieee.{Float, nan, is_nan}
 use lib.ListN.{length, get_or}
 use borrow.Author.Tests.{eqb-true, eq-eqb, eqb-false, ne_eqb}
 use Rattle.laws.proofs.Tests.{both_true}
+use Rattle.common.specs.Refusal.{number_of, refused_number}
 use Rattle.answer.specs.Answer.{mark_number, host_number, volts_of, refusal_of, accepted, answer_of, cleared, notfinite, lost, steered, clean}
 use Rattle.answer.specs.Mark.{all_finite, all_numbers, rule_of, marked_of, mark_of}
 use Rattle.answer.specs.Promises.{MarkSays, MarksInOrder, CleanSteered, NumbersSay, Steers, SoundsAs, ToldNumbers}
 use Rattle.answer.specs.Promises.{Counts, TallyCounts, TallyTakesAll, Takes, RefusedNowhere}
-use Rattle.answer.specs.Tally.{sum_of, adds_up, one_if, counted, tallied_number, tally_or, tally_of, Run, settle, run, new_run, many, accepted_in, tally_after}
+use Rattle.answer.specs.Tally.{sum_of, adds_up, one_if, counted, tally_or, tally_of, Run, settle, run, new_run, many, accepted_in, tally_after}
 use Rattle.answer.specs.declared.Volts.{Volts}
 use Rattle.answer.specs.declared.Answer.{Answer}
 use Rattle.answer.specs.declared.Answer.TheVariants as answer
 use Rattle.answer.specs.declared.Tally.{Tally}
-use Rattle.answer.specs.declared.Tallied.TheVariants as tallied
+use Rattle.common.specs.declared.Refusal.TheVariants as refusal
 
 pub adds : (t : Tally) → adds_up t ≡ true → t.begun ≡ sum_of t
 unfolding adds_up
@@ -107,17 +109,17 @@ unfolding mark_number
 refused_steers n controls = record { when_clean = λ h. absurd (omega arith); when_steered = λ h. absurd (omega arith) }
 
 -- each control by itself
-number_of : (b : Bool) → not b ≡ true → b ≡ false
-number_of true h = absurd (true≢false (sym h))
-number_of false h = refl
+is_number : (b : Bool) → not b ≡ true → b ≡ false
+is_number true h = absurd (true≢false (sym h))
+is_number false h = refl
 
-each_number : (xs : List Float) → all_numbers xs ≡ true → (i : ℕ) → i < length xs → is_nan (get_or xs i nan) ≡ false
+pub each_number : (xs : List Float) → all_numbers xs ≡ true → (i : ℕ) → i < length xs → is_nan (get_or xs i nan) ≡ false
 unfolding all_numbers
 each_number [] h i l = absurd (not-suc-le-zero l)
-each_number (x ∷ xs) h zero l = number_of (is_nan x) (both_true (not (is_nan x)) (all_numbers xs) h).0
+each_number (x ∷ xs) h zero l = is_number (is_nan x) (both_true (not (is_nan x)) (all_numbers xs) h).0
 each_number (x ∷ xs) h (suc i) l = each_number xs (both_true (not (is_nan x)) (all_numbers xs) h).1 i (le_of_suc-le-suc l)
 
-number_each : (xs : List Float) → ((i : ℕ) → i < length xs → is_nan (get_or xs i nan) ≡ false) → all_numbers xs ≡ true
+pub number_each : (xs : List Float) → ((i : ℕ) → i < length xs → is_nan (get_or xs i nan) ≡ false) → all_numbers xs ≡ true
 unfolding all_numbers
 number_each [] h = refl
 number_each (x ∷ xs) h = rw (h zero (omega arith)) (number_each xs (λ i l. h (suc i) (omega arith)))
@@ -269,14 +271,14 @@ counts_more r a n t h =
     room b h n = subst (λ (z : ℕ). z ≤ 4294967295) (sym (add-one b)) (lt_of_le-ne h n)
 
 counts_step : (r : Run) (a : Answer) → Counts r → Counts (settle r a (tally_of r.tally a))
-unfolding tally_of settle tallied_number tally_or
+unfolding tally_of settle refused_number number_of tally_or
 counts_step r a h = go (adds_up r.tally) (eqb (mark_number a) 0) (eqb r.tally.begun 4294967295) (eqb-true (mark_number a) 0) (eqb-false (mark_number a) 0)
     (eqb-false r.tally.begun 4294967295) refl refl
   where
     go : (b c d : Bool) → (eqb (mark_number a) 0 ≡ true → mark_number a ≡ 0) → (eqb (mark_number a) 0 ≡ false → mark_number a ≡ 0 → ⊥)
         → (eqb r.tally.begun 4294967295 ≡ false → r.tally.begun ≡ 4294967295 → ⊥) → eqb (mark_number a) 0 ≡ c → eqb r.tally.begun 4294967295 ≡ d
         → Counts (settle r a
-        (cond b (cond c (tallied.Taken r.tally) (cond d (tallied.Refused 7) (tallied.Taken (counted r.tally (mark_number a))))) (tallied.Refused 7)))
+        (cond b (cond c (Ok r.tally) (cond d (Err refusal.Tally) (Ok (counted r.tally (mark_number a))))) (Err refusal.Tally)))
     go true true d f g k e q = counts_refused r a (f e) h
     go true false true f g k e q = h
     go true false false f g k e q = counts_more r a (g e) (k q) h
@@ -300,7 +302,7 @@ weight a = cond (accepted a) 1 0
 
 record Taken (t : Tally) (a : Answer) : Type 0 where
   after : Tally
-  taken : tally_of t a ≡ tallied.Taken after
+  taken : tally_of t a ≡ Ok after
   sum : after.begun ≡ sum_of after
   begun : after.begun ≡ t.begun + weight a
 
@@ -322,7 +324,7 @@ module _ (t : Tally) (s : t.begun ≡ sum_of t) where
   takes_one (answer.Refused n) h = record { after = t; taken = simp adding; sum = s; begun = omega arith }
 
 settled : (r : Run) (a : Answer) (k : Taken r.tally a) → settle r a (tally_of r.tally a) ≡ record { tally = k.after; took = a ∷ r.took }
-unfolding settle tallied_number tally_or
+unfolding settle refused_number number_of tally_or
 settled r a k = ap (settle r a) k.taken
 
 -- so what is summed over the answers taken is summed over all
@@ -359,9 +361,9 @@ tally_takes_all xs h =
       sum = c.sum;
     }
 
-pub takes : (t : Tally) (a : Answer) (u : Tally) → tally_of t a ≡ tallied.Taken u → Takes t a u
-unfolding tallied_number tally_or
-takes t a u e = (ap tallied_number e, ap (tally_or t) e)
+pub takes : (t : Tally) (a : Answer) (u : Tally) → tally_of t a ≡ Ok u → Takes t a u
+unfolding refused_number tally_or
+takes t a u e = (ap refused_number e, ap (tally_or t) e)
 
 pub refused_nowhere : RefusedNowhere
 unfolding tally_of adds_up mark_number accepted

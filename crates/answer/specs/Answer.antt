@@ -1,11 +1,9 @@
 -- What an answer stands for: the scope's number of each case, and its values; and the volts of so many outputs.
-use Rattle.std.specs.Prelude.{Bool, true, false, cond, ℕ, ◌+◌, eqb, Float}
+use Rattle.std.specs.Prelude.{Bool, true, false, cond, List, ℕ, ◌+◌, eqb, Float, get_or}
 use Rattle.laws.specs.Float.{zer}
 use Rattle.answer.specs.declared.Volts.{Volts}
 use Rattle.answer.specs.declared.Answer.{Answer}
 use Rattle.answer.specs.declared.Answer.TheVariants as answer
-use Rattle.answer.specs.declared.Outcome.{Outcome}
-use Rattle.answer.specs.declared.Outcome.TheVariants as outcome
 
 -- ---- volts: port 10 first; an output that an oscillator doesn't have reads 0.0
 abbrev pub volts6 : Float → Float → Float → Float → Float → Float → Volts
@@ -19,6 +17,10 @@ volts2 a b = volts4 a b zer zer
 
 abbrev pub volts1 : Float → Volts
 volts1 a = volts2 a zer
+
+-- of so many outputs, port 10 first
+abbrev pub volts_from : List Float → Volts
+volts_from l = volts6 (get_or l 0 zer) (get_or l 1 zer) (get_or l 2 zer) (get_or l 3 zer) (get_or l 4 zer) (get_or l 5 zer)
 
 -- ---- the marks' numbers. A number keeps its meaning: the first four are those of the scope's rules, and steered, whose rule comes before
 -- clean's, came with a later request
@@ -89,8 +91,3 @@ answer_of n v =
     (cond (eqb n (told steered)) (answer.Steered v)
     (cond (eqb n (told clean)) (answer.Clean v)
     (answer.Refused n)))))
-
--- of a call without samples: 0 where it is done, or what refused it
-unfoldable pub outcome_number : Outcome → ℕ
-outcome_number outcome.Done = 0
-outcome_number (outcome.Refused n) = n

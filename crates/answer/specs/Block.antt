@@ -1,14 +1,16 @@
 -- A block: n ticks of one set of controls, one after another, and their tally. One text for every oscillator.
-use Rattle.std.specs.Prelude.{Bool, cond, ◌&&◌, List, [], ◌∷◌, ◌++◌, ℕ, zero, suc, ◌+◌, ◌*◌, eqb, leb, ltb, Float, length, get_or, take}
+use Rattle.std.specs.Prelude.{Bool, cond, ◌&&◌, List, [], ◌∷◌, ◌++◌, ℕ, zero, suc, ◌+◌, ◌*◌, eqb, leb, ltb, Float, length, get_or, take, Result, Ok, Err}
 use Rattle.std.proofs.lemmas.List.Edits.{sets}
 use Rattle.laws.specs.Lists.{tab}
+use Rattle.common.specs.Refusal.{number_of}
 use Rattle.answer.specs.Answer.{host_number, volts_of, cleared, notfinite, lost, steered, clean, told}
 use Rattle.answer.specs.Tally.{adds_up, one_if}
+use Rattle.common.specs.declared.Refusal.{Refusal}
+use Rattle.common.specs.declared.Refusal.TheVariants as refusal
 use Rattle.answer.specs.declared.Volts.{Volts}
 use Rattle.answer.specs.declared.Answer.{Answer}
 use Rattle.answer.specs.declared.Tally.{Tally}
-use Rattle.answer.specs.declared.Tallied.{Tallied}
-use Rattle.answer.specs.declared.Tallied.TheVariants as tallied
+use Rattle.answer.specs.declared.Played.{Played}
 
 -- ---- the tally of many marks, by the numbers that a host is told
 -- how many of f 0, .., f (n - 1) are k
@@ -41,8 +43,8 @@ abbrev pub cells_of : List ℕ → ℕ → ℕ
 cells_of l i = get_or l i 0
 
 -- the marks of a buffer, or 7 where there isn't room for all; a number that is no mark's counts nowhere, as a refused tick
-unfoldable pub marks_taken : Tally → List ℕ → Tallied
-marks_taken t m = cond (room_for t (length m)) (tallied.Taken (counted_to t (cells_of m) (length m))) (tallied.Refused 7)
+unfoldable pub marks_taken : Tally → List ℕ → Result Tally Refusal
+marks_taken t m = cond (room_for t (length m)) (Ok (counted_to t (cells_of m) (length m))) (Err refusal.Tally)
 
 -- ---- ticks one after another; `next` is the state after a tick
 unfoldable pub after_ticks : {S : Type 0} → (S → S) → ℕ → S → S
@@ -98,3 +100,8 @@ unfoldable pub block_of : {S : Type 0} → ℕ → ℕ → (S → Answer) → (S
 block_of ports number answer next s t o m =
     let n = block_refusal_of (eqb (length o) (ports * length m)) number t (length m) in
     cond (eqb n 0) (ticks_of ports answer next (length m) s t) (block n s t o m)
+
+-- what a block's call says: of a refused one what it was given stays
+unfoldable pub block_said : {S : Type 0} → S → Tally → Result (Played S) Refusal → List Float → List ℕ → Block S
+block_said s t (Ok p) o m = block 0 p.state p.tally o m
+block_said s t (Err e) o m = block (number_of e) s t o m

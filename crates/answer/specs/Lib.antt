@@ -1,4 +1,5 @@
 pub mod Answer
+pub mod Calls
 pub mod Mark
 pub mod Tally
 pub mod Block

@@ -1,14 +1,18 @@
 -- Theorems about answers, marks and the tally: the statements. proofs/Laws.antt proves each under the same name in small letters.
-use Rattle.std.specs.Prelude.{◌≡◌, Bool, true, false, ◌&&◌, List, ℕ, ◌+◌, ◌≤◌, ◌<◌, Float, length, get_or}
+use Rattle.std.specs.Prelude.{◌≡◌, Bool, true, false, ◌&&◌, List, ℕ, ◌+◌, ◌≤◌, ◌<◌, Float, length, get_or, Result}
 use Rattle.std.specs.Float.{nan}
 use Rattle.std.specs.Float.Ieee.{is_nan}
+use Rattle.laws.specs.Machine.{Settles}
+use Rattle.common.specs.Refusal.{refused_number}
+use Rattle.common.specs.declared.Refusal.{Refusal}
 use Rattle.answer.specs.Answer.{mark_number, host_number, volts_of, accepted, cleared, notfinite, lost, steered, clean}
-use Rattle.answer.specs.Block.{room_for, counted_to, answer_at, mark_at}
+use Rattle.answer.specs.Block.{Block, block_said, room_for, counted_to, answer_at, mark_at}
 use Rattle.answer.specs.Mark.{all_finite, all_numbers, mark_of, rule_of}
-use Rattle.answer.specs.Tally.{Run, run, new_run, sum_of, many, accepted_in, tally_after, tallied_number, tally_or, tally_of}
+use Rattle.answer.specs.Tally.{Run, run, new_run, sum_of, many, accepted_in, tally_after, tally_or, tally_of}
 use Rattle.answer.specs.declared.Volts.{Volts}
 use Rattle.answer.specs.declared.Answer.{Answer}
 use Rattle.answer.specs.declared.Answer.TheVariants as answer
+use Rattle.answer.specs.declared.Played.{Played}
 use Rattle.answer.specs.declared.Tally.{Tally}
 
 -- a marked tick is an accepted one, keeps its volts, and has the number of the first rule that applies
@@ -98,7 +102,7 @@ TallyTakesAll = (xs : List Answer) → accepted_in xs ≤ 4294967295 → CountsA
 
 -- the tally t takes the answer a, and is then u
 abbrev pub Takes : Tally → Answer → Tally → Type 0
-Takes t a u = (tallied_number (tally_of t a) ≡ 0) × (tally_or t (tally_of t a) ≡ u)
+Takes t a u = (refused_number (tally_of t a) ≡ 0) × (tally_or t (tally_of t a) ≡ u)
 
 -- a refused tick leaves a tally that adds up as it stood
 abbrev pub RefusedNowhere : Type 0
@@ -125,3 +129,8 @@ AcceptedTo answer next s n = (i : ℕ) → i < n → accepted (answer_at answer 
 abbrev pub TakenTo : {S : Type 0} → (S → Answer) → (S → S) → S → ℕ → Type 0
 TakenTo answer next s n = (t : Tally) → room_for t n ≡ true
     → (i : ℕ) → i < n → Takes (counted_to t (mark_at answer next s) i) (answer_at answer next s i) (counted_to t (mark_at answer next s) (i + 1))
+
+-- what a block's call says of itself tells what it leaves: its answer, the samples and the marks
+abbrev pub BlockTells : Type 1
+BlockTells = {S : Type 0} (s : S) (t : Tally) (b : Block S)
+    → Settles (λ (x : Result (Played S) Refusal × List Float × List ℕ). block_said s t x.0 x.1.0 x.1.1 ≡ b)

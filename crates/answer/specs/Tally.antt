@@ -1,10 +1,11 @@
 -- The tally: the scope, "Marks and tally" and refusal 7.
-use Rattle.std.specs.Prelude.{Bool, cond, List, [], ◌∷◌, ℕ, ◌+◌, eqb}
+use Rattle.std.specs.Prelude.{Bool, cond, List, [], ◌∷◌, ℕ, ◌+◌, eqb, Result, Ok, Err}
+use Rattle.common.specs.Refusal.{refused_number}
 use Rattle.answer.specs.Answer.{mark_number, accepted, cleared, notfinite, lost, steered, clean}
+use Rattle.common.specs.declared.Refusal.{Refusal}
+use Rattle.common.specs.declared.Refusal.TheVariants as refusal
 use Rattle.answer.specs.declared.Answer.{Answer}
 use Rattle.answer.specs.declared.Tally.{Tally}
-use Rattle.answer.specs.declared.Tallied.{Tallied}
-use Rattle.answer.specs.declared.Tallied.TheVariants as tallied
 
 abbrev pub new_tally : Tally
 new_tally = record { begun = 0; finished = 0; cleared = 0; notfinite = 0; lost = 0; steered = 0 }
@@ -31,30 +32,26 @@ counted t n =
       steered = t.steered + one_if n steered;
     }
 
--- the scope's number of each case: 0 taken, or what refused; and its tally, of a refusal the one that stays
-unfoldable pub tallied_number : Tallied → ℕ
-tallied_number (tallied.Taken t) = 0
-tallied_number (tallied.Refused n) = n
-
-unfoldable pub tally_or : Tally → Tallied → Tally
-tally_or kept (tallied.Taken t) = t
-tally_or kept (tallied.Refused n) = kept
+-- the tally that a call leaves: of a refused one that which stays
+unfoldable pub tally_or : Tally → Result Tally Refusal → Tally
+tally_or kept (Ok t) = t
+tally_or kept (Err e) = kept
 
 -- 7 where begun isn't the sum; a refused tick counts nowhere; 7 where an accepted one comes and begun is 4294967295
-unfoldable pub tally_of : Tally → Answer → Tallied
+unfoldable pub tally_of : Tally → Answer → Result Tally Refusal
 tally_of t a =
     cond (adds_up t)
-    (cond (eqb (mark_number a) 0) (tallied.Taken t)
-    (cond (eqb t.begun 4294967295) (tallied.Refused 7) (tallied.Taken (counted t (mark_number a)))))
-    (tallied.Refused 7)
+    (cond (eqb (mark_number a) 0) (Ok t)
+    (cond (eqb t.begun 4294967295) (Err refusal.Tally) (Ok (counted t (mark_number a)))))
+    (Err refusal.Tally)
 
 -- a tally with the answers that it took, the last first
 pub record Run : Type 0 where
   pub tally : Tally
   pub took : List Answer
 
-unfoldable pub settle : Run → Answer → Tallied → Run
-settle r a x = cond (eqb (tallied_number x) 0) (record { tally = tally_or r.tally x; took = a ∷ r.took }) r
+unfoldable pub settle : Run → Answer → Result Tally Refusal → Run
+settle r a x = cond (eqb (refused_number x) 0) (record { tally = tally_or r.tally x; took = a ∷ r.took }) r
 
 -- each answer given to the tally, in order
 unfoldable pub run : Run → List Answer → Run

@@ -1,13 +1,17 @@
 // Added by the scope: what a tick answers, how it is marked, and the tally of the answers. One text for all oscillators.
 #![tactic(auto)]
 
-ghost use Rattle.std.specs.Prelude.{◌≡◌, not, ◌&&◌, [], ◌∷◌, ◌<◌, ◌≤◌, ◌+◌, ◌*◌, length, set, eqb};
-ghost use Rattle.std.specs.Float.Ieee.{is_nan};
+ghost use Rattle.std.specs.Prelude.{◌≡◌, ◌<◌, ◌≤◌, ◌+◌, ◌*◌, length, get_or, set, eqb};
 ghost use Rattle.std.proofs.lemmas.List.Edits.{sets};
-ghost use Rattle.answer.specs.Answer.{volts1, volts2, volts4, volts6, mark_number, host_number, volts_of, accepted, answer_of};
+ghost use Rattle.laws.specs.Float.{zer};
+ghost use Rattle.common.specs.Refusal.{refused_number};
+ghost use Rattle.answer.specs.Answer.{volts_from, mark_number, host_number, volts_of, accepted, answer_of};
+ghost use Rattle.answer.specs.Calls.{making, changing};
 ghost use Rattle.answer.specs.Mark.{all_finite, all_numbers, marked_of, mark_of};
-ghost use Rattle.answer.specs.Tally.{new_tally, sum_of, adds_up, one_if, counted, tally_or, tally_of};
+ghost use Rattle.answer.specs.Tally.{new_tally, sum_of, adds_up, one_if, counted, tally_of};
 ghost use Rattle.answer.specs.Block.{many_to, cells_of, room_for, grown_by, marks_taken, ports_of, framed, block_refusal_of};
+
+use common::Refusal;
 
 // Sample volts: a field for each output port number of the Rust, and p15, which is ours. An output that an oscillator doesn't have, or
 // that isn't wanted, reads 0.0.
@@ -21,36 +25,27 @@ pub struct Volts {
     pub p15: f64,
 }
 
-// The volts of an oscillator with six outputs, and of one with fewer, from port 10 on.
-pub fn volts6(p10: f64, p11: f64, p12: f64, p13: f64, p14: f64, p15: f64) -> Volts
-    ensures { result ≡ volts6 p10 p11 p12 p13 p14 p15 }
+// Output i of so many.
+fn port(ports: &[f64], i: usize) -> f64
+    ensures { result ≡ get_or ports.now i zer }
 {
-    Volts {
-        p10,
-        p11,
-        p12,
-        p13,
-        p14,
-        p15,
+    ports.get(i).copied().unwrap_or(0.0)
+}
+
+impl Volts {
+    // Of an oscillator with so many outputs, in port order.
+    pub fn of<const N: usize>(ports: [f64; N]) -> Self
+        ensures { result ≡ volts_from ports.entry }
+    {
+        Volts {
+            p10: port(&ports, 0),
+            p11: port(&ports, 1),
+            p12: port(&ports, 2),
+            p13: port(&ports, 3),
+            p14: port(&ports, 4),
+            p15: port(&ports, 5),
+        }
     }
-}
-
-pub fn volts4(p10: f64, p11: f64, p12: f64, p13: f64) -> Volts
-    ensures { result ≡ volts4 p10 p11 p12 p13 }
-{
-    volts6(p10, p11, p12, p13, 0.0, 0.0)
-}
-
-pub fn volts2(p10: f64, p11: f64) -> Volts
-    ensures { result ≡ volts2 p10 p11 }
-{
-    volts4(p10, p11, 0.0, 0.0)
-}
-
-pub fn volts1(p10: f64) -> Volts
-    ensures { result ≡ volts1 p10 }
-{
-    volts2(p10, 0.0)
 }
 
 // The marks' numbers. A number keeps its meaning: the first four are those of the scope's rules, and steered, whose rule comes before
@@ -88,11 +83,38 @@ pub enum Answer {
     Refused(u32),
 }
 
-// What a call without samples says of itself. It stands beside a state that has an array: an enum that holds one needs proofs by hand.
+// What a tick leaves: its answer, and the oscillator after it.
 #[derive(Clone, Copy)]
-pub enum Outcome {
-    Done,
-    Refused(u32),
+pub struct Ticked<S> {
+    pub answer: Answer,
+    pub state: S,
+}
+
+// What making an oscillator leaves. A refused one leaves a state too: every call refuses it, as making it was refused.
+#[derive(Clone, Copy)]
+pub struct Made<S> {
+    pub outcome: Result<(), Refusal>,
+    pub state: S,
+}
+
+impl<S: Copy> Made<S> {
+    // The state, where nothing refused its making.
+    #[tactic(auto, unfolding(crate::specs::Calls::changing, common::specs::Refusal::refused_number))]
+    pub fn accepted(self) -> Result<S, Refusal>
+        ensures { changing self.state result ≡ making self }
+    {
+        match self.outcome {
+            Ok(()) => Ok(self.state),
+            Err(refused) => Err(refused),
+        }
+    }
+}
+
+// What an accepted block leaves beside its samples and marks.
+#[derive(Clone, Copy)]
+pub struct Played<S> {
+    pub state: S,
+    pub tally: Tally,
 }
 
 // The number of an answer's mark; 0 of a refused tick.
@@ -139,7 +161,7 @@ pub fn samples(a: Answer) -> Volts
         Answer::Lost(v) => v,
         Answer::Clean(v) => v,
         Answer::Steered(v) => v,
-        Answer::Refused(_) => volts1(0.0),
+        Answer::Refused(_) => Volts::of([0.0]),
     }
 }
 
@@ -162,62 +184,28 @@ pub fn answer_of(number: u32, v: Volts) -> Answer
     }
 }
 
+#[tactic(auto, unfolding(crate::specs::Mark::all_finite))]
 fn all_finite(v: Volts) -> bool
     ensures { result ≡ all_finite v }
 {
-    if numeric::is_finite(v.p10) {
-        if numeric::is_finite(v.p11) {
-            if numeric::is_finite(v.p12) {
-                if numeric::is_finite(v.p13) {
-                    if numeric::is_finite(v.p14) {
-                        numeric::is_finite(v.p15)
-                    } else {
-                        false
-                    }
-                } else {
-                    false
-                }
-            } else {
-                false
-            }
-        } else {
-            false
+    numeric::is_finite(v.p10)
+        && numeric::is_finite(v.p11)
+        && numeric::is_finite(v.p12)
+        && numeric::is_finite(v.p13)
+        && numeric::is_finite(v.p14)
+        && numeric::is_finite(v.p15)
+}
+
+// Whether no control is NaN; an infinity is a number. Each is asked by itself: a sum of numbers can be NaN.
+pub fn numbers<const N: usize>(controls: [f64; N]) -> bool
+    ensures { result ≡ all_numbers controls.entry }
+{
+    for x in &controls {
+        if *x != *x {
+            return false;
         }
-    } else {
-        false
     }
-}
-
-// One control more: an infinity is a number, a NaN isn't.
-fn and_number(x: f64, rest: bool) -> bool
-    ensures { result ≡ (not (is_nan x) && rest) }
-{
-    if x == x { rest } else { false }
-}
-
-// Whether no control is NaN, of one control and of more. Each is asked by itself: a sum of numbers can be NaN.
-pub fn numbers1(a: f64) -> bool
-    ensures { result ≡ all_numbers (a ∷ []) }
-{
-    and_number(a, true)
-}
-
-pub fn numbers3(a: f64, b: f64, c: f64) -> bool
-    ensures { result ≡ all_numbers (a ∷ b ∷ c ∷ []) }
-{
-    and_number(a, and_number(b, numbers1(c)))
-}
-
-pub fn numbers4(a: f64, b: f64, c: f64, d: f64) -> bool
-    ensures { result ≡ all_numbers (a ∷ b ∷ c ∷ d ∷ []) }
-{
-    and_number(a, numbers3(b, c, d))
-}
-
-pub fn numbers5(a: f64, b: f64, c: f64, d: f64, e: f64) -> bool
-    ensures { result ≡ all_numbers (a ∷ b ∷ c ∷ d ∷ e ∷ []) }
-{
-    and_number(a, numbers4(b, c, d, e))
+    true
 }
 
 // A tick's answer, by the first rule that applies: each mark is made here. `zeroed`: the string zeroed its line. `finite`: the
@@ -248,11 +236,7 @@ pub fn marked(v: Volts, zeroed: bool, finite: bool, phases: bool, numbers: bool)
 pub fn mark(v: Volts, zeroed: bool, sums: bool, phases: bool, numbers: bool) -> Answer
     ensures { result ≡ mark_of v zeroed sums phases numbers }
 {
-    if sums {
-        marked(v, zeroed, all_finite(v), phases, numbers)
-    } else {
-        marked(v, zeroed, false, phases, numbers)
-    }
+    marked(v, zeroed, sums && all_finite(v), phases, numbers)
 }
 
 // The counts of the answers that it took: begun is their sum.
@@ -264,25 +248,6 @@ pub struct Tally {
     pub notfinite: u32,
     pub lost: u32,
     pub steered: u32,
-}
-
-// The tally after what it was given, or the number that refused that.
-#[derive(Clone, Copy)]
-pub enum Tallied {
-    Taken(Tally),
-    Refused(u32),
-}
-
-impl Tallied {
-    // That tally; after a refusal the one that stays.
-    pub fn or(self, kept: Tally) -> Tally
-        ensures { result ≡ tally_or kept self }
-    {
-        match self {
-            Tallied::Taken(t) => t,
-            Tallied::Refused(_) => kept,
-        }
-    }
 }
 
 fn one_if(n: u32, k: u32) -> u32
@@ -297,10 +262,8 @@ fn count_of(marks: &[u32], k: u32) -> u32
     ensures { result ≡ many_to k (cells_of marks.now) (length marks.now) }
 {
     let mut many = 0;
-    let mut i = 0;
-    while i < marks.len() {
-        many += one_if(marks[i], k);
-        i += 1;
+    for mark in marks {
+        many += one_if(*mark, k);
     }
     many
 }
@@ -347,20 +310,19 @@ impl Tally {
     }
 
     // The tally given a tick's answer. A refused tick counts nowhere.
-    pub fn take(self, a: Answer) -> Tallied
+    pub fn take(self, a: Answer) -> Result<Tally, Refusal>
         ensures { result ≡ tally_of self a }
     {
-        if self.adds_up() {
-            let n = mark_number(a);
-            if n == 0 {
-                Tallied::Taken(self)
-            } else if self.begun == 4294967295 {
-                Tallied::Refused(7)
-            } else {
-                Tallied::Taken(self.count(n))
-            }
+        if !self.adds_up() {
+            return Err(Refusal::Tally);
+        }
+        let n = mark_number(a);
+        if n == 0 {
+            Ok(self)
+        } else if self.begun == u32::MAX {
+            Err(Refusal::Tally)
         } else {
-            Tallied::Refused(7)
+            Ok(self.count(n))
         }
     }
 
@@ -368,11 +330,7 @@ impl Tally {
     pub fn has_room(self, n: usize) -> bool
         ensures { result ≡ room_for self n }
     {
-        if self.adds_up() {
-            n <= 4294967295 - (self.begun as usize)
-        } else {
-            false
-        }
+        self.adds_up() && n <= 4294967295 - (self.begun as usize)
     }
 
     // So many more answers of each mark.
@@ -392,24 +350,23 @@ impl Tally {
 
     // The tally given the marks of a block, by the numbers that a host is told; 7 without room for all of them. A number that is no
     // mark's counts nowhere. Where all are clean, as in nearly every block, the others aren't counted.
-    pub fn take_marks(self, marks: &[u32]) -> Tallied
+    pub fn take_marks(self, marks: &[u32]) -> Result<Tally, Refusal>
         ensures { result ≡ marks_taken self marks.now }
     {
-        if self.has_room(marks.len()) {
-            let clean = count_of(marks, TOLD_CLEAN);
-            if clean as usize == marks.len() {
-                Tallied::Taken(self.grown(clean, 0, 0, 0, 0))
-            } else {
-                Tallied::Taken(self.grown(
-                    clean,
-                    count_of(marks, TOLD_CLEARED),
-                    count_of(marks, TOLD_NOTFINITE),
-                    count_of(marks, TOLD_LOST),
-                    count_of(marks, TOLD_STEERED),
-                ))
-            }
+        if !self.has_room(marks.len()) {
+            return Err(Refusal::Tally);
+        }
+        let clean = count_of(marks, TOLD_CLEAN);
+        if clean as usize == marks.len() {
+            Ok(self.grown(clean, 0, 0, 0, 0))
         } else {
-            Tallied::Refused(7)
+            Ok(self.grown(
+                clean,
+                count_of(marks, TOLD_CLEARED),
+                count_of(marks, TOLD_NOTFINITE),
+                count_of(marks, TOLD_LOST),
+                count_of(marks, TOLD_STEERED),
+            ))
         }
     }
 }
@@ -420,26 +377,30 @@ fn fits(ports: usize, samples: usize, n: usize) -> bool
 {
     if ports == 0 {
         samples == 0
-    } else if samples % ports == 0 {
-        samples / ports == n
     } else {
-        false
+        samples % ports == 0 && samples / ports == n
     }
 }
 
-// 0, or what refuses a block of n ticks with so many outputs each: 52 where it isn't lent so many samples, then what refuses its first
-// tick, then 7 where the tally has no room for n answers.
-pub fn block_refusal(ports: usize, samples: usize, number: u32, tally: Tally, n: usize) -> u32
-    ensures { result ≡ block_refusal_of (eqb samples (ports * n)) number tally n }
+// What refuses a block of n ticks with so many outputs each: it isn't lent so many samples, then what refuses its first tick, then the tally that has no
+// room for n answers.
+pub fn block_refusal(
+    ports: usize,
+    samples: usize,
+    first: Result<(), Refusal>,
+    tally: Tally,
+    n: usize,
+) -> Result<(), Refusal>
+    ensures { refused_number result ≡ block_refusal_of (eqb samples (ports * n)) (refused_number first) tally n }
 {
-    if fits(ports, samples, n) {
-        if number == 0 {
-            if tally.has_room(n) { 0 } else { 7 }
-        } else {
-            number
-        }
+    if !fits(ports, samples, n) {
+        return Err(Refusal::Samples);
+    }
+    first?;
+    if tally.has_room(n) {
+        Ok(())
     } else {
-        52
+        Err(Refusal::Tally)
     }
 }
 
@@ -479,12 +440,9 @@ fn put_volts(v: Volts, part: &mut [f64])
 fn put_frame(v: Volts, ports: usize, n: usize, i: usize, samples: &mut [f64])
     ensures { samples.new ≡ framed ports n i v samples.old }
 {
-    if fits(ports, samples.len(), n) {
-        if i < n {
-            let at = ports * i;
-            let end = at + ports;
-            put_volts(v, &mut samples[at..end]);
-        }
+    if fits(ports, samples.len(), n) && i < n {
+        let at = ports * i;
+        put_volts(v, &mut samples[at..at + ports]);
     }
 }
 

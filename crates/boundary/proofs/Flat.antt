@@ -1,20 +1,22 @@
 -- Lengths that nothing refuses, a bool that is read back from a whole number, and exported calls as their code has them.
 use mathlib.Core.Bool.{Bool, true, false, cond, true≢false, not}
-use mathlib.Core.List.{List}
+use mathlib.Core.List.{List, [], ◌∷◌}
 use mathlib.Core.Path.{◌≡◌, refl, sym, ap, ◌∙◌}
 use Prim.Native.Nat.{ℕ}
 use native.Mathlib.Omega.{arith}
 use lib.Dec.{eqb}
 use lib.Ieee.{Float}
-use lib.ListN.{length}
-use borrow.Author.Tests.{eqb-true, ne_eqb}
+use lib.ListN.{length, get_or}
+use borrow.Author.Tests.{eqb-true, eq-eqb}
 use Rattle.laws.proofs.Tests.{eqb_yes}
-use Rattle.boundary.specs.Flat.{sizes_of, tick_sizes_of, tally_from, tally_sized, n_counts}
-use Rattle.boundary.specs.Flat.{Kept, kept, kept_sized, Heard, heard, heard_sized, Played, played, played_from, played_sized}
-use Rattle.answer.specs.Tally.{tallied_number}
+use Rattle.common.proofs.RefusalLaws.{reason, reason_back, nonzero, passed, stopped}
+use Rattle.boundary.specs.Flat.{after_state, fitting, sizes_of, tick_sizes_of, tally_from, tally_sized, n_counts}
+use Rattle.boundary.specs.Flat.{Kept, kept, kept_sized, Heard, heard, heard_sized, Left, left, left_from, left_sized}
+use Rattle.std.specs.Prelude.{Result, Ok, Err}
+use Rattle.common.specs.Refusal.{number_of, refused_number}
+use Rattle.common.specs.declared.Refusal.{Refusal}
+use Rattle.common.specs.declared.Refusal.TheVariants as refusal
 use Rattle.answer.specs.declared.Tally.{Tally}
-use Rattle.answer.specs.declared.Tallied.{Tallied}
-use Rattle.answer.specs.declared.Tallied.TheVariants as tallied
 
 pub sized : (nf nw f w n : ℕ) → n ≡ sizes_of nf nw f w → n ≡ 0 → (f ≡ nf) × (w ≡ nw)
 unfolding sizes_of
@@ -42,59 +44,102 @@ tick_sized nf nw ns f w o n e z =
     (s.0, s.1, a.1)
 
 -- counts that are a tally's
-pub all_counts : (l : List ℕ) (x : Tallied) (t : Tally) → x ≡ tally_from l → x ≡ tallied.Taken t → length l ≡ n_counts
-unfolding tally_from tallied_number
-all_counts l x t e g = go _ (eqb (length l) n_counts) refl (ap tallied_number (sym e ∙ g))
+pub all_counts : (l : List ℕ) (t : Tally) → tally_from l ≡ Ok t → length l ≡ n_counts
+unfolding tally_from refused_number number_of
+all_counts l t g = go _ (eqb (length l) n_counts) refl (ap refused_number g)
   where
-    go : (u : Tally) (b : Bool) → eqb (length l) n_counts ≡ b → tallied_number (cond b (tallied.Taken u) (tallied.Refused 53)) ≡ 0 → length l ≡ n_counts
+    go : (u : Tally) (b : Bool) → eqb (length l) n_counts ≡ b → refused_number {T = Tally} (cond b (Ok u) (Err refusal.Counts)) ≡ 0 → length l ≡ n_counts
     go u true p h = eqb-true (length l) n_counts p
     go u false p h = absurd (omega arith)
 
--- and lengths that are right before them
-pub block_sized : (nf nw : ℕ) (f : List Float) (w k : List ℕ) (x : Tallied) (t : Tally) → x ≡ tally_sized nf nw f w k → x ≡ tallied.Taken t
-    → (length f ≡ nf) × (length w ≡ nw) × (length k ≡ n_counts)
-unfolding tally_sized tallied_number
-block_sized nf nw f w k x t e g = go (eqb n 0) refl (sym e ∙ g)
+-- lengths that are right before what is answered
+pub fits : {T : Type 0} (nf nw : ℕ) (f : List Float) (w : List ℕ) (x : Result T Refusal) (t : T) → fitting nf nw f w x ≡ Ok t
+    → (length f ≡ nf) × (length w ≡ nw) × (x ≡ Ok t)
+unfolding fitting refused_number number_of
+fits nf nw f w x t h = go (eqb (length f) nf) (eqb (length w) nw) refl refl h
   where
-    n : ℕ
-    n = sizes_of nf nw (length f) (length w)
+    go : (a b : Bool) → eqb (length f) nf ≡ a → eqb (length w) nw ≡ b → cond a (cond b x (Err refusal.Wholes)) (Err refusal.Floats) ≡ Ok t
+        → (length f ≡ nf) × (length w ≡ nw) × (x ≡ Ok t)
+    go true true p q h = (eqb-true (length f) nf p, eqb-true (length w) nw q, h)
+    go true false p q h = let k = ap refused_number h in absurd (omega arith)
+    go false b p q h = let k = ap refused_number h in absurd (omega arith)
 
-    go : (b : Bool) → eqb n 0 ≡ b → cond b (tally_from k) (tallied.Refused n) ≡ tallied.Taken t → (length f ≡ nf) × (length w ≡ nw) × (length k ≡ n_counts)
-    go true p h = let s = sized nf nw (length f) (length w) n refl (eqb-true n 0 p) in (s.0, s.1, all_counts k _ t refl h)
-    go false p h = absurd (true≢false (sym (eqb_yes n 0 (ap tallied_number h)) ∙ p))
+pub block_sized : (nf nw : ℕ) (f : List Float) (w k : List ℕ) (t : Tally) → tally_sized nf nw f w k ≡ Ok t
+    → (length f ≡ nf) × (length w ≡ nw) × (length k ≡ n_counts)
+block_sized nf nw f w k t h = let r = fits nf nw f w (tally_from k) t h in (r.0, r.1, all_counts k t r.2)
+
+-- what the lengths let pass, and what they refuse
+pub fit : {T : Type 0} (nf nw : ℕ) (f : List Float) (w : List ℕ) → 0 ≡ sizes_of nf nw (length f) (length w) → (x : Result T Refusal) → x ≡ fitting nf nw f w x
+unfolding fitting
+fit nf nw f w h x = let s = sized nf nw (length f) (length w) 0 h refl in simp (eq-eqb _ _ s.0, eq-eqb _ _ s.1)
+
+pub unfit : {T : Type 0} (nf nw : ℕ) (f : List Float) (w : List ℕ) (e : Refusal) → number_of e ≡ sizes_of nf nw (length f) (length w)
+    → (x : Result T Refusal) → Err e ≡ fitting nf nw f w x
+unfolding fitting sizes_of reason
+unfit nf nw f w e h x = go (eqb (length f) nf) (eqb (length w) nw) h
+  where
+    go : (a b : Bool) → number_of e ≡ cond a (cond b 0 51) 50 → Err e ≡ cond a (cond b x (Err refusal.Wholes)) (Err refusal.Floats)
+    go true true k = absurd (nonzero e k)
+    go true false k = ap Err (sym (reason_back e) ∙ ap reason k)
+    go false b k = ap Err (sym (reason_back e) ∙ ap reason k)
+
+-- a memo's key of one number, and of three, from its cells
+pub one_key : (k : List ℕ) → length k ≡ 1 → get_or k 0 0 ∷ [] ≡ k
+one_key [] h = absurd (omega arith)
+one_key (x ∷ []) h = refl
+one_key (x ∷ y ∷ k) h = absurd (omega arith)
+
+pub three_keys : (k : List ℕ) → length k ≡ 3 → get_or k 0 0 ∷ get_or k 1 0 ∷ get_or k 2 0 ∷ [] ≡ k
+three_keys [] h = absurd (omega arith)
+three_keys (x ∷ []) h = absurd (omega arith)
+three_keys (x ∷ y ∷ []) h = absurd (omega arith)
+three_keys (x ∷ y ∷ z ∷ []) h = refl
+three_keys (x ∷ y ∷ z ∷ u ∷ k) h = absurd (omega arith)
 
 -- a bool that is read back from a whole number
 pub flag : (b : Bool) → not (eqb (cond b 1 0) 0) ≡ b
 flag true = refl
 flag false = refl
 
--- ---- an exported call as its code has it: n is what the lengths refuse
+-- ---- a call as its code has it, where the lengths let it pass, and where they refuse it
 -- without samples
-module _ (nf nw : ℕ) (f : List Float) (w : List ℕ) (n : ℕ) (e : n ≡ sizes_of nf nw (length f) (length w)) where
-  pub kept_done : n ≡ 0 → (r k : Kept) → r ≡ k → r ≡ kept_sized nf nw k f w
+module _ (nf nw : ℕ) (f : List Float) (w : List ℕ) where
+  pub kept_pass : 0 ≡ sizes_of nf nw (length f) (length w) → (r k : Kept) → r ≡ k → r ≡ kept_sized nf nw k f w
   unfolding kept_sized
-  kept_done z r k q = simp (← e, z) q
+  kept_pass h r k q = q ∙ passed _ h k _
 
-  pub kept_refused : (n ≡ 0 → ⊥) → (k : Kept) → kept n f w ≡ kept_sized nf nw k f w
+  pub kept_stop : (e : Refusal) (j : ℕ) → number_of e ≡ sizes_of nf nw (length f) (length w) → j ≡ number_of e → (k : Kept)
+      → kept j f w ≡ kept_sized nf nw k f w
   unfolding kept_sized
-  kept_refused z k = simp (← e, ne_eqb n 0 z)
+  kept_stop e j h g k = stopped e _ j h g k (λ i. kept i f w)
 
 -- a tick
-module _ (nf nw ns : ℕ) (f : List Float) (w : List ℕ) (o : List Float) (n : ℕ) (e : n ≡ tick_sizes_of nf nw ns (length f) (length w) (length o)) where
-  pub heard_done : n ≡ 0 → (r h : Heard) → r ≡ h → r ≡ heard_sized nf nw ns h f w o
+module _ (nf nw ns : ℕ) (f : List Float) (w : List ℕ) (o : List Float) where
+  pub heard_pass : 0 ≡ tick_sizes_of nf nw ns (length f) (length w) (length o) → (r h : Heard) → r ≡ h → r ≡ heard_sized nf nw ns h f w o
   unfolding heard_sized
-  heard_done z r h q = simp (← e, z) q
+  heard_pass z r h q = q ∙ passed _ z h _
 
-  pub heard_refused : (n ≡ 0 → ⊥) → (h : Heard) → heard n f w o ≡ heard_sized nf nw ns h f w o
+  pub heard_stop : (e : Refusal) (j : ℕ) → number_of e ≡ tick_sizes_of nf nw ns (length f) (length w) (length o) → j ≡ number_of e → (h : Heard)
+      → heard j f w o ≡ heard_sized nf nw ns h f w o
   unfolding heard_sized
-  heard_refused z h = simp (← e, ne_eqb n 0 z)
+  heard_stop e j z g h = stopped e _ j z g h (λ i. heard i f w o)
 
--- a block: x is the tally of its counts, or what refuses
-module _ (nf nw : ℕ) (p : Tally → Played) (f : List Float) (w k : List ℕ) (o : List Float) (m : List ℕ) (x : Tallied) (e : x ≡ tally_sized nf nw f w k) where
-  pub played_done : (t : Tally) (r : Played) → x ≡ tallied.Taken t → r ≡ p t → r ≡ played_sized nf nw p f w k o m
-  unfolding played_sized played_from
-  played_done t r h q = simp (← e, h) q
+-- a block
+module _ (nf nw : ℕ) (f : List Float) (w k : List ℕ) where
+  pub left_pass : (t : Tally) → tally_sized nf nw f w k ≡ Ok t → (r l : Left) → r ≡ l → r ≡ left_sized nf nw l f w k
+  unfolding left_sized left_from
+  left_pass t h r l q = q ∙ sym (ap (λ x. left_from x l f w k) h)
 
-  pub played_refused : (j : ℕ) → x ≡ tallied.Refused j → played j f w k o m ≡ played_sized nf nw p f w k o m
-  unfolding played_sized played_from
-  played_refused j h = simp (← e, h)
+  pub left_stop : (e : Refusal) (j : ℕ) → tally_sized nf nw f w k ≡ Err e → j ≡ number_of e → (l : Left) → left j f w k ≡ left_sized nf nw l f w k
+  unfolding left_sized left_from
+  left_stop e j h g l = ap (λ i. left i f w k) g ∙ sym (ap (λ x. left_from x l f w k) h)
+
+-- ---- what a state gives, and what refused it
+pub then_ok : {S T : Type 0} (x : Result S Refusal) (s : S) (then : S → Result T Refusal) (r : Result T Refusal) → x ≡ Ok s → r ≡ then s
+    → r ≡ after_state x then
+unfolding after_state
+then_ok x s then r h q = q ∙ sym (ap (λ y. after_state y then) h)
+
+pub then_err : {S T : Type 0} (x : Result S Refusal) (e : Refusal) (then : S → Result T Refusal) → x ≡ Err e → Err e ≡ after_state x then
+unfolding after_state
+then_err x e then h = sym (ap (λ y. after_state y then) h)

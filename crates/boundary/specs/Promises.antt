@@ -1,14 +1,13 @@
 -- Theorems about flat states: the statements. The proofs of the same names in small letters stand in proofs/.
-use Rattle.std.specs.Prelude.{List, [], ◌∷◌, ◌++◌, ◌≡◌, Float, length}
+use Rattle.std.specs.Prelude.{List, [], ◌∷◌, ◌++◌, ◌≡◌, Float, length, Ok}
 use Rattle.answer.specs.declared.Tally.{Tally}
-use Rattle.answer.specs.declared.Tallied.TheVariants as tallied
 use Rattle.boundary.specs.Edge.{n_edge, edge_floats, edge_at}
 use Rattle.boundary.specs.Flat.{tally_from, counts_of}
 use Rattle.common.specs.declared.EdgeDetector.{EdgeDetector}
 
 -- the counts hold the whole tally
 abbrev pub CountsBack : Type 0
-CountsBack = (t : Tally) → tally_from (counts_of t) ≡ tallied.Taken t
+CountsBack = (t : Tally) → tally_from (counts_of t) ≡ Ok t
 
 -- and an edge record's floats the whole record, wherever they stand
 abbrev pub EdgeBack : Type 0

@@ -2,27 +2,35 @@
 // floats of a flat state. Lengths that don't fit are refused by 50 floats, 51 wholes, 52 samples, 53 counts.
 #![tactic(auto)]
 
-ghost use Rattle.std.specs.Prelude.{◌≡◌, length, get_or, set};
+ghost use Rattle.std.specs.Prelude.{◌≡◌, List, ℕ, Float, length, get_or, set};
 ghost use Rattle.std.specs.Float.{nan};
 ghost use Rattle.std.proofs.lemmas.List.Edits.{sets};
-ghost use Rattle.boundary.specs.Flat.{sizes_of, tick_sizes_of, tally_from, tally_sized, counts_outcome, counts_put};
+ghost use Rattle.common.specs.Refusal.{refused_number};
+ghost use Rattle.answer.specs.declared.Volts.{Volts};
+ghost use Rattle.boundary.specs.Flat.{n_counts, counts_of, sizes_of, tick_sizes_of, tally_from, tally_sized, counts_outcome, counts_put};
+ghost use Rattle.boundary.specs.Flat.{state_sized, state_heard, state_played, kept, kept_result, kept_sized, heard, heard_of, heard_sized};
+ghost use Rattle.boundary.specs.Flat.{left, left_by, left_sized};
 ghost use Rattle.boundary.specs.Edge.{edge_at, edge_floats};
 
-use answer::{Outcome, Tallied, Tally};
-use common::EdgeDetector;
+use answer::{Played, Tally, Ticked, Volts};
+use common::{EdgeDetector, Refusal};
 
-// What a host lends for a state of nf floats and nw whole numbers: 0, or 50, 51 where floats, wholes have another length.
-pub fn sizes(nf: usize, nw: usize, floats: &[f64], wholes: &[u64]) -> u32
-    ensures { result ≡ sizes_of nf nw (length floats.now) (length wholes.now) }
+// ---- lengths
+
+// What a host lends for a state of nf floats and nw whole numbers: refused where floats or wholes have another length.
+pub fn sizes(nf: usize, nw: usize, floats: &[f64], wholes: &[u64]) -> Result<(), Refusal>
+    ensures { refused_number result ≡ sizes_of nf nw (length floats.now) (length wholes.now) }
 {
-    if floats.len() == nf {
-        if wholes.len() == nw { 0 } else { 51 }
+    if floats.len() != nf {
+        Err(Refusal::Floats)
+    } else if wholes.len() != nw {
+        Err(Refusal::Wholes)
     } else {
-        50
+        Ok(())
     }
 }
 
-// And for a tick of ns samples: 52.
+// And for a tick of ns samples.
 pub fn tick_sizes(
     nf: usize,
     nw: usize,
@@ -30,27 +38,29 @@ pub fn tick_sizes(
     floats: &[f64],
     wholes: &[u64],
     samples: &[f64],
-) -> u32
-    ensures { result
+) -> Result<(), Refusal>
+    ensures { refused_number result
         ≡ tick_sizes_of nf nw ns (length floats.now) (length wholes.now) (length samples.now) }
 {
-    let refused = sizes(nf, nw, floats, wholes);
-    if refused == 0 {
-        if samples.len() == ns { 0 } else { 52 }
+    sizes(nf, nw, floats, wholes)?;
+    if samples.len() == ns {
+        Ok(())
     } else {
-        refused
+        Err(Refusal::Samples)
     }
 }
+
+// ---- the tally
 
 // How many counts a tally has.
 const COUNTS: usize = 6;
 
-// The tally that so many counts stand for, in the order of its fields; 53 of another number.
-pub fn tally_of(counts: &[u32]) -> Tallied
+// The tally that so many counts stand for, in the order of its fields; another number is refused.
+pub fn tally_of(counts: &[u32]) -> Result<Tally, Refusal>
     ensures { result ≡ tally_from counts.now }
 {
     if counts.len() == COUNTS {
-        Tallied::Taken(Tally {
+        Ok(Tally {
             begun: counts[0],
             finished: counts[1],
             cleared: counts[2],
@@ -59,38 +69,49 @@ pub fn tally_of(counts: &[u32]) -> Tallied
             steered: counts[5],
         })
     } else {
-        Tallied::Refused(53)
+        Err(Refusal::Counts)
     }
 }
 
-// The tally that a block of a state of nf floats and nw whole numbers begins with: 50, 51 of other lengths, and after them 53.
-pub fn block_tally(nf: usize, nw: usize, floats: &[f64], wholes: &[u64], counts: &[u32]) -> Tallied
+// The tally that a block of a state of nf floats and nw whole numbers begins with, where neither the other lengths nor it is refused.
+pub fn block_tally(
+    nf: usize,
+    nw: usize,
+    floats: &[f64],
+    wholes: &[u64],
+    counts: &[u32],
+) -> Result<Tally, Refusal>
     ensures { result ≡ tally_sized nf nw floats.now wholes.now counts.now }
 {
-    let refused = sizes(nf, nw, floats, wholes);
-    if refused == 0 {
-        tally_of(counts)
-    } else {
-        Tallied::Refused(refused)
-    }
+    sizes(nf, nw, floats, wholes)?; // before its counts
+    tally_of(counts)
 }
 
-// A tally's counts into a slice for them; another is refused by 53, and left.
-pub fn put_counts(tally: Tally, counts: &mut [u32]) -> Outcome
+// A tally's counts into a slice for them.
+fn store_counts(tally: Tally, counts: &mut [u32])
+    requires { length counts.old ≡ n_counts }
+    ensures { counts.new ≡ counts_of tally }
+{
+    counts[0] = tally.begun;
+    counts[1] = tally.finished;
+    counts[2] = tally.cleared;
+    counts[3] = tally.notfinite;
+    counts[4] = tally.lost;
+    counts[5] = tally.steered;
+}
+
+// The same of any slice: one that isn't for them is refused, and left.
+pub fn put_counts(tally: Tally, counts: &mut [u32]) -> Result<(), Refusal>
     ensures { (result ≡ counts_outcome counts.old) × (counts.new ≡ counts_put tally counts.old) }
 {
-    if counts.len() == COUNTS {
-        counts[0] = tally.begun;
-        counts[1] = tally.finished;
-        counts[2] = tally.cleared;
-        counts[3] = tally.notfinite;
-        counts[4] = tally.lost;
-        counts[5] = tally.steered;
-        Outcome::Done
-    } else {
-        Outcome::Refused(53)
+    if counts.len() != COUNTS {
+        return Err(Refusal::Counts);
     }
+    store_counts(tally, counts);
+    Ok(())
 }
+
+// ---- the edge record
 
 // How many floats of a state an edge record is.
 pub const EDGE_FLOATS: usize = 2;
@@ -127,4 +148,148 @@ pub fn put_edge(e: EdgeDetector, part: &mut [f64])
 {
     put_float(e.prev, 0, &mut *part);
     put_float(e.threshold, 1, part);
+}
+
+// ---- a state in the slices that a host lends
+
+// How an oscillator's state lies in floats and whole numbers, and a tick's volts in samples.
+pub trait Layout {
+    type State: Copy;
+
+    const FLOATS: usize;
+
+    const WHOLES: usize;
+
+    const SAMPLES: usize;
+
+    ghost FLOATS: { ℕ };
+
+    ghost WHOLES: { ℕ };
+
+    ghost SAMPLES: { ℕ };
+
+    ghost state_of: { List Float → List ℕ → Self.State };
+
+    ghost floats_of: { Self.State → List Float };
+
+    ghost wholes_of: { Self.State → List ℕ };
+
+    ghost samples_of: { Volts → List Float };
+
+    fn state(floats: &[f64], wholes: &[u64]) -> Self::State
+        requires { (length floats.now ≡ FLOATS) × (length wholes.now ≡ WHOLES) }
+        ensures { result ≡ state_of floats.now wholes.now };
+
+    fn store(s: Self::State, floats: &mut [f64], wholes: &mut [u64])
+        requires { (length floats.old ≡ FLOATS) × (length wholes.old ≡ WHOLES) }
+        ensures { (floats.new ≡ floats_of s) × (wholes.new ≡ wholes_of s) };
+
+    fn put(v: Volts, samples: &mut [f64])
+        requires { length samples.old ≡ SAMPLES }
+        ensures { samples.new ≡ samples_of v };
+}
+
+// The state that a host lends.
+pub fn state<L: Layout>(floats: &[f64], wholes: &[u64]) -> Result<L::State, Refusal>
+    ensures { result ≡ state_sized L.FLOATS L.WHOLES L.state_of floats.now wholes.now }
+{
+    sizes(L::FLOATS, L::WHOLES, floats, wholes)?;
+    Ok(L::state(floats, wholes))
+}
+
+// The state that a call leaves, or the number of what refused it: then nothing is written.
+pub fn keep<L: Layout>(r: Result<L::State, Refusal>, floats: &mut [f64], wholes: &mut [u64]) -> u32
+    ensures { kept result floats.new wholes.new
+        ≡ kept_sized L.FLOATS L.WHOLES (kept_result L.floats_of L.wholes_of r floats.old wholes.old) floats.old wholes.old }
+{
+    match sizes(L::FLOATS, L::WHOLES, floats, wholes) {
+        Ok(()) => match r {
+            Ok(s) => {
+                L::store(s, floats, wholes);
+                0
+            }
+            Err(refused) => refused.number(),
+        },
+        Err(refused) => refused.number(),
+    }
+}
+
+// The state that a tick of these samples begins with.
+pub fn tick_state<L: Layout>(
+    floats: &[f64],
+    wholes: &[u64],
+    samples: &[f64],
+) -> Result<L::State, Refusal>
+    ensures { result ≡ state_heard L.FLOATS L.WHOLES L.SAMPLES L.state_of floats.now wholes.now samples.now }
+{
+    let s = state::<L>(floats, wholes)?;
+    if samples.len() == L::SAMPLES {
+        Ok(s)
+    } else {
+        Err(Refusal::Samples)
+    }
+}
+
+// The number that a host is told of a tick, with the samples and the state after it where it is accepted. The number is asked for last: asked for before,
+// each mark that it may be would copy the state once more.
+pub fn hear<L: Layout>(
+    t: Ticked<L::State>,
+    floats: &mut [f64],
+    wholes: &mut [u64],
+    samples: &mut [f64],
+) -> u32
+    ensures { heard result floats.new wholes.new samples.new
+        ≡ heard_sized L.FLOATS L.WHOLES L.SAMPLES (heard_of L.floats_of L.wholes_of L.samples_of t.answer t.state floats.old wholes.old samples.old)
+        floats.old wholes.old samples.old }
+{
+    match tick_sizes(L::FLOATS, L::WHOLES, L::SAMPLES, floats, wholes, samples) {
+        Ok(()) => {
+            if answer::is_accepted(t.answer) {
+                L::store(t.state, floats, wholes);
+                L::put(answer::samples(t.answer), samples);
+                answer::host_number(t.answer)
+            } else {
+                answer::host_number(t.answer)
+            }
+        }
+        Err(refused) => refused.number(),
+    }
+}
+
+// The state and the tally that a block begins with.
+pub fn block_state<L: Layout>(
+    floats: &[f64],
+    wholes: &[u64],
+    counts: &[u32],
+) -> Result<Played<L::State>, Refusal>
+    ensures { result ≡ state_played L.FLOATS L.WHOLES L.state_of floats.now wholes.now counts.now }
+{
+    let tally = block_tally(L::FLOATS, L::WHOLES, floats, wholes, counts)?;
+    Ok(Played {
+        state: L::state(floats, wholes),
+        tally,
+    })
+}
+
+// The state and the counts that a block leaves, or the number of what refused it: then nothing is written.
+pub fn keep_block<L: Layout>(
+    r: Result<Played<L::State>, Refusal>,
+    floats: &mut [f64],
+    wholes: &mut [u64],
+    counts: &mut [u32],
+) -> u32
+    ensures { left result floats.new wholes.new counts.new
+        ≡ left_sized L.FLOATS L.WHOLES (left_by L.floats_of L.wholes_of r floats.old wholes.old counts.old) floats.old wholes.old counts.old }
+{
+    match block_tally(L::FLOATS, L::WHOLES, floats, wholes, counts) {
+        Ok(_) => match r {
+            Ok(played) => {
+                L::store(played.state, floats, wholes);
+                store_counts(played.tally, counts);
+                0
+            }
+            Err(refused) => refused.number(),
+        },
+        Err(refused) => refused.number(),
+    }
 }

@@ -1,16 +1,19 @@
 -- Lent draws: the digits of several together, what refusals 5 and 6 leave, and which draws they read.
 use mathlib.Core.Bool.{Bool, true, false, cond, ◌&&◌}
-use mathlib.Core.List.{List}
+use mathlib.Core.List.{List, [], ◌∷◌}
 use mathlib.Core.Logic.{⊎_elim}
-use mathlib.Core.Path.{◌≡◌, refl}
-use Prim.Native.Nat.{ℕ, zero, suc, ◌+◌, ◌≤◌, ◌<◌, ◌^◌}
-use native.Mathlib.Nat.{eq-or-lt_of_le, le_of_suc-le-suc, not-suc-le-zero}
+use mathlib.Core.Path.{◌≡◌, refl, sym, ap, ◌∙◌}
+use Prim.Native.Nat.{ℕ, zero, suc, ◌≤◌, ◌<◌, ◌^◌}
+use native.Mathlib.Nat.{eq-or-lt_of_le, le_of_eq, le_of_suc-le-suc, not-suc-le-zero}
 use native.Mathlib.Numerals.{add-one}
 use native.Mathlib.Omega.{arith}
 use lib.Bits.{bit_or, or_lt, or_add_and, and_le_l, and_le_r}
 use lib.Dec.{leb, ltb}
-use lib.ListN.{length, get_or}
+use lib.ListN.{length, get_or, take}
 use borrow.Author.Tests.{ltb-true, ltb-false, lt-ltb, le-ltb, leb-true, le-leb, lt-leb}
+use Rattle.std.proofs.lemmas.List.{get_or-take, length-take-le, take_all, take_more}
+use Rattle.std.proofs.lemmas.List.Sums.{fold-append}
+use Rattle.std.specs.Prelude.{fold}
 use Rattle.laws.proofs.Tests.{both_true}
 use Rattle.common.specs.Tests.{draws_ok, draws_refusal_of}
 
@@ -51,6 +54,10 @@ pub draws_taken : (n : ℕ) (d : List ℕ) → n ≤ length d → draws_ok d n �
 unfolding draws_refusal_of
 draws_taken n d h k = simp (le-leb n (length d) h, k)
 
+pub draws_bad : (n : ℕ) (d : List ℕ) → n ≤ length d → draws_ok d n ≡ false → 6 ≡ draws_refusal_of n d
+unfolding draws_refusal_of
+draws_bad n d h k = simp (le-leb n (length d) h, k)
+
 -- ---- draw by draw
 pub draw_below : (d : List ℕ) (n i : ℕ) → draws_ok d n ≡ true → i < n → get_or d i 0 < 2 ^ 53
 unfolding draws_ok
@@ -74,13 +81,29 @@ unfolding draws_ok
 draws_same d e zero h = refl
 draws_same d e (suc n) h = let a = draws_same d e n (λ i l. h i (omega arith)) in let b = h n (omega arith) in simp (a, b)
 
+-- so they are the whole of a slice of n
+pub draws_first : (n : ℕ) (d : List ℕ) → n ≤ length d → draws_ok (take n d) (length (take n d)) ≡ draws_ok d n
+draws_first n d h = rw (length-take-le n d h) (draws_same (take n d) d n (λ i l. get_or-take n d i 0 l))
+
 pub refusal_draws : (n : ℕ) (d e : List ℕ) → n ≤ length d → n ≤ length e → ((i : ℕ) → i < n → get_or d i 0 ≡ get_or e i 0) → draws_refusal_of n d
     ≡ draws_refusal_of n e
 unfolding draws_refusal_of
 refusal_draws n d e h k s = simp (le-leb n (length d) h, le-leb n (length e) k, draws_same d e n s)
 
--- one turn of a loop that gathers digits: they are below 2 ^ 53 as long as each draw is
-pub digits_more : (d : List ℕ) (i digits : ℕ) → ltb digits 9007199254740992 ≡ draws_ok d i → ltb (bit_or digits (get_or d i 0)) 9007199254740992
-    ≡ draws_ok d (i + 1)
+-- all digits together are below 2 ^ 53 where each draw is
+digits_first : (d : List ℕ) (i : ℕ) → i ≤ length d → ltb (fold bit_or 0 (take i d)) 9007199254740992 ≡ draws_ok d i
 unfolding draws_ok
-digits_more d i digits h = rw (add-one, ← h) (or_below 53 digits (get_or d i 0))
+digits_first d zero h = refl
+digits_first d (suc i) h =
+    let digits = fold bit_or 0 (take i d) in
+    ap (λ (l : List ℕ). ltb (fold bit_or 0 l) 9007199254740992) (ap (λ (k : ℕ). take k d) (sym (add-one i)) ∙ take_more d i 0 h)
+    ∙ ap (λ (n : ℕ). ltb n 9007199254740992) (fold-append bit_or 0 (take i d) (get_or d i 0 ∷ []))
+    ∙ or_below 53 digits (get_or d i 0)
+    ∙ ap (λ (b : Bool). b && ltb (get_or d i 0) 9007199254740992) (digits_first d i (omega arith))
+
+pub digits_all : (d : List ℕ) → ltb (fold bit_or 0 d) 9007199254740992 ≡ draws_ok d (length d)
+digits_all d =
+    ap (λ (l : List ℕ). ltb (fold bit_or 0 l) 9007199254740992) (sym (take_all (length d) d (le_of_eq refl))) ∙ digits_first d (length d) (le_of_eq refl)
+
+-- what draws_refusal needs
+pub ruleset draws_told = (draws_few, draws_taken, draws_bad, draws_first)

@@ -3,4 +3,5 @@ pub mod Bounds
 pub mod MemoLaws
 pub mod EdgeLaws
 pub mod DrawLaws
+pub mod RefusalLaws
 pub mod Settled

@@ -162,6 +162,9 @@ turned_two x t h l =
 pub turned_minus : (x : Float) → F64 x → lt x zer ≡ true → lt (neg one) x ≡ true → turned_of x ≡ true
 turned_minus x t h k = turned_says x t ∙ unfold phase_ok in simp (finite_below x h k, le_false x zer (of_true (lt x zer) h))
 
+-- what wrap_near needs
+pub ruleset near = (wrap_two, turned_two, wrap_minus, turned_minus)
+
 -- ---- a state that refusals 1 and 2 let pass has a good rate and a good phase
 pub accepted_state : (rate phase : Bool) → ◌≡◌ {A = ℕ} (cond rate (cond phase 0 2) 1) 0 → (rate ≡ true) × (phase ≡ true)
 accepted_state true true h = (refl, refl)

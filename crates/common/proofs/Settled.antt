@@ -1,5 +1,6 @@
 -- Every contract is one equation, and one equation settles an answer.
 use Rattle.laws.proofs.Settled as laws
+use Rattle.common.proofs.RefusalLaws.{refusal_settled}
 use Rattle.common.specs.Settled.{Settled}
 
 pub settled : Settled
@@ -12,13 +13,11 @@ settled =
       polyblamp = λ t dt. laws.settled _;
       increment = λ freq rate. laws.settled _;
       restart = λ phase rising. laws.settled _;
-      memo1_new = laws.settled _;
-      memo1_hits = λ m x. laws.settled _;
-      memo1_filled = λ x v. laws.settled _;
-      memo1_voct_to_hz = λ m v. laws.settled _;
-      memo3_new = laws.settled _;
-      memo3_hits = λ m x y z. laws.settled _;
-      memo3_filled = λ x y z v. laws.settled _;
+      memo_new = λ n v. laws.settled _;
+      memo_hits = λ m xs. laws.settled _;
+      memo_filled = λ xs v. laws.settled _;
+      memo_get_or_compute = λ v m xs. laws.settled _;
+      memo_voct_to_hz = λ m v. laws.settled _;
       edge_new = λ t. laws.settled _;
       edge_rising = λ e v. laws.settled _;
       edge_rising_above = λ e v t. laws.settled _;
@@ -29,6 +28,7 @@ settled =
       rate_ok = λ r. laws.settled _;
       phase_ok = λ p. laws.settled _;
       threshold_ok = λ t. laws.settled _;
-      gated_refusal = λ r p t. laws.settled _;
-      draws_refusal = λ n draws. laws.settled _;
+      gated_refusal = λ r p t. refusal_settled _;
+      draws_refusal = λ n draws. refusal_settled _;
+      refusal_number = λ e. laws.settled _;
     }

@@ -1,5 +1,5 @@
 -- EdgeDetector, written from common.rs, where its threshold is always GATE_THRESHOLD_V.
-use Rattle.std.specs.Prelude.{Bool, cond, ◌&&◌, Float}
+use Rattle.std.specs.Prelude.{Bool, cond, ◌&&◌, Some, None, Float}
 use Rattle.std.specs.Float.{binary64}
 use Rattle.std.specs.Float.Ieee.{sub, div, lt, le}
 use Rattle.laws.specs.Float.{zer, one}
@@ -7,7 +7,6 @@ use Rattle.numeric.specs.Basic.{clamp_of}
 use Rattle.common.specs.declared.EdgeDetector.{EdgeDetector}
 use Rattle.common.specs.declared.Risen.{Risen}
 use Rattle.common.specs.declared.Crossed.{Crossed}
-use Rattle.common.specs.declared.Crossing.TheVariants.{Nowhere, At}
 
 -- EdgeDetector::new, of a threshold
 abbrev pub new_edge : Float → EdgeDetector
@@ -39,7 +38,7 @@ frac_above threshold prev v =
 
 unfoldable pub crossed_above_of : EdgeDetector → Float → Float → Crossed
 crossed_above_of e v threshold =
-    record { edge = seen_of e v; at = cond (rises_above threshold e.prev v) (At (frac_above threshold e.prev v)) Nowhere }
+    record { edge = seen_of e v; at = cond (rises_above threshold e.prev v) (Some (frac_above threshold e.prev v)) None }
 
 unfoldable pub crossed_of : EdgeDetector → Float → Crossed
 crossed_of e v = crossed_above_of e v e.threshold

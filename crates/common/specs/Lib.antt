@@ -3,6 +3,7 @@ pub mod Pitch
 pub mod Phase
 pub mod Memo
 pub mod Edge
+pub mod Refusal
 pub mod Tests
 pub mod Ports
 pub mod Promises

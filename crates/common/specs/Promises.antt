@@ -1,18 +1,16 @@
 -- What the crates above count on: the statements. The proofs of the same names in small letters stand in proofs/.
-use Rattle.std.specs.Prelude.{◌≡◌, true, false, cond, not, ◌&&◌, ◌⊎◌, T, Float}
+use Rattle.std.specs.Prelude.{◌≡◌, ℕ, true, false, cond, not, ◌&&◌, ◌⊎◌, T, List, [], ◌∷◌, Some, None, Float}
 use Rattle.std.specs.Float.{nan, binary64}
 use Rattle.std.specs.Float.Ieee.{lt, le, neg, of_bits}
 use Rattle.laws.specs.Float.{zer, one, F64, is_fin}
 use Rattle.common.specs.Phase.{turns, wrap_of, turned_of}
-use Rattle.common.specs.Memo.{filled1, filled3, recall1, recall3}
+use Rattle.common.specs.Memo.{filled, recall, Memo1, filled1, recall1, Memo3, filled3, recall3}
 use Rattle.common.specs.Consts.{gate_threshold, low_gate_threshold, five}
 use Rattle.common.specs.Edge.{reset_of, rises_above, frac_above, rising_of, crossed_of}
 use Rattle.common.specs.Tests.{phase_ok, threshold_ok}
 use Rattle.common.specs.declared.EdgeDetector.{EdgeDetector}
-use Rattle.common.specs.declared.Crossing.TheVariants.{Nowhere, At}
 use Rattle.common.specs.declared.Hertz.{Hertz}
-use Rattle.common.specs.declared.Memo1.{Memo1}
-use Rattle.common.specs.declared.Memo3.{Memo3}
+use Rattle.common.specs.declared.Memo.{Memo}
 
 -- the wrap of any f64 is a phase that refusal 2 lets pass
 abbrev pub WrapIn : Type 0
@@ -22,7 +20,15 @@ WrapIn = (x : Float) → F64 x → phase_ok (turns (wrap_of x)) ≡ true
 abbrev pub TurnedSays : Type 0
 TurnedSays = (x : Float) → F64 x → turned_of x ≡ (is_fin x && not (phase_ok (turns x)))
 
+-- all of a list of numbers are f64s
+abbrev pub AllF64 : List Float → Type 0
+AllF64 [] = T true
+AllF64 (x ∷ xs) = F64 x × AllF64 xs
+
 -- a memo that is empty, or holds what its closure computes for some keys
+abbrev pub Coherent : {n : ℕ} {V : Type 0} → (List Float → V) → Memo n V → Type 0
+Coherent f m = (m.valid ≡ false) ⊎ ((xs : List Float) × AllF64 xs × (m ≡ filled xs (f xs)))
+
 abbrev pub Coherent1 : (Float → Hertz) → Memo1 → Type 0
 Coherent1 f m = (m.valid ≡ false) ⊎ ((x : Float) × F64 x × (m ≡ filled1 x (f x)))
 
@@ -30,6 +36,10 @@ abbrev pub Coherent3 : (Float → Float → Float → Hertz) → Memo3 → Type 
 Coherent3 f m = (m.valid ≡ false) ⊎ ((x : Float) × (y : Float) × (z : Float) × F64 x × F64 y × F64 z × (m ≡ filled3 x y z (f x y z)))
 
 -- such a memo leaves, hit or miss, exactly what a miss would: so it can't be told from an empty one
+abbrev pub RecallIs : Type 1
+RecallIs =
+    (n : ℕ) (V : Type 0) (f : List Float → V) (m : Memo n V) → Coherent f m → (xs : List Float) → AllF64 xs → recall (f xs) m xs ≡ filled xs (f xs)
+
 abbrev pub Recall1Is : Type 0
 Recall1Is = (f : Float → Hertz) (m : Memo1) → Coherent1 f m → (x : Float) → F64 x → recall1 f m x ≡ filled1 x (f x)
 
@@ -81,7 +91,7 @@ RisingLike = (e : EdgeDetector) (v : Float) → T (le zer e.threshold) → (risi
 -- a crossing is an edge, at its fraction
 abbrev pub CrossedIs : Type 0
 CrossedIs = (e : EdgeDetector) (v : Float)
-    → crossed_of e v ≡ record { edge = (rising_of e v).edge; at = cond (rising_of e v).rising (At (frac_above e.threshold e.prev v)) Nowhere }
+    → crossed_of e v ≡ record { edge = (rising_of e v).edge; at = cond (rising_of e v).rising (Some (frac_above e.threshold e.prev v)) None }
 
 -- after a sample that isn't above the threshold, one above it is an edge
 abbrev pub RisingComes : Type 0
@@ -106,6 +116,9 @@ abbrev pub RisingOnce : Type 0
 RisingOnce = (e : EdgeDetector) (v : Float) → rising_of (rising_of e v).edge v ≡ record { edge = (rising_of e v).edge; rising = false }
 
 -- and keys that stand still are a hit, whatever the memo held
+abbrev pub RecallAgain : Type 1
+RecallAgain = (n : ℕ) (V : Type 0) (v : V) (m : Memo n V) (xs : List Float) → recall v (recall v m xs) xs ≡ recall v m xs
+
 abbrev pub Recall1Again : Type 0
 Recall1Again = (f : Float → Hertz) (m : Memo1) (x : Float) → recall1 f (recall1 f m x) x ≡ recall1 f m x
 

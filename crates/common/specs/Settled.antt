@@ -1,23 +1,24 @@
 -- For each public function: any two answers that its contract allows are equal. The contract is the equation under Settles.
-use Rattle.std.specs.Prelude.{◌≡◌, Bool, List, ℕ, Float}
+use Rattle.std.specs.Prelude.{◌≡◌, Bool, List, ℕ, Result, Float}
 use Rattle.laws.specs.Machine.{Settles}
 use Rattle.common.specs.Pitch.{voct_to_hz}
 use Rattle.common.specs.Phase.{wrap_phase_of, polyblep_of, polyblamp_of, increment_of, restart_of}
-use Rattle.common.specs.Memo.{new_memo1, hits1, filled1, recall1, voct_to_hz_at, new_memo3, hits3, filled3}
+use Rattle.common.specs.Memo.{new_memo, hits, filled, recall, Memo1, recall1, voct_to_hz_at}
 use Rattle.common.specs.Edge.{new_edge, rising_above_of, rising_of, crossed_above_of, crossed_of, reset_of}
 use Rattle.common.specs.Ports.{out_of}
+use Rattle.common.specs.Refusal.{number_of, refused_number}
 use Rattle.common.specs.Tests.{rate_ok, phase_ok, threshold_ok, gated_refusal_of, draws_refusal_of}
+use Rattle.common.specs.declared.Refusal.{Refusal}
 use Rattle.common.specs.declared.Hertz.{Hertz}
 use Rattle.common.specs.declared.Turns.{Turns}
 use Rattle.common.specs.declared.Wrapped.{Wrapped}
 use Rattle.common.specs.declared.VoltsPerOctave.{VoltsPerOctave}
-use Rattle.common.specs.declared.Memo1.{Memo1}
-use Rattle.common.specs.declared.Memo3.{Memo3}
+use Rattle.common.specs.declared.Memo.{Memo}
 use Rattle.common.specs.declared.EdgeDetector.{EdgeDetector}
 use Rattle.common.specs.declared.Risen.{Risen}
 use Rattle.common.specs.declared.Crossed.{Crossed}
 
-pub record Settled : Type 0 where
+pub record Settled : Type 1 where
   pub voct_to_hz : (v : VoltsPerOctave) → Settles (λ (r : Hertz). r ≡ voct_to_hz v)
   pub wrap_phase : (x : Turns) → Settles (λ (r : Wrapped). r ≡ wrap_phase_of x)
   pub wrap_of_several : (x : Turns) → Settles (λ (r : Wrapped). r ≡ wrap_phase_of x)
@@ -25,13 +26,11 @@ pub record Settled : Type 0 where
   pub polyblamp : (t dt : Turns) → Settles (λ (r : Float). r ≡ polyblamp_of t.0 dt.0)
   pub increment : (freq rate : Hertz) → Settles (λ (r : Turns). r ≡ increment_of freq rate)
   pub restart : (phase : Turns) (rising : Bool) → Settles (λ (r : Turns). r ≡ restart_of phase rising)
-  pub memo1_new : Settles (λ (r : Memo1). r ≡ new_memo1)
-  pub memo1_hits : (m : Memo1) (x : Float) → Settles (λ (r : Bool). r ≡ hits1 m x)
-  pub memo1_filled : (x : Float) (v : Hertz) → Settles (λ (r : Memo1). r ≡ filled1 x v)
-  pub memo1_voct_to_hz : (m : Memo1) (v : VoltsPerOctave) → Settles (λ (r : Memo1). r ≡ recall1 voct_to_hz_at m v.0)
-  pub memo3_new : Settles (λ (r : Memo3). r ≡ new_memo3)
-  pub memo3_hits : (m : Memo3) (x y z : Float) → Settles (λ (r : Bool). r ≡ hits3 m x y z)
-  pub memo3_filled : (x y z : Float) (v : Hertz) → Settles (λ (r : Memo3). r ≡ filled3 x y z v)
+  pub memo_new : {V : Type 0} (n : ℕ) (v : V) → Settles (λ (r : Memo n V). r ≡ new_memo n v)
+  pub memo_hits : {n : ℕ} {V : Type 0} (m : Memo n V) (xs : List Float) → Settles (λ (r : Bool). r ≡ hits m xs)
+  pub memo_filled : {n : ℕ} {V : Type 0} (xs : List Float) (v : V) → Settles (λ (r : Memo n V). r ≡ filled xs v)
+  pub memo_get_or_compute : {n : ℕ} {V : Type 0} (v : V) (m : Memo n V) (xs : List Float) → Settles (λ (r : Memo n V). r ≡ recall v m xs)
+  pub memo_voct_to_hz : (m : Memo1) (v : VoltsPerOctave) → Settles (λ (r : Memo1). r ≡ recall1 voct_to_hz_at m v.0)
   pub edge_new : (t : Float) → Settles (λ (r : EdgeDetector). r ≡ new_edge t)
   pub edge_rising : (e : EdgeDetector) (v : Float) → Settles (λ (r : Risen). r ≡ rising_of e v)
   pub edge_rising_above : (e : EdgeDetector) (v t : Float) → Settles (λ (r : Risen). r ≡ rising_above_of e v t)
@@ -42,5 +41,6 @@ pub record Settled : Type 0 where
   pub rate_ok : (r : Hertz) → Settles (λ (b : Bool). b ≡ rate_ok r)
   pub phase_ok : (p : Turns) → Settles (λ (b : Bool). b ≡ phase_ok p)
   pub threshold_ok : (t : Float) → Settles (λ (b : Bool). b ≡ threshold_ok t)
-  pub gated_refusal : (r : Hertz) (p : Turns) (t : Float) → Settles (λ (n : ℕ). n ≡ gated_refusal_of r p t)
-  pub draws_refusal : (n : ℕ) (draws : List ℕ) → Settles (λ (r : ℕ). r ≡ draws_refusal_of n draws)
+  pub gated_refusal : (r : Hertz) (p : Turns) (t : Float) → Settles (λ (a : Result (Unit {0}) Refusal). refused_number a ≡ gated_refusal_of r p t)
+  pub draws_refusal : (n : ℕ) (draws : List ℕ) → Settles (λ (a : Result (Unit {0}) Refusal). refused_number a ≡ draws_refusal_of n draws)
+  pub refusal_number : (e : Refusal) → Settles (λ (r : ℕ). r ≡ number_of e)

@@ -7,10 +7,37 @@ ghost use Rattle.std.specs.Float.Ieee.{le};
 ghost use Rattle.laws.specs.Float.{zer, one};
 ghost use Rattle.common.specs.Pitch.{voct_to_hz};
 ghost use Rattle.common.specs.Phase.{turns, wrap_of, turned_of, wrap_phase_of, polyblep_of, polyblamp_of, increment_of, restart_of};
-ghost use Rattle.common.specs.Memo.{new_memo1, hits1, filled1, new_memo3, hits3, filled3, recall1, voct_to_hz_at};
+ghost use Rattle.common.specs.Memo.{bits_of, new_memo, hits, filled, Gives, recall, recall1, voct_to_hz_at};
 ghost use Rattle.common.specs.Edge.{new_edge, seen_of, rising_above_of, rising_of, crossed_above_of, crossed_of, reset_of};
 ghost use Rattle.common.specs.Ports.{out_of};
+ghost use Rattle.common.specs.Refusal.{number_of, refused_number};
 ghost use Rattle.common.specs.Tests.{rate_ok, phase_ok, threshold_ok, gated_refusal_of, draws_ok, draws_refusal_of};
+
+// What refuses a call of an oscillator, by the scope's numbers, which a host is told. Those from 50 on are the boundary's: a slice that a host lends has
+// another length. A number keeps its meaning.
+#[derive(Clone, Copy, Debug, PartialEq, Eq)]
+pub enum Refusal {
+    Rate = 1,
+    State = 2,
+    Line = 3,
+    Bank = 4,
+    FewDraws = 5,
+    Draw = 6,
+    Tally = 7,
+    Floats = 50,
+    Wholes = 51,
+    Samples = 52,
+    Counts = 53,
+}
+
+impl Refusal {
+    #[tactic(auto, unfolding(crate::specs::Refusal::number_of))]
+    pub fn number(self) -> u32
+        ensures { result ≡ number_of self }
+    {
+        self as u32
+    }
+}
 
 // A pitch: 0 is middle C, one more is an octave up.
 #[derive(Clone, Copy)]
@@ -37,6 +64,7 @@ pub const LOW_GATE_THRESHOLD_V: f64 = 1.0;
 const MAX_ABS_VOCT: f64 = 32.0;
 
 // A pitch as a frequency. The clamp lets a NaN pass.
+#[tactic(auto, unfolding(crate::specs::Pitch::voct_to_hz))]
 pub fn voct_to_hz(voct: VoltsPerOctave) -> Hertz
     ensures { result ≡ voct_to_hz voct }
 {
@@ -58,6 +86,7 @@ fn below_one(w: f64) -> f64
 }
 
 // Any number brought into [0, 1), as the Rust has it.
+#[tactic(auto, unfolding(crate::specs::Phase::wrap_of))]
 fn wrap(x: f64) -> f64
     ensures { result ≡ wrap_of x }
 {
@@ -69,12 +98,11 @@ fn wrap(x: f64) -> f64
 }
 
 // Whether a whole turn was passed: x is finite, and its floor isn't 0.
+#[tactic(auto, unfolding(crate::specs::Phase::turned_of))]
 fn turned(x: f64) -> bool
     ensures { result ≡ turned_of x }
 {
-    let finite = numeric::is_finite(x);
-    let floor = numeric::floor(x);
-    if finite { floor != 0.0 } else { false }
+    numeric::is_finite(x) && numeric::floor(x) != 0.0
 }
 
 // Both, of any number.
@@ -88,6 +116,7 @@ fn wrap_far(x: f64) -> Wrapped
 }
 
 // The same without a floor where x is above -1 and below 2, as a phase and an increment nearly always are.
+#[tactic(auto, using(crate::proofs::PhaseLaws::near))]
 fn wrap_near(x: f64) -> Wrapped
     ensures { result ≡ wrap_phase_of (turns x) }
 {
@@ -108,6 +137,7 @@ fn wrap_near(x: f64) -> Wrapped
 
 // A phase brought back into [0, 1), where one that isn't finite starts again at 0; and whether it passed a whole turn. Above 0 and below
 // 1 is a way of its own: most phases take it, and the next tick needn't wait for a choice.
+#[tactic(auto, using(crate::proofs::PhaseLaws::wrap_unit, crate::proofs::PhaseLaws::turned_unit))]
 pub fn wrap_phase(x: Turns) -> Wrapped
     ensures { result ≡ wrap_phase_of x }
 {
@@ -121,8 +151,10 @@ pub fn wrap_phase(x: Turns) -> Wrapped
     }
 }
 
-// The same for an oscillator that wraps in several places, where the compiler leaves wrap_phase a call. Of this one only the ways that few
-// phases take become a call: two places call them here, so the compiler doesn't make them part of it.
+// The same for an oscillator that wraps in several places.
+// Kept: a twin of wrap_phase, which the compiler leaves a call there. Of this one only the ways that few phases take become a call: two places call
+// wrap_near here, so the compiler doesn't make it part of it.
+#[tactic(auto, using(crate::proofs::PhaseLaws::wrap_unit, crate::proofs::PhaseLaws::turned_unit))]
 pub fn wrap_of_several(x: Turns) -> Wrapped
     ensures { result ≡ wrap_phase_of x }
 {
@@ -140,50 +172,40 @@ pub fn wrap_of_several(x: Turns) -> Wrapped
     }
 }
 
-// The residual over plain numbers.
-fn blep(t: f64, dt: f64) -> f64
-    ensures { result ≡ polyblep_of t dt }
+// What smooths a step at phase t, dt being a tick's increment.
+#[tactic(auto, unfolding(crate::specs::Phase::polyblep_of))]
+pub fn polyblep(t: Turns, dt: Turns) -> f64
+    ensures { result ≡ polyblep_of t.0 dt.0 }
 {
-    if t < dt {
-        let u = t / dt;
+    if t.0 < dt.0 {
+        let u = t.0 / dt.0;
         2.0 * u - u * u - 1.0
-    } else if t > 1.0 - dt {
-        let u = (t - 1.0) / dt;
+    } else if t.0 > 1.0 - dt.0 {
+        let u = (t.0 - 1.0) / dt.0;
         u * u + 2.0 * u + 1.0
     } else {
         0.0
     }
 }
 
-// What smooths a step at phase t, dt being a tick's increment.
-pub fn polyblep(t: Turns, dt: Turns) -> f64
-    ensures { result ≡ polyblep_of t.0 dt.0 }
+// What smooths a corner.
+#[tactic(auto, unfolding(crate::specs::Phase::polyblamp_of))]
+pub fn polyblamp(t: Turns, dt: Turns) -> f64
+    ensures { result ≡ polyblamp_of t.0 dt.0 }
 {
-    blep(t.0, dt.0)
-}
-
-fn blamp(t: f64, dt: f64) -> f64
-    ensures { result ≡ polyblamp_of t dt }
-{
-    if t < dt {
-        let u = t / dt - 1.0;
+    if t.0 < dt.0 {
+        let u = t.0 / dt.0 - 1.0;
         -1.0 / 3.0 * u * u * u
-    } else if t > 1.0 - dt {
-        let u = (t - 1.0) / dt + 1.0;
+    } else if t.0 > 1.0 - dt.0 {
+        let u = (t.0 - 1.0) / dt.0 + 1.0;
         1.0 / 3.0 * u * u * u
     } else {
         0.0
     }
 }
 
-// What smooths a corner.
-pub fn polyblamp(t: Turns, dt: Turns) -> f64
-    ensures { result ≡ polyblamp_of t.0 dt.0 }
-{
-    blamp(t.0, dt.0)
-}
-
 // What a phase grows by in a tick: the one place where turns are made of hertz.
+#[tactic(auto, unfolding(crate::specs::Phase::increment_of))]
 pub fn increment(freq: Hertz, sample_rate: Hertz) -> Turns
     ensures { result ≡ increment_of freq sample_rate }
 {
@@ -191,119 +213,88 @@ pub fn increment(freq: Hertz, sample_rate: Hertz) -> Turns
 }
 
 // The phase that a tick uses: 0 where it takes its edge.
+#[tactic(auto, unfolding(crate::specs::Phase::restart_of))]
 pub fn restart(phase: Turns, rising: bool) -> Turns
     ensures { result ≡ restart_of phase rising }
 {
     if rising { Turns(0.0) } else { phase }
 }
 
-// The Rust's Memo<1, f64> of a frequency. The key is kept as bits, so 0.0 and -0.0 differ.
+// Remembers what was computed for the last keys, of which there are N. They are kept as bits, so 0.0 and -0.0 differ.
+// Kept: `valid` stands beside the key and the value and no Option holds them, since a host's flat state has a field for each of the three.
 #[derive(Clone, Copy)]
-pub struct Memo1 {
-    pub key: u64,
-    pub val: Hertz,
+pub struct Memo<const N: usize, V> {
+    pub key: [u64; N],
+    pub val: V,
     pub valid: bool,
 }
 
-impl Memo1 {
-    pub fn new() -> Self
-        ensures { result ≡ new_memo1 }
+// The bits of each key.
+// Kept: a loop, since `key.map(numeric::bits)` requires of N that its iterator fits in memory, and each caller would have to require it too.
+#[inline]
+#[tactic(auto, using(crate::proofs::MemoLaws::bits_more, crate::proofs::MemoLaws::bits_whole))]
+fn bits_of<const N: usize>(key: [f64; N]) -> [u64; N]
+    ensures { result ≡ bits_of key.entry }
+{
+    let mut bits = [0; N];
+    for i in 0..N {
+        bits[i] = numeric::bits(key[i]);
+    }
+    bits
+}
+
+impl<const N: usize, V: Copy> Memo<N, V> {
+    // An empty one. What val is can't be told.
+    pub fn new(val: V) -> Self
+        ensures { result ≡ new_memo N val }
     {
-        Memo1 {
-            key: 0,
-            val: Hertz(0.0),
+        Memo {
+            key: [0; N],
+            val,
             valid: false,
         }
     }
 
-    // Whether the memo holds the value for x.
-    pub fn hits(self, x: f64) -> bool
-        ensures { result ≡ hits1 self x }
+    // Whether the memo holds the value for these keys.
+    #[inline]
+    #[tactic(auto, unfolding(crate::specs::Memo::hits))]
+    pub fn hits(self, key: [f64; N]) -> bool
+        ensures { result ≡ hits self key.entry }
     {
-        if self.valid {
-            self.key == numeric::bits(x)
-        } else {
-            false
-        }
+        self.valid && self.key == bits_of(key)
     }
 
-    // A memo that holds this value for x.
-    pub fn filled(x: f64, val: Hertz) -> Self
-        ensures { result ≡ filled1 x val }
+    // A memo that holds this value for these keys.
+    #[inline]
+    #[tactic(auto, unfolding(crate::specs::Memo::filled))]
+    pub fn filled(key: [f64; N], val: V) -> Self
+        ensures { result ≡ filled key.entry val }
     {
-        Memo1 {
-            key: numeric::bits(x),
+        Memo {
+            key: bits_of(key),
             val,
             valid: true,
         }
     }
 
-    // The Rust's get_or_compute([voct], || voct_to_hz(voct)); its answer is the new memo's val.
+    // The memo that holds the value for these keys, which is computed where it isn't at hand. The Rust's answer is this memo's val.
+    #[inline]
+    #[tactic(auto, using(crate::proofs::MemoLaws::recall_hit, crate::proofs::MemoLaws::recall_miss))]
+    pub fn get_or_compute<F: FnOnce() -> V>(self, key: [f64; N], compute: F) -> Self
+        requires { F.pre compute }
+        ensures { (v : V) → Gives (F.post compute) v → result ≡ recall v self key.entry }
+    {
+        let val = if self.hits(key) { self.val } else { compute() };
+        Memo::filled(key, val)
+    }
+}
+
+impl Memo<1, Hertz> {
+    // The Rust's get_or_compute([voct], || voct_to_hz(voct)).
     pub fn voct_to_hz(self, voct: VoltsPerOctave) -> Self
         ensures { result ≡ recall1 voct_to_hz_at self voct.0 }
     {
-        if self.hits(voct.0) {
-            self
-        } else {
-            let val = voct_to_hz(voct);
-            Memo1::filled(voct.0, val)
-        }
-    }
-}
-
-// The Rust's Memo<3, f64> of a frequency.
-#[derive(Clone, Copy)]
-pub struct Memo3 {
-    pub key0: u64,
-    pub key1: u64,
-    pub key2: u64,
-    pub val: Hertz,
-    pub valid: bool,
-}
-
-impl Memo3 {
-    pub fn new() -> Self
-        ensures { result ≡ new_memo3 }
-    {
-        Memo3 {
-            key0: 0,
-            key1: 0,
-            key2: 0,
-            val: Hertz(0.0),
-            valid: false,
-        }
-    }
-
-    // Whether the memo holds the value for x, y and z.
-    pub fn hits(self, x: f64, y: f64, z: f64) -> bool
-        ensures { result ≡ hits3 self x y z }
-    {
-        if self.valid {
-            if self.key0 == numeric::bits(x) {
-                if self.key1 == numeric::bits(y) {
-                    self.key2 == numeric::bits(z)
-                } else {
-                    false
-                }
-            } else {
-                false
-            }
-        } else {
-            false
-        }
-    }
-
-    // A memo that holds this value for x, y and z.
-    pub fn filled(x: f64, y: f64, z: f64, val: Hertz) -> Self
-        ensures { result ≡ filled3 x y z val }
-    {
-        Memo3 {
-            key0: numeric::bits(x),
-            key1: numeric::bits(y),
-            key2: numeric::bits(z),
-            val,
-            valid: true,
-        }
+        self.get_or_compute([voct.0], || voct_to_hz(voct))
     }
 }
 
@@ -321,18 +312,11 @@ pub struct Risen {
     pub rising: bool,
 }
 
-// The Rust's Option<f64>: no edge, or where between the two samples it was crossed.
-#[derive(Clone, Copy)]
-pub enum Crossing {
-    Nowhere,
-    At(f64),
-}
-
-// What the Rust's `rising_frac` says, with the detector after it.
+// What the Rust's `rising_frac` says, with the detector after it: no edge, or where between the two samples it was crossed.
 #[derive(Clone, Copy)]
 pub struct Crossed {
     pub edge: EdgeDetector,
-    pub at: Crossing,
+    pub at: Option<f64>,
 }
 
 impl EdgeDetector {
@@ -349,28 +333,27 @@ impl EdgeDetector {
     fn seen(self, v: f64) -> Self
         ensures { result ≡ seen_of self v }
     {
-        EdgeDetector {
-            prev: v,
-            threshold: self.threshold,
-        }
+        EdgeDetector { prev: v, ..self }
     }
 
+    #[tactic(auto, unfolding(crate::specs::Edge::rising_of))]
     pub fn rising(self, v: f64) -> Risen
         ensures { result ≡ rising_of self v }
     {
         self.rising_above(v, self.threshold)
     }
 
+    #[tactic(auto, unfolding(crate::specs::Edge::rising_above_of, crate::specs::Edge::rises_above))]
     pub fn rising_above(self, v: f64, threshold: f64) -> Risen
         ensures { result ≡ rising_above_of self v threshold }
     {
-        let next = self.seen(v);
         Risen {
-            edge: next,
+            edge: self.seen(v),
             rising: v > threshold && self.prev <= threshold,
         }
     }
 
+    #[tactic(auto, unfolding(crate::specs::Edge::crossed_of))]
     pub fn rising_frac(self, v: f64) -> Crossed
         ensures { result ≡ crossed_of self v }
     {
@@ -378,41 +361,28 @@ impl EdgeDetector {
     }
 
     // Where the straight line from the previous sample to v meets the threshold. The clamp lets a NaN pass.
+    #[tactic(auto, unfolding(crate::specs::Edge::crossed_above_of, crate::specs::Edge::rises_above, crate::specs::Edge::frac_above))]
     pub fn rising_frac_above(self, v: f64, threshold: f64) -> Crossed
         ensures { result ≡ crossed_above_of self v threshold }
     {
-        let prev = self.prev;
-        let next = self.seen(v);
-        if v > threshold {
-            if prev <= threshold {
-                let denom = v - prev;
-                if denom > 0.0 {
-                    let frac = numeric::clamp((threshold - prev) / denom, 0.0, 1.0);
-                    Crossed {
-                        edge: next,
-                        at: Crossing::At(frac),
-                    }
-                } else {
-                    Crossed {
-                        edge: next,
-                        at: Crossing::At(1.0),
-                    }
-                }
+        let at = if v > threshold && self.prev <= threshold {
+            let denom = v - self.prev;
+            if denom > 0.0 {
+                Some(numeric::clamp((threshold - self.prev) / denom, 0.0, 1.0))
             } else {
-                Crossed {
-                    edge: next,
-                    at: Crossing::Nowhere,
-                }
+                Some(1.0)
             }
         } else {
-            Crossed {
-                edge: next,
-                at: Crossing::Nowhere,
-            }
+            None
+        };
+        Crossed {
+            edge: self.seen(v),
+            at,
         }
     }
 
     // A new one like this: of the same threshold.
+    #[tactic(auto, unfolding(crate::specs::Edge::reset_of))]
     pub fn reset(self) -> Self
         ensures { result ≡ reset_of self }
     {
@@ -421,6 +391,7 @@ impl EdgeDetector {
 }
 
 // An output scaled to ±5 V. What isn't wanted reads 0.0.
+#[tactic(auto, unfolding(crate::specs::Ports::out_of))]
 pub fn out(want: bool, x: f64) -> f64
     ensures { result ≡ out_of want x }
 {
@@ -428,6 +399,7 @@ pub fn out(want: bool, x: f64) -> f64
 }
 
 // Refusal 1 asks this: from 1,000 to 192,000, which a NaN and the infinities aren't.
+#[tactic(auto, unfolding(crate::specs::Tests::rate_ok))]
 pub fn rate_ok(rate: Hertz) -> bool
     ensures { result ≡ rate_ok rate }
 {
@@ -435,6 +407,7 @@ pub fn rate_ok(rate: Hertz) -> bool
 }
 
 // Refusal 2 asks this: in [0, 1), which a NaN isn't.
+#[tactic(auto, unfolding(crate::specs::Tests::phase_ok))]
 pub fn phase_ok(phase: Turns) -> bool
     ensures { result ≡ phase_ok phase }
 {
@@ -442,50 +415,46 @@ pub fn phase_ok(phase: Turns) -> bool
 }
 
 // And this: a gate's threshold is one of the two, which a NaN isn't.
+#[tactic(auto, unfolding(crate::specs::Tests::threshold_ok))]
 pub fn threshold_ok(threshold: f64) -> bool
     ensures { result ≡ threshold_ok threshold }
 {
     threshold == GATE_THRESHOLD_V || threshold == LOW_GATE_THRESHOLD_V
 }
 
-// 0, or what refuses the state of an oscillator with a phase and a gate: 1 its rate, 2 its phase or its threshold.
-pub fn gated_refusal(rate: Hertz, phase: Turns, threshold: f64) -> u32
-    ensures { result ≡ gated_refusal_of rate phase threshold }
+// What refuses the state of an oscillator with a phase and a gate: first its rate, then its phase or its threshold.
+#[tactic(auto, unfolding(crate::specs::Refusal::refused_number, crate::specs::Refusal::number_of))]
+pub fn gated_refusal(rate: Hertz, phase: Turns, threshold: f64) -> Result<(), Refusal>
+    ensures { refused_number result ≡ gated_refusal_of rate phase threshold }
 {
-    if rate_ok(rate) {
-        if phase_ok(phase) {
-            if threshold_ok(threshold) { 0 } else { 2 }
-        } else {
-            2
-        }
+    if !rate_ok(rate) {
+        return Err(Refusal::Rate);
+    }
+    if phase_ok(phase) && threshold_ok(threshold) {
+        Ok(())
     } else {
-        1
+        Err(Refusal::State)
     }
 }
 
-// Whether each of the first n draws is below 2^53: all their digits together are.
-fn draws_ok(draws: &[u64], n: usize) -> bool
-    requires { n ≤ length draws.now }
-    ensures { result ≡ draws_ok draws.now n }
+// Whether each of these draws is below 2^53: all their digits together are.
+#[tactic(auto, using(crate::proofs::DrawLaws::digits_all))]
+fn draws_ok(draws: &[u64]) -> bool
+    ensures { result ≡ draws_ok draws.now (length draws.now) }
 {
-    let mut digits = 0;
-    let mut i = 0;
-    while i < n {
-        digits |= draws[i];
-        i += 1;
-    }
-    digits < 9007199254740992
+    draws.iter().fold(0, |digits, draw| digits | draw) < 9007199254740992
 }
 
-// Refusals 5 and 6 of a call that needs n draws, or 0. What is lent beyond them isn't looked at.
-pub fn draws_refusal(n: usize, draws: &[u64]) -> u32
-    ensures { result ≡ draws_refusal_of n draws.now }
+// What refuses the draws of a call that needs n of them: there are fewer, or one of them is no draw. What is lent beyond them isn't looked at.
+#[tactic(auto, using(crate::proofs::DrawLaws::draws_told), unfolding(crate::specs::Refusal::refused_number, crate::specs::Refusal::number_of))]
+pub fn draws_refusal(n: usize, draws: &[u64]) -> Result<(), Refusal>
+    ensures { refused_number result ≡ draws_refusal_of n draws.now }
 {
     if draws.len() < n {
-        5
-    } else if draws_ok(draws, n) {
-        0
+        Err(Refusal::FewDraws)
+    } else if draws_ok(&draws[..n]) {
+        Ok(())
     } else {
-        6
+        Err(Refusal::Draw)
     }
 }

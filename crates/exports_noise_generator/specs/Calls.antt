@@ -1,10 +1,9 @@
 -- What each exported call answers, and what it leaves in the lent slices. f, w, k, o and m are floats, wholes, counts, samples and
 -- marks as they stood.
-use Rattle.std.specs.Prelude.{cond, List, [], ℕ, eqb, Float, length}
+use Rattle.std.specs.Prelude.{cond, List, [], ℕ, eqb, Float, length, Some, None}
 use Rattle.boundary.specs.Flat.{Kept, kept, kept_sized, Heard, heard_of, heard_sized, Played, played_of, played_sized}
 use Rattle.noise_generator.specs.NoiseGenerator.{new_noise_generator, with_correlation, needed_of, needed_by}
 use Rattle.noise_generator.specs.NoiseGenerator.{noise_generator_tick_of, noise_generator_block_of, restarted, rated}
-use Rattle.noise_generator.specs.declared.Correlation.TheVariants as correlation
 use Rattle.noise_generator.specs.declared.NoiseGenerator.{NoiseGenerator}
 use Rattle.noise_generator.specs.declared.NoiseGeneratorControls.{NoiseGeneratorControls}
 use Rattle.exports_noise_generator.specs.State.{n_floats, n_wholes, n_samples, state_of, floats_of, wholes_of, samples_of}
@@ -34,7 +33,7 @@ noise_generator_needed_by_at ticks w = cond (eqb (length w) n_wholes) (needed_by
 
 -- ---- ticks. A `given` of 0 leaves the correlation to the stored one.
 unfoldable pub controls_of : ℕ → Float → NoiseGeneratorControls
-controls_of given c = record { correlation = cond (eqb given 0) correlation.Stored (correlation.Given c) }
+controls_of given c = record { correlation = cond (eqb given 0) None (Some c) }
 
 unfoldable pub noise_generator_tick_at : ℕ → Float → ℕ → List Float → List ℕ → List ℕ → List Float → Heard
 noise_generator_tick_at given c wanted f w draws o =

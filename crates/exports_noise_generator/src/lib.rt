@@ -20,7 +20,7 @@ ghost use Rattle.exports_noise_generator.specs.Calls.{noise_generator_reset_at, 
 use answer::Tallied;
 use common::Hertz;
 use noise_generator::{
-    Correlation, NoiseGenerator, NoiseGeneratorBlock, NoiseGeneratorControls, NoiseGeneratorTicked,
+    NoiseGenerator, NoiseGeneratorBlock, NoiseGeneratorControls, NoiseGeneratorTicked,
     PinkNoiseState,
 };
 
@@ -37,35 +37,34 @@ fn rows_at(floats: &[f64], at: usize) -> [f64; 16]
     ensures { result ≡ rows_at floats.now at }
 {
     let mut rows = [0.0; 16];
-    let mut i = 0;
-    while i < 16 {
+    // Kept: row by row, here and in `put_rows`: by copy_from_slice a tick took 67 ns instead of 36.
+    for i in 0..16 {
         rows[i] = floats[at + i];
-        i += 1;
     }
     rows
 }
 
 // Nothing refuses a larger number, so its low 32 bits count.
+#[tactic(auto, unfolding(crate::specs::State::counter_of))]
 fn counter(w: u64) -> u32
     ensures { result ≡ counter_of w }
 {
     (w % 4294967296) as u32
 }
 
+#[tactic(auto, unfolding(crate::specs::State::state_of))]
 fn state(floats: &[f64], wholes: &[u64]) -> NoiseGenerator
     requires { (length floats.now ≡ n_floats) × (length wholes.now ≡ n_wholes) }
     ensures { result ≡ state_of floats.now wholes.now }
 {
-    let rows = rows_at(floats, 0);
-    let rows2 = rows_at(floats, 17);
     NoiseGenerator {
         pink: PinkNoiseState {
-            rows,
+            rows: rows_at(floats, 0),
             running_sum: floats[16],
             index: counter(wholes[0]),
         },
         pink2: PinkNoiseState {
-            rows: rows2,
+            rows: rows_at(floats, 17),
             running_sum: floats[33],
             index: counter(wholes[1]),
         },
@@ -78,10 +77,8 @@ fn put_rows(rows: [f64; 16], at: usize, floats: &mut [f64])
     requires { at + 16 ≤ length floats.old }
     ensures { floats.new ≡ sets floats.old at rows }
 {
-    let mut i = 0;
-    while i < 16 {
+    for i in 0..16 {
         floats[at + i] = rows[i];
-        i += 1;
     }
 }
 
@@ -89,18 +86,14 @@ fn store(s: NoiseGenerator, floats: &mut [f64], wholes: &mut [u64])
     requires { (length floats.old ≡ n_floats) × (length wholes.old ≡ n_wholes) }
     ensures { (floats.new ≡ floats_of s) × (wholes.new ≡ wholes_of s) }
 {
-    let pink = s.pink;
-    let pink2 = s.pink2;
-    let rows = pink.rows;
-    let rows2 = pink2.rows;
-    put_rows(rows, 0, &mut *floats);
-    floats[16] = pink.running_sum;
-    put_rows(rows2, 17, &mut *floats);
-    floats[33] = pink2.running_sum;
+    put_rows(s.pink.rows, 0, floats);
+    floats[16] = s.pink.running_sum;
+    put_rows(s.pink2.rows, 17, floats);
+    floats[33] = s.pink2.running_sum;
     floats[34] = s.correlation;
     floats[35] = s.last_white;
-    wholes[0] = pink.index as u64;
-    wholes[1] = pink2.index as u64;
+    wholes[0] = s.pink.index as u64;
+    wholes[1] = s.pink2.index as u64;
 }
 
 #[unsafe(no_mangle)]
@@ -161,17 +154,12 @@ pub extern "C" fn gruttisol_noise_generator_needed_by(ticks: u32, wholes: &[u64]
     }
 }
 
+#[tactic(auto, unfolding(crate::specs::Calls::controls_of))]
 fn controls(given: u32, correlation: f64) -> NoiseGeneratorControls
     ensures { result ≡ controls_of given correlation }
 {
-    if given == 0 {
-        NoiseGeneratorControls {
-            correlation: Correlation::Stored,
-        }
-    } else {
-        NoiseGeneratorControls {
-            correlation: Correlation::Given(correlation),
-        }
+    NoiseGeneratorControls {
+        correlation: if given == 0 { None } else { Some(correlation) },
     }
 }
 

@@ -1,22 +1,27 @@
 -- The cells of a score and the score of cells, there and back.
-use Prim.Native.Nat.{ℕ, suc, ◌-◌, ◌<◌, ◌≤◌}
+use Prim.Native.Nat.{ℕ, ◌-◌, ◌≤◌}
 use mathlib.Core.Bool.{Bool, true, false, cond}
 use mathlib.Core.List.{List, [], ◌∷◌, map}
 use mathlib.Core.Path.{◌≡◌, refl, sym, ap, subst, ◌∙◌}
 use native.Mathlib.Omega.{arith}
-use lib.Dec.{eqb, lit≤}
+use lib.Dec.{ltb, eqb, lit≤}
+use Rattle.std.specs.Prelude.{◌&&◌, Option, Some, None, Result, Ok, Err}
+use Rattle.std.specs.List.{list_all}
+use Rattle.std.specs.Ordering.{int_eq}
+use Rattle.std.proofs.lemmas.Bool.Decides.{Decides-int_eq}
+use Rattle.line.proofs.Laws.{no}
 use lib.IntN.{ℤ, pos, negsuc}
-use lib.ListN.{length, get_or, drop}
-use lib.Seq.{sets}
+use lib.ListN.{length, get_or, take, drop, length-drop}
+use lib.Seq.{take_all}
 use borrow.Author.Tests.{ne_eqb, eq-eqb, eqb-true}
 use mir.Syntax.{w32}
-use mir.Val.{to_z, of_z, SFits}
-use mir.ValLaws.{to_z-of_z}
+use mir.Val.{of_z, SFits}
 use Rattle.laws.specs.Lists.{tab}
 use Rattle.laws.proofs.Over.{by_cells}
-use Rattle.laws.proofs.Slices.{stored}
 use Rattle.score.specs.Control.{volts_of}
-use Rattle.score.specs.Keys.{input_keys, inputs_from}
+use Rattle.score.specs.Keys.{input_keys, owner_of, inputs_from}
+use Rattle.score.specs.Refusal.{and_then}
+use Rattle.score.specs.Score.{Reading}
 use Rattle.score.specs.Promises.{ValidInput, ValidGate, ValidInputs, Valid}
 use Rattle.score.specs.declared.Control.{Control}
 use Rattle.score.specs.declared.Control.TheVariants.{Microvolts, Nan}
@@ -24,16 +29,15 @@ use Rattle.score.specs.declared.Osc.{Osc}
 use Rattle.score.specs.declared.Osc.TheVariants as O
 use Rattle.score.specs.declared.Inputs.{Inputs}
 use Rattle.score.specs.declared.Inputs.TheVariants.{Vco, Lfo, Supersaw, Formant}
-use Rattle.score.specs.declared.Gate.{Gate}
-use Rattle.score.specs.declared.Gate.TheVariants.{Absent, Issue}
 use Rattle.score.specs.declared.Head.{Head}
+use Rattle.score.specs.declared.Refusal.{Refusal}
+use Rattle.score.specs.declared.Refusal.TheVariants.{OutOfRange}
 use Rattle.score.specs.declared.Score.{Score}
-use Rattle.score.specs.declared.Reading.{Reading}
-use Rattle.score.specs.declared.Reading.TheVariants.{Values, Refused}
 use Rattle.score.proofs.LineKinds.{tested}
 use Rattle.score.proofs.Lines.{not_refused}
 use Rattle.exports_score.specs.Cells.{osc_number, none, ports_of, gate_number, wholes_of, floats_of, cell_of, microvolts_of, control_at, is_zero, zeros}
-use Rattle.exports_score.specs.Cells.{values_at, inputs_at, gate_at, head_at, score_at}
+use Rattle.exports_score.specs.Cells.{inputs_in, osc_at, gate_at, head_at, score_at}
+use Rattle.exports_score.specs.Shortcuts.{u32_of}
 
 -- ---- five cells, by their places
 abbrev pub cells_at : List ℤ → List ℤ
@@ -64,17 +68,17 @@ control_back (negsuc n) = marked (eqb n 2147483647) refl
     marked false e = refl
 
 -- ---- the gate's cell
-gate_back : (g : Gate) → ValidGate g → gate_at (gate_number g) ≡ g
+gate_back : (g : Option ℕ) → ValidGate g → gate_at (gate_number g) ≡ g
 unfolding gate_at gate_number
-gate_back Absent v = refl
-gate_back (Issue n) (l, m) = simp (ne_eqb n 0 (λ e. omega arith))
+gate_back None v = refl
+gate_back (Some n) (l, m) = simp (ne_eqb n 0 (λ e. omega arith))
 
 module _ (n : ℕ) where
   number_back : gate_number (gate_at n) ≡ n
   unfolding gate_at gate_number
   number_back = go (eqb n 0) refl
     where
-      go : (b : Bool) → eqb n 0 ≡ b → gate_number (cond b Absent (Issue n)) ≡ n
+      go : (b : Bool) → eqb n 0 ≡ b → gate_number (cond b None (Some n)) ≡ n
       go true e = sym (eqb-true n 0 e)
       go false e = refl
 
@@ -82,9 +86,18 @@ module _ (n : ℕ) where
   unfolding gate_at
   issue_small = go (eqb n 0) refl
     where
-      go : (b : Bool) → eqb n 0 ≡ b → ValidGate (cond b Absent (Issue n)) → n ≤ 2
+      go : (b : Bool) → eqb n 0 ≡ b → ValidGate (cond b None (Some n)) → n ≤ 2
       go true e v = let z = eqb-true n 0 e in omega arith
       go false e (l, m) = m
+
+-- ---- a cell that a u32 holds is the number
+pub u32_is : (n m : ℕ) → Ok m ≡ u32_of n → m ≡ n
+unfolding u32_of
+u32_is n m e = go (ltb 4294967295 n) e
+  where
+    go : (b : Bool) → Ok m ≡ cond b (Err OutOfRange) (Ok n) → m ≡ n
+    go true e = absurd (let z : ◌≡◌ {A = ℕ} 0 1 = cc in omega arith)
+    go false e = cc
 
 -- ---- a cell by its bits, which the code compares
 pub marked : (z : ℤ) → SFits w32 z → of_z w32 z ≡ 2147483648 → Nan ≡ control_at z
@@ -97,49 +110,69 @@ unfolding control_at
 unmarked (pos n) f h = refl
 unmarked (negsuc k) f h = simp (ne_eqb k 2147483647 (λ e. h (omega arith)))
 
-pub zero_bits : (z : ℤ) → SFits w32 z → eqb (of_z w32 z) 0 ≡ is_zero z
-zero_bits (pos n) f = refl
-zero_bits (negsuc k) f = let h : k < 2147483648 = f.sfits in ne_eqb (of_z w32 (negsuc k)) 0 (not_zero h)
+-- all of them are 0, as the code asks
+pub zeros_all : (l : List ℤ) → list_all (λ n. int_eq n (pos 0)) l ≡ zeros l
+zeros_all [] = refl
+zeros_all (n ∷ ns) = step (int_eq n (pos 0)) (is_zero n) (zero_test n) (zeros_all ns)
   where
-    not_zero : k < 2147483648 → 4294967296 - suc k ≡ 0 → ⊥
-    not_zero h e = omega arith
+    zero_test : (n : ℤ) → int_eq n (pos 0) ≡ is_zero n
+    zero_test (pos n) = go (int_eq (pos n) (pos 0)) refl
+      where
+        go : (b : Bool) → int_eq (pos n) (pos 0) ≡ b → b ≡ eqb n 0
+        go true e = sym (eq-eqb n 0 (let p : pos n ≡ pos 0 = (Decides-int_eq (pos n) (pos 0)).0 e in cc))
+        go false e = sym (ne_eqb n 0 (λ z. no (sym e ∙ (Decides-int_eq (pos n) (pos 0)).1 (ap pos z))))
+    zero_test (negsuc n) = refl
 
--- five cells stored, one after the other
-pub stored_cells : (l : List ℤ) (a b c d e : ℤ) → SFits w32 a → SFits w32 b → SFits w32 c → SFits w32 d → SFits w32 e → length l ≡ 5
-    → sets l 0 (map (λ (z : ℤ). to_z w32 (of_z w32 z)) (a ∷ b ∷ c ∷ d ∷ e ∷ [])) ≡ a ∷ b ∷ c ∷ d ∷ e ∷ []
-stored_cells l a b c d e fa fb fc fd fe h =
-    let pa = to_z-of_z w32 a fa in
-    let pb = to_z-of_z w32 b fb in
-    let pc = to_z-of_z w32 c fc in
-    let pd = to_z-of_z w32 d fd in
-    let pe = to_z-of_z w32 e fe in
-    stored l (map (λ (z : ℤ). to_z w32 (of_z w32 z)) (a ∷ b ∷ c ∷ d ∷ e ∷ [])) h ∙ (λ i. pa i ∷ pb i ∷ pc i ∷ pd i ∷ pe i ∷ [])
+    step : (a b : Bool) → a ≡ b → list_all (λ n. int_eq n (pos 0)) ns ≡ zeros ns → (a && list_all (λ n. int_eq n (pos 0)) ns) ≡ cond b (zeros ns) false
+    step true true e h = h
+    step false false e h = refl
+    step true false e h = absurd (let z : ◌≡◌ {A = ℕ} 0 1 = cc in omega arith)
+    step false true e h = absurd (let z : ◌≡◌ {A = ℕ} 0 1 = cc in omega arith)
 
--- of one cell the test decides
-one_zero : (b : Bool) → cond b true false ≡ b
-one_zero true = refl
-one_zero false = refl
+-- and as it makes inputs of them
+abbrev pub inputs_read : Osc → List Control → Inputs
+inputs_read O.Vco cs =
+    Vco (record { voct = get_or cs 0 none; fm = get_or cs 1 none; pw = get_or cs 2 none; sync = get_or cs 3 none; fm_lin = get_or cs 4 none })
+inputs_read O.Lfo cs = Lfo (record { rate = get_or cs 0 none; depth = get_or cs 1 none; reset = get_or cs 2 none })
+inputs_read O.Supersaw cs = Supersaw (record { voct = get_or cs 0 none; detune = get_or cs 1 none; mix = get_or cs 2 none })
+inputs_read O.Formant cs =
+    Formant (record { v_oct = get_or cs 0 none; vowel = get_or cs 1 none; formant_shift = get_or cs 2 none; vibrato = get_or cs 3 none })
 
--- ---- five cells, as the code asks them one by one
-module _ (m : List ℤ) (h : length m ≡ 5) where
-  pub no_spare : zeros (drop 5 m) ≡ true
-  no_spare = by_places (λ (l : List ℤ). zeros (drop 5 l) ≡ true) m h refl
+same_inputs : (o : Osc) (m : List ℤ) → length m ≡ 5 → inputs_read o (map control_at m) ≡ inputs_from o (map control_at m)
+same_inputs o m h = by_places (λ (l : List ℤ). inputs_read o (map control_at l) ≡ inputs_from o (map control_at l)) m h (same o)
+  where
+    same : (o : Osc) → inputs_read o (map control_at (cells_at m)) ≡ inputs_from o (map control_at (cells_at m))
+    same O.Vco = refl
+    same O.Lfo = refl
+    same O.Supersaw = refl
+    same O.Formant = refl
 
-  pub one_spare : zeros (drop 4 m) ≡ is_zero (get_or m 4 (pos 0))
-  one_spare = by_places (λ (l : List ℤ). zeros (drop 4 l) ≡ is_zero (get_or l 4 (pos 0))) m h (one_zero _)
+-- k cells are inputs, and b is whether those past them are 0
+module _ (o : Osc) (m : List ℤ) {k : ℕ} {b : Bool} (five : length m ≡ 5) (used : k ≡ length (input_keys o))
+    (asked : b ≡ list_all (λ n. int_eq n (pos 0)) (take (5 - k) (drop k m))) where
+  spare : zeros (drop (length (input_keys o)) m) ≡ b
+  spare =
+      let rest : take (5 - k) (drop k m) ≡ drop k m = take_all (5 - k) (drop k m) (omega (arith, length-drop {A = ℤ} k m)) in
+      sym (asked ∙ ap (list_all (λ n. int_eq n (pos 0))) rest ∙ zeros_all (drop k m) ∙ ap (λ (i : ℕ). zeros (drop i m)) used)
 
-  pub two_spare : zeros (drop 3 m) ≡ cond (is_zero (get_or m 3 (pos 0))) (is_zero (get_or m 4 (pos 0))) false
-  two_spare =
-      by_places (λ (l : List ℤ). zeros (drop 3 l) ≡ cond (is_zero (get_or l 3 (pos 0))) (is_zero (get_or l 4 (pos 0))) false) m h
-      (ap (λ (b : Bool). cond (is_zero (get_or m 3 (pos 0))) b false) (one_zero _))
+  pub inputs_refused : b ≡ false → Err OutOfRange ≡ inputs_in o m
+  unfolding inputs_in
+  inputs_refused e = simp (spare, e)
 
-  pub controls_are : map control_at m ≡ map control_at (cells_at m)
-  controls_are = ap (map control_at) (cells_are m h)
+  pub inputs_taken : {cs : List Control} (p : Osc) → b ≡ true → o ≡ p → cs ≡ map control_at m → Ok (inputs_read p cs) ≡ inputs_in o m
+  unfolding inputs_in
+  inputs_taken p e f g =
+      let whole = ap (inputs_read p) g ∙ ap (λ (q : Osc). inputs_read q (map control_at m)) (sym f) ∙ same_inputs o m five in
+      simp (spare, e) (λ i. Ok (whole i))
 
 -- ---- the score of a valid score's cells is the score
+-- what cells say, by the oscillator
+abbrev from_osc : Head → List ℤ → Result Osc Refusal → Reading
+from_osc head m r = and_then r λ o. and_then (inputs_in o m) λ i. Ok (record { head = head; inputs = i })
+
 inputs_back : (head : Head) (i : Inputs) → ValidInputs i
-    → inputs_at (ports_of i).osc head (microvolts_of (record { head = head; inputs = i })) ≡ Values (record { head = head; inputs = i })
-unfolding ports_of microvolts_of inputs_at values_at cell_of
+    → from_osc head (microvolts_of (record { head = head; inputs = i })) (osc_at (osc_number (owner_of i))) ≡ Ok (record { head = head; inputs = i })
+unfolding ports_of microvolts_of osc_at inputs_in cell_of
 inputs_back head (Vco i) (a, b, c, d, e) =
     simp (cell_back i.voct a, cell_back i.fm b, cell_back i.pw c, cell_back i.sync d, cell_back i.fm_lin e)
 inputs_back head (Lfo i) (a, b, c) = simp (cell_back i.rate a, cell_back i.depth b, cell_back i.reset c)
@@ -147,7 +180,7 @@ inputs_back head (Supersaw i) (a, b, c) = simp (cell_back i.voct a, cell_back i.
 inputs_back head (Formant i) (a, b, c, d) =
     simp (cell_back i.v_oct a, cell_back i.vowel b, cell_back i.formant_shift c, cell_back i.vibrato d)
 
-pub score_back : (s : Score) → Valid s → score_at (microvolts_of s) (wholes_of s) ≡ Values s
+pub score_back : (s : Score) → Valid s → score_at (microvolts_of s) (wholes_of s) ≡ Ok s
 unfolding score_at wholes_of
 score_back s v = simp (gate_back s.head.gate v.head.gate) (inputs_back s.head s.inputs v.inputs)
 
@@ -166,24 +199,29 @@ zeros_are n ns e = go (is_zero n) refl e
 -- what cells say
 data Said (osc : ℕ) (head : Head) (m : List ℤ) : Reading → Type 0 where
   values : (o : Osc) → osc ≡ osc_number o → zeros (drop (length (input_keys o)) m) ≡ true
-      → Said osc head m (Values (record { head = head; inputs = inputs_from o (map control_at m) }))
-  refused : Said osc head m (Refused 23)
+      → Said osc head m (Ok (record { head = head; inputs = inputs_from o (map control_at m) }))
+  refused : Said osc head m (Err OutOfRange)
 
 abbrev made : Head → List ℤ → Osc → Score
 made head m o = record { head = head; inputs = inputs_from o (map control_at m) }
 
 module _ (osc : ℕ) (head : Head) (m : List ℤ) where
-  values_said : (o : Osc) → osc ≡ osc_number o → Said osc head m (values_at o head m)
-  unfolding values_at
-  values_said o e = tested (Said osc head m) (zeros (drop (length (input_keys o)) m)) (values o e) (λ _. refused)
+  abbrev SaidBy : Result Osc Refusal → Type 0
+  SaidBy r = Said osc head m (from_osc head m r)
 
-  inputs_said : Said osc head m (inputs_at osc head m)
-  unfolding inputs_at
+  values_said : (o : Osc) → osc ≡ osc_number o → SaidBy (Ok o)
+  unfolding inputs_in
+  values_said o e =
+      tested (λ (r : Result Inputs Refusal). Said osc head m (and_then r (λ (i : Inputs). Ok (record { head = head; inputs = i }))))
+      (zeros (drop (length (input_keys o)) m)) (values o e) (λ _. refused)
+
+  inputs_said : SaidBy (osc_at osc)
+  unfolding osc_at
   inputs_said =
-      tested (Said osc head m) (eqb osc 0) (λ e. values_said O.Vco (eqb-true osc 0 e)) (λ _.
-      tested (Said osc head m) (eqb osc 1) (λ e. values_said O.Lfo (eqb-true osc 1 e)) (λ _.
-      tested (Said osc head m) (eqb osc 2) (λ e. values_said O.Supersaw (eqb-true osc 2 e)) (λ _.
-      tested (Said osc head m) (eqb osc 3) (λ e. values_said O.Formant (eqb-true osc 3 e)) (λ _. refused))))
+      tested SaidBy (eqb osc 0) (λ e. values_said O.Vco (eqb-true osc 0 e)) (λ _.
+      tested SaidBy (eqb osc 1) (λ e. values_said O.Lfo (eqb-true osc 1 e)) (λ _.
+      tested SaidBy (eqb osc 2) (λ e. values_said O.Supersaw (eqb-true osc 2 e)) (λ _.
+      tested SaidBy (eqb osc 3) (λ e. values_said O.Formant (eqb-true osc 3 e)) (λ _. refused))))
 
 -- of five cells: a to e
 module _ (head : Head) (a b c d e : ℤ) where
@@ -208,14 +246,13 @@ cells_made : (head : Head) (m : List ℤ) (o : Osc) → length m ≡ 5 → zeros
 cells_made head m o h =
     by_places (λ (l : List ℤ). zeros (drop (length (input_keys o)) l) ≡ true → microvolts_of (made head l o) ≡ l) m h (five_made head _ _ _ _ _ o)
 
-number_made : (head : Head) (m : List ℤ) (o : Osc) → (ports_of (made head m o).inputs).osc ≡ osc_number o
-unfolding ports_of
+number_made : (head : Head) (m : List ℤ) (o : Osc) → osc_number (owner_of (made head m o).inputs) ≡ osc_number o
 number_made head m O.Vco = refl
 number_made head m O.Lfo = refl
 number_made head m O.Supersaw = refl
 number_made head m O.Formant = refl
 
-said_back : (osc : ℕ) (head : Head) (m : List ℤ) {x : Reading} (s : Score) → length m ≡ 5 → Said osc head m x → x ≡ Values s
+said_back : (osc : ℕ) (head : Head) (m : List ℤ) {x : Reading} (s : Score) → length m ≡ 5 → Said osc head m x → x ≡ Ok s
     → (microvolts_of s ≡ m) × (wholes_of s ≡ osc ∷ head.hz ∷ head.frames ∷ gate_number head.gate ∷ [])
 unfolding wholes_of
 said_back osc head m s h (values o e z) p =
@@ -227,7 +264,7 @@ wholes_are : (w : List ℕ) → length w ≡ 4 → w ≡ get_or w 0 0 ∷ get_or
 unfolding tab
 wholes_are w h = by_cells 0 (λ (i : ℕ). get_or w i 0) 4 w h (λ i l. refl)
 
-pub cells_back : (m : List ℤ) (w : List ℕ) (s : Score) → length m ≡ 5 → length w ≡ 4 → score_at m w ≡ Values s
+pub cells_back : (m : List ℤ) (w : List ℕ) (s : Score) → length m ≡ 5 → length w ≡ 4 → score_at m w ≡ Ok s
     → (microvolts_of s ≡ m) × (wholes_of s ≡ w)
 unfolding score_at
 cells_back m w s hm hw p =
@@ -235,22 +272,22 @@ cells_back m w s hm hw p =
     let gate = number_back (get_or w 3 0) in
     (cells, wholes ∙ (λ i. get_or w 0 0 ∷ get_or w 1 0 ∷ get_or w 2 0 ∷ gate i ∷ []) ∙ sym (wholes_are w hw))
 
-pub head_back : (m : List ℤ) (w : List ℕ) (s : Score) → score_at m w ≡ Values s → head_at w ≡ s.head
+pub head_back : (m : List ℤ) (w : List ℕ) (s : Score) → score_at m w ≡ Ok s → head_at w ≡ s.head
 unfolding score_at
 head_back m w s p = go (inputs_said (get_or w 0 0) (head_at w) m) p
   where
-    go : {x : Reading} → Said (get_or w 0 0) (head_at w) m x → x ≡ Values s → head_at w ≡ s.head
+    go : {x : Reading} → Said (get_or w 0 0) (head_at w) m x → x ≡ Ok s → head_at w ≡ s.head
     go (values o e z) p = let same : made (head_at w) m o ≡ s = cc in ap (λ (k : Score). k.head) same
     go refused p = absurd (not_refused p)
 
--- what no reader gives is refused by 23
-said_refused : {osc : ℕ} {head : Head} {m : List ℤ} {x : Reading} (k : ℕ) → Said osc head m x → x ≡ Refused k → k ≡ 23
-said_refused k (values o e z) p = absurd (not_refused (sym p))
-said_refused k refused p = cc
+-- what no reader gives is out of range
+said_refused : {osc : ℕ} {head : Head} {m : List ℤ} {x : Reading} (why : Refusal) → Said osc head m x → x ≡ Err why → why ≡ OutOfRange
+said_refused why (values o e z) p = absurd (not_refused (sym p))
+said_refused why refused p = cc
 
-pub refused_by : (m : List ℤ) (w : List ℕ) (k : ℕ) → score_at m w ≡ Refused k → k ≡ 23
+pub refused_by : (m : List ℤ) (w : List ℕ) (why : Refusal) → score_at m w ≡ Err why → why ≡ OutOfRange
 unfolding score_at
-refused_by m w k p = said_refused k (inputs_said (get_or w 0 0) (head_at w) m) p
+refused_by m w why p = said_refused why (inputs_said (get_or w 0 0) (head_at w) m) p
 
 -- ---- the volts of a valid score are those of its cells
 control_volts : (c : Control) → ValidInput c → volts_of c ≡ volts_of (control_at (cell_of c))

@@ -5,27 +5,27 @@ use mathlib.Core.List.{List, [], ◌∷◌, ◌++◌}
 use mathlib.Core.Path.{◌≡◌, refl, sym, ap, subst, ◌∙◌}
 use native.Mathlib.Omega.{arith}
 use lib.Dec.{ltb, eqb}
+use Rattle.std.specs.Prelude.{Result, Ok, Err}
 use lib.Ieee.{Float}
 use lib.IntN.{ℤ}
 use lib.ListN.{length, get_or, take, drop}
 use borrow.Author.Tests.{eq-eqb, eqb-true, ltb-true, ltb-false}
 use Rattle.boundary.specs.Flat.{sizes_of, kept, kept_sized}
-use Rattle.score.specs.Score.{score_of}
+use Rattle.score.specs.Refusal.{refusal_number, and_then}
+use Rattle.score.specs.Score.{Reading, score_of}
 use Rattle.score.specs.Promises.{ValidHead}
 use Rattle.score.proofs.Text.{read_valid, score_text}
 use Rattle.score.proofs.Refusals.{refusals}
 use Rattle.score.proofs.LineKinds.{tested}
 use Rattle.score.proofs.Longest.{text_short}
+use Rattle.score.specs.declared.Refusal.{Refusal}
+use Rattle.score.specs.declared.Refusal.TheVariants.{OutOfRange, NoRoom}
 use Rattle.score.specs.declared.Score.{Score}
-use Rattle.score.specs.declared.Reading.{Reading}
-use Rattle.score.specs.declared.Reading.TheVariants.{Values, Refused}
-use Rattle.score_writer.specs.Writing.{writing_of, written_of}
+use Rattle.score_writer.specs.Writing.{Writing, writing_of, written_of}
 use Rattle.score_writer.proofs.Texts as writer
 use Rattle.score_writer.proofs.Texts.{write_read, read_write}
-use Rattle.score_writer.specs.declared.Writing.{Writing}
-use Rattle.score_writer.specs.declared.Writing.TheVariants as W
-use Rattle.exports_score.specs.Cells.{wholes_of, microvolts_of, head_at, score_at}
-use Rattle.exports_score.specs.Shortcuts.{held_at}
+use Rattle.exports_score.specs.Cells.{ports_of, wholes_of, microvolts_of, head_at, score_at}
+use Rattle.exports_score.specs.Shortcuts.{u32_of, held_at}
 use Rattle.exports_score.specs.Calls.{kept_of, score_read_at, Told, told, told_of, score_values_at, Saved, saved, saved_by, saved_of, score_write_at}
 use Rattle.exports_score.specs.Examples.{blank, none}
 use Rattle.exports_score.specs.Promises.{Tells, VoltsAgree, ReadWritten, WrittenRead, ShortRefused, EnoughRoom, UnreadRefused, Left}
@@ -34,17 +34,17 @@ use Rattle.exports_score.proofs.Cells.{issue_small, score_back, cells_back, head
 -- ---- what was read
 record Known (text : List ℕ) (m : List ℤ) (w : List ℕ) : Type 0 where
   score : Score
-  reads : score_of text ≡ Values score
+  reads : score_of text ≡ Ok score
   cells : microvolts_of score ≡ m
   wholes : wholes_of score ≡ w
 
 module _ (text : List ℕ) (m₀ m : List ℤ) (w₀ w : List ℕ) where
   known_by : (r : Reading) → score_of text ≡ r → told_of r m₀ w₀ ≡ told 0 m w → Known text m w
   unfolding told_of
-  known_by (Values s) e p =
+  known_by (Ok s) e p =
       record { score = s; reads = e; cells = ap (λ (k : Told). k.microvolts) p; wholes = ap (λ (k : Told). k.wholes) p }
-  known_by (Refused n) e p =
-      absurd (let (l, g) = refusals text n e in let z : n ≡ 0 = ap (λ (k : Told). k.code) p in omega arith)
+  known_by (Err why) e p =
+      absurd (let (l, g) = refusals text why e in let z : refusal_number why ≡ 0 = ap (λ (k : Told). k.code) p in omega arith)
 
   known : score_values_at text m₀ w₀ ≡ told 0 m w → Known text m w
   unfolding score_values_at
@@ -58,7 +58,7 @@ module _ (text : List ℕ) (m₀ m : List ℤ) (w₀ w : List ℕ) where
 told_known : (text : List ℕ) (m : List ℤ) (w : List ℕ) → Tells text m w → Known text m w
 told_known text m w tells = known text blank m none w (tells blank none refl refl)
 
-reads_tells : (text : List ℕ) (s : Score) → score_of text ≡ Values s → Tells text (microvolts_of s) (wholes_of s)
+reads_tells : (text : List ℕ) (s : Score) → score_of text ≡ Ok s → Tells text (microvolts_of s) (wholes_of s)
 unfolding score_values_at told_of
 reads_tells text s e m₀ w₀ hm hw = simp (eq-eqb (length m₀) 5 hm, eq-eqb (length w₀) 4 hw, e)
 
@@ -76,16 +76,16 @@ enough_room text m w tells =
     rw (score_text text k.score k.reads) at short
 
 -- ---- cells that a text reads as are written as the text, or refused by 24
-score_said : (text : List ℕ) (s : Score) (t : List ℕ) (l : ℕ) → score_of text ≡ Values s
+score_said : (text : List ℕ) (s : Score) (t : List ℕ) (l : ℕ) → score_of text ≡ Ok s
     → score_write_at (microvolts_of s) (wholes_of s) t (l ∷ []) ≡ saved_by (writing_of s (length t)) (written_of s t) (l ∷ [])
-unfolding score_write_at saved_of microvolts_of wholes_of
+unfolding score_write_at saved_of ports_of microvolts_of wholes_of
 score_said text s t l e = simp (score_back s (read_valid text s e))
 
 module _ (text : List ℕ) (m : List ℤ) (w t : List ℕ) (l : ℕ) (tells : Tells text m w) where
   its_score : Score
   its_score = (told_known text m w tells).score
 
-  its_reading : score_of text ≡ Values its_score
+  its_reading : score_of text ≡ Ok its_score
   unfolding its_score
   its_reading = (told_known text m w tells).reads
 
@@ -103,7 +103,7 @@ module _ (text : List ℕ) (m : List ℤ) (w t : List ℕ) (l : ℕ) (tells : Te
   no_room : length t < length text → score_write_at m w t (l ∷ []) ≡ saved 24 t (l ∷ [])
   no_room h =
       let refused = (writer.short_refused its_score (length t)).0 text its_reading h in
-      let left = writer.refused_left its_score t 24 refused in
+      let left = writer.refused_left its_score t NoRoom refused in
       said ∙ (λ i. saved_by (refused i) (left i) (l ∷ []))
 
 pub read_written : ReadWritten
@@ -120,24 +120,24 @@ record Wrote (m : List ℤ) (w t t' : List ℕ) (n : ℕ) : Type 0 where
   score : Score
   five : length m ≡ 5
   four : length w ≡ 4
-  said : score_at m w ≡ Values score
-  length_is : writing_of score (length t) ≡ W.Length n
+  said : score_at m w ≡ Ok score
+  length_is : writing_of score (length t) ≡ Ok n
   text_is : written_of score t ≡ t'
 
 module _ (m : List ℤ) (w t t' : List ℕ) (l n : ℕ) (five : length m ≡ 5) (four : length w ≡ 4) where
-  wrote_length : (s : Score) (x : Writing) → score_at m w ≡ Values s → writing_of s (length t) ≡ x
+  wrote_length : (s : Score) (x : Writing) → score_at m w ≡ Ok s → writing_of s (length t) ≡ x
       → saved_by x (written_of s t) (l ∷ []) ≡ saved 0 t' (n ∷ []) → Wrote m w t t' n
-  wrote_length s (W.Length k) e f p =
+  wrote_length s (Ok k) e f p =
       let z : k ≡ n = head_is (ap (λ (k : Saved). k.written) p) in
-      record { score = s; five = five; four = four; said = e; length_is = f ∙ ap W.Length z; text_is = ap (λ (k : Saved). k.text) p }
-  wrote_length s (W.Refused k) e f p =
-      absurd (let (a, b) = writer.refusals s (length t) k f in let z : k ≡ 0 = ap (λ (k : Saved). k.code) p in omega arith)
+      record { score = s; five = five; four = four; said = e; length_is = f ∙ ap Ok z; text_is = ap (λ (k : Saved). k.text) p }
+  wrote_length s (Err why) e f p =
+      absurd (let (a, b) = writer.refusals s (length t) why f in let z : refusal_number why ≡ 0 = ap (λ (k : Saved). k.code) p in omega arith)
 
   wrote_by : (r : Reading) → score_at m w ≡ r → saved_of r t (l ∷ []) ≡ saved 0 t' (n ∷ []) → Wrote m w t t' n
   unfolding saved_of
-  wrote_by (Values s) e p = wrote_length s (writing_of s (length t)) e refl p
-  wrote_by (Refused k) e p =
-      absurd (let y = refused_by m w k e in let z : k ≡ 0 = ap (λ (k : Saved). k.code) p in omega arith)
+  wrote_by (Ok s) e p = wrote_length s (writing_of s (length t)) e refl p
+  wrote_by (Err why) e p =
+      absurd (let y = ap refusal_number (refused_by m w why e) in let z : refusal_number why ≡ 0 = ap (λ (k : Saved). k.code) p in omega arith)
 
 wrote : (m : List ℤ) (w t t' : List ℕ) (l n : ℕ) → score_write_at m w t (l ∷ []) ≡ saved 0 t' (n ∷ []) → Wrote m w t t' n
 unfolding score_write_at
@@ -153,7 +153,7 @@ pub written_read : WrittenRead
 written_read m w t t' l n p m₀ w₀ hm hw =
     let k = wrote m w t t' l n p in
     let (cells, wholes) = cells_back m w k.score k.five k.four k.said in
-    let reads : score_of (take n t') ≡ Values k.score =
+    let reads : score_of (take n t') ≡ Ok k.score =
     ap (λ (b : List ℕ). score_of (take n b)) (sym k.text_is) ∙ write_read k.score t n k.length_is in
     reads_tells (take n t') k.score reads m₀ w₀ hm hw ∙ (λ i. told 0 (cells i) (wholes i))
 
@@ -164,13 +164,13 @@ module _ (m : List ℤ) (w t : List ℕ) (l : ℕ) (five : length m ≡ 5) (four
 
   refused_score : Untold → (r : Reading) → score_at m w ≡ r → saved_of r t (l ∷ []) ≡ saved 23 t (l ∷ [])
   unfolding saved_of
-  refused_score u (Values s) e =
+  refused_score u (Ok s) e =
       let (cells, wholes) = cells_back m w s five four e in
       let refused = (writer.unread_refused s (length t)).0
       (λ text p. u text (λ m₀ w₀ hm hw. reads_tells text s p m₀ w₀ hm hw ∙ (λ i. told 0 (cells i) (wholes i)))) in
-      let left = writer.refused_left s t 23 refused in
+      let left = writer.refused_left s t OutOfRange refused in
       (λ i. saved_by (refused i) (left i) (l ∷ []))
-  refused_score u (Refused n) e = ap (λ (k : ℕ). saved k t (l ∷ [])) (refused_by m w n e)
+  refused_score u (Err why) e = ap (λ (y : Refusal). saved (refusal_number y) t (l ∷ [])) (refused_by m w why e)
 
   untold_refused : Untold → score_write_at m w t (l ∷ []) ≡ saved 23 t (l ∷ [])
   unfolding score_write_at
@@ -194,40 +194,48 @@ unread_refused m w t l five four = (untold_refused m w t l five four, refused_un
 module _ (m : List ℤ) (w t l : List ℕ) where
   out_score : (ValidHead (head_at w) → ⊥) → (r : Reading) → score_at m w ≡ r → saved_of r t l ≡ saved 23 t l
   unfolding saved_of
-  out_score f (Values s) e =
+  out_score f (Ok s) e =
       let refused = (writer.unread_refused s (length t)).0 (λ text p. f (subst ValidHead (sym (head_back m w s e)) (read_valid text s p).head)) in
-      let left = writer.refused_left s t 23 refused in
+      let left = writer.refused_left s t OutOfRange refused in
       (λ i. saved_by (refused i) (left i) l)
-  out_score f (Refused n) e = ap (λ (k : ℕ). saved k t l) (refused_by m w n e)
+  out_score f (Err why) e = ap (λ (y : Refusal). saved (refusal_number y) t l) (refused_by m w why e)
 
-  out_saved : (ValidHead (head_at w) → ⊥) → saved 23 t l ≡ saved_of (score_at m w) t l
+  out_saved : (ValidHead (head_at w) → ⊥) → saved_of (Err OutOfRange) t l ≡ saved_of (score_at m w) t l
+  unfolding saved_of
   out_saved f = sym (out_score f (score_at m w) refl)
 
+  -- what follows a number that may be none of a u32's
+  held_by : (n : ℕ) (k : Result ℕ Refusal → Reading) → k (Err OutOfRange) ≡ Err OutOfRange → (4294967295 < n → ValidHead (head_at w) → ⊥)
+      → saved_of (k (Ok n)) t l ≡ saved_of (score_at m w) t l → saved_of (k (u32_of n)) t l ≡ saved_of (score_at m w) t l
+  unfolding u32_of
+  held_by n k e f h =
+      tested (λ (r : Result ℕ Refusal). saved_of (k r) t l ≡ saved_of (score_at m w) t l) (ltb 4294967295 n)
+      (λ b. ap (λ (r : Reading). saved_of r t l) e ∙ out_saved (f (ltb-true 4294967295 n b))) (λ _. h)
+
   pub held_saved : saved_of (held_at m w) t l ≡ saved_of (score_at m w) t l
-  unfolding held_at saved_of
+  unfolding held_at
   held_saved =
-      tested (λ (r : Reading). saved_of r t l ≡ saved_of (score_at m w) t l) (ltb 4294967295 (get_or w 1 0))
-      (λ e. out_saved (λ v. let h = v.hz_most in omega (arith, ltb-true 4294967295 (get_or w 1 0) e))) (λ _.
-      tested (λ (r : Reading). saved_of r t l ≡ saved_of (score_at m w) t l) (ltb 4294967295 (get_or w 2 0))
-      (λ e. out_saved (λ v. let h = v.frames_most in omega (arith, ltb-true 4294967295 (get_or w 2 0) e))) (λ _.
-      tested (λ (r : Reading). saved_of r t l ≡ saved_of (score_at m w) t l) (ltb 4294967295 (get_or w 3 0))
-      (λ e. out_saved (λ v. let h = issue_small (get_or w 3 0) v.gate in omega (arith, ltb-true 4294967295 (get_or w 3 0) e))) (λ _. refl)))
+      let issue : Result ℕ Refusal → Reading = λ r. and_then r (λ _. score_at m w) in
+      let frames : Result ℕ Refusal → Reading = λ r. and_then r (λ _. issue (u32_of (get_or w 3 0))) in
+      held_by (get_or w 1 0) (λ r. and_then r (λ _. frames (u32_of (get_or w 2 0)))) refl (λ b v. let h = v.hz_most in omega arith)
+      (held_by (get_or w 2 0) frames refl (λ b v. let h = v.frames_most in omega arith)
+      (held_by (get_or w 3 0) issue refl (λ b v. let h = issue_small (get_or w 3 0) v.gate in omega arith) refl))
 
 -- ---- what isn't done leaves every slice
 told_left : (r : Reading) (m : List ℤ) (w : List ℕ) → ((told_of r m w).code ≡ 0 → ⊥) → told_of r m w ≡ told (told_of r m w).code m w
 unfolding told_of
-told_left (Values s) m w h = absurd (h refl)
-told_left (Refused n) m w h = refl
+told_left (Ok s) m w h = absurd (h refl)
+told_left (Err why) m w h = refl
 
 saved_left : (s : Score) (x : Writing) (t l : List ℕ) → writing_of s (length t) ≡ x → ((saved_by x (written_of s t) l).code ≡ 0 → ⊥)
     → saved_by x (written_of s t) l ≡ saved (saved_by x (written_of s t) l).code t l
-saved_left s (W.Length n) t l e h = absurd (h refl)
-saved_left s (W.Refused n) t l e h = ap (λ (b : List ℕ). saved n b l) (writer.refused_left s t n e)
+saved_left s (Ok n) t l e h = absurd (h refl)
+saved_left s (Err why) t l e h = ap (λ (b : List ℕ). saved (refusal_number why) b l) (writer.refused_left s t why e)
 
 score_left : (r : Reading) (t l : List ℕ) → ((saved_of r t l).code ≡ 0 → ⊥) → saved_of r t l ≡ saved (saved_of r t l).code t l
 unfolding saved_of
-score_left (Values s) t l h = saved_left s (writing_of s (length t)) t l refl h
-score_left (Refused n) t l h = refl
+score_left (Ok s) t l h = saved_left s (writing_of s (length t)) t l refl h
+score_left (Err why) t l h = refl
 
 module _ (m : List ℤ) (w : List ℕ) where
   abbrev ToldLeft : Told → Type 0

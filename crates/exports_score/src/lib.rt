@@ -6,20 +6,20 @@
 // has no room. A refused call writes nothing.
 #![tactic(auto)]
 
-ghost use Rattle.std.specs.Prelude.{◌≡◌, ◌<◌, pos, length, get_or, drop};
+ghost use Rattle.std.specs.Prelude.{◌≡◌, map, pos, length};
+ghost use Rattle.std.specs.List.{list_all};
+ghost use Rattle.std.specs.Ordering.{int_eq};
 ghost use Rattle.boundary.specs.Flat.{kept};
-ghost use Rattle.score.specs.declared.Inputs.TheVariants as I;
-ghost use Rattle.score.specs.declared.Osc.TheVariants as O;
-ghost use Rattle.exports_score.specs.Cells.{ports_of, gate_number, floats_of, wholes_of, cell_of, microvolts_of, control_at, is_zero, zeros};
-ghost use Rattle.exports_score.specs.Cells.{values_at, inputs_at, gate_at};
-ghost use Rattle.exports_score.specs.Shortcuts.{held_at};
-ghost use Rattle.exports_score.specs.Calls.{kept_of, score_read_at, told, told_of, score_values_at, saved, saved_of, score_write_at};
+ghost use Rattle.score.specs.Keys.{input_keys};
+ghost use Rattle.score.specs.Score.{score_of};
+ghost use Rattle.exports_score.specs.Cells.{osc_number, ports_of, gate_number, floats_of, wholes_of, cell_of, microvolts_of};
+ghost use Rattle.exports_score.specs.Cells.{control_at, inputs_in, osc_at, gate_at};
+ghost use Rattle.exports_score.specs.Shortcuts.{u32_of, held_at};
+ghost use Rattle.exports_score.specs.Calls.{code_of, kept_of, score_read_at, told, told_of, score_values_at, saved, saved_of, score_write_at};
 
 use score::{
-    Control, FormantInputs, Gate, Head, Inputs, LfoInputs, Reading, Score, SupersawInputs,
-    VcoInputs,
+    Control, FormantInputs, Head, Inputs, LfoInputs, Osc, Refusal, Score, SupersawInputs, VcoInputs,
 };
-use score_writer::Writing;
 
 // How many floats, wholes, microvolts and lengths a host lends.
 const FLOATS: usize = 5;
@@ -33,151 +33,87 @@ const WRITTEN: usize = 1;
 // The mark of nan, which is no score's microvolts.
 const NAN: i32 = -2147483648;
 
-// The number of the oscillator, and its inputs in port order, 0 microvolts past the last one.
-#[derive(Clone, Copy)]
-struct Ports {
-    osc: u64,
-    p0: Control,
-    p1: Control,
-    p2: Control,
-    p3: Control,
-    p4: Control,
-}
-
-fn vco_ports(i: VcoInputs) -> Ports
-    ensures { result ≡ ports_of (I.Vco i) }
+// 0 where it is done.
+fn code_of(done: Result<(), Refusal>) -> u32
+    ensures { result ≡ code_of done }
 {
-    let voct = i.voct;
-    let fm = i.fm;
-    let pw = i.pw;
-    let sync = i.sync;
-    let fm_lin = i.fm_lin;
-    Ports {
-        osc: 0,
-        p0: voct,
-        p1: fm,
-        p2: pw,
-        p3: sync,
-        p4: fm_lin,
+    match done {
+        Ok(()) => 0,
+        Err(why) => why.number(),
     }
 }
 
-fn lfo_ports(i: LfoInputs) -> Ports
-    ensures { result ≡ ports_of (I.Lfo i) }
+// ---- the cells of a score
+
+fn osc_number(osc: Osc) -> u64
+    ensures { result ≡ osc_number osc }
 {
-    let rate = i.rate;
-    let depth = i.depth;
-    let reset = i.reset;
-    Ports {
-        osc: 1,
-        p0: rate,
-        p1: depth,
-        p2: reset,
-        p3: Control::Microvolts(0),
-        p4: Control::Microvolts(0),
+    match osc {
+        Osc::Vco => 0,
+        Osc::Lfo => 1,
+        Osc::Supersaw => 2,
+        Osc::Formant => 3,
     }
 }
 
-fn supersaw_ports(i: SupersawInputs) -> Ports
-    ensures { result ≡ ports_of (I.Supersaw i) }
-{
-    let voct = i.voct;
-    let detune = i.detune;
-    let mix = i.mix;
-    Ports {
-        osc: 2,
-        p0: voct,
-        p1: detune,
-        p2: mix,
-        p3: Control::Microvolts(0),
-        p4: Control::Microvolts(0),
-    }
-}
+// What stands past the last input.
+const NONE: Control = Control::Microvolts(0);
 
-fn formant_ports(i: FormantInputs) -> Ports
-    ensures { result ≡ ports_of (I.Formant i) }
-{
-    let v_oct = i.v_oct;
-    let vowel = i.vowel;
-    let formant_shift = i.formant_shift;
-    let vibrato = i.vibrato;
-    Ports {
-        osc: 3,
-        p0: v_oct,
-        p1: vowel,
-        p2: formant_shift,
-        p3: vibrato,
-        p4: Control::Microvolts(0),
-    }
-}
-
-fn ports_of(inputs: Inputs) -> Ports
+// The inputs in port order.
+#[tactic(auto, unfolding(crate::specs::Cells::ports_of))]
+fn ports_of(inputs: Inputs) -> [Control; 5]
     ensures { result ≡ ports_of inputs }
 {
     match inputs {
-        Inputs::Vco(i) => vco_ports(i),
-        Inputs::Lfo(i) => lfo_ports(i),
-        Inputs::Supersaw(i) => supersaw_ports(i),
-        Inputs::Formant(i) => formant_ports(i),
+        Inputs::Vco(i) => [i.voct, i.fm, i.pw, i.sync, i.fm_lin],
+        Inputs::Lfo(i) => [i.rate, i.depth, i.reset, NONE, NONE],
+        Inputs::Supersaw(i) => [i.voct, i.detune, i.mix, NONE, NONE],
+        Inputs::Formant(i) => [i.v_oct, i.vowel, i.formant_shift, i.vibrato, NONE],
     }
 }
 
 // 0 where it is absent.
-fn gate_number(gate: Gate) -> u64
+#[tactic(auto, unfolding(crate::specs::Cells::gate_number))]
+fn gate_number(gate: Option<u32>) -> u64
     ensures { result ≡ gate_number gate }
 {
     match gate {
-        Gate::Absent => 0,
-        Gate::Issue(n) => n as u64,
+        None => 0,
+        Some(issue) => u64::from(issue),
     }
 }
 
+#[tactic(auto, unfolding(crate::specs::Cells::wholes_of))]
 fn put_wholes(s: Score, wholes: &mut [u64])
     requires { length wholes.old ≡ 4 }
     ensures { wholes.new ≡ wholes_of s }
 {
-    let head = s.head;
-    let gate = head.gate;
-    let inputs = s.inputs;
-    let p = ports_of(inputs);
-    wholes[0] = p.osc;
-    wholes[1] = head.hz as u64;
-    wholes[2] = head.frames as u64;
-    wholes[3] = gate_number(gate);
+    wholes.copy_from_slice(&[
+        osc_number(score::owner_of(s.inputs)),
+        u64::from(s.head.hz),
+        u64::from(s.head.frames),
+        gate_number(s.head.gate),
+    ]);
 }
 
 // ---- the volts
 
+#[tactic(auto, unfolding(crate::specs::Cells::floats_of))]
 fn put_floats(s: Score, floats: &mut [f64])
     requires { length floats.old ≡ 5 }
     ensures { floats.new ≡ floats_of s }
 {
-    let inputs = s.inputs;
-    let p = ports_of(inputs);
-    let p0 = p.p0;
-    let p1 = p.p1;
-    let p2 = p.p2;
-    let p3 = p.p3;
-    let p4 = p.p4;
-    floats[0] = score::volts(p0);
-    floats[1] = score::volts(p1);
-    floats[2] = score::volts(p2);
-    floats[3] = score::volts(p3);
-    floats[4] = score::volts(p4);
+    floats.copy_from_slice(&ports_of(s.inputs).map(score::volts));
 }
 
-fn put_reading(r: Reading, floats: &mut [f64], wholes: &mut [u64]) -> u32
+fn read_volts(text: &[u8], floats: &mut [f64], wholes: &mut [u64]) -> Result<(), Refusal>
     requires { (length floats.old ≡ 5) × (length wholes.old ≡ 4) }
-    ensures { kept result floats.new wholes.new ≡ kept_of r floats.old wholes.old }
+    ensures { kept (code_of result) floats.new wholes.new ≡ kept_of (score_of text.now) floats.old wholes.old }
 {
-    match r {
-        Reading::Values(s) => {
-            put_floats(s, floats);
-            put_wholes(s, wholes);
-            0
-        }
-        Reading::Refused(n) => n,
-    }
+    let s = score::read(text)?;
+    put_floats(s, floats);
+    put_wholes(s, wholes);
+    Ok(())
 }
 
 #[unsafe(no_mangle)]
@@ -186,7 +122,7 @@ pub extern "C" fn gruttisol_score_read(text: &[u8], floats: &mut [f64], wholes: 
 {
     let n = boundary::sizes(FLOATS, WHOLES, floats, wholes);
     if n == 0 {
-        put_reading(score::read(text), floats, wholes)
+        code_of(read_volts(text, floats, wholes))
     } else {
         n
     }
@@ -194,6 +130,7 @@ pub extern "C" fn gruttisol_score_read(text: &[u8], floats: &mut [f64], wholes: 
 
 // ---- the whole microvolts
 
+#[tactic(auto, unfolding(crate::specs::Cells::cell_of))]
 fn cell_of(c: Control) -> i32
     ensures { result ≡ cell_of c }
 {
@@ -203,36 +140,23 @@ fn cell_of(c: Control) -> i32
     }
 }
 
+#[tactic(auto, unfolding(crate::specs::Cells::microvolts_of))]
 fn put_microvolts(s: Score, microvolts: &mut [i32])
     requires { length microvolts.old ≡ 5 }
     ensures { microvolts.new ≡ microvolts_of s }
 {
-    let inputs = s.inputs;
-    let p = ports_of(inputs);
-    let p0 = p.p0;
-    let p1 = p.p1;
-    let p2 = p.p2;
-    let p3 = p.p3;
-    let p4 = p.p4;
-    microvolts[0] = cell_of(p0);
-    microvolts[1] = cell_of(p1);
-    microvolts[2] = cell_of(p2);
-    microvolts[3] = cell_of(p3);
-    microvolts[4] = cell_of(p4);
+    microvolts.copy_from_slice(&ports_of(s.inputs).map(cell_of));
 }
 
-fn put_values(r: Reading, microvolts: &mut [i32], wholes: &mut [u64]) -> u32
+fn read_microvolts(text: &[u8], microvolts: &mut [i32], wholes: &mut [u64]) -> Result<(), Refusal>
     requires { (length microvolts.old ≡ 5) × (length wholes.old ≡ 4) }
-    ensures { told result microvolts.new wholes.new ≡ told_of r microvolts.old wholes.old }
+    ensures { told (code_of result) microvolts.new wholes.new
+        ≡ told_of (score_of text.now) microvolts.old wholes.old }
 {
-    match r {
-        Reading::Values(s) => {
-            put_microvolts(s, microvolts);
-            put_wholes(s, wholes);
-            0
-        }
-        Reading::Refused(n) => n,
-    }
+    let s = score::read(text)?;
+    put_microvolts(s, microvolts);
+    put_wholes(s, wholes);
+    Ok(())
 }
 
 #[unsafe(no_mangle)]
@@ -250,16 +174,27 @@ pub extern "C" fn gruttisol_score_values(
     if wholes.len() != WHOLES {
         return 51;
     }
-    put_values(score::read(text), microvolts, wholes)
+    code_of(read_microvolts(text, microvolts, wholes))
 }
 
-// ---- the score of a host's cells; 23 where they are none's. Whether its numbers are in range the writer asks
+// ---- the score of a host's cells; out of range where they are none's. Whether its numbers are in range the writer asks
 
-fn control_at(microvolts: &[i32], i: usize) -> Control
-    requires { i < length microvolts.now }
-    ensures { result ≡ control_at (get_or microvolts.now i (pos 0)) }
+#[tactic(auto, unfolding(crate::specs::Cells::osc_at))]
+fn osc_at(n: u64) -> Result<Osc, Refusal>
+    ensures { result ≡ osc_at n }
 {
-    let cell = microvolts[i];
+    match n {
+        0 => Ok(Osc::Vco),
+        1 => Ok(Osc::Lfo),
+        2 => Ok(Osc::Supersaw),
+        3 => Ok(Osc::Formant),
+        _ => Err(Refusal::OutOfRange),
+    }
+}
+
+fn control_at(cell: i32) -> Control
+    ensures { result ≡ control_at cell }
+{
     if cell == NAN {
         Control::Nan
     } else {
@@ -267,153 +202,110 @@ fn control_at(microvolts: &[i32], i: usize) -> Control
     }
 }
 
-fn zero_at(microvolts: &[i32], i: usize) -> bool
-    requires { i < length microvolts.now }
-    ensures { result ≡ is_zero (get_or microvolts.now i (pos 0)) }
+// How many of the cells are inputs; those past them are 0.
+fn inputs_of(osc: Osc) -> usize
+    ensures { result ≡ length (input_keys osc) }
 {
-    microvolts[i] == 0
-}
-
-// Whether the cells past the third are 0.
-fn only_three(microvolts: &[i32]) -> bool
-    requires { length microvolts.now ≡ 5 }
-    ensures { result ≡ zeros (drop 3 microvolts.now) }
-{
-    if zero_at(microvolts, 3) {
-        zero_at(microvolts, 4)
-    } else {
-        false
+    match osc {
+        Osc::Vco => 5,
+        Osc::Lfo => 3,
+        Osc::Supersaw => 3,
+        Osc::Formant => 4,
     }
 }
 
-fn vco_at(head: Head, microvolts: &[i32]) -> Reading
-    requires { length microvolts.now ≡ 5 }
-    ensures { result ≡ values_at O.Vco head microvolts.now }
+fn are_zeros(cells: &[i32]) -> bool
+    ensures { result ≡ list_all (λ n. int_eq n (pos 0)) cells.now }
 {
-    let inputs = Inputs::Vco(VcoInputs {
-        voct: control_at(microvolts, 0),
-        fm: control_at(microvolts, 1),
-        pw: control_at(microvolts, 2),
-        sync: control_at(microvolts, 3),
-        fm_lin: control_at(microvolts, 4),
-    });
-    Reading::Values(Score { head, inputs })
+    cells.iter().all(|cell| *cell == 0)
 }
 
-fn lfo_at(head: Head, microvolts: &[i32]) -> Reading
-    requires { length microvolts.now ≡ 5 }
-    ensures { result ≡ values_at O.Lfo head microvolts.now }
+fn controls_at(microvolts: &[i32; 5]) -> [Control; 5]
+    ensures { result ≡ map control_at microvolts.now }
 {
-    if only_three(microvolts) {
-        let inputs = Inputs::Lfo(LfoInputs {
-            rate: control_at(microvolts, 0),
-            depth: control_at(microvolts, 1),
-            reset: control_at(microvolts, 2),
-        });
-        Reading::Values(Score { head, inputs })
-    } else {
-        Reading::Refused(23)
-    }
+    microvolts.map(control_at)
 }
 
-fn supersaw_at(head: Head, microvolts: &[i32]) -> Reading
-    requires { length microvolts.now ≡ 5 }
-    ensures { result ≡ values_at O.Supersaw head microvolts.now }
+fn inputs_at(osc: Osc, microvolts: &[i32; 5]) -> Result<Inputs, Refusal>
+    ensures { result ≡ inputs_in osc microvolts.now }
 {
-    if only_three(microvolts) {
-        let inputs = Inputs::Supersaw(SupersawInputs {
-            voct: control_at(microvolts, 0),
-            detune: control_at(microvolts, 1),
-            mix: control_at(microvolts, 2),
-        });
-        Reading::Values(Score { head, inputs })
-    } else {
-        Reading::Refused(23)
+    if !are_zeros(&microvolts[inputs_of(osc)..]) {
+        return Err(Refusal::OutOfRange);
     }
-}
-
-fn formant_at(head: Head, microvolts: &[i32]) -> Reading
-    requires { length microvolts.now ≡ 5 }
-    ensures { result ≡ values_at O.Formant head microvolts.now }
-{
-    if zero_at(microvolts, 4) {
-        let inputs = Inputs::Formant(FormantInputs {
-            v_oct: control_at(microvolts, 0),
-            vowel: control_at(microvolts, 1),
-            formant_shift: control_at(microvolts, 2),
-            vibrato: control_at(microvolts, 3),
-        });
-        Reading::Values(Score { head, inputs })
-    } else {
-        Reading::Refused(23)
-    }
-}
-
-fn inputs_at(osc: u64, head: Head, microvolts: &[i32]) -> Reading
-    requires { length microvolts.now ≡ 5 }
-    ensures { result ≡ inputs_at osc head microvolts.now }
-{
-    if osc == 0 {
-        return vco_at(head, microvolts);
-    }
-    if osc == 1 {
-        return lfo_at(head, microvolts);
-    }
-    if osc == 2 {
-        return supersaw_at(head, microvolts);
-    }
-    if osc == 3 {
-        return formant_at(head, microvolts);
-    }
-    Reading::Refused(23)
+    let controls = controls_at(microvolts);
+    Ok(match osc {
+        Osc::Vco => Inputs::Vco(VcoInputs {
+            voct: controls[0],
+            fm: controls[1],
+            pw: controls[2],
+            sync: controls[3],
+            fm_lin: controls[4],
+        }),
+        Osc::Lfo => Inputs::Lfo(LfoInputs {
+            rate: controls[0],
+            depth: controls[1],
+            reset: controls[2],
+        }),
+        Osc::Supersaw => Inputs::Supersaw(SupersawInputs {
+            voct: controls[0],
+            detune: controls[1],
+            mix: controls[2],
+        }),
+        Osc::Formant => Inputs::Formant(FormantInputs {
+            v_oct: controls[0],
+            vowel: controls[1],
+            formant_shift: controls[2],
+            vibrato: controls[3],
+        }),
+    })
 }
 
 // 0 is no issue.
-fn gate_at(n: u32) -> Gate
+#[tactic(auto, unfolding(crate::specs::Cells::gate_at))]
+fn gate_at(n: u32) -> Option<u32>
     ensures { result ≡ gate_at n }
 {
-    if n == 0 { Gate::Absent } else { Gate::Issue(n) }
+    if n == 0 { None } else { Some(n) }
 }
 
 // What no u32 holds is out of range as hz, as frames and as an issue.
-fn score_at(microvolts: &[i32], wholes: &[u64]) -> Reading
-    requires { (length microvolts.now ≡ 5) × (length wholes.now ≡ 4) }
-    ensures { result ≡ held_at microvolts.now wholes.now }
+#[tactic(auto, unfolding(crate::specs::Shortcuts::u32_of))]
+fn u32_of(n: u64) -> Result<u32, Refusal>
+    ensures { result ≡ u32_of n }
 {
-    let hz = wholes[1];
-    let frames = wholes[2];
-    let issue = wholes[3];
-    if 4294967295 < hz {
-        return Reading::Refused(23);
-    }
-    if 4294967295 < frames {
-        return Reading::Refused(23);
-    }
-    if 4294967295 < issue {
-        return Reading::Refused(23);
-    }
-    let head = Head {
-        hz: hz as u32,
-        gate: gate_at(issue as u32),
-        frames: frames as u32,
-    };
-    inputs_at(wholes[0], head, microvolts)
+    u32::try_from(n).map_err(|_| Refusal::OutOfRange)
 }
 
-fn save(r: Reading, text: &mut [u8], written: &mut [u64]) -> u32
-    requires { length written.old ≡ 1 }
-    ensures { saved result text.new written.new ≡ saved_of r text.old written.old }
+fn score_at(microvolts: &[i32; 5], wholes: &[u64; 4]) -> Result<Score, Refusal>
+    ensures { result ≡ held_at microvolts.now wholes.now }
 {
-    match r {
-        Reading::Values(s) => match score_writer::write(s, text) {
-            Writing::Length(n) => {
-                written[0] = n as u64;
-                0
-            }
-            Writing::Refused(n) => n,
-        },
-        Reading::Refused(n) => n,
-    }
+    let hz = u32_of(wholes[1])?;
+    let frames = u32_of(wholes[2])?;
+    let issue = u32_of(wholes[3])?;
+    let osc = osc_at(wholes[0])?;
+    let inputs = inputs_at(osc, microvolts)?;
+    let head = Head {
+        hz,
+        gate: gate_at(issue),
+        frames,
+    };
+    Ok(Score { head, inputs })
+}
+
+fn save(
+    microvolts: &[i32; 5],
+    wholes: &[u64; 4],
+    text: &mut [u8],
+    written: &mut [u64],
+) -> Result<(), Refusal>
+    requires { length written.old ≡ 1 }
+    ensures { saved (code_of result) text.new written.new
+        ≡ saved_of (held_at microvolts.now wholes.now) text.old written.old }
+{
+    let s = score_at(microvolts, wholes)?;
+    let n = score_writer::write(s, text)?;
+    written[0] = n as u64;
+    Ok(())
 }
 
 #[unsafe(no_mangle)]
@@ -426,14 +318,14 @@ pub extern "C" fn gruttisol_score_write(
     ensures { saved result text.new written.new
         ≡ score_write_at microvolts.now wholes.now text.old written.old }
 {
-    if microvolts.len() != MICROVOLTS {
+    let Some(microvolts) = microvolts.as_array() else {
         return 54;
-    }
-    if wholes.len() != WHOLES {
+    };
+    let Some(wholes) = wholes.as_array() else {
         return 51;
-    }
+    };
     if written.len() != WRITTEN {
         return 55;
     }
-    save(score_at(microvolts, wholes), text, written)
+    code_of(save(microvolts, wholes, text, written))
 }

@@ -1,8 +1,7 @@
 -- What is stored is read back, and each contract, being one equation, settles what it speaks of.
 use mathlib.Core.Path.{◌≡◌, refl}
 use lib.Ieee.{nan}
-use Rattle.boundary.proofs.Flat.{flag}
-use Rattle.exports_supersaw.specs.Calls.{supersaw_new_at, supersaw_reset_at, supersaw_set_sample_rate_at, supersaw_tick_at, supersaw_block_at}
+use Rattle.boundary.proofs.Flat.{flag, one_key}
 use Rattle.exports_supersaw.specs.Promises.{ReadBack, Settled}
 use Rattle.exports_supersaw.specs.State.{state_of, floats_of, wholes_of}
 use Rattle.laws.proofs.Over.{by_cells}
@@ -12,16 +11,16 @@ use Rattle.supersaw.specs.Voices.{at}
 
 pub read_back : ReadBack
 unfolding state_of floats_of wholes_of tab
-read_back s h =
+read_back s h l =
     let p : s.phases ≡ tab (at s.phases) 7 = by_cells nan (at s.phases) 7 s.phases h (λ i l. refl) in
-    simp (flag, ← p)
+    simp (flag, one_key s.freq_memo.key l, ← p)
 
 pub settled : Settled
 settled =
     record {
-      new = λ rate f w. laws.settled (supersaw_new_at rate f w);
-      tick = λ voct detune mix f w o. laws.settled (supersaw_tick_at voct detune mix f w o);
-      block = λ voct detune mix f w k o m. laws.settled (supersaw_block_at voct detune mix f w k o m);
-      reset = λ f w. laws.settled (supersaw_reset_at f w);
-      set_sample_rate = λ rate f w. laws.settled (supersaw_set_sample_rate_at rate f w);
+      new = λ rate f w. laws.settled _;
+      tick = λ voct detune mix f w o. laws.settled _;
+      block = λ voct detune mix f w k o m. laws.settled _;
+      reset = λ f w. laws.settled _;
+      set_sample_rate = λ rate f w. laws.settled _;
     }

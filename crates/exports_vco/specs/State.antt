@@ -15,7 +15,7 @@ n_wholes = 4
 abbrev pub n_samples : ℕ
 n_samples = 4
 
--- floats [phase, sample_rate, sync_edge.prev, sync_edge.threshold, freq_memo.val], wholes [freq_memo.key0, key1, key2, valid]
+-- floats [phase, sample_rate, sync_edge.prev, sync_edge.threshold, freq_memo.val], wholes [freq_memo.key 0 to 2, freq_memo.valid]
 unfoldable pub state_of : List Float → List ℕ → Vco
 state_of f w =
     record {
@@ -23,9 +23,7 @@ state_of f w =
       sample_rate = record { 0 = get_or f 1 nan };
       sync_edge = edge_at f 2;
       freq_memo = record {
-        key0 = get_or w 0 0;
-        key1 = get_or w 1 0;
-        key2 = get_or w 2 0;
+        key = get_or w 0 0 ∷ get_or w 1 0 ∷ get_or w 2 0 ∷ [];
         val = record { 0 = get_or f (2 + n_edge) nan };
         valid = not (eqb (get_or w 3 0) 0);
       };
@@ -35,7 +33,7 @@ unfoldable pub floats_of : Vco → List Float
 floats_of s = s.phase.0 ∷ s.sample_rate.0 ∷ (edge_floats s.sync_edge ++ (s.freq_memo.val.0 ∷ []))
 
 unfoldable pub wholes_of : Vco → List ℕ
-wholes_of s = let m = s.freq_memo in m.key0 ∷ m.key1 ∷ m.key2 ∷ cond m.valid 1 0 ∷ []
+wholes_of s = let m = s.freq_memo in get_or m.key 0 0 ∷ get_or m.key 1 0 ∷ get_or m.key 2 0 ∷ cond m.valid 1 0 ∷ []
 
 -- [sin, tri, saw, sqr]
 unfoldable pub samples_of : Volts → List Float

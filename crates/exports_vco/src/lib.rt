@@ -1,126 +1,80 @@
 // The Vco for hosts, over lent slices. A state is floats [phase, sample_rate, sync_edge.prev, sync_edge.threshold, freq_memo.val] and
-// wholes [freq_memo.key0, key1, key2, valid], the last 0 or not; samples are [sin, tri, saw, sqr].
+// wholes [freq_memo.key 0 to 2, freq_memo.valid], the last 0 or not; samples are [sin, tri, saw, sqr].
 // Each call answers a number: 0 done; of an accepted tick what its mark is told by; of a refused call 1 to 7 as the scope has
 // them, or 50, 51, 52, 53 where floats, wholes, samples or counts have another length. A refused call writes nothing. A block
 // answers 0, with the ticks' samples one after another, their marks by the same numbers, and the tally's counts.
 #![tactic(auto)]
 
-ghost use Rattle.std.specs.Prelude.{◌≡◌, List, ℕ, Float, length};
-ghost use Rattle.answer.specs.Block.{block};
-ghost use Rattle.boundary.specs.Flat.{n_counts, kept, heard, heard_of, played, played_of};
+ghost use Rattle.std.specs.Prelude.{◌≡◌};
+ghost use Rattle.boundary.specs.Flat.{kept, heard, played};
 ghost use Rattle.exports_vco.specs.State.{n_floats, n_wholes, n_samples, state_of, floats_of, wholes_of, samples_of};
-ghost use Rattle.exports_vco.specs.Calls.{kept_of, vco_new_at, vco_reset_at, vco_set_sample_rate_at, controls_of, vco_tick_at, vco_block_at};
+ghost use Rattle.exports_vco.specs.Calls.{vco_new_at, vco_reset_at, vco_set_sample_rate_at, controls_of, vco_tick_at, vco_block_at};
 
-use answer::{Outcome, Tallied};
-use common::{Hertz, Memo3, Turns, VoltsPerOctave};
-use vco::{Vco, VcoBlock, VcoControls, VcoMade, VcoTicked};
+use answer::Volts;
+use boundary::Layout;
+use common::{Hertz, Memo, Turns, VoltsPerOctave};
+use vco::{Vco, VcoControls};
 
 // Where the edge record's floats begin, and what stands after them.
 const EDGE: usize = 2;
 
 const VAL: usize = EDGE + boundary::EDGE_FLOATS;
 
-// How many floats, wholes and samples there are.
-const FLOATS: usize = VAL + 1;
+// How a Vco lies in the slices.
+struct Cells;
 
-const WHOLES: usize = 4;
+impl Layout for Cells {
+    type State = Vco;
 
-const SAMPLES: usize = 4;
+    const FLOATS: usize = VAL + 1;
 
-fn state(floats: &[f64], wholes: &[u64]) -> Vco
-    requires { (length floats.now ≡ n_floats) × (length wholes.now ≡ n_wholes) }
-    ensures { result ≡ state_of floats.now wholes.now }
-{
-    let phase = Turns(floats[0]);
-    let sample_rate = Hertz(floats[1]);
-    let sync_edge = boundary::edge_of(&floats[EDGE..VAL]);
-    let freq_memo = Memo3 {
-        key0: wholes[0],
-        key1: wholes[1],
-        key2: wholes[2],
-        val: Hertz(floats[VAL]),
-        valid: wholes[3] != 0,
-    };
-    Vco {
-        phase,
-        sample_rate,
-        sync_edge,
-        freq_memo,
-    }
-}
+    const WHOLES: usize = 4;
 
-fn store(s: Vco, floats: &mut [f64], wholes: &mut [u64])
-    requires { (length floats.old ≡ n_floats) × (length wholes.old ≡ n_wholes) }
-    ensures { (floats.new ≡ floats_of s) × (wholes.new ≡ wholes_of s) }
-{
-    let phase = s.phase;
-    let sample_rate = s.sample_rate;
-    let sync_edge = s.sync_edge;
-    let memo = s.freq_memo;
-    let val = memo.val;
-    floats[0] = phase.0;
-    floats[1] = sample_rate.0;
-    boundary::put_edge(sync_edge, &mut floats[EDGE..VAL]);
-    floats[VAL] = val.0;
-    wholes[0] = memo.key0;
-    wholes[1] = memo.key1;
-    wholes[2] = memo.key2;
-    wholes[3] = memo.valid as u64;
-}
+    const SAMPLES: usize = 4;
 
-// What a call without samples made.
-fn put_made(m: VcoMade, floats: &mut [f64], wholes: &mut [u64]) -> u32
-    requires { (length floats.old ≡ n_floats) × (length wholes.old ≡ n_wholes) }
-    ensures { kept result floats.new wholes.new ≡ kept_of m floats.old wholes.old }
-{
-    let outcome = m.outcome;
-    let s = m.vco;
-    match outcome {
-        Outcome::Done => {
-            store(s, floats, wholes);
-            0
+    ghost FLOATS = { n_floats };
+
+    ghost WHOLES = { n_wholes };
+
+    ghost SAMPLES = { n_samples };
+
+    ghost state_of = { state_of };
+
+    ghost floats_of = { floats_of };
+
+    ghost wholes_of = { wholes_of };
+
+    ghost samples_of = { samples_of };
+
+    fn state(floats: &[f64], wholes: &[u64]) -> Vco {
+        Vco {
+            phase: Turns(floats[0]),
+            sample_rate: Hertz(floats[1]),
+            sync_edge: boundary::edge_of(&floats[EDGE..VAL]),
+            freq_memo: Memo {
+                key: [wholes[0], wholes[1], wholes[2]],
+                val: Hertz(floats[VAL]),
+                valid: wholes[3] != 0,
+            },
         }
-        Outcome::Refused(n) => n,
     }
-}
 
-// The samples and the state after an accepted tick; a refused one leaves them.
-fn put_ticked(t: VcoTicked, floats: &mut [f64], wholes: &mut [u64], samples: &mut [f64]) -> u32
-    requires { (length floats.old ≡ n_floats) × (length wholes.old ≡ n_wholes) × (length samples.old ≡ n_samples) }
-    ensures { heard result floats.new wholes.new samples.new
-        ≡ heard_of floats_of wholes_of samples_of t.answer t.vco floats.old wholes.old samples.old }
-{
-    let answer = t.answer;
-    let code = answer::host_number(answer);
-    if answer::is_accepted(answer) {
-        let s = t.vco;
-        let v = answer::samples(answer);
-        store(s, &mut *floats, &mut *wholes);
+    fn store(s: Vco, floats: &mut [f64], wholes: &mut [u64]) {
+        floats[0] = s.phase.0;
+        floats[1] = s.sample_rate.0;
+        boundary::put_edge(s.sync_edge, &mut floats[EDGE..VAL]);
+        floats[VAL] = s.freq_memo.val.0;
+        wholes[0] = s.freq_memo.key[0];
+        wholes[1] = s.freq_memo.key[1];
+        wholes[2] = s.freq_memo.key[2];
+        wholes[3] = s.freq_memo.valid as u64;
+    }
+
+    fn put(v: Volts, samples: &mut [f64]) {
         samples[0] = v.p10;
         samples[1] = v.p11;
         samples[2] = v.p12;
         samples[3] = v.p13;
-    }
-    code
-}
-
-// The state and the counts after a block; a refused one leaves them.
-fn put_block(b: VcoBlock, floats: &mut [f64], wholes: &mut [u64], counts: &mut [u32]) -> u32
-    requires { (length floats.old ≡ n_floats) × (length wholes.old ≡ n_wholes) × (length counts.old ≡ n_counts) }
-    ensures { (o : List Float) → (m : List ℕ)
-        → played result floats.new wholes.new counts.new o m
-        ≡ played_of floats_of wholes_of (block b.refused b.vco b.tally o m)
-        floats.old wholes.old counts.old }
-{
-    let refused = b.refused;
-    if refused == 0 {
-        let s = b.vco;
-        let tally = b.tally;
-        store(s, &mut *floats, &mut *wholes);
-        boundary::put_counts(tally, counts);
-        0
-    } else {
-        refused
     }
 }
 
@@ -133,12 +87,8 @@ pub extern "C" fn gruttisol_vco_new(
 ) -> u32
     ensures { kept result floats.new wholes.new ≡ vco_new_at sample_rate threshold floats.old wholes.old }
 {
-    let n = boundary::sizes(FLOATS, WHOLES, floats, wholes);
-    if n == 0 {
-        put_made(Vco::new(Hertz(sample_rate), threshold), floats, wholes)
-    } else {
-        n
-    }
+    let made = Vco::new(Hertz(sample_rate), threshold);
+    boundary::keep::<Cells>(made.accepted(), floats, wholes)
 }
 
 #[unsafe(no_mangle)]
@@ -156,23 +106,18 @@ pub extern "C" fn gruttisol_vco_tick(
     ensures { heard result floats.new wholes.new samples.new
         ≡ vco_tick_at (controls_of voct fm pw sync fm_lin) wanted floats.old wholes.old samples.old }
 {
-    let n = boundary::tick_sizes(FLOATS, WHOLES, SAMPLES, floats, wholes, samples);
-    if n == 0 {
-        let c = VcoControls {
-            voct: VoltsPerOctave(voct),
-            fm: VoltsPerOctave(fm),
-            pw,
-            sync,
-            fm_lin,
-        };
-        put_ticked(
-            state(floats, wholes).tick(c, wanted),
-            floats,
-            wholes,
-            samples,
-        )
-    } else {
-        n
+    match boundary::tick_state::<Cells>(floats, wholes, samples) {
+        Ok(vco) => {
+            let c = VcoControls {
+                voct: VoltsPerOctave(voct),
+                fm: VoltsPerOctave(fm),
+                pw,
+                sync,
+                fm_lin,
+            };
+            boundary::hear::<Cells>(vco.tick(c, wanted), floats, wholes, samples)
+        }
+        Err(refused) => refused.number(),
     }
 }
 
@@ -194,8 +139,8 @@ pub extern "C" fn gruttisol_vco_block(
         ≡ vco_block_at (controls_of voct fm pw sync fm_lin) wanted floats.old wholes.old counts.old
         samples.old marks.old }
 {
-    match boundary::block_tally(FLOATS, WHOLES, floats, wholes, counts) {
-        Tallied::Taken(tally) => {
+    match boundary::block_state::<Cells>(floats, wholes, counts) {
+        Ok(begun) => {
             let c = VcoControls {
                 voct: VoltsPerOctave(voct),
                 fm: VoltsPerOctave(fm),
@@ -203,14 +148,10 @@ pub extern "C" fn gruttisol_vco_block(
                 sync,
                 fm_lin,
             };
-            put_block(
-                state(floats, wholes).block(c, wanted, tally, samples, marks),
-                floats,
-                wholes,
-                counts,
-            )
+            let played = begun.state.block(c, wanted, begun.tally, samples, marks);
+            boundary::keep_block::<Cells>(played, floats, wholes, counts)
         }
-        Tallied::Refused(refused) => refused,
+        Err(refused) => refused.number(), // of lengths or counts
     }
 }
 
@@ -218,11 +159,9 @@ pub extern "C" fn gruttisol_vco_block(
 pub extern "C" fn gruttisol_vco_reset(floats: &mut [f64], wholes: &mut [u64]) -> u32
     ensures { kept result floats.new wholes.new ≡ vco_reset_at floats.old wholes.old }
 {
-    let n = boundary::sizes(FLOATS, WHOLES, floats, wholes);
-    if n == 0 {
-        put_made(state(floats, wholes).reset(), floats, wholes)
-    } else {
-        n
+    match boundary::state::<Cells>(floats, wholes) {
+        Ok(vco) => boundary::keep::<Cells>(vco.reset(), floats, wholes),
+        Err(refused) => refused.number(),
     }
 }
 
@@ -234,14 +173,8 @@ pub extern "C" fn gruttisol_vco_set_sample_rate(
 ) -> u32
     ensures { kept result floats.new wholes.new ≡ vco_set_sample_rate_at sample_rate floats.old wholes.old }
 {
-    let n = boundary::sizes(FLOATS, WHOLES, floats, wholes);
-    if n == 0 {
-        put_made(
-            state(floats, wholes).set_sample_rate(Hertz(sample_rate)),
-            floats,
-            wholes,
-        )
-    } else {
-        n
+    match boundary::state::<Cells>(floats, wholes) {
+        Ok(vco) => boundary::keep::<Cells>(vco.set_sample_rate(Hertz(sample_rate)), floats, wholes),
+        Err(refused) => refused.number(),
     }
 }

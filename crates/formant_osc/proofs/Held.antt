@@ -31,12 +31,12 @@ use Rattle.common.specs.declared.Wrapped.{Wrapped}
 use Rattle.common.specs.declared.VoltsPerOctave.{VoltsPerOctave}
 use Rattle.formant_osc.proofs.Coherent.{coefs_again}
 use Rattle.formant_osc.proofs.Still.{still_pitch}
-use Rattle.formant_osc.proofs.Vibrato.{vibrato_finite}
+use Rattle.formant_osc.proofs.VibratoFinite.{vibrato_finite}
 use Rattle.formant_osc.specs.Consts.{n_ports, vibrato_rate}
 use Rattle.formant_osc.specs.FormantOsc.{controls_of, formant_osc_refusal_of, freq_memo_of, coef_memo_of, formant_osc_rung}
 use Rattle.formant_osc.specs.FormantOsc.{formant_osc_sound_of, formant_osc_tick_of, formant_osc_told_of, formant_osc_next_of}
 use Rattle.formant_osc.specs.Shortcuts.{drive_memo, phase_sum, vibrato_sum, drive_next, flag, is_flagged, pulse_at, flag_at, stride_at, swayed}
-use Rattle.formant_osc.specs.Shortcuts.{phase_at, phase_flag_at, voiced_of, cells_at, voiced_at}
+use Rattle.formant_osc.specs.Shortcuts.{phase_at, phase_flag_at, vibrato_of, voiced_of, cells_at, voiced_at}
 use Rattle.formant_osc.specs.Sound.{glottal_pulse, pitch_of, rung_of}
 use Rattle.formant_osc.specs.Promises.{NanSteers, BlockAccepts, BlockTallies}
 use Rattle.formant_osc.specs.declared.CoefMemo.{CoefMemo}
@@ -45,6 +45,7 @@ use Rattle.formant_osc.specs.declared.FormantOscControls.{FormantOscControls}
 use Rattle.formant_osc.specs.declared.FormantOsc.{FormantOsc}
 use Rattle.formant_osc.specs.declared.FormantOscTicked.{FormantOscTicked}
 use Rattle.formant_osc.specs.declared.Rung.{Rung}
+use Rattle.formant_osc.specs.declared.Vibrato.{Vibrato}
 use Rattle.laws.specs.Float.{F64, zer, one, is_fin}
 use Rattle.laws.specs.Lists.{tab, over}
 use Rattle.laws.proofs.Over.{get_or_tab, length_tab, tab_ext, over_at}
@@ -60,8 +61,8 @@ pub still_tuned : (v : VoltsPerOctave) (depth : Float) (p q : Turns) (m n : Memo
     → recall1 voct_to_hz_at m (pitch_of v depth p.0).0 ≡ m → (still ≡ true → n ≡ m) → still ≡ true
     → recall1 voct_to_hz_at n (pitch_of v depth q.0).0 ≡ n
 still_tuned v depth p q m n still f e g h r w t =
-    let a : pitch_of v depth p.0 ≡ v = still_pitch v depth p.0 true still still f (sym g) e refl t in
-    let b : pitch_of v depth q.0 ≡ v = still_pitch v depth q.0 true still still f (sym h) e refl t in
+    let a : pitch_of v depth p.0 ≡ v = still_pitch v depth p.0 f g (sym e ∙ t) in
+    let b : pitch_of v depth q.0 ≡ v = still_pitch v depth q.0 f h (sym e ∙ t) in
     let z : n ≡ m = w t in
     simp (z, b) (rw a at r)
 
@@ -331,20 +332,19 @@ module _ (s : FormantOsc) (c : FormantOscControls) (e : formant_osc_refusal_of s
 
 -- ---- a block's code
 -- the pitch of the first tick is in the memo that was asked for it
-pub recalled_again : (m r : Memo1) (p q : VoltsPerOctave) → r ≡ recall1 voct_to_hz_at m p.0 → p ≡ q → recall1 voct_to_hz_at r q.0 ≡ r
-recalled_again m r p q e h =
-    ap (λ (v : VoltsPerOctave). recall1 voct_to_hz_at r v.0) (sym h) ∙ ap (λ (n : Memo1). recall1 voct_to_hz_at n p.0) e ∙ recall1_again voct_to_hz_at m p.0
-    ∙ sym e
+pub heard_again : (s : FormantOsc) (c : FormantOscControls) (memo : Memo1) (v : Vibrato) → memo ≡ freq_memo_of s c → v ≡ vibrato_of c
+    → recall1 voct_to_hz_at memo (pitch_of v.v_oct v.depth s.vibrato_phase.0).0 ≡ memo
+unfolding freq_memo_of
+heard_again s c memo v em ev = rw (em, ev) (recall1_again voct_to_hz_at s.freq_memo (pitch_of c.v_oct (depth_of c) s.vibrato_phase.0).0)
 
 -- each call's own law, one after another
-pub ran : (s : FormantOsc) (c : FormantOscControls) (n : ℕ) (depth : Float) (pitch : VoltsPerOctave) (memo : Memo1) (coefs : CoefMemo) (end : Driver)
+pub ran : (s : FormantOsc) (c : FormantOscControls) (n : ℕ) (v : Vibrato) (memo : Memo1) (coefs : CoefMemo) (end : Driver)
     (xs : List Float) (ms : List ℕ) (cells ys : List Float) (ns : List ℕ) (numbers : Bool)
     → formant_osc_refusal_of s ≡ 0 → 0 < n
-    → numbers ≡ numbers_of c → depth ≡ depth_of c → pitch ≡ pitch_of c.v_oct depth s.vibrato_phase.0
-    → memo ≡ recall1 voct_to_hz_at s.freq_memo pitch.0 → coefs ≡ coef_memo_of s c
-    → end ≡ after_ticks (drive_next c.v_oct depth s.sample_rate) n (driver s.phase s.vibrato_phase memo)
-    → xs ≡ tab (pulse_at c.v_oct depth s.sample_rate (driver s.phase s.vibrato_phase memo)) n
-    → ms ≡ tab (flag_at c.v_oct depth s.sample_rate (driver s.phase s.vibrato_phase memo)) n
+    → numbers ≡ numbers_of c → v ≡ vibrato_of c → memo ≡ freq_memo_of s c → coefs ≡ coef_memo_of s c
+    → end ≡ after_ticks (drive_next v.v_oct v.depth s.sample_rate) n (driver s.phase s.vibrato_phase memo)
+    → xs ≡ tab (pulse_at v.v_oct v.depth s.sample_rate (driver s.phase s.vibrato_phase memo)) n
+    → ms ≡ tab (flag_at v.v_oct v.depth s.sample_rate (driver s.phase s.vibrato_phase memo)) n
     → cells ≡ cells_at coefs.val xs s.resonator_state (length ms)
     → ys ≡ tab (λ i. (volts_of (voiced_at numbers coefs.val s.resonator_state xs ms i)).p10) (length ms)
     → ns ≡ tab (λ i. host_number (voiced_at numbers coefs.val s.resonator_state xs ms i)) (length ms)
@@ -359,18 +359,14 @@ pub ran : (s : FormantOsc) (c : FormantOscControls) (n : ℕ) (depth : Float) (p
     ≡ after_ticks (formant_osc_next_of c) n s)
     × ((ys ≡ joined (frame_at n_ports (formant_osc_told_of c) (formant_osc_next_of c) s) n)
     × (ns ≡ tab (mark_at (formant_osc_told_of c) (formant_osc_next_of c) s) n))
-ran s c n depth pitch memo coefs end xs ms cells ys ns numbers e z eq ed ep em b ee ex ek el ey en =
-    let a : memo ≡ freq_memo_of s c =
-    unfold freq_memo_of in
-    em ∙ ap (λ (p : VoltsPerOctave). recall1 voct_to_hz_at s.freq_memo p.0) ep
-    ∙ ap (λ (d : Float). recall1 voct_to_hz_at s.freq_memo (pitch_of c.v_oct d s.vibrato_phase.0).0) ed in
-    let w : length ms ≡ n = ap length ek ∙ length_tab (flag_at c.v_oct depth s.sample_rate (driver s.phase s.vibrato_phase memo)) n in
+ran s c n v memo coefs end xs ms cells ys ns numbers e z eq ev em b ee ex ek el ey en =
+    let w : length ms ≡ n = ap length ek ∙ length_tab (flag_at v.v_oct v.depth s.sample_rate (driver s.phase s.vibrato_phase memo)) n in
     let x : xs ≡ tab (pulse_at c.v_oct (depth_of c) s.sample_rate (start_of s c)) n =
-    ex ∙ (λ k. tab (pulse_at c.v_oct (ed k) s.sample_rate (driver s.phase s.vibrato_phase (a k))) n) in
+    ex ∙ (λ k. tab (pulse_at (ev k).v_oct (ev k).depth s.sample_rate (driver s.phase s.vibrato_phase (em k))) n) in
     let m : ms ≡ tab (flag_at c.v_oct (depth_of c) s.sample_rate (start_of s c)) n =
-    ek ∙ (λ k. tab (flag_at c.v_oct (ed k) s.sample_rate (driver s.phase s.vibrato_phase (a k))) n) in
+    ek ∙ (λ k. tab (flag_at (ev k).v_oct (ev k).depth s.sample_rate (driver s.phase s.vibrato_phase (em k))) n) in
     let d : end ≡ after_ticks (drive_next c.v_oct (depth_of c) s.sample_rate) n (start_of s c) =
-    ee ∙ (λ k. after_ticks (drive_next c.v_oct (ed k) s.sample_rate) n (driver s.phase s.vibrato_phase (a k))) in
+    ee ∙ (λ k. after_ticks (drive_next (ev k).v_oct (ev k).depth s.sample_rate) n (driver s.phase s.vibrato_phase (em k))) in
     let l : cells ≡ cells_at (coef_memo_of s c).val xs s.resonator_state n = el ∙ (λ k. cells_at (b k).val xs s.resonator_state (w k)) in (
       (λ k.
           record {

@@ -48,8 +48,13 @@ positive_at [] h i k = absurd (omega arith)
 positive_at (x ∷ l) h zero k = and_l (positive x) (positives l) h
 positive_at (x ∷ l) h (suc i) k = positive_at l (and_r (positive x) (positives l) h) i (omega arith)
 
-formant_positive : (i : ℕ) → i < 25 → T (positive (get_or formants i nan))
-formant_positive i h = positive_at formants (unfold of_bits in tt) i h
+formant_positive : (v i : ℕ) → v ≤ 4 → i < 5 → T (positive (get_or (get_or formants v []) i nan))
+formant_positive zero i h k = positive_at (get_or formants 0 []) (unfold of_bits in tt) i k
+formant_positive (suc zero) i h k = positive_at (get_or formants 1 []) (unfold of_bits in tt) i k
+formant_positive (suc (suc zero)) i h k = positive_at (get_or formants 2 []) (unfold of_bits in tt) i k
+formant_positive (suc (suc (suc zero))) i h k = positive_at (get_or formants 3 []) (unfold of_bits in tt) i k
+formant_positive (suc (suc (suc (suc zero)))) i h k = positive_at (get_or formants 4 []) (unfold of_bits in tt) i k
+formant_positive (suc (suc (suc (suc (suc v))))) i h k = absurd (omega arith)
 
 -- ---- frac lies from 0 to 1
 abbrev UnitPart : Float → Type 0
@@ -170,19 +175,19 @@ formant_plus v i by I p = mul_plus _ by (go (frac_unit v)) p
     at = spot_of v
 
     f0 : Float
-    f0 = get_or formants (5 * at.index + i) nan
+    f0 = get_or (get_or formants at.index []) i nan
 
     f1 : Float
-    f1 = get_or formants (5 * (at.index + 1) + i) nan
+    f1 = get_or (get_or formants (at.index + 1) []) i nan
 
     few : at.index ≤ 3
     few = spot_few at v refl
 
     p0 : T (positive f0)
-    p0 = formant_positive (5 * at.index + i) (omega (arith, few, I))
+    p0 = formant_positive at.index i (omega (arith, few)) I
 
     p1 : T (positive f1)
-    p1 = formant_positive (5 * (at.index + 1) + i) (omega (arith, few, I))
+    p1 = formant_positive (at.index + 1) i (omega (arith, few)) I
 
     go : (at.frac ≡ nan) ⊎ UnitPart at.frac → Plus (add binary64 (mul binary64 f0 (sub binary64 one at.frac)) (mul binary64 f1 at.frac))
     go (inl e) =

@@ -1,10 +1,9 @@
 -- A vibrato of no depth adds a zero to the pitch, and only a pitch of zero feels that.
 use mathlib.Core.Bool.{Bool, true, false, not, ◌&&◌}
-use mathlib.Core.Path.{◌≡◌, refl, sym, ap, subst, ◌∙◌}
+use mathlib.Core.Path.{◌≡◌, refl, ap, ◌∙◌}
 use lib.Dec.{T, lit≤}
 use lib.Ieee.{Float, fin, binary64, add, mul, div, eq, of_bits}
 use lib.Ieee.Bits.{is_true}
-use lib.Ieee.Fits.{and_l, and_r}
 use lib.IntN.{pos}
 use Rattle.common.proofs.Bounds.{phase_within, sin_within, two_within}
 use Rattle.common.specs.Consts.{half}
@@ -15,7 +14,7 @@ use Rattle.numeric.specs.Basic.{pi}
 use Rattle.formant_osc.specs.Consts.{twelve}
 use Rattle.formant_osc.specs.Sound.{pitch_of}
 use Rattle.laws.proofs.Interval.{within_finite, within_mul, within_of}
-use Rattle.laws.proofs.Tests.{of_true}
+use Rattle.laws.proofs.Tests.{both_true, of_true}
 use Rattle.laws.proofs.Zeros.{times_nought, plus_nought}
 use Rattle.laws.specs.Float.{F64, is_fin, zer, two}
 use Rattle.numeric.specs.Trig.{sin_of}
@@ -36,16 +35,14 @@ unfolding mul div of_bits
 part_nought true = (true, refl)
 part_nought false = (false, refl)
 
-pub still_pitch : (v : VoltsPerOctave) (depth p : Float) (phase zeros still : Bool) → F64 v.0
-    → phase ≡ phase_ok (turns p) → zeros ≡ (eq depth zer && not (eq v.0 zer)) → still ≡ (phase && zeros) → still ≡ true
+pub still_pitch : (v : VoltsPerOctave) (depth p : Float) → F64 v.0 → phase_ok (turns p) ≡ true → (eq depth zer && not (eq v.0 zer)) ≡ true
     → pitch_of v depth p ≡ v
 unfolding pitch_of
-still_pitch v depth p phase zeros still f ep ez es taken =
-    let h = of_true (phase && zeros) (sym es ∙ taken) in
-    let k = subst T ez (and_r phase zeros h) in
-    let q = times_nought (sin_of (angle p)) depth (sine_finite p (subst T ep (and_l phase zeros h))) (and_l (eq depth zer) (not (eq v.0 zer)) k) in
+still_pitch v depth p f phase zeros =
+    let h = both_true (eq depth zer) (not (eq v.0 zer)) zeros in
+    let q = times_nought (sin_of (angle p)) depth (sine_finite p (of_true (phase_ok (turns p)) phase)) (of_true (eq depth zer) h.0) in
     let r = part_nought q.0 in
     ap (λ (z : Float). record { 0 = z })
     (ap (λ (z : Float). add binary64 v.0 (div binary64 (mul binary64 z half) twelve)) q.1
     ∙ ap (λ (z : Float). add binary64 v.0 z) r.1
-    ∙ plus_nought v.0 r.0 f (and_r (eq depth zer) (not (eq v.0 zer)) k))
+    ∙ plus_nought v.0 r.0 f (of_true (not (eq v.0 zer)) h.1))

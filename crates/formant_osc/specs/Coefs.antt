@@ -1,5 +1,5 @@
 -- get_formants and resonator_coefs, written from oscillators.rs.
-use Rattle.std.specs.Prelude.{List, [], ◌∷◌, ℕ, ◌+◌, ◌*◌, min, get_or, Float}
+use Rattle.std.specs.Prelude.{List, [], ◌∷◌, ℕ, ◌+◌, min, get_or, Float}
 use Rattle.std.specs.Float.{nan, binary64}
 use Rattle.std.specs.Float.Ieee.{add, sub, mul, div, neg}
 use Rattle.laws.specs.Float.{zer, one, two}
@@ -21,8 +21,8 @@ spot_of vowel =
 -- (f0 * (1.0 - frac) + f1 * frac) * shift_mult, with f0 of the lower vowel and f1 of the next
 unfoldable pub formant_of : Spot → ℕ → Float → Float
 formant_of at i shift_mult =
-    let f0 = get_or formants (5 * at.index + i) nan in
-    let f1 = get_or formants (5 * (at.index + 1) + i) nan in
+    let f0 = get_or (get_or formants at.index []) i nan in
+    let f1 = get_or (get_or formants (at.index + 1) []) i nan in
     mul binary64 (add binary64 (mul binary64 f0 (sub binary64 one at.frac)) (mul binary64 f1 at.frac)) shift_mult
 
 -- shift_mult = pow(2.0, shift / 5.0)

@@ -18,8 +18,14 @@ use Rattle.common.specs.declared.VoltsPerOctave.{VoltsPerOctave}
 use Rattle.formant_osc.specs.Consts.{vibrato_rate}
 use Rattle.formant_osc.specs.Sound.{glottal_pulse, pitch_of, rung_of}
 use Rattle.formant_osc.specs.declared.Driver.{Driver}
-use Rattle.laws.specs.Float.{one, is_fin}
+use Rattle.formant_osc.specs.declared.FormantOscControls.{FormantOscControls}
+use Rattle.formant_osc.specs.declared.Vibrato.{Vibrato}
+use Rattle.laws.specs.Float.{zer, one, is_fin}
 use Rattle.numeric.specs.Basic.{clamp_of}
+
+-- ---- what the controls say of the pitch: its depth is brought into 0 to 1
+abbrev pub vibrato_of : FormantOscControls → Vibrato
+vibrato_of c = record { v_oct = c.v_oct; depth = clamp_of c.vibrato zer one }
 
 -- ---- the phases and the pitch: the memo after a tick, and both phases with their increments
 unfoldable pub drive_memo : VoltsPerOctave → Float → Driver → Memo1

@@ -2,8 +2,10 @@
 // Its output: p10 out.
 #![tactic(auto)]
 
-ghost use Rattle.std.specs.Prelude.{◌≡◌, true, ◌&&◌, ◌≤◌, ◌<◌, length, get_or, set};
+ghost use Rattle.std.specs.Prelude.{◌≡◌, true, not, ◌&&◌, ◌≤◌, ◌<◌, length, get_or, set};
 ghost use Rattle.std.specs.Float.{nan};
+ghost use Rattle.std.specs.Float.Ieee.{eq};
+ghost use Rattle.laws.specs.Float.{zer};
 ghost use Rattle.laws.specs.Lists.{tab};
 ghost use Rattle.common.specs.Memo.{recall1, voct_to_hz_at};
 ghost use Rattle.common.specs.Phase.{turns};
@@ -12,14 +14,14 @@ ghost use Rattle.answer.specs.Answer.{host_number, volts_of};
 ghost use Rattle.answer.specs.Mark.{all_numbers};
 ghost use Rattle.answer.specs.Block.{after_ticks, joined, block, mark_at, frame_at};
 ghost use Rattle.formant_osc.specs.Consts.{n_ports};
-ghost use Rattle.formant_osc.specs.Coefs.{spot_of, formant_of, get_formants, bandwidth_of, coef_of, resonator_coefs};
+ghost use Rattle.formant_osc.specs.Coefs.{spot_of, formant_of, get_formants, coef_of, resonator_coefs};
 ghost use Rattle.formant_osc.specs.Memo.{new_coef_memo, coef_hits, coef_filled, coef_recall};
 ghost use Rattle.formant_osc.specs.Sound.{glottal_pulse, pitch_of, resonate_of, rung_of};
-ghost use Rattle.formant_osc.specs.FormantOsc.{controls_of, formant_osc_refusal_of, formant_osc_rate_refusal_of, formant_osc_new_of, formant_osc_sound_of};
+ghost use Rattle.formant_osc.specs.FormantOsc.{controls_of, new_formant_osc, formant_osc_refusal_of, formant_osc_rate_refusal_of, formant_osc_new_of, formant_osc_sound_of};
 ghost use Rattle.formant_osc.specs.FormantOsc.{formant_osc_tick_of, formant_osc_told_of, formant_osc_next_of, formant_osc_block_of, formant_osc_reset_of};
-ghost use Rattle.formant_osc.specs.FormantOsc.{formant_osc_set_sample_rate_of};
+ghost use Rattle.formant_osc.specs.FormantOsc.{freq_memo_of, coef_memo_of, formant_osc_set_sample_rate_of};
 ghost use Rattle.formant_osc.specs.Shortcuts.{drive_next, pulse_at, flag, is_flagged, flag_at, stride_at, swayed, phase_at, phase_flag_at};
-ghost use Rattle.formant_osc.specs.Shortcuts.{voiced_of, voiced_at, cells_at};
+ghost use Rattle.formant_osc.specs.Shortcuts.{voiced_of, voiced_at, cells_at, vibrato_of};
 
 use answer::{Answer, Outcome, Tally};
 use common::{Hertz, Memo1, Turns, VoltsPerOctave};
@@ -98,6 +100,13 @@ struct Resonated {
     s1: f64,
 }
 
+// A pitch that swings about its middle, and how far.
+#[derive(Clone, Copy)]
+struct Vibrato {
+    v_oct: VoltsPerOctave,
+    depth: f64,
+}
+
 // What drives the resonators: all of the state that moves in a block but their cells.
 #[derive(Clone, Copy)]
 struct Driver {
@@ -113,11 +122,13 @@ struct Rung {
     state: [f64; 10],
 }
 
-// Formant frequencies of the five vowels, five for each.
-const FORMANTS: [f64; 25] = [
-    700.0, 1220.0, 2600.0, 3500.0, 4500.0, 530.0, 1840.0, 2480.0, 3500.0, 4500.0, 280.0, 2250.0,
-    2890.0, 3500.0, 4500.0, 500.0, 700.0, 2350.0, 3500.0, 4500.0, 300.0, 870.0, 2250.0, 3500.0,
-    4500.0,
+// Formant frequencies of the five vowels.
+const FORMANTS: [[f64; 5]; 5] = [
+    [700.0, 1220.0, 2600.0, 3500.0, 4500.0],
+    [530.0, 1840.0, 2480.0, 3500.0, 4500.0],
+    [280.0, 2250.0, 2890.0, 3500.0, 4500.0],
+    [500.0, 700.0, 2350.0, 3500.0, 4500.0],
+    [300.0, 870.0, 2250.0, 3500.0, 4500.0],
 ];
 
 // The bandwidth of each formant, and how loud it is.
@@ -132,25 +143,27 @@ const VIBRATO_RATE: f64 = 5.5;
 const PORTS: usize = 1;
 
 // Where a vowel lies among the five.
+#[tactic(auto, unfolding(crate::specs::Coefs::spot_of))]
 fn spot_of(vowel: f64) -> Spot
     ensures { result ≡ spot_of vowel }
 {
     let idx = numeric::clamp(vowel, 0.0, 1.0) * 4.0;
-    let index = numeric::least(numeric::to_usize(idx), 3);
+    let index = numeric::to_usize(idx).min(3);
     let frac = idx - numeric::of_u64(index as u64);
     Spot { index, frac }
 }
 
-// The i-th formant between two vowels.
-fn formant(at: Spot, i: usize, shift_mult: f64) -> f64
-    requires { (at.index ≤ 3) × (i < 5) }
-    ensures { result ≡ formant_of at i shift_mult }
-{
-    let index = at.index;
-    let frac = at.frac;
-    let f0 = FORMANTS[5 * index + i];
-    let f1 = FORMANTS[5 * (index + 1) + i];
-    (f0 * (1.0 - frac) + f1 * frac) * shift_mult
+impl Spot {
+    // The i-th formant between two vowels.
+    #[tactic(auto, unfolding(crate::specs::Coefs::formant_of))]
+    fn formant(self, i: usize, shift_mult: f64) -> f64
+        requires { (self.index ≤ 3) × (i < 5) }
+        ensures { result ≡ formant_of self i shift_mult }
+    {
+        let f0 = FORMANTS[self.index][i];
+        let f1 = FORMANTS[self.index + 1][i];
+        (f0 * (1.0 - self.frac) + f1 * self.frac) * shift_mult
+    }
 }
 
 fn get_formants(vowel: f64, shift: f64) -> [f64; 5]
@@ -158,21 +171,18 @@ fn get_formants(vowel: f64, shift: f64) -> [f64; 5]
 {
     let at = spot_of(vowel);
     let shift_mult = numeric::exp2(shift / 5.0);
-    [
-        formant(at, 0, shift_mult),
-        formant(at, 1, shift_mult),
-        formant(at, 2, shift_mult),
-        formant(at, 3, shift_mult),
-        formant(at, 4, shift_mult),
-    ]
+    let mut formants = [0.0; 5];
+    for (i, formant) in formants.iter_mut().enumerate() {
+        *formant = at.formant(i, shift_mult);
+    }
+    formants
 }
 
 // Turn i of the loop in resonator_coefs.
-fn one_coef(freq: Hertz, i: usize, sample_rate: Hertz) -> Coef
-    requires { i < 5 }
-    ensures { result ≡ coef_of freq.0 (bandwidth_of i) sample_rate.0 }
+#[tactic(auto, unfolding(crate::specs::Coefs::coef_of))]
+fn one_coef(freq: Hertz, bandwidth: f64, sample_rate: Hertz) -> Coef
+    ensures { result ≡ coef_of freq.0 bandwidth sample_rate.0 }
 {
-    let bandwidth = BANDWIDTHS[i];
     let omega = numeric::clamp(
         2.0 * numeric::PI * freq.0 / sample_rate.0,
         0.01,
@@ -192,18 +202,19 @@ fn one_coef(freq: Hertz, i: usize, sample_rate: Hertz) -> Coef
 fn resonator_coefs(vowel: f64, shift: f64, sample_rate: Hertz) -> [f64; 15]
     ensures { result ≡ resonator_coefs vowel shift sample_rate.0 }
 {
-    let f = get_formants(vowel, shift);
-    let a = one_coef(Hertz(f[0]), 0, sample_rate);
-    let b = one_coef(Hertz(f[1]), 1, sample_rate);
-    let c = one_coef(Hertz(f[2]), 2, sample_rate);
-    let d = one_coef(Hertz(f[3]), 3, sample_rate);
-    let e = one_coef(Hertz(f[4]), 4, sample_rate);
-    [
-        a.b0, a.a1, a.a2, b.b0, b.a1, b.a2, c.b0, c.a1, c.a2, d.b0, d.a1, d.a2, e.b0, e.a1, e.a2,
-    ]
+    let freqs = get_formants(vowel, shift);
+    let mut rows = [0.0; 15];
+    for i in 0..5 {
+        let coef = one_coef(Hertz(freqs[i]), BANDWIDTHS[i], sample_rate);
+        rows[3 * i] = coef.b0;
+        rows[3 * i + 1] = coef.a1;
+        rows[3 * i + 2] = coef.a2;
+    }
+    rows
 }
 
 impl CoefMemo {
+    #[tactic(auto, unfolding(crate::specs::Memo::new_coef_memo))]
     fn new() -> Self
         ensures { result ≡ new_coef_memo }
     {
@@ -217,25 +228,18 @@ impl CoefMemo {
     }
 
     // Whether the memo holds the coefficients for x, y and z.
+    #[tactic(auto, unfolding(crate::specs::Memo::coef_hits))]
     fn hits(self, x: f64, y: f64, z: f64) -> bool
         ensures { result ≡ coef_hits self x y z }
     {
-        if self.valid {
-            if self.key0 == numeric::bits(x) {
-                if self.key1 == numeric::bits(y) {
-                    self.key2 == numeric::bits(z)
-                } else {
-                    false
-                }
-            } else {
-                false
-            }
-        } else {
-            false
-        }
+        self.valid
+            && self.key0 == numeric::bits(x)
+            && self.key1 == numeric::bits(y)
+            && self.key2 == numeric::bits(z)
     }
 
     // A memo that holds these coefficients for x, y and z.
+    #[tactic(auto, unfolding(crate::specs::Memo::coef_filled))]
     fn filled(x: f64, y: f64, z: f64, val: [f64; 15]) -> Self
         ensures { result ≡ coef_filled x y z val }
     {
@@ -249,6 +253,7 @@ impl CoefMemo {
     }
 
     // The Rust's get_or_compute; its answer is the new memo's val.
+    #[tactic(auto, unfolding(crate::specs::Memo::coef_recall))]
     fn recall(self, vowel: f64, shift: f64, sample_rate: Hertz) -> Self
         ensures { result ≡ coef_recall self vowel shift sample_rate.0 }
     {
@@ -262,6 +267,7 @@ impl CoefMemo {
 }
 
 // A quick rise to 0.4 of the turn, a slower fall to 0.8, then nothing.
+#[tactic(auto, unfolding(crate::specs::Sound::glottal_pulse))]
 fn glottal_pulse(phase: Turns) -> f64
     ensures { result ≡ glottal_pulse phase.0 }
 {
@@ -275,37 +281,60 @@ fn glottal_pulse(phase: Turns) -> f64
     }
 }
 
-// The pitch with its vibrato, at most half a semitone either way.
-fn vibrated(v_oct: VoltsPerOctave, depth: f64, vibrato_phase: Turns) -> VoltsPerOctave
-    ensures { result ≡ pitch_of v_oct depth vibrato_phase.0 }
-{
-    let vibrato = numeric::sin(vibrato_phase.0 * 2.0 * numeric::PI);
-    let semitones = vibrato * depth * 0.5;
-    VoltsPerOctave(v_oct.0 + semitones / 12.0)
-}
+impl Vibrato {
+    // Of no depth it adds a zero, which leaves every pitch that isn't one itself.
+    fn is_still(self) -> bool
+        ensures { result ≡ (eq self.depth zer && not (eq self.v_oct.0 zer)) }
+    {
+        self.depth == 0.0 && self.v_oct.0 != 0.0
+    }
 
-// The same. A vibrato of no depth adds a zero, which leaves every pitch that isn't one itself: no sine is needed for it.
-fn pitch(v_oct: VoltsPerOctave, depth: f64, vibrato_phase: Turns) -> VoltsPerOctave
-    ensures { result ≡ pitch_of v_oct depth vibrato_phase.0 }
-{
-    let adds_zero = both(depth == 0.0, v_oct.0 != 0.0);
-    let is_still = both(common::phase_ok(vibrato_phase), adds_zero);
-    if is_still {
-        v_oct
-    } else {
-        vibrated(v_oct, depth, vibrato_phase)
+    // The pitch with its vibrato, at most half a semitone either way.
+    #[tactic(auto, unfolding(crate::specs::Sound::pitch_of))]
+    fn swung(self, phase: Turns) -> VoltsPerOctave
+        ensures { result ≡ pitch_of self.v_oct self.depth phase.0 }
+    {
+        let vibrato = numeric::sin(phase.0 * 2.0 * numeric::PI);
+        let semitones = vibrato * self.depth * 0.5;
+        VoltsPerOctave(self.v_oct.0 + semitones / 12.0)
+    }
+
+    // The same, without a sine where the pitch is still.
+    fn pitch(self, phase: Turns) -> VoltsPerOctave
+        ensures { result ≡ pitch_of self.v_oct self.depth phase.0 }
+    {
+        if common::phase_ok(phase) && self.is_still() {
+            self.v_oct
+        } else {
+            self.swung(phase)
+        }
+    }
+
+    // The memo after a tick. Where the pitch stands still it holds it already.
+    fn tuned(self, still: bool, memo: Memo1, phase: Turns) -> Memo1
+        requires { still ≡ true → recall1 voct_to_hz_at memo (pitch_of self.v_oct self.depth phase.0).0 ≡ memo }
+        ensures { result ≡ recall1 voct_to_hz_at memo (pitch_of self.v_oct self.depth phase.0).0 }
+    {
+        if still {
+            memo
+        } else {
+            memo.voct_to_hz(self.swung(phase))
+        }
     }
 }
 
-// One resonator, Direct Form II transposed.
-fn resonate(b0: f64, a1: f64, a2: f64, s0: f64, s1: f64, excitation: f64) -> Resonated
-    ensures { result ≡ resonate_of b0 a1 a2 s0 s1 excitation }
-{
-    let out = b0 * excitation + s0;
-    Resonated {
-        out,
-        s0: -a1 * out + s1,
-        s1: -b0 * excitation - a2 * out,
+impl Coef {
+    // One resonator, Direct Form II transposed.
+    #[tactic(auto, unfolding(crate::specs::Sound::resonate_of))]
+    fn resonate(self, s0: f64, s1: f64, excitation: f64) -> Resonated
+        ensures { result ≡ resonate_of self.b0 self.a1 self.a2 s0 s1 excitation }
+    {
+        let out = self.b0 * excitation + s0;
+        Resonated {
+            out,
+            s0: -self.a1 * out + s1,
+            s1: -self.b0 * excitation - self.a2 * out,
+        }
     }
 }
 
@@ -313,26 +342,20 @@ fn resonate(b0: f64, a1: f64, a2: f64, s0: f64, s1: f64, excitation: f64) -> Res
 fn ring(c: [f64; 15], s: [f64; 10], x: f64) -> Rung
     ensures { result ≡ rung_of c s x }
 {
-    let a = resonate(c[0], c[1], c[2], s[0], s[1], x);
-    let b = resonate(c[3], c[4], c[5], s[2], s[3], x);
-    let d = resonate(c[6], c[7], c[8], s[4], s[5], x);
-    let e = resonate(c[9], c[10], c[11], s[6], s[7], x);
-    let f = resonate(c[12], c[13], c[14], s[8], s[9], x);
-    Rung {
-        sum: 0.0
-            + a.out * AMPLITUDES[0]
-            + b.out * AMPLITUDES[1]
-            + d.out * AMPLITUDES[2]
-            + e.out * AMPLITUDES[3]
-            + f.out * AMPLITUDES[4],
-        state: [a.s0, a.s1, b.s0, b.s1, d.s0, d.s1, e.s0, e.s1, f.s0, f.s1],
+    let mut sum = 0.0;
+    let mut state = s;
+    for i in 0..5 {
+        let coef = Coef {
+            b0: c[3 * i],
+            a1: c[3 * i + 1],
+            a2: c[3 * i + 2],
+        };
+        let rung = coef.resonate(s[2 * i], s[2 * i + 1], x);
+        sum += rung.out * AMPLITUDES[i];
+        state[2 * i] = rung.s0;
+        state[2 * i + 1] = rung.s1;
     }
-}
-
-fn both(a: bool, b: bool) -> bool
-    ensures { result ≡ (a && b) }
-{
-    if a { b } else { false }
+    Rung { sum, state }
 }
 
 // Turns wait as a plain number in the place of tick i's sample, which a caller lends: these two put them there and fetch them.
@@ -350,25 +373,15 @@ fn kept_turns(samples: &[f64], i: usize) -> Turns
     Turns(samples[i])
 }
 
-// The memo after a tick. Where the pitch stands still it holds it already.
-fn tuned(still: bool, memo: Memo1, v_oct: VoltsPerOctave, depth: f64, vibrato_phase: Turns) -> Memo1
-    requires { still ≡ true → recall1 voct_to_hz_at memo (pitch_of v_oct depth vibrato_phase.0).0 ≡ memo }
-    ensures { result ≡ recall1 voct_to_hz_at memo (pitch_of v_oct depth vibrato_phase.0).0 }
-{
-    if still {
-        memo
-    } else {
-        memo.voct_to_hz(vibrated(v_oct, depth, vibrato_phase))
-    }
-}
-
 // Whether a phase stays finite waits in the place of tick i's mark. It is no mark.
+#[tactic(auto, unfolding(crate::specs::Shortcuts::flag))]
 fn flag(b: bool) -> u32
     ensures { result ≡ flag b }
 {
-    if b { 1 } else { 0 }
+    b as u32
 }
 
+#[tactic(auto, unfolding(crate::specs::Shortcuts::is_flagged))]
 fn is_flagged(n: u32) -> bool
     ensures { result ≡ is_flagged n }
 {
@@ -376,6 +389,7 @@ fn is_flagged(n: u32) -> bool
 }
 
 // What a tick answers to the resonators' sum.
+#[tactic(auto, unfolding(crate::specs::Shortcuts::voiced_of))]
 fn voiced(sum: f64, phases: bool, numbers: bool) -> Answer
     ensures { result ≡ voiced_of sum phases numbers }
 {
@@ -386,40 +400,30 @@ fn voiced(sum: f64, phases: bool, numbers: bool) -> Answer
 // A block goes over its ticks three times, each time with little to wait for, so that a processor works at several ticks at
 // once; with all in one loop it couldn't. The first time: what the phase grows by, in the place of the sample. The vibrato's
 // phase moves too, and stays finite.
-fn sway(
-    start: Driver,
-    v_oct: VoltsPerOctave,
-    depth: f64,
-    sample_rate: Hertz,
-    samples: &mut [f64],
-) -> Driver
+fn sway(start: Driver, vibrato: Vibrato, sample_rate: Hertz, samples: &mut [f64]) -> Driver
     requires { (phase_ok start.vibrato_phase ≡ true)
-        × (recall1 voct_to_hz_at start.freq_memo (pitch_of v_oct depth start.vibrato_phase.0).0 ≡ start.freq_memo) }
-    ensures value { result ≡ swayed v_oct depth sample_rate (length samples.old) start }
-    ensures samples_after { samples.new ≡ tab (λ i. (stride_at v_oct depth sample_rate start i).0) (length samples.old) }
+        × (recall1 voct_to_hz_at start.freq_memo (pitch_of vibrato.v_oct vibrato.depth start.vibrato_phase.0).0 ≡ start.freq_memo) }
+    ensures value { result ≡ swayed vibrato.v_oct vibrato.depth sample_rate (length samples.old) start }
+    ensures samples_after { samples.new ≡ tab (λ i. (stride_at vibrato.v_oct vibrato.depth sample_rate start i).0) (length samples.old) }
 {
-    let memo = start.freq_memo;
-    let still = both(depth == 0.0, v_oct.0 != 0.0);
+    let still = vibrato.is_still();
     let vibrato_step = common::increment(Hertz(VIBRATO_RATE), sample_rate);
     let mut vibrato_phase = start.vibrato_phase;
-    let mut freq_memo = memo;
-    let mut i = 0;
-    while i < samples.len() {
+    let mut freq_memo = start.freq_memo;
+    for i in 0..samples.len() {
         let next = Turns(vibrato_phase.0 + vibrato_step.0);
-        freq_memo = tuned(still, freq_memo, v_oct, depth, vibrato_phase);
+        freq_memo = vibrato.tuned(still, freq_memo, vibrato_phase);
         keep_turns(
             common::increment(freq_memo.val, sample_rate),
             i,
             &mut *samples,
         );
         vibrato_phase = common::wrap_of_several(next).phase;
-        i += 1;
     }
-    let phase = start.phase;
     Driver {
-        phase,
         vibrato_phase,
         freq_memo,
+        ..start
     }
 }
 
@@ -432,13 +436,11 @@ fn pulse(start: Turns, samples: &mut [f64], marks: &mut [u32]) -> Turns
     ensures marks_after { marks.new ≡ tab (phase_flag_at samples.old start) (length marks.old) }
 {
     let mut phase = start;
-    let mut i = 0;
-    while i < marks.len() {
+    for i in 0..marks.len() {
         let next = Turns(phase.0 + kept_turns(samples, i).0);
         samples[i] = glottal_pulse(phase);
         marks[i] = flag(numeric::is_finite(next.0));
         phase = common::wrap_of_several(next).phase;
-        i += 1;
     }
     phase
 }
@@ -446,26 +448,22 @@ fn pulse(start: Turns, samples: &mut [f64], marks: &mut [u32]) -> Turns
 // Both.
 fn drive(
     start: Driver,
-    v_oct: VoltsPerOctave,
-    depth: f64,
+    vibrato: Vibrato,
     sample_rate: Hertz,
     samples: &mut [f64],
     marks: &mut [u32],
 ) -> Driver
     requires { (phase_ok start.vibrato_phase ≡ true)
-        × (recall1 voct_to_hz_at start.freq_memo (pitch_of v_oct depth start.vibrato_phase.0).0 ≡ start.freq_memo)
+        × (recall1 voct_to_hz_at start.freq_memo (pitch_of vibrato.v_oct vibrato.depth start.vibrato_phase.0).0 ≡ start.freq_memo)
         × (length samples.old ≡ length marks.old) }
-    ensures value { result ≡ after_ticks (drive_next v_oct depth sample_rate) (length marks.old) start }
-    ensures samples_after { samples.new ≡ tab (pulse_at v_oct depth sample_rate start) (length marks.old) }
-    ensures marks_after { marks.new ≡ tab (flag_at v_oct depth sample_rate start) (length marks.old) }
+    ensures value { result ≡ after_ticks (drive_next vibrato.v_oct vibrato.depth sample_rate) (length marks.old) start }
+    ensures samples_after { samples.new ≡ tab (pulse_at vibrato.v_oct vibrato.depth sample_rate start) (length marks.old) }
+    ensures marks_after { marks.new ≡ tab (flag_at vibrato.v_oct vibrato.depth sample_rate start) (length marks.old) }
 {
-    let swayed = sway(start, v_oct, depth, sample_rate, &mut *samples);
-    let vibrato_phase = swayed.vibrato_phase;
-    let freq_memo = swayed.freq_memo;
+    let swayed = sway(start, vibrato, sample_rate, &mut *samples);
     Driver {
         phase: pulse(start.phase, samples, marks),
-        vibrato_phase,
-        freq_memo,
+        ..swayed
     }
 }
 
@@ -485,13 +483,11 @@ fn voice(
         ≡ tab (λ i. host_number (voiced_at numbers c start samples.old marks.old i)) (length marks.old) }
 {
     let mut cells = start;
-    let mut i = 0;
-    while i < marks.len() {
+    for i in 0..marks.len() {
         let rung = ring(c, cells, samples[i]);
         let heard = voiced(rung.sum, is_flagged(marks[i]), numbers);
         answer::put(heard, PORTS, i, &mut *samples, &mut *marks);
         cells = rung.state;
-        i += 1;
     }
     cells
 }
@@ -501,28 +497,39 @@ impl FormantOscControls {
     fn are_numbers(self) -> bool
         ensures { result ≡ all_numbers (controls_of self) }
     {
-        let v_oct = self.v_oct;
-        answer::numbers4(v_oct.0, self.vowel, self.formant_shift, self.vibrato)
+        answer::numbers4(self.v_oct.0, self.vowel, self.formant_shift, self.vibrato)
+    }
+
+    // Its depth is brought into 0 to 1.
+    fn vibrato(self) -> Vibrato
+        ensures { result ≡ vibrato_of self }
+    {
+        Vibrato {
+            v_oct: self.v_oct,
+            depth: numeric::clamp(self.vibrato, 0.0, 1.0),
+        }
     }
 }
 
 impl FormantOsc {
     // 0, or the number that refuses this state: 1 its rate, 2 a phase.
+    #[tactic(auto, unfolding(crate::specs::FormantOsc::formant_osc_refusal_of))]
     fn refusal(self) -> u32
         ensures { result ≡ formant_osc_refusal_of self }
     {
-        let sample_rate = self.sample_rate;
-        let phase = self.phase;
-        let vibrato_phase = self.vibrato_phase;
-        if common::rate_ok(sample_rate) {
-            let phases_ok = both(common::phase_ok(phase), common::phase_ok(vibrato_phase));
-            if phases_ok { 0 } else { 2 }
+        if common::rate_ok(self.sample_rate) {
+            if common::phase_ok(self.phase) && common::phase_ok(self.vibrato_phase) {
+                0
+            } else {
+                2
+            }
         } else {
             1
         }
     }
 
     // What refuses a change to this rate: 1 on the new rate and on the old, then 2.
+    #[tactic(auto, unfolding(crate::specs::FormantOsc::formant_osc_rate_refusal_of))]
     fn rate_refusal(self, sample_rate: Hertz) -> u32
         ensures { result ≡ formant_osc_rate_refusal_of self sample_rate }
     {
@@ -533,18 +540,26 @@ impl FormantOsc {
         }
     }
 
-    // A refused new hands out the state with the bad rate, which every later call refuses.
-    pub fn new(sample_rate: Hertz) -> FormantOscMade
-        ensures { result ≡ formant_osc_new_of sample_rate }
+    // At rest, with nothing in its memos.
+    #[tactic(auto, unfolding(crate::specs::FormantOsc::new_formant_osc))]
+    fn first(sample_rate: Hertz) -> Self
+        ensures { result ≡ new_formant_osc sample_rate }
     {
-        let formant_osc = FormantOsc {
+        FormantOsc {
             phase: Turns(0.0),
             vibrato_phase: Turns(0.0),
             resonator_state: [0.0; 10],
             sample_rate,
             freq_memo: Memo1::new(),
             coef_memo: CoefMemo::new(),
-        };
+        }
+    }
+
+    // A refused new hands out the state with the bad rate, which every later call refuses.
+    pub fn new(sample_rate: Hertz) -> FormantOscMade
+        ensures { result ≡ formant_osc_new_of sample_rate }
+    {
+        let formant_osc = FormantOsc::first(sample_rate);
         if common::rate_ok(sample_rate) {
             FormantOscMade {
                 outcome: Outcome::Done,
@@ -558,48 +573,56 @@ impl FormantOsc {
         }
     }
 
+    // The memos after a tick. Inlined, for with a call in the place of each a tick takes a tenth longer.
+    #[inline(always)]
+    #[tactic(auto, unfolding(crate::specs::FormantOsc::freq_memo_of))]
+    fn freqs(self, c: FormantOscControls) -> Memo1
+        ensures { result ≡ freq_memo_of self c }
+    {
+        self.freq_memo
+            .voct_to_hz(c.vibrato().pitch(self.vibrato_phase))
+    }
+
+    #[inline(always)]
+    #[tactic(auto, unfolding(crate::specs::FormantOsc::coef_memo_of))]
+    fn coefs(self, c: FormantOscControls) -> CoefMemo
+        ensures { result ≡ coef_memo_of self c }
+    {
+        self.coef_memo.recall(
+            numeric::clamp(c.vowel, 0.0, 1.0),
+            c.formant_shift,
+            self.sample_rate,
+        )
+    }
+
     // An accepted tick: the Rust's tick_generic.
+    #[tactic(auto, unfolding(crate::specs::FormantOsc::formant_osc_sound_of, crate::specs::FormantOsc::formant_osc_rung, crate::specs::Shortcuts::voiced_of))]
     fn sound(self, c: FormantOscControls) -> FormantOscTicked
         ensures { result ≡ formant_osc_sound_of self c }
     {
-        let numbers = c.are_numbers();
-        let phase = self.phase;
-        let vibrato_phase = self.vibrato_phase;
-        let state = self.resonator_state;
-        let sample_rate = self.sample_rate;
-        let freqs = self.freq_memo;
-        let coefs = self.coef_memo;
         // Here, far from the other phase: side by side the two become one pair, which the next tick can't read before the
         // whole of this one is done.
-        let vibrato_inc = common::increment(Hertz(VIBRATO_RATE), sample_rate);
-        let vibrato_next = Turns(vibrato_phase.0 + vibrato_inc.0);
+        let vibrato_inc = common::increment(Hertz(VIBRATO_RATE), self.sample_rate);
+        let vibrato_next = Turns(self.vibrato_phase.0 + vibrato_inc.0);
         let vibrato_moved = common::wrap_of_several(vibrato_next).phase;
-        let v_oct = c.v_oct;
-        let vowel = numeric::clamp(c.vowel, 0.0, 1.0);
-        let depth = numeric::clamp(c.vibrato, 0.0, 1.0);
-        let freq_memo = freqs.voct_to_hz(pitch(v_oct, depth, vibrato_phase));
-        let phase_inc = common::increment(freq_memo.val, sample_rate);
-        let excitation = glottal_pulse(phase);
-        let coef_memo = coefs.recall(vowel, c.formant_shift, sample_rate);
-        let val = coef_memo.val;
-        let rung = ring(val, state, excitation);
-        let sum = rung.sum;
+        let freq_memo = self.freqs(c);
+        let phase_inc = common::increment(freq_memo.val, self.sample_rate);
+        let excitation = glottal_pulse(self.phase);
+        let coef_memo = self.coefs(c);
+        let rung = ring(coef_memo.val, self.resonator_state, excitation);
         let resonator_state = rung.state;
-        let next = Turns(phase.0 + phase_inc.0);
+        let next = Turns(self.phase.0 + phase_inc.0);
         let moved = common::wrap_of_several(next).phase;
-        let phases = both(
-            numeric::is_finite(next.0),
-            numeric::is_finite(vibrato_next.0),
-        );
+        let phases = numeric::is_finite(next.0) && numeric::is_finite(vibrato_next.0);
         FormantOscTicked {
-            answer: voiced(sum, phases, numbers),
+            answer: voiced(rung.sum, phases, c.are_numbers()),
             formant_osc: FormantOsc {
                 phase: moved,
                 vibrato_phase: vibrato_moved,
                 resonator_state,
-                sample_rate,
                 freq_memo,
                 coef_memo,
+                ..self
             },
         }
     }
@@ -625,34 +648,27 @@ impl FormantOsc {
         ensures samples_after { samples.new ≡ joined (frame_at n_ports (formant_osc_told_of c) (formant_osc_next_of c) self) (length marks.old) }
         ensures marks_after { marks.new ≡ tab (mark_at (formant_osc_told_of c) (formant_osc_next_of c) self) (length marks.old) }
     {
-        let numbers = c.are_numbers();
-        let phase = self.phase;
-        let vibrato_phase = self.vibrato_phase;
-        let cells = self.resonator_state;
-        let sample_rate = self.sample_rate;
-        let freqs = self.freq_memo;
-        let coefs = self.coef_memo;
-        let v_oct = c.v_oct;
-        let vowel = numeric::clamp(c.vowel, 0.0, 1.0);
-        let depth = numeric::clamp(c.vibrato, 0.0, 1.0);
         let start = Driver {
-            phase,
-            vibrato_phase,
-            freq_memo: freqs.voct_to_hz(pitch(v_oct, depth, vibrato_phase)),
+            phase: self.phase,
+            vibrato_phase: self.vibrato_phase,
+            freq_memo: self.freqs(c),
         };
-        let coef_memo = coefs.recall(vowel, c.formant_shift, sample_rate);
-        let val = coef_memo.val;
-        let end = drive(start, v_oct, depth, sample_rate, &mut *samples, &mut *marks);
-        let phase = end.phase;
-        let vibrato_phase = end.vibrato_phase;
-        let freq_memo = end.freq_memo;
+        let coef_memo = self.coefs(c);
+        let end = drive(
+            start,
+            c.vibrato(),
+            self.sample_rate,
+            &mut *samples,
+            &mut *marks,
+        );
+        let numbers = c.are_numbers();
         FormantOsc {
-            phase,
-            vibrato_phase,
-            resonator_state: voice(val, cells, numbers, samples, marks),
-            sample_rate,
-            freq_memo,
+            phase: end.phase,
+            vibrato_phase: end.vibrato_phase,
+            resonator_state: voice(coef_memo.val, self.resonator_state, numbers, samples, marks),
+            freq_memo: end.freq_memo,
             coef_memo,
+            ..self
         }
     }
 
@@ -699,15 +715,13 @@ impl FormantOsc {
     {
         let n = self.refusal();
         if n == 0 {
-            let start = Turns(0.0);
-            let silent = [0.0; 10];
-            let mut formant_osc = self;
-            formant_osc.phase = start;
-            formant_osc.vibrato_phase = start;
-            formant_osc.resonator_state = silent;
             FormantOscMade {
                 outcome: Outcome::Done,
-                formant_osc,
+                formant_osc: FormantOsc {
+                    freq_memo: self.freq_memo,
+                    coef_memo: self.coef_memo,
+                    ..FormantOsc::first(self.sample_rate)
+                },
             }
         } else {
             FormantOscMade {
@@ -722,11 +736,12 @@ impl FormantOsc {
     {
         let n = self.rate_refusal(sample_rate);
         if n == 0 {
-            let mut formant_osc = self;
-            formant_osc.sample_rate = sample_rate;
             FormantOscMade {
                 outcome: Outcome::Done,
-                formant_osc,
+                formant_osc: FormantOsc {
+                    sample_rate,
+                    ..self
+                },
             }
         } else {
             FormantOscMade {

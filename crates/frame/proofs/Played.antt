@@ -15,8 +15,6 @@ use Rattle.laws.specs.Lists.{tab}
 use Rattle.laws.proofs.Over.{get_or_tab, length_tab}
 use Rattle.laws.proofs.Tests.{both_true}
 use Rattle.line.specs.Bytes.{ascii}
-use Rattle.text.specs.Promises.{Put}
-use Rattle.text.proofs.PutLaws.{after}
 use Rattle.answer.specs.Answer.{mark_number, host_number, volts_of, accepted, answer_of}
 use Rattle.answer.specs.Block.{ports_of, joined}
 use Rattle.answer.specs.declared.Volts.{Volts}
@@ -137,13 +135,13 @@ frames_say o first samples n b e h =
     (leb-true (first + n) 4294967295 top, eqb-true samples (ports_in o * n) size)
 
 -- ---- one frame's text after those before it
-pub frame_put : (o : Osc) (first : ℕ) (l : List Float) (m : List ℕ) (i ports : ℕ) (v : Volts) (a : Answer) (out q r : List ℕ) (at to end : ℕ)
+pub told_more : (o : Osc) (first : ℕ) (l : List Float) (m : List ℕ) (i ports : ℕ) (v : Volts) (a : Answer)
     → ports ≡ ports_in o → v ≡ volts_at ports l i → a ≡ answer_of (get_or m i 0) v
-    → Put out at (told_texts o first l m i) to q → Put q to (frame_text o (first + i) a) end r → Put out at (told_texts o first l m (i + 1)) end r
+    → told_texts o first l m (i + 1) ≡ told_texts o first l m i ++ frame_text o (first + i) a
 unfolding told_texts
-frame_put o first l m i ports v a out q r at to end ep ev ea before put =
+told_more o first l m i ports v a ep ev ea =
     let e : a ≡ answer_of (get_or m i 0) (volts_at (ports_in o) l i) = ea ∙ ap (answer_of (get_or m i 0)) (ev ∙ ap (λ (n : ℕ). volts_at n l i) ep) in
-    rw (more i) (after out at (joined (told_text o first l m) i) (told_text o first l m i) before (rw e at put))
+    rw e (more i)
   where
     more : (i : ℕ) → joined (told_text o first l m) (i + 1) ≡ joined (told_text o first l m) i ++ told_text o first l m i
     more i = unfold joined in ap (λ (n : ℕ). joined (told_text o first l m) n) (add-one i)

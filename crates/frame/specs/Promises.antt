@@ -2,7 +2,8 @@
 use Rattle.std.specs.Prelude.{ℕ, ◌+◌, ◌≤◌, ◌<◌, Bool, true, List, ◌≡◌, Float, length}
 use Rattle.laws.specs.Lists.{tab}
 use Rattle.laws.specs.Machine.{Settles}
-use Rattle.text.specs.Promises.{Put}
+use Rattle.text.specs.Settled.{PutSettles}
+use Rattle.text.specs.declared.Page.{Page}
 use Rattle.answer.specs.Answer.{host_number, volts_of, accepted}
 use Rattle.answer.specs.Block.{ports_of, joined}
 use Rattle.answer.specs.declared.Answer.{Answer}
@@ -47,13 +48,11 @@ pub record ClaimedWhen (frames : ℕ) (t : Tally) : Type 0 where
 abbrev pub ClaimedSays : Type 0
 ClaimedSays = (frames : ℕ) (t : Tally) → ClaimedWhen frames t
 
--- ---- each contract settles its answer and the lent buffer
+-- ---- each contract settles its answer and the page
 pub record Settled : Type 0 where
   pub ports_of : (o : Osc) → Settles (λ (n : ℕ). n ≡ ports_in o)
-  pub put_frames : (out : List ℕ) (at : ℕ) (o : Osc) (first : ℕ) (samples : List Float) (marks : List ℕ)
-      → Settles (λ (x : ℕ × List ℕ). Put out at (played_text o first samples marks) x.0 x.1)
-  pub put_frame : (out : List ℕ) (at : ℕ) (o : Osc) (n : ℕ) (a : Answer)
-      → Settles (λ (x : ℕ × List ℕ). Put out at (frame_text o n a) x.0 x.1)
-  pub put_end : (out : List ℕ) (at frames : ℕ) (t : Tally) → Settles (λ (x : ℕ × List ℕ). Put out at (end_text frames t) x.0 x.1)
-  pub put_refused : (out : List ℕ) (at n : ℕ) → Settles (λ (x : ℕ × List ℕ). Put out at (refused_text n) x.0 x.1)
+  pub put_frames : (p : Page) (o : Osc) (first : ℕ) (samples : List Float) (marks : List ℕ) → PutSettles p (played_text o first samples marks)
+  pub put_frame : (p : Page) (o : Osc) (n : ℕ) (a : Answer) → PutSettles p (frame_text o n a)
+  pub put_end : (p : Page) (frames : ℕ) (t : Tally) → PutSettles p (end_text frames t)
+  pub put_refused : (p : Page) (n : ℕ) → PutSettles p (refused_text n)
   pub claimed : (frames : ℕ) (t : Tally) → Settles (λ (b : Bool). b ≡ claimed_of frames t)

@@ -1,95 +1,86 @@
-// What `render` prints: the text of a frame, of the end and of a refusal. A text is put as crates/text puts one.
+// What `render` prints: the text of a frame, of the end and of a refusal. A text is put on a page as crates/text puts one.
 #![tactic(auto)]
 
 ghost use Rattle.std.specs.Prelude.{◌≡◌, ◌≤◌, ◌+◌, ◌*◌, length};
-ghost use Rattle.std.proofs.lemmas.List.Edits.{sets};
-ghost use Rattle.text.specs.Promises.{Put};
-ghost use Rattle.text.specs.Put.{place_of};
-ghost use Rattle.text.specs.Lines.{count_line};
+ghost use Rattle.text.specs.Page.{with_text};
 ghost use Rattle.frame.specs.Frame.{sample_line, waves_text, outputs_text, marked_text, frame_text};
 ghost use Rattle.frame.specs.Frames.{ports_in, output_at, volts_at, told_texts, are_frames, played_text};
 ghost use Rattle.frame.specs.End.{counts_text, claimed_of, end_text, refused_text};
 
 use answer::{Answer, Tally, Volts};
 use score::Osc;
-
-// ---- lines: a count, and a sample, the bits of an f64 in hexadecimal
-
-fn put_count(out: &mut [u8], at: usize, key: &[u8], n: u32) -> usize
-    ensures value { result ≡ place_of out.old at (count_line key.now n) }
-    ensures out_after { out.new ≡ sets out.old at (count_line key.now n) }
-{
-    text::put_count(out, at, key, n as u64)
-}
-
-fn put_sample(out: &mut [u8], at: usize, key: &[u8], x: f64) -> usize
-    ensures value { result ≡ place_of out.old at (sample_line key.now x) }
-    ensures out_after { out.new ≡ sets out.old at (sample_line key.now x) }
-{
-    let a = text::put_text(&mut *out, at, key);
-    let b = text::put_hex(&mut *out, a, numeric::bits(x));
-    text::put_byte(out, b, b'\n')
-}
+use text::Page;
 
 // ---- a frame
 
-// The four waves that Vco and Lfo have.
-fn put_waves(out: &mut [u8], at: usize, v: Volts) -> usize
-    ensures value { result ≡ place_of out.old at (waves_text v) }
-    ensures out_after { out.new ≡ sets out.old at (waves_text v) }
+// A sample's line: the bits of an f64 in hexadecimal.
+#[tactic(auto, using(text::proofs::PageLaws::page_then), unfolding(crate::specs::Frame::sample_line, text::specs::Lines::word_line))]
+fn put_sample(page: &mut Page, key: &[u8], x: f64)
+    ensures { page.new ≡ with_text page.old (sample_line key.now x) }
 {
-    let a = put_sample(&mut *out, at, b"sin=", v.p10);
-    let b = put_sample(&mut *out, a, b"tri=", v.p11);
-    let c = put_sample(&mut *out, b, b"saw=", v.p12);
-    put_sample(out, c, b"sqr=", v.p13)
+    page.text(key);
+    page.hex(numeric::bits(x));
+    page.byte(b'\n');
 }
 
-fn put_outputs(out: &mut [u8], at: usize, osc: Osc, v: Volts) -> usize
-    ensures value { result ≡ place_of out.old at (outputs_text osc v) }
-    ensures out_after { out.new ≡ sets out.old at (outputs_text osc v) }
+// The four waves that Vco and Lfo have.
+#[tactic(auto, using(text::proofs::PageLaws::page_then), unfolding(crate::specs::Frame::waves_text))]
+fn put_waves(page: &mut Page, v: Volts)
+    ensures { page.new ≡ with_text page.old (waves_text v) }
+{
+    put_sample(page, b"sin=", v.p10);
+    put_sample(page, b"tri=", v.p11);
+    put_sample(page, b"saw=", v.p12);
+    put_sample(page, b"sqr=", v.p13);
+}
+
+#[tactic(auto, using(text::proofs::PageLaws::page_then), unfolding(crate::specs::Frame::outputs_text))]
+fn put_outputs(page: &mut Page, osc: Osc, v: Volts)
+    ensures { page.new ≡ with_text page.old (outputs_text osc v) }
 {
     match osc {
-        Osc::Vco => put_waves(out, at, v),
+        Osc::Vco => put_waves(page, v),
         Osc::Lfo => {
-            let a = put_waves(&mut *out, at, v);
-            let b = put_sample(&mut *out, a, b"sin_uni=", v.p14);
-            put_sample(out, b, b"eoc=", v.p15)
+            put_waves(page, v);
+            put_sample(page, b"sin_uni=", v.p14);
+            put_sample(page, b"eoc=", v.p15);
         }
         Osc::Supersaw => {
-            let a = put_sample(&mut *out, at, b"out=", v.p10);
-            put_sample(out, a, b"sub=", v.p11)
+            put_sample(page, b"out=", v.p10);
+            put_sample(page, b"sub=", v.p11);
         }
-        Osc::Formant => put_sample(out, at, b"out=", v.p10),
+        Osc::Formant => put_sample(page, b"out=", v.p10),
     }
 }
 
-fn put_marked(out: &mut [u8], at: usize, osc: Osc, n: u32, mark: &[u8], v: Volts) -> usize
-    ensures value { result ≡ place_of out.old at (marked_text osc n mark.now v) }
-    ensures out_after { out.new ≡ sets out.old at (marked_text osc n mark.now v) }
+#[tactic(auto, using(text::proofs::PageLaws::page_then), unfolding(crate::specs::Frame::marked_text))]
+fn put_marked(page: &mut Page, osc: Osc, n: u32, mark: &[u8], v: Volts)
+    ensures { page.new ≡ with_text page.old (marked_text osc n mark.now v) }
 {
-    let a = put_count(&mut *out, at, b"n=", n);
-    let b = text::put_word(&mut *out, a, b"mark=", mark);
-    put_outputs(out, b, osc, v)
+    page.count(b"n=", n as u64);
+    page.word(b"mark=", mark);
+    put_outputs(page, osc, v);
 }
 
 // A refused tick has no text.
-pub fn put_frame(out: &mut [u8], at: usize, osc: Osc, n: u32, a: Answer) -> usize
-    ensures value { result ≡ place_of out.old at (frame_text osc n a) }
-    ensures out_after { out.new ≡ sets out.old at (frame_text osc n a) }
+#[tactic(auto, unfolding(crate::specs::Frame::frame_text))]
+pub fn put_frame(page: &mut Page, osc: Osc, n: u32, a: Answer)
+    ensures { page.new ≡ with_text page.old (frame_text osc n a) }
 {
     match a {
-        Answer::Cleared(v) => put_marked(out, at, osc, n, b"cleared", v),
-        Answer::NotFinite(v) => put_marked(out, at, osc, n, b"notfinite", v),
-        Answer::Lost(v) => put_marked(out, at, osc, n, b"lost", v),
-        Answer::Clean(v) => put_marked(out, at, osc, n, b"clean", v),
-        Answer::Steered(v) => put_marked(out, at, osc, n, b"steered", v),
-        Answer::Refused(_) => text::put_text(out, at, b""),
+        Answer::Cleared(v) => put_marked(page, osc, n, b"cleared", v),
+        Answer::NotFinite(v) => put_marked(page, osc, n, b"notfinite", v),
+        Answer::Lost(v) => put_marked(page, osc, n, b"lost", v),
+        Answer::Clean(v) => put_marked(page, osc, n, b"clean", v),
+        Answer::Steered(v) => put_marked(page, osc, n, b"steered", v),
+        Answer::Refused(_) => page.text(b""),
     }
 }
 
 // ---- frames that were played, told by samples and marks
 
 // How many outputs it has: so many samples are a frame's.
+#[tactic(auto, unfolding(crate::specs::Frames::ports_in))]
 pub fn ports_of(osc: Osc) -> usize
     ensures { result ≡ ports_in osc }
 {
@@ -102,6 +93,7 @@ pub fn ports_of(osc: Osc) -> usize
 }
 
 // Output j of frame i; 0.0 where there is no such output.
+#[tactic(auto, unfolding(crate::specs::Frames::output_at))]
 fn output_at(ports: usize, samples: &[f64], i: usize, j: usize) -> f64
     requires { ports * (i + 1) ≤ length samples.now }
     ensures { result ≡ output_at ports samples.now i j }
@@ -113,6 +105,7 @@ fn output_at(ports: usize, samples: &[f64], i: usize, j: usize) -> f64
     }
 }
 
+#[tactic(auto, unfolding(crate::specs::Frames::volts_at))]
 fn volts_at(ports: usize, samples: &[f64], i: usize) -> Volts
     requires { ports * (i + 1) ≤ length samples.now }
     ensures { result ≡ volts_at ports samples.now i }
@@ -132,103 +125,63 @@ fn are_frames(osc: Osc, first: u32, samples: usize, n: usize) -> bool
     ensures { result ≡ are_frames osc first samples n }
 {
     let ports = ports_of(osc);
-    if samples % ports == 0 {
-        if samples / ports == n {
-            n <= 4294967295 - (first as usize)
-        } else {
-            false
-        }
-    } else {
-        false
-    }
-}
-
-fn put_each(
-    out: &mut [u8],
-    at: usize,
-    osc: Osc,
-    first: u32,
-    samples: &[f64],
-    marks: &[u32],
-) -> usize
-    requires { (at ≤ length out.old) × (first + length marks.now ≤ 4294967295)
-        × (length samples.now ≡ ports_in osc * length marks.now) }
-    ensures { Put out.old at (told_texts osc first samples.now marks.now (length marks.now)) result
-        out.new }
-{
-    let ports = ports_of(osc);
-    let mut to = at;
-    let mut i = 0;
-    while i < marks.len() {
-        let told = answer::answer_of(marks[i], volts_at(ports, samples, i));
-        to = put_frame(&mut *out, to, osc, first + (i as u32), told);
-        i += 1;
-    }
-    to
+    samples % ports == 0 && samples / ports == n && n <= (u32::MAX - first) as usize
 }
 
 // The texts of frames, numbered from `first` on. Samples and marks that aren't those of frames have no text.
-pub fn put_frames(
-    out: &mut [u8],
-    at: usize,
-    osc: Osc,
-    first: u32,
-    samples: &[f64],
-    marks: &[u32],
-) -> usize
-    ensures value { result ≡ place_of out.old at (played_text osc first samples.now marks.now) }
-    ensures out_after { out.new ≡ sets out.old at (played_text osc first samples.now marks.now) }
+pub fn put_frames(page: &mut Page, osc: Osc, first: u32, samples: &[f64], marks: &[u32])
+    ensures { page.new ≡ with_text page.old (played_text osc first samples.now marks.now) }
 {
-    let start = text::put_text(&mut *out, at, b"");
+    // the text of no frame: a place past the end becomes the end
+    page.text(b"");
     if are_frames(osc, first, samples.len(), marks.len()) {
-        put_each(out, start, osc, first, samples, marks)
-    } else {
-        start
+        let ports = ports_of(osc);
+        for (i, mark) in marks.iter().enumerate() {
+            let told = answer::answer_of(*mark, volts_at(ports, samples, i));
+            put_frame(page, osc, first + i as u32, told);
+        }
     }
 }
 
 // ---- the end
 
-fn put_counts(out: &mut [u8], at: usize, t: Tally) -> usize
-    ensures value { result ≡ place_of out.old at (counts_text t) }
-    ensures out_after { out.new ≡ sets out.old at (counts_text t) }
+#[tactic(auto, using(text::proofs::PageLaws::page_then), unfolding(crate::specs::End::counts_text))]
+fn put_counts(page: &mut Page, t: Tally)
+    ensures { page.new ≡ with_text page.old (counts_text t) }
 {
-    let a = put_count(&mut *out, at, b"begun=", t.begun);
-    let b = put_count(&mut *out, a, b"finished=", t.finished);
-    let c = put_count(&mut *out, b, b"cleared=", t.cleared);
-    let d = put_count(&mut *out, c, b"notfinite=", t.notfinite);
-    let e = put_count(&mut *out, d, b"lost=", t.lost);
-    put_count(out, e, b"steered=", t.steered)
+    page.count(b"begun=", t.begun as u64);
+    page.count(b"finished=", t.finished as u64);
+    page.count(b"cleared=", t.cleared as u64);
+    page.count(b"notfinite=", t.notfinite as u64);
+    page.count(b"lost=", t.lost as u64);
+    page.count(b"steered=", t.steered as u64);
 }
 
 // Whether the render may be called finished: each of its frames began, and each was clean.
+#[tactic(auto, unfolding(crate::specs::End::claimed_of))]
 pub fn claimed(frames: u32, t: Tally) -> bool
     ensures { result ≡ claimed_of frames t }
 {
-    if t.finished == t.begun {
-        t.begun == frames
-    } else {
-        false
-    }
+    t.finished == t.begun && t.begun == frames
 }
 
-pub fn put_end(out: &mut [u8], at: usize, frames: u32, t: Tally) -> usize
-    ensures value { result ≡ place_of out.old at (end_text frames t) }
-    ensures out_after { out.new ≡ sets out.old at (end_text frames t) }
+#[tactic(auto, using(text::proofs::PageLaws::page_then), unfolding(crate::specs::End::end_text))]
+pub fn put_end(page: &mut Page, frames: u32, t: Tally)
+    ensures { page.new ≡ with_text page.old (end_text frames t) }
 {
-    let a = put_counts(&mut *out, at, t);
+    put_counts(page, t);
     if claimed(frames, t) {
-        text::put_word(out, a, b"claimed=", b"yes")
+        page.word(b"claimed=", b"yes");
     } else {
-        text::put_word(out, a, b"claimed=", b"no")
+        page.word(b"claimed=", b"no");
     }
 }
 
 // ---- a score that is refused
 
-pub fn put_refused(out: &mut [u8], at: usize, n: u32) -> usize
-    ensures value { result ≡ place_of out.old at (refused_text n) }
-    ensures out_after { out.new ≡ sets out.old at (refused_text n) }
+#[tactic(auto, unfolding(crate::specs::End::refused_text))]
+pub fn put_refused(page: &mut Page, n: u32)
+    ensures { page.new ≡ with_text page.old (refused_text n) }
 {
-    put_count(out, at, b"refused=", n)
+    page.count(b"refused=", n as u64);
 }

@@ -20,6 +20,7 @@ use Rattle.karplus_strong.specs.declared.Tuning.{Tuning}
 use Rattle.karplus_strong.specs.Promises.{Alike, SameTick, OnlyItsCells}
 use Rattle.karplus_strong.specs.declared.KarplusStrong.{KarplusStrong}
 use Rattle.karplus_strong.specs.declared.KarplusStrongControls.{KarplusStrongControls}
+use Rattle.karplus_strong.proofs.Cells.{sum_alike}
 use Rattle.karplus_strong.proofs.Parts.{Sound, struck_fits, accepted, turn_is, turn_either}
 
 -- ---- lengths
@@ -111,11 +112,6 @@ blank_cells a n l m k i q = get_d_over (blank_at a l) n l i q ∙ go (ltb i a) r
 pub alike_blank : (a n : ℕ) (l m : List Float) → n ≤ length l → length l ≡ length m → ((i : ℕ) → i < a → get_or l i nan ≡ get_or m i nan)
     → Alike n (blank_of a n l) (blank_of a n m)
 alike_blank a n l m h e k = record { size = length_blank a n l h ∙ e ∙ sym (length_blank a n m (omega arith)); cells = blank_cells a n l m k }
-
-sum_alike : (l m : List Float) (n : ℕ) → ((i : ℕ) → i < n → get_or l i nan ≡ get_or m i nan) → sum_to l n ≡ sum_to m n
-unfolding sum_to
-sum_alike l m zero k = refl
-sum_alike l m (suc n) k = rw (sum_alike l m n (λ i q. k i (omega arith)), k n (omega arith))
 
 pub alike_struck : (n : ℕ) (b : Float) (d : List ℕ) (l m : List Float) → n ≤ length l → length l ≡ length m → Alike n (struck_of n b d l) (struck_of n b d m)
 unfolding struck_of mean_of level_of excited_of level_at

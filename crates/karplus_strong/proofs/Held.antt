@@ -6,24 +6,23 @@ use borrow.Author.Tests.{eqb-false}
 use Rattle.laws.specs.Float.{zer}
 use Rattle.laws.specs.Lists.{tab}
 use Rattle.common.specs.Edge.{rising_of}
-use Rattle.common.specs.Memo.{recall1, voct_to_hz_at}
-use Rattle.common.specs.Tests.{draws_refusal_of}
+use Rattle.common.specs.Memo.{voct_to_hz_at}
 use Rattle.common.proofs.EdgeLaws.{threshold_kept, same_gate, rising_once}
 use Rattle.common.proofs.MemoLaws.{recall1_again}
-use Rattle.common.specs.declared.Memo1.{Memo1}
 use Rattle.common.specs.declared.Risen.{Risen}
 use Rattle.answer.specs.Block.{after_ticks, answer_at, joined, mark_at, frame_at}
 use Rattle.answer.specs.declared.Answer.{Answer}
 use Rattle.answer.proofs.Blocks.{Holds, held_after, held_marks, held_frames}
 use Rattle.karplus_strong.specs.Consts.{n_ports}
 use Rattle.karplus_strong.specs.Step.{Ticking}
-use Rattle.karplus_strong.specs.KarplusStrong.{max_len_of, room_of, karplus_strong_refusal_of, finite_or, period_of, struck_len, Strung, strike_if}
-use Rattle.karplus_strong.specs.KarplusStrong.{heard_string, tick_unless, karplus_strong_tick_of, strung, trigger_refusal_of, first_refusal_of}
+use Rattle.karplus_strong.specs.KarplusStrong.{max_len_of, room_of, karplus_strong_refusal_of, finite_or, period_of, Strung, strike_if}
+use Rattle.karplus_strong.specs.KarplusStrong.{strike_of, heard_string, tick_unless, karplus_strong_tick_of, strung, trigger_refusal_of, first_refusal_of}
 use Rattle.karplus_strong.specs.KarplusStrong.{karplus_strong_told_of, karplus_strong_next_of, damping_of, brightness_of, stretch_of, controls_of, memo_at}
 use Rattle.karplus_strong.specs.KarplusStrong.{period_at}
 use Rattle.answer.specs.Mark.{all_numbers}
-use Rattle.karplus_strong.specs.Shortcuts.{tuning_of, turn_of, held_answer, held_next}
+use Rattle.karplus_strong.specs.Shortcuts.{tuning_of, turn_of, held_answer, held_next, hear_of, struck_at}
 use Rattle.karplus_strong.specs.Promises.{taken}
+use Rattle.karplus_strong.specs.declared.Heard.{Heard}
 use Rattle.karplus_strong.specs.declared.KarplusStrong.{KarplusStrong}
 use Rattle.karplus_strong.specs.declared.KarplusStrongControls.{KarplusStrongControls}
 use Rattle.karplus_strong.specs.declared.KarplusStrongTicked.{KarplusStrongTicked}
@@ -175,28 +174,22 @@ abbrev pub Rings : (Strung → Answer) → (Strung → Strung) → Strung → �
 Rings answer next x n y o m =
     (y ≡ after_ticks next n x) × ((o ≡ joined (frame_at n_ports answer next x) n) × (m ≡ tab (mark_at answer next x) n))
 
-module _ (s : KarplusStrong) (c : KarplusStrongControls) (d : List ℕ) (l : List Float) (voct : Float) (memo : Memo1) (period : Float) (risen : Risen)
-    (ev : voct ≡ finite_or c.voct.0 zer) (em : memo ≡ recall1 voct_to_hz_at s.freq_memo voct) (ep : period ≡ period_of s.sample_rate memo.val)
-    (er : risen ≡ rising_of s.trigger_edge c.trigger) where
-  pub trigger_by : cond risen.rising (draws_refusal_of (struck_len period) d) 0 ≡ trigger_refusal_of s c d
-  unfolding trigger_refusal_of
-  trigger_by = rw (er, ep, em, ev)
-
-  -- the ring of a string that was struck, if its trigger was taken
-  pub run_by : karplus_strong_refusal_of s (length l) ≡ 0 → trigger_refusal_of s c d ≡ 0 → (damping stretch bright : Float) (numbers : Bool) (u : KarplusStrong)
-      (x : List Float) (t : Tuning) → damping ≡ damping_of c → stretch ≡ stretch_of c → numbers ≡ all_numbers (controls_of c)
-      → bright ≡ brightness_of c
-      → PartsOf (strike_if risen.rising (heard_string s risen.edge memo) period bright d l) u x → t ≡ tuning_of period damping stretch numbers
-      → (n : ℕ) → 0 < n → (y : Strung) (o : List Float) (m : List ℕ) → Rings (held_answer t) (held_next t) (strung u x) n y o m
-      → Rings (karplus_strong_told_of c d) (karplus_strong_next_of c d) (strung s l) n y o m
-  run_by h k damping stretch bright numbers u x t ed es en eb et eu n z y o m r =
-      let w = holds s c d l h k in
-      let a : strung u x ≡ struck_by s c d l = (λ i. strung (et.0 i) (et.1 i)) ∙ rw (eb, er, ep, em, ev) refl in
-      let b : t ≡ tune_of s c = rw (eu, ed, es, en, ep, em, ev) refl in
-      let q : Rings (held_answer (tune_of s c)) (held_next (tune_of s c)) (struck_by s c d l) n y o m =
-      subst (λ (v : Tuning). Rings (held_answer v) (held_next v) (struck_by s c d l) n y o m) b
-      (subst (λ (v : Strung). Rings (held_answer t) (held_next t) v n y o m) a r) in
-      (q.0 ∙ sym (held_after _ _ _ _ _ _ _ _ w n z), (q.1.0 ∙ sym (held_frames _ _ _ _ _ _ _ _ w n_ports n), q.1.1 ∙ sym (held_marks _ _ _ _ _ _ _ _ w n)))
+-- the ring of a string that was struck, if its trigger was taken
+pub run_by : (s : KarplusStrong) (c : KarplusStrongControls) (d : List ℕ) (l : List Float) (h : Heard) → h ≡ hear_of s c
+    → karplus_strong_refusal_of s (length l) ≡ 0 → trigger_refusal_of s c d ≡ 0
+    → (t : Tuning) (u : KarplusStrong) (x : List Float) → t ≡ tuning_of h.period (damping_of c) (stretch_of c) (all_numbers (controls_of c))
+    → PartsOf (struck_at h (brightness_of c) d l) u x
+    → (n : ℕ) → 0 < n → (y : Strung) (o : List Float) (m : List ℕ) → Rings (held_answer t) (held_next t) (strung u x) n y o m
+    → Rings (karplus_strong_told_of c d) (karplus_strong_next_of c d) (strung s l) n y o m
+unfolding hear_of struck_at strike_if strike_of
+run_by s c d l h eh p k t u x et eu n z y o m r =
+    let w = holds s c d l p k in
+    let a : strung u x ≡ struck_by s c d l = (λ i. strung (eu.0 i) (eu.1 i)) ∙ ap (λ (v : Heard). struck_at v (brightness_of c) d l) eh in
+    let b : t ≡ tune_of s c = et ∙ ap (λ (v : Heard). tuning_of v.period (damping_of c) (stretch_of c) (all_numbers (controls_of c))) eh in
+    let q : Rings (held_answer (tune_of s c)) (held_next (tune_of s c)) (struck_by s c d l) n y o m =
+    subst (λ (v : Tuning). Rings (held_answer v) (held_next v) (struck_by s c d l) n y o m) b
+    (subst (λ (v : Strung). Rings (held_answer t) (held_next t) v n y o m) a r) in
+    (q.0 ∙ sym (held_after _ _ _ _ _ _ _ _ w n z), (q.1.0 ∙ sym (held_frames _ _ _ _ _ _ _ _ w n_ports n), q.1.1 ∙ sym (held_marks _ _ _ _ _ _ _ _ w n)))
 
 pub first_none : (s : KarplusStrong) (c : KarplusStrongControls) (d : List ℕ) (cells n : ℕ) → first_refusal_of s c d cells n ≡ 0 → (n ≡ 0 → ⊥)
     → (karplus_strong_refusal_of s cells ≡ 0) × (trigger_refusal_of s c d ≡ 0)

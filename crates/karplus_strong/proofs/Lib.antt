@@ -1,4 +1,5 @@
 pub mod Ring
+pub mod Cells
 pub mod Finite
 pub mod Cuts
 pub mod Periods

@@ -1,5 +1,5 @@
 -- How the parts of a call make up the whole, over plain values, and what an accepted call has.
-use Rattle.std.proofs.Common.{◌≡◌, ℕ, zero, suc, ◌+◌, ◌-◌, ◌%◌, ◌<◌, ◌≤◌, min, Bool, true, false, cond, not, ◌&&◌, T, eqb, ltb, leb, List, length, get_or, set}
+use Rattle.std.proofs.Common.{◌≡◌, ℕ, zero, suc, ◌+◌, ◌-◌, ◌%◌, ◌<◌, ◌≤◌, min, Bool, true, false, cond, not, ◌&&◌, T, eqb, ltb, leb, List, ◌++◌, length, length-take, get_or, set, take, drop}
 use Rattle.std.proofs.Common.{pos, sym, refl, ap, ◌∙◌, subst, true≢false, le_trans, arith, lit≤, le→leb, ltb-true, lt-ltb, ne_eqb, eqb-true, le-leb, leb-true}
 use lib.Ieee.{Float, nan, inf, fin, binary64, add, sub, mul, div, neg, in_float, lt, le, eq, fits, is_nan, of_bits}
 use lib.Ieee.Fits.{cond-fits, div-fits, sub-fits}
@@ -22,7 +22,6 @@ use Rattle.common.specs.Tests.{rate_ok, threshold_ok, draws_refusal_of}
 use Rattle.common.specs.declared.EdgeDetector.{EdgeDetector}
 use Rattle.common.specs.declared.Hertz.{Hertz}
 use Rattle.common.specs.declared.Memo1.{Memo1}
-use Rattle.common.specs.declared.Risen.{Risen}
 use Rattle.answer.proofs.Laws.{mark_known}
 use Rattle.answer.specs.Answer.{volts1, outcome_number}
 use Rattle.answer.specs.Mark.{all_finite, all_numbers, marked_of}
@@ -31,10 +30,10 @@ use Rattle.answer.specs.declared.Answer.{Answer}
 use Rattle.answer.specs.declared.Outcome.TheVariants as outcome
 use Rattle.karplus_strong.specs.Consts.{twenty, loop_leak}
 use Rattle.karplus_strong.specs.Shortcuts.{Cut}
-use Rattle.karplus_strong.specs.Line.{blank_of, excited_of, sum_to, mean_of, level_of, struck_of}
+use Rattle.karplus_strong.specs.Line.{blank_of, struck_of}
 use Rattle.karplus_strong.specs.Step.{filter_coef_of, ap_coef_of, filter_delay_of, ap_delay_of, target_delay_of, offset_one, offset_two}
 use Rattle.karplus_strong.specs.Step.{tap_of, filtered_of, stretched_of, heard_of, rest_of, Ticking, wrote_of, cleared_of, step_of}
-use Rattle.karplus_strong.specs.Shortcuts.{tuning_of, tap_at, turn_of}
+use Rattle.karplus_strong.specs.Shortcuts.{tuning_of, tap_at, turn_of, hear_of, struck_at}
 use Rattle.karplus_strong.specs.KarplusStrong.{max_len_of, string_of, no_string, Strung, strung, line_ok, room_of, karplus_strong_refusal_of}
 use Rattle.karplus_strong.specs.KarplusStrong.{karplus_strong_rate_refusal_of, Making, making, made_unless, karplus_strong_new_refusal_of}
 use Rattle.karplus_strong.specs.KarplusStrong.{karplus_strong_new_of}
@@ -42,10 +41,12 @@ use Rattle.karplus_strong.specs.KarplusStrong.{karplus_strong_reset_of, place_of
 use Rattle.karplus_strong.specs.KarplusStrong.{struck_len, strike_of, strike_if, heard_string, refused_tick, tick_unless, karplus_strong_sound_of}
 use Rattle.karplus_strong.specs.KarplusStrong.{karplus_strong_tick_of, damping_of, brightness_of, stretch_of, controls_of, memo_at, period_at}
 use Rattle.karplus_strong.specs.KarplusStrong.{trigger_refusal_of}
+use Rattle.karplus_strong.specs.declared.Heard.{Heard}
 use Rattle.karplus_strong.specs.declared.KarplusStrong.{KarplusStrong}
 use Rattle.karplus_strong.specs.declared.KarplusStrongControls.{KarplusStrongControls}
 use Rattle.karplus_strong.specs.declared.KarplusStrongTicked.{KarplusStrongTicked}
 use Rattle.karplus_strong.specs.declared.Tuning.{Tuning}
+use Rattle.karplus_strong.proofs.Cells.{struck_cells}
 use Rattle.karplus_strong.proofs.Periods.{rate_cut, high_period, clamped_cut}
 use Rattle.karplus_strong.proofs.Delays.{filter_unit, filter_delay, allpass_delay, left_below}
 
@@ -180,7 +181,7 @@ hz_number v q =
     (exp2_number (clamp_of v (neg max_voct) max_voct)
     (le_numbers (clamp_of v (neg max_voct) max_voct) max_voct (clamp_range v (neg max_voct) max_voct (unfold le lt eq neg of_bits in tt) q).1).0))
 
-memo_recalled : (m : Memo1) (v : Float) → T (not (is_nan m.val.0)) → T (not (is_nan (recall1 voct_to_hz_at m (finite_or v zer)).val.0))
+pub memo_recalled : (m : Memo1) (v : Float) → T (not (is_nan m.val.0)) → T (not (is_nan (recall1 voct_to_hz_at m (finite_or v zer)).val.0))
 unfolding recall1 filled1
 memo_recalled m v h = go (hits1 m (finite_or v zer))
   where
@@ -188,9 +189,10 @@ memo_recalled m v h = go (hits1 m (finite_or v zer))
     go true = h
     go false = hz_number (finite_or v zer) (finite_number v zer zer_fin)
 
-pub memo_number : (m : Memo1) (v x : Float) (r : Memo1) → T (not (is_nan m.val.0)) → x ≡ finite_or v zer → r ≡ recall1 voct_to_hz_at m x
-    → T (not (is_nan r.val.0))
-memo_number m v x r h ex er = rw (er, ex) (memo_recalled m v h)
+-- a pitch that a string hears has such a period
+pub heard_cut : (s : KarplusStrong) (x v p : Float) (m : Memo1) → rate_ok s.sample_rate ≡ true → T (not (is_nan s.freq_memo.val.0))
+    → v ≡ finite_or x zer → m ≡ recall1 voct_to_hz_at s.freq_memo v → p ≡ period_of s.sample_rate m.val → Cut p
+heard_cut s x v p m e q ev em ep = rw (ep, em, ev) (period_cut _ _ e (memo_recalled s.freq_memo x q))
 
 -- ---- refusals
 module _ (s : KarplusStrong) (n : ℕ) where
@@ -393,10 +395,10 @@ module _ (s : KarplusStrong) (l : List Float) (k : ℕ) (e : k ≡ karplus_stron
   unfolding karplus_strong_reset_of
   reset_no h = rw (← e) (made_no k (strung s l) _ h)
 
-  pub reset_made : k ≡ 0 → (edge : EdgeDetector) (x : List Float) → edge ≡ reset_of s.trigger_edge → x ≡ blank_of 0 s.len l
-      → done (rest_of s s.len edge) x ≡ karplus_strong_reset_of s l
+  pub reset_made : k ≡ 0 → (u : KarplusStrong) (edge : EdgeDetector) (x : List Float) → u ≡ rest_of s s.len s.trigger_edge → edge ≡ reset_of s.trigger_edge
+      → x ≡ blank_of 0 s.len l → done (heard_string u edge u.freq_memo) x ≡ karplus_strong_reset_of s l
   unfolding karplus_strong_reset_of made_unless
-  reset_made h edge x ee ex = rw (← e, h, ee, ex)
+  reset_made h u edge x eu ee ex = rw (← e, h, eu, ee, ex)
 
 -- a string of n cells and this place
 abbrev resized : KarplusStrong → Hertz → ℕ → ℕ → KarplusStrong
@@ -423,63 +425,54 @@ module _ (s : KarplusStrong) (r : Hertz) (l : List Float) (k : ℕ) (e : k ≡ k
   rate_made h n a place x en ea ep ex = rw (← e, h, ep, ex, ea, en)
 
 -- ---- the strike
-pub cut_room : (p : Float) (w n : ℕ) → w ≡ whole_of p → struck_len p ≤ n → w + 2 ≤ n
-unfolding struck_len
-cut_room p w n e h = rw e h
-
-pub struck_by : (n : ℕ) (b : Float) (d : List ℕ) (l x y : List Float) (t r : Float) → x ≡ excited_of n b d l → t ≡ sum_to x n → r ≡ real_of n
-    → y ≡ level_of n (div binary64 t r) x → y ≡ struck_of n b d l
-unfolding struck_of mean_of
-struck_by n b d l x y t r ex et er ey = rw (ey, et, er, ex)
-
 -- x is a string s with the line l
 abbrev pub PartsOf : Strung → KarplusStrong → List Float → Type 0
 PartsOf x s l = (s ≡ x.string) × (l ≡ x.line)
 
-pub strike_by : (s : KarplusStrong) (p b : Float) (d : List ℕ) (l x : List Float) (w : ℕ) → w ≡ whole_of p → x ≡ struck_of (w + 2) b d l
-    → PartsOf (strike_of s p b d l) (rest_of s (w + 2) s.trigger_edge) x
-unfolding strike_of struck_len
-strike_by s p b d l x w e ex = (rw e refl, rw (ex, e) refl)
+pub struck_taken : (h : Heard) (b bright : Float) (d : List ℕ) (l x : List Float) (u : KarplusStrong) → h.rising ≡ true → h.struck_len ≤ length l
+    → bright ≡ clamp_of (finite_or b half) zer one → u ≡ rest_of h.string h.struck_len h.string.trigger_edge
+    → x ≡ struck_of (length (take h.struck_len l)) bright d (take h.struck_len l)
+    → PartsOf (struck_at h (clamp_of (finite_or b half) zer one) d l) u (x ++ drop h.struck_len l)
+unfolding struck_at
+struck_taken h b bright d l x u e k eb eu ex =
+    let size : length (take h.struck_len l) ≡ h.struck_len = simp length-take (omega arith) in
+    rw (e, ← eb) (eu, rw (ex, size) (struck_cells h.struck_len bright d l k))
 
-pub strike_taken : (rising : Bool) (s u : KarplusStrong) (p b g : Float) (d : List ℕ) (l x : List Float) → rising ≡ true
-    → g ≡ clamp_of (finite_or b half) zer one → PartsOf (strike_of s p g d l) u x → PartsOf (strike_if rising s p (clamp_of (finite_or b half) zer one) d l) u x
-unfolding strike_if
-strike_taken rising s u p b g d l x e eg h = rw (e, ← eg) h
+pub struck_none : (h : Heard) (b : Float) (d : List ℕ) (l : List Float) → h.rising ≡ false → PartsOf (struck_at h b d l) h.string l
+unfolding struck_at
+struck_none h b d l e = rw e (refl, refl)
 
-pub strike_none : (rising : Bool) (s : KarplusStrong) (p b : Float) (d : List ℕ) (l : List Float) → rising ≡ false
-    → PartsOf (strike_if rising s p b d l) s l
-unfolding strike_if
-strike_none rising s p b d l e = rw e (refl, refl)
+-- what was heard of an accepted tick
+module _ (s : KarplusStrong) (c : KarplusStrongControls) (h : Heard) (eh : h ≡ hear_of s c) where
+  pub heard_taken : (d : List ℕ) → trigger_refusal_of s c d ≡ cond h.rising (draws_refusal_of h.struck_len d) 0
+  unfolding trigger_refusal_of hear_of
+  heard_taken d = rw eh refl
 
--- the line and its place after it
-pub struck_ready : (rising : Bool) (s : KarplusStrong) (p b : Float) (d : List ℕ) (l : List Float) (n : ℕ) → s.write_pos < s.len → s.len ≤ n
-    → struck_len p ≤ n
-    → ((strike_if rising s p b d l).string.write_pos < (strike_if rising s p b d l).string.len) × ((strike_if rising s p b d l).string.len ≤ n)
-unfolding strike_if strike_of struck_len
-struck_ready true s p b d l n h k g = (omega arith, g)
-struck_ready false s p b d l n h k g = (h, k)
+  module _ (n : ℕ) (a : Sound s) (room : max_len_of s.sample_rate + 2 ≤ n) where
+    pub heard_fits : h.struck_len ≤ n
+    unfolding hear_of
+    heard_fits = rw eh (struck_fits s c a n room)
 
--- a struck line has room
-pub struck_room : (r f : Hertz) (p : Float) (n : ℕ) → p ≡ period_of r f → rate_ok r ≡ true → T (not (is_nan f.0)) → max_len_of r + 2 ≤ n → struck_len p ≤ n
-unfolding struck_len
-struck_room r f p n ep e q h =
-    let w = period_range r f e q in
-    rw ep (room (whole_of (period_of r f)) (max_len_of r) w.1 h)
-  where
-    room : (w m : ℕ) → w + 1 ≤ m → m + 2 ≤ n → w + 2 ≤ n
-    room w m h k = omega arith
+    pub heard_delay : whole_of (target_delay_of h.period (filter_coef_of (damping_of c)) (ap_coef_of (stretch_of c))) ≤ 9610
+    unfolding hear_of
+    heard_delay = rw eh (delay_range s.sample_rate (memo_at s c).val c.damping c.stretch a.rate (heard_number s c a))
 
--- and what the step asks of it holds
-pub sound_ready : (s u : KarplusStrong) (edge : EdgeDetector) (memo : Memo1) (p b x y damping stretch : Float) (rising : Bool) (d : List ℕ)
-    (l : List Float) (n k : ℕ) → Sound s → max_len_of s.sample_rate + 2 ≤ n → T (not (is_nan memo.val.0))
-    → p ≡ period_of s.sample_rate memo.val → u ≡ (strike_if rising (heard_string s edge memo) p b d l).string → k ≡ n
-    → damping ≡ clamp_of (finite_or x half) zer one → stretch ≡ clamp_of (finite_or y zer) (neg one) one
-    → (u.write_pos < u.len) × (u.len ≤ k) × (whole_of (target_delay_of p (filter_coef_of damping) (ap_coef_of stretch)) ≤ 9610)
-sound_ready s u edge memo p b x y damping stretch rising d l n k a h q ep eu ek ed es =
-    let m = a.most in
-    let room = struck_room s.sample_rate memo.val p n ep a.rate q h in
-    let r = struck_ready rising (heard_string s edge memo) p b d l n a.place (omega arith) room in
-    (rw eu r.0, rw (ek, eu) r.1, rw (ed, es, ep) (delay_range s.sample_rate memo.val x y a.rate q))
+    -- the string, struck or not: its place and its length
+    pub struck_ready : (b : Float) (d : List ℕ) (l : List Float) (u : KarplusStrong) → u ≡ (struck_at h b d l).string
+        → (u.write_pos < u.len) × (u.len ≤ n)
+    unfolding hear_of struck_at
+    struck_ready b d l u eu = rw (eu, eh) (go (rising_of s.trigger_edge c.trigger).rising)
+      where
+        heard : KarplusStrong
+        heard = heard_string s (rising_of s.trigger_edge c.trigger).edge (memo_at s c)
+
+        n' : ℕ
+        n' = struck_len (period_at s c)
+
+        go : (r : Bool) → let x = (cond r (strung (rest_of heard n' heard.trigger_edge) (struck_of n' b d l)) (strung heard l)).string in
+            (x.write_pos < x.len) × (x.len ≤ n)
+        go true = (omega (arith, (struck_range s c a).0), struck_fits s c a n room)
+        go false = (a.place, omega (arith, a.most))
 
 -- ---- the loop
 pub tap_by : (l : List Float) (from len w : ℕ) (frac : Float) (a b : ℕ) → a ≡ (from + (len - w)) % len → b ≡ (from + (len - (w + 1))) % len
@@ -528,11 +521,11 @@ module _ (s : KarplusStrong) (t : Tuning) (l : List Float) (sample : Float)
   unfolding turn_of
   turn_clean h next v a en ev ea = rw (← es, h, en, ea, ev, heard_known leaked false t.numbers h)
 
-  pub turn_cleared : is_fin leaked ≡ false → (v : Volts) (a : Answer) (x : List Float) → v ≡ volts1 zer → a ≡ marked_of v true true true t.numbers
-      → x ≡ blank_of 0 s.len l
-      → record { out = record { answer = a; karplus_strong = rest_of s s.len s.trigger_edge }; line = x } ≡ turn_of s t l
+  pub turn_cleared : is_fin leaked ≡ false → (v : Volts) (a : Answer) (x : List Float) (u : KarplusStrong) → v ≡ volts1 zer
+      → a ≡ marked_of v true true true t.numbers → x ≡ blank_of 0 s.len l → u ≡ rest_of s s.len s.trigger_edge
+      → record { out = record { answer = a; karplus_strong = u }; line = x } ≡ turn_of s t l
   unfolding turn_of
-  turn_cleared h v a x ev ea ex = rw (← es, h, ea, ev, ex, heard_known zer true t.numbers zer_fin)
+  turn_cleared h v a x u ev ea ex eu = rw (← es, h, ea, ev, ex, eu, heard_known zer true t.numbers zer_fin)
 
 -- a step is the turn of its tuning
 pub turn_is : (s : KarplusStrong) (p d t : Float) (numbers : Bool) (l : List Float) → turn_of s (tuning_of p d t numbers) l ≡ step_of s p d t numbers l
@@ -563,40 +556,27 @@ pub step_either : (P : Ticking → Type 0) (s : KarplusStrong) (p d t : Float) (
 unfolding tuning_of
 step_either P s p d t numbers l h k = subst P (turn_is s p d t numbers l) (turn_either P s (tuning_of p d t numbers) l h k)
 
-pub tuning_by : (p d t : Float) (numbers : Bool) (c a x : Float) (w : ℕ) → c ≡ filter_coef_of d → a ≡ ap_coef_of t → x ≡ target_delay_of p c a → w ≡ whole_of x
-    → record { filter_coef = c; ap_coef = a; delay = w; fraction = sub binary64 x (real_of w); numbers = numbers } ≡ tuning_of p d t numbers
-unfolding tuning_of
-tuning_by p d t numbers c a x w ec ea ex ew = rw (ew, ex, ec, ea)
-
-pub turn_by : (s : KarplusStrong) (p d t : Float) (numbers : Bool) (l m : List Float) (u : Tuning) (r : KarplusStrongTicked) → u ≡ tuning_of p d t numbers
-    → r ≡ (turn_of s u l).out
-    → m ≡ (turn_of s u l).line → (r ≡ (step_of s p d t numbers l).out) × (m ≡ (step_of s p d t numbers l).line)
-turn_by s p d t numbers l m u r e a b = let k = ticked_parts (ap (λ x. turn_of s x l) e ∙ turn_is s p d t numbers l) in (a ∙ k.0, b ∙ k.1)
-
 -- ---- the tick
 tick_no : (k : ℕ) (s : KarplusStrong) (l : List Float) (t : Ticking) → (k ≡ 0 → ⊥) → record { out = refused_tick s k; line = l } ≡ tick_unless k s l t
 unfolding tick_unless
 tick_no zero s l t h = absurd (h refl)
 tick_no (suc k) s l t h = refl
 
-module _ (s : KarplusStrong) (c : KarplusStrongControls) (d : List ℕ) (l : List Float) (voct : Float) (memo : Memo1) (period : Float) (risen : Risen) (k : ℕ)
-    (ev : voct ≡ finite_or c.voct.0 zer) (em : memo ≡ recall1 voct_to_hz_at s.freq_memo voct) (ep : period ≡ period_of s.sample_rate memo.val)
-    (er : risen ≡ rising_of s.trigger_edge c.trigger) (ek : k ≡ cond risen.rising (draws_refusal_of (struck_len period) d) 0) where
+module _ (s : KarplusStrong) (c : KarplusStrongControls) (d : List ℕ) (l : List Float) (h : Heard) (k : ℕ) (eh : h ≡ hear_of s c)
+    (ek : k ≡ cond h.rising (draws_refusal_of h.struck_len d) 0) where
   pub sound_no : (k ≡ 0 → ⊥) → record { out = refused_tick s k; line = l } ≡ karplus_strong_sound_of s c d l
-  unfolding karplus_strong_sound_of trigger_refusal_of
-  sound_no h = rw (← ev, ← em, ← ep, ← er, ← ek) (tick_no k s l _ h)
+  unfolding karplus_strong_sound_of
+  sound_no z = rw (heard_taken s c h eh d, ← ek) (tick_no k s l _ z)
 
-  module _ (z : k ≡ 0) (damping stretch : Float) (numbers : Bool) (u : KarplusStrong) (x : List Float) (ed : damping ≡ damping_of c)
-      (es : stretch ≡ stretch_of c) (en : numbers ≡ all_numbers (controls_of c))
-      (et : PartsOf (strike_if risen.rising (heard_string s risen.edge memo) period (brightness_of c) d l) u x) where
-    sound_step : step_of u period damping stretch numbers x ≡ karplus_strong_sound_of s c d l
-    unfolding karplus_strong_sound_of trigger_refusal_of tick_unless
-    sound_step = rw (← ev, ← em, ← ep, ← er, ← ek, z, et.0, et.1, ed, es, en)
+  module _ (z : k ≡ 0) (t : Tuning) (u : KarplusStrong) (x : List Float)
+      (et : t ≡ tuning_of h.period (damping_of c) (stretch_of c) (all_numbers (controls_of c))) (eu : PartsOf (struck_at h (brightness_of c) d l) u x) where
+    sound_step : turn_of u t x ≡ karplus_strong_sound_of s c d l
+    unfolding karplus_strong_sound_of tick_unless hear_of struck_at strike_if strike_of
+    sound_step = rw (heard_taken s c h eh d, ← ek, z, eu.0, eu.1, et, eh) (turn_is _ _ _ _ _ _)
 
-    pub sound_by : (r : KarplusStrongTicked) (y : List Float) → r ≡ (step_of u period damping stretch numbers x).out
-        → y ≡ (step_of u period damping stretch numbers x).line
+    pub sound_by : (r : KarplusStrongTicked) (y : List Float) → r ≡ (turn_of u t x).out → y ≡ (turn_of u t x).line
         → (r ≡ (karplus_strong_sound_of s c d l).out) × (y ≡ (karplus_strong_sound_of s c d l).line)
-    sound_by r y h g = let e = ticked_parts sound_step in (h ∙ e.0, g ∙ e.1)
+    sound_by r y p q = let e = ticked_parts sound_step in (p ∙ e.0, q ∙ e.1)
 
 module _ (s : KarplusStrong) (c : KarplusStrongControls) (d : List ℕ) (l : List Float) (k : ℕ) (e : k ≡ karplus_strong_refusal_of s (length l)) where
   pub tick_refused : (k ≡ 0 → ⊥) → record { out = refused_tick s k; line = l } ≡ karplus_strong_tick_of s c d l

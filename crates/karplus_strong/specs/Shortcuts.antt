@@ -5,12 +5,16 @@ use Rattle.std.specs.Float.{nan, binary64}
 use Rattle.std.specs.Float.Ieee.{add, sub, mul, lt, le}
 use Rattle.laws.specs.Float.{one, is_fin}
 use Rattle.numeric.specs.Basic.{whole_of, real_of}
+use Rattle.common.specs.Edge.{rising_of}
 use Rattle.answer.specs.declared.Answer.{Answer}
 use Rattle.karplus_strong.specs.Consts.{loop_leak}
 use Rattle.karplus_strong.specs.Step.{filter_coef_of, ap_coef_of, target_delay_of, offset_one, offset_two, filtered_of, stretched_of, Ticking, wrote_of}
-use Rattle.karplus_strong.specs.Step.{cleared_of}
-use Rattle.karplus_strong.specs.KarplusStrong.{Strung, strung}
+use Rattle.karplus_strong.specs.Line.{struck_of}
+use Rattle.karplus_strong.specs.Step.{cleared_of, rest_of}
+use Rattle.karplus_strong.specs.KarplusStrong.{Strung, strung, struck_len, heard_string, memo_at, period_at}
+use Rattle.karplus_strong.specs.declared.Heard.{Heard}
 use Rattle.karplus_strong.specs.declared.KarplusStrong.{KarplusStrong}
+use Rattle.karplus_strong.specs.declared.KarplusStrongControls.{KarplusStrongControls}
 use Rattle.karplus_strong.specs.declared.Tuning.{Tuning}
 
 -- ---- the range in which a cast drops the digits of a fraction and nothing else: from 1 to below 2 ^ 52
@@ -47,3 +51,16 @@ held_answer t x = (turn_of x.string t x.line).out.answer
 
 unfoldable pub held_next : Tuning → Strung → Strung
 held_next t x = let u = turn_of x.string t x.line in strung u.out.karplus_strong u.line
+
+-- ---- what a tick hears, and the string that it strikes
+unfoldable pub hear_of : KarplusStrong → KarplusStrongControls → Heard
+hear_of s c =
+    let risen = rising_of s.trigger_edge c.trigger in
+    let period = period_at s c in
+    record { string = heard_string s risen.edge (memo_at s c); period = period; struck_len = struck_len period; rising = risen.rising }
+
+-- strike_if, of what was heard
+unfoldable pub struck_at : Heard → Float → List ℕ → List Float → Strung
+struck_at h brightness draws l =
+    let n = h.struck_len in
+    cond h.rising (strung (rest_of h.string n h.string.trigger_edge) (struck_of n brightness draws l)) (strung h.string l)

@@ -1,7 +1,10 @@
 // KarplusStrong of oscillators.rs: a plucked string. Its delay line is lent to each call, and so are the draws of its noise.
 #![tactic(auto)]
 
-ghost use Rattle.std.specs.Prelude.{◌≡◌, ◌+◌, ◌-◌, ◌*◌, ◌%◌, ◌<◌, ◌≤◌, true, length, if◌then◌else◌};
+ghost use Rattle.std.specs.Prelude.{◌≡◌, ◌+◌, ◌-◌, ◌*◌, ◌%◌, ◌<◌, ◌≤◌, true, not, length, is_nan, T, if◌then◌else◌};
+ghost use Rattle.std.specs.List.{fold};
+ghost use Rattle.std.specs.Float.{binary64};
+ghost use Rattle.std.specs.Float.Ieee.{add, neg};
 ghost use Rattle.laws.specs.Float.{is_fin, zer, one};
 ghost use Rattle.laws.specs.Lists.{tab};
 ghost use Rattle.numeric.specs.Basic.{clamp_of, whole_of};
@@ -10,15 +13,15 @@ ghost use Rattle.common.specs.Tests.{rate_ok, draws_refusal_of};
 ghost use Rattle.answer.specs.Mark.{all_numbers};
 ghost use Rattle.answer.specs.Block.{after_ticks, joined, block, mark_at, frame_at};
 ghost use Rattle.karplus_strong.specs.Consts.{n_ports};
-ghost use Rattle.karplus_strong.specs.Line.{blank_of, pulse_of, excited_of, sum_to, level_of, struck_of};
-ghost use Rattle.karplus_strong.specs.Step.{filter_coef_of, ap_coef_of, target_delay_of, step_of};
+ghost use Rattle.karplus_strong.specs.Line.{blank_of, pulse_of, excited_of, level_of, struck_of};
+ghost use Rattle.karplus_strong.specs.Step.{filter_coef_of, ap_coef_of, target_delay_of, rest_of};
 ghost use Rattle.karplus_strong.specs.KarplusStrong.{max_len_of, string_of, line_ok, room_of, karplus_strong_refusal_of, karplus_strong_rate_refusal_of};
 ghost use Rattle.karplus_strong.specs.KarplusStrong.{karplus_strong_cells_of, karplus_strong_new_refusal_of, karplus_strong_new_of, finite_or, controls_of};
-ghost use Rattle.karplus_strong.specs.KarplusStrong.{period_of, struck_len, strike_of};
-ghost use Rattle.karplus_strong.specs.KarplusStrong.{strike_if, karplus_strong_sound_of, karplus_strong_tick_of, karplus_strong_told_of};
+ghost use Rattle.karplus_strong.specs.KarplusStrong.{damping_of, stretch_of, period_of};
+ghost use Rattle.karplus_strong.specs.KarplusStrong.{karplus_strong_sound_of, karplus_strong_tick_of, karplus_strong_told_of};
 ghost use Rattle.karplus_strong.specs.KarplusStrong.{karplus_strong_next_of, trigger_refusal_of, first_refusal_of, karplus_strong_block_of};
 ghost use Rattle.karplus_strong.specs.KarplusStrong.{karplus_strong_reset_of, place_of, karplus_strong_set_sample_rate_of, strung};
-ghost use Rattle.karplus_strong.specs.Shortcuts.{Cut, tuning_of, tap_at, turn_of, held_answer, held_next};
+ghost use Rattle.karplus_strong.specs.Shortcuts.{Cut, tuning_of, turn_of, held_answer, held_next, hear_of, struck_at};
 
 use answer::{Answer, Outcome, Tally};
 use common::{EdgeDetector, Hertz, Memo1, VoltsPerOctave};
@@ -77,9 +80,19 @@ pub struct KarplusStrongMade {
 struct Tuning {
     filter_coef: f64,
     ap_coef: f64,
-    delay: usize,
+    delay: u32,
     fraction: f64,
     numbers: bool,
+}
+
+// What a string hears of a tick: its pitch, of which it keeps the memo, as a period and as the length of a line that is struck at it;
+// and its trigger, of which it keeps the edge, and which may strike it.
+#[derive(Clone, Copy)]
+struct Heard {
+    string: KarplusStrong,
+    period: f64,
+    struck_len: usize,
+    rising: bool,
 }
 
 // ---- numbers
@@ -115,12 +128,8 @@ fn within(x: f64, default: f64, lo: f64, hi: f64) -> f64
     requires { (is_fin lo ≡ true) × (is_fin hi ≡ true) }
     ensures { result ≡ clamp_of (finite_or x default) lo hi }
 {
-    if x >= lo {
-        if x <= hi {
-            x
-        } else {
-            numeric::clamp(finite_or(x, default), lo, hi)
-        }
+    if x >= lo && x <= hi {
+        x
     } else {
         numeric::clamp(finite_or(x, default), lo, hi)
     }
@@ -133,11 +142,7 @@ fn blank(line: &mut [f64], from: usize, to: usize)
     requires { (from ≤ to) × (to ≤ length line.old) }
     ensures { line.new ≡ blank_of from to line.old }
 {
-    let mut i = from;
-    while i < to {
-        line[i] = 0.0;
-        i += 1;
-    }
+    line[from..to].fill(0.0);
 }
 
 // Cell i of n: a blend of noise and impulse.
@@ -152,62 +157,39 @@ fn pulse(n: usize, brightness: f64, draw: u64, i: usize) -> f64
     }
 }
 
-fn fill(line: &mut [f64], n: usize, brightness: f64, draws: &[u64])
-    requires { (n ≤ length line.old) × (n ≤ length draws.now) }
-    ensures { line.new ≡ excited_of n brightness draws.now line.old }
+fn fill(cells: &mut [f64], brightness: f64, draws: &[u64])
+    requires { length cells.old ≤ length draws.now }
+    ensures { cells.new ≡ excited_of (length cells.old) brightness draws.now cells.old }
 {
-    let mut i = 0;
-    while i < n {
-        line[i] = pulse(n, brightness, draws[i], i);
-        i += 1;
+    let n = cells.len();
+    for (i, cell) in cells.iter_mut().enumerate() {
+        *cell = pulse(n, brightness, draws[i], i);
     }
 }
 
 // Rust's sum of floats starts at -0.0.
-fn sum(line: &[f64], n: usize) -> f64
-    requires { n ≤ length line.now }
-    ensures { result ≡ sum_to line.now n }
+fn sum(cells: &[f64]) -> f64
+    ensures { result ≡ fold (add binary64) (neg zer) cells.now }
 {
-    let mut sum = -0.0;
-    let mut i = 0;
-    while i < n {
-        sum = sum + line[i];
-        i += 1;
-    }
-    sum
+    cells.iter().fold(-0.0, |sum, cell| sum + *cell)
 }
 
-fn level(line: &mut [f64], n: usize, mean: f64)
-    requires { n ≤ length line.old }
-    ensures { line.new ≡ level_of n mean line.old }
+fn level(cells: &mut [f64], mean: f64)
+    ensures { cells.new ≡ level_of (length cells.old) mean cells.old }
 {
-    let mut i = 0;
-    while i < n {
-        line[i] = line[i] - mean;
-        i += 1;
+    for cell in cells.iter_mut() {
+        *cell -= mean;
     }
 }
 
-// The Rust's excite, over the first n cells: noise and impulse, less their mean.
-fn excite(line: &mut [f64], n: usize, brightness: f64, draws: &[u64])
-    requires { (n ≤ length line.old) × (n ≤ length draws.now) }
-    ensures { line.new ≡ struck_of n brightness draws.now line.old }
+// The Rust's excite: noise and impulse, less their mean.
+fn excite(cells: &mut [f64], brightness: f64, draws: &[u64])
+    requires { length cells.old ≤ length draws.now }
+    ensures { cells.new ≡ struck_of (length cells.old) brightness draws.now cells.old }
 {
-    fill(line, n, brightness, draws);
-    let mean = sum(line, n) / numeric::of_u64(n as u64);
-    level(line, n, mean);
-}
-
-// Refusals 5 and 6 of a trigger that is taken, or 0.
-fn draws_refusal(rising: bool, period: f64, draws: &[u64]) -> u32
-    requires { Cut period }
-    ensures { result ≡ (if rising then draws_refusal_of (struck_len period) draws.now else 0) }
-{
-    if rising {
-        common::draws_refusal(whole(period) + 2, draws)
-    } else {
-        0
-    }
+    fill(cells, brightness, draws);
+    let mean = sum(cells) / numeric::of_u64(cells.len() as u64);
+    level(cells, mean);
 }
 
 // ---- the loop
@@ -241,16 +223,6 @@ fn behind(pos: usize, len: usize, delay: usize) -> usize
     }
 }
 
-// The two taps at a delay, weighed by its fraction.
-fn tap(line: &[f64], pos: usize, len: usize, delay_int: usize, delay_frac: f64) -> f64
-    requires { (pos < len) × (len ≤ length line.now) × (delay_int ≤ 9610) }
-    ensures { result ≡ tap_at line.now pos len delay_int delay_frac }
-{
-    let read = behind(pos, len, delay_int);
-    let read2 = behind(pos, len, delay_int + 1);
-    line[read] * (1.0 - delay_frac) + line[read2] * delay_frac
-}
-
 // The delay that is left for the line once the filters have theirs.
 fn target_delay(period: f64, filter_coef: f64, ap_coef: f64) -> f64
     ensures { result ≡ target_delay_of period filter_coef ap_coef }
@@ -258,23 +230,6 @@ fn target_delay(period: f64, filter_coef: f64, ap_coef: f64) -> f64
     let ap_gd = (1.0 - ap_coef) / (1.0 + ap_coef);
     let filter_gd = (1.0 - filter_coef) / filter_coef;
     numeric::max(period - filter_gd - ap_gd, 1.0)
-}
-
-fn tuned(period: f64, damping: f64, stretch: f64, numbers: bool) -> Tuning
-    requires { whole_of (target_delay_of period (filter_coef_of damping) (ap_coef_of stretch)) ≤ 9610 }
-    ensures { result ≡ tuning_of period damping stretch numbers }
-{
-    let filter_coef = 0.5 + damping * 0.49;
-    let ap_coef = -0.5 * stretch;
-    let target = target_delay(period, filter_coef, ap_coef);
-    let delay = numeric::to_usize(target);
-    Tuning {
-        filter_coef,
-        ap_coef,
-        delay,
-        fraction: target - (delay as f64),
-        numbers,
-    }
 }
 
 // A period in samples, (sample_rate / freq).clamp(2.0, max_len as f64 - 1.0). From 20 Hz on it is below max_len - 1.
@@ -295,8 +250,6 @@ fn period_of(sample_rate: Hertz, freq: Hertz) -> f64
 fn string_of(sample_rate: Hertz, threshold: f64, len: usize) -> KarplusStrong
     ensures { result ≡ string_of sample_rate threshold len }
 {
-    let trigger_edge = EdgeDetector::new(threshold);
-    let freq_memo = Memo1::new();
     KarplusStrong {
         len,
         write_pos: 0,
@@ -304,8 +257,8 @@ fn string_of(sample_rate: Hertz, threshold: f64, len: usize) -> KarplusStrong
         lp_state: 0.0,
         ap_x1: 0.0,
         ap_y1: 0.0,
-        trigger_edge,
-        freq_memo,
+        trigger_edge: EdgeDetector::new(threshold),
+        freq_memo: Memo1::new(),
     }
 }
 
@@ -314,14 +267,60 @@ impl KarplusStrongControls {
     fn are_numbers(self) -> bool
         ensures { result ≡ all_numbers (controls_of self) }
     {
-        let voct = self.voct;
         answer::numbers5(
-            voct.0,
+            self.voct.0,
             self.trigger,
             self.damping,
             self.brightness,
             self.stretch,
         )
+    }
+
+    // What they make of the loop at a period.
+    fn tuning(self, period: f64) -> Tuning
+        requires { whole_of (target_delay_of period (filter_coef_of (damping_of self)) (ap_coef_of (stretch_of self))) ≤ 9610 }
+        ensures { result ≡ tuning_of period (damping_of self) (stretch_of self) (all_numbers (controls_of self)) }
+    {
+        let filter_coef = 0.5 + within(self.damping, 0.5, 0.0, 1.0) * 0.49;
+        let ap_coef = -0.5 * within(self.stretch, 0.0, -1.0, 1.0);
+        let target = target_delay(period, filter_coef, ap_coef);
+        let delay = numeric::to_usize(target) as u32;
+        Tuning {
+            filter_coef,
+            ap_coef,
+            delay,
+            fraction: target - (delay as f64),
+            numbers: self.are_numbers(),
+        }
+    }
+}
+
+impl Heard {
+    // Refusals 5 and 6 of a trigger that is taken, or 0.
+    fn refusal(self, draws: &[u64]) -> u32
+        ensures { result ≡ (if self.rising then draws_refusal_of self.struck_len draws.now else 0) }
+    {
+        if self.rising {
+            common::draws_refusal(self.struck_len, draws)
+        } else {
+            0
+        }
+    }
+
+    // The string, struck where its trigger is taken. Inlined, so that a tick which doesn't strike it keeps it out of memory.
+    #[inline(always)]
+    fn struck(self, brightness: f64, draws: &[u64], line: &mut [f64]) -> KarplusStrong
+        requires { ((if self.rising then draws_refusal_of self.struck_len draws.now else 0) ≡ 0) × (self.struck_len ≤ length line.old) }
+        ensures { let x = struck_at self (clamp_of (finite_or brightness half) zer one) draws.now line.old in
+            (result ≡ x.string) × (line.new ≡ x.line) }
+    {
+        if self.rising {
+            let bright = within(brightness, 0.5, 0.0, 1.0);
+            excite(&mut line[..self.struck_len], bright, draws);
+            self.string.at_rest(self.struck_len)
+        } else {
+            self.string
+        }
     }
 }
 
@@ -361,22 +360,17 @@ impl KarplusStrong {
     }
 
     // Refusal 2 asks this of the state.
+    #[tactic(auto, using(laws::proofs::Order::number_test), unfolding(crate::specs::KarplusStrong::line_ok))]
     fn line_ok(self, max_len: usize) -> bool
         requires { max_len ≤ 9610 }
         ensures { result ≡ line_ok self max_len }
     {
-        let memo = self.freq_memo;
-        let val = memo.val;
-        let edge = self.trigger_edge;
-        if self.len < 4 {
-            false
-        } else if self.len > max_len + 1 {
-            false
-        } else if self.write_pos >= self.len {
-            false
-        } else {
-            val.0 == val.0 && common::threshold_ok(edge.threshold)
-        }
+        let val = self.freq_memo.val.0;
+        self.len >= 4
+            && self.len <= max_len + 1
+            && self.write_pos < self.len
+            && val == val
+            && common::threshold_ok(self.trigger_edge.threshold)
     }
 
     // Refusals 1 to 3 of a call with a lent line of n cells, or 0.
@@ -431,115 +425,74 @@ impl KarplusStrong {
         }
     }
 
-    // Strikes the string: the line gets its length from the period, and an excitation.
-    fn strike(self, period: f64, brightness: f64, draws: &[u64], line: &mut [f64]) -> Self
-        requires { Cut period × (struck_len period ≤ length draws.now) × (struck_len period ≤ length line.old) }
-        ensures { (result ≡ (strike_of self period brightness draws.now line.old).string)
-            × (line.new ≡ (strike_of self period brightness draws.now line.old).line) }
+    // A loop at rest, of so many cells.
+    fn at_rest(self, len: usize) -> Self
+        ensures { result ≡ rest_of self len self.trigger_edge }
     {
-        let sample_rate = self.sample_rate;
-        let trigger_edge = self.trigger_edge;
-        let freq_memo = self.freq_memo;
-        let n = whole(period) + 2;
-        excite(line, n, brightness, draws);
         KarplusStrong {
-            len: n,
+            len,
             write_pos: 0,
-            sample_rate,
             lp_state: 0.0,
             ap_x1: 0.0,
             ap_y1: 0.0,
-            trigger_edge,
-            freq_memo,
+            ..self
         }
     }
 
-    // Strikes it where the trigger was taken.
-    fn strike_if(
-        self,
-        rising: bool,
-        period: f64,
-        brightness: f64,
-        draws: &[u64],
-        line: &mut [f64],
-    ) -> Self
-        requires { Cut period × ((if rising then draws_refusal_of (struck_len period) draws.now else 0) ≡ 0) × (struck_len period ≤ length line.old) }
-        ensures { let bright = clamp_of (finite_or brightness half) zer one in
-            (result ≡ (strike_if rising self period bright draws.now line.old).string)
-            × (line.new ≡ (strike_if rising self period bright draws.now line.old).line) }
-    {
-        if rising {
-            self.strike(period, within(brightness, 0.5, 0.0, 1.0), draws, line)
-        } else {
-            self
-        }
-    }
-
-    // One sample: the loop turns once.
+    // One sample: the loop turns once. Inlined, for with a call in its loop a block takes more than twice as long.
+    #[inline(always)]
     fn turn(self, t: Tuning, line: &mut [f64]) -> KarplusStrongTicked
-        requires { (self.write_pos < self.len) × (self.len ≤ length line.old) × (t.delay ≤ 9610) }
+        requires { (self.write_pos < self.len) × (self.len ≤ length line.old) }
         ensures { (result ≡ (turn_of self t line.old).out) × (line.new ≡ (turn_of self t line.old).line) }
     {
-        let pos = self.write_pos;
-        let len = self.len;
-        let sample_rate = self.sample_rate;
-        let trigger_edge = self.trigger_edge;
-        let freq_memo = self.freq_memo;
-        let filter_coef = t.filter_coef;
-        let ap_coef = t.ap_coef;
-        let sample = tap(line, pos, len, t.delay, t.fraction);
-        let filtered = sample * filter_coef + self.lp_state * (1.0 - filter_coef);
-        let stretched = ap_coef * filtered + self.ap_x1 - ap_coef * self.ap_y1;
+        let delay = t.delay as usize;
+        let read = line[behind(self.write_pos, self.len, delay)];
+        let read2 = line[behind(self.write_pos, self.len, delay + 1)];
+        let sample = read * (1.0 - t.fraction) + read2 * t.fraction;
+        let filtered = sample * t.filter_coef + self.lp_state * (1.0 - t.filter_coef);
+        let stretched = t.ap_coef * filtered + self.ap_x1 - t.ap_coef * self.ap_y1;
         let leaked = stretched * KarplusStrong::LOOP_LEAK;
         if is_settled(leaked) {
-            line[pos] = leaked;
-            let next = after(pos, len);
+            line[self.write_pos] = leaked;
             KarplusStrongTicked {
                 answer: answer::marked(answer::volts1(leaked), false, true, true, t.numbers),
                 karplus_strong: KarplusStrong {
-                    len,
-                    write_pos: next,
-                    sample_rate,
+                    write_pos: after(self.write_pos, self.len),
                     lp_state: filtered,
                     ap_x1: filtered,
                     ap_y1: stretched,
-                    trigger_edge,
-                    freq_memo,
+                    ..self
                 },
             }
         } else {
-            blank(line, 0, len);
+            blank(line, 0, self.len);
             KarplusStrongTicked {
                 answer: answer::marked(answer::volts1(0.0), true, true, true, t.numbers),
-                karplus_strong: KarplusStrong {
-                    len,
-                    write_pos: 0,
-                    sample_rate,
-                    lp_state: 0.0,
-                    ap_x1: 0.0,
-                    ap_y1: 0.0,
-                    trigger_edge,
-                    freq_memo,
-                },
+                karplus_strong: self.at_rest(self.len),
             }
         }
     }
 
-    // The turn of a tick.
-    fn step(
-        self,
-        period: f64,
-        damping: f64,
-        stretch: f64,
-        numbers: bool,
-        line: &mut [f64],
-    ) -> KarplusStrongTicked
-        requires { (self.write_pos < self.len) × (self.len ≤ length line.old)
-            × (whole_of (target_delay_of period (filter_coef_of damping) (ap_coef_of stretch)) ≤ 9610) }
-        ensures { (result ≡ (step_of self period damping stretch numbers line.old).out)
-            × (line.new ≡ (step_of self period damping stretch numbers line.old).line) }
+    // A tick's pitch and trigger. A pitch that isn't finite counts as 0 V.
+    fn hear(self, c: KarplusStrongControls) -> Heard
+        requires { (rate_ok self.sample_rate ≡ true) × T (not (is_nan self.freq_memo.val.0)) }
+        ensures { result ≡ hear_of self c }
     {
-        self.turn(tuned(period, damping, stretch, numbers), line)
+        let freq_memo = self
+            .freq_memo
+            .voct_to_hz(VoltsPerOctave(finite_or(c.voct.0, 0.0)));
+        let period = period_of(self.sample_rate, freq_memo.val);
+        let risen = self.trigger_edge.rising(c.trigger);
+        Heard {
+            string: KarplusStrong {
+                trigger_edge: risen.edge,
+                freq_memo,
+                ..self
+            },
+            period,
+            struck_len: whole(period) + 2,
+            rising: risen.rising,
+        }
     }
 
     // The tick of a state and a line that refusals 1 to 3 let pass: edge, strike if it is taken, step.
@@ -548,32 +501,12 @@ impl KarplusStrong {
         ensures { (result ≡ (karplus_strong_sound_of self c draws.now line.old).out)
             × (line.new ≡ (karplus_strong_sound_of self c draws.now line.old).line) }
     {
-        let numbers = c.are_numbers();
-        let voct = c.voct;
-        let memo = self.freq_memo;
-        let sample_rate = self.sample_rate;
-        let trigger_edge = self.trigger_edge;
-        let damping = within(c.damping, 0.5, 0.0, 1.0);
-        let stretch = within(c.stretch, 0.0, -1.0, 1.0);
-        let freq_memo = memo.voct_to_hz(VoltsPerOctave(finite_or(voct.0, 0.0)));
-        let freq = freq_memo.val;
-        let period = period_of(sample_rate, freq);
-        let risen = trigger_edge.rising(c.trigger);
-        let edge = risen.edge;
-        let refused = draws_refusal(risen.rising, period, draws);
+        let heard = self.hear(c);
+        let refused = heard.refusal(draws);
         if refused == 0 {
-            let heard = KarplusStrong {
-                len: self.len,
-                write_pos: self.write_pos,
-                sample_rate,
-                lp_state: self.lp_state,
-                ap_x1: self.ap_x1,
-                ap_y1: self.ap_y1,
-                trigger_edge: edge,
-                freq_memo,
-            };
-            let struck = heard.strike_if(risen.rising, period, c.brightness, draws, line);
-            struck.step(period, damping, stretch, numbers, line)
+            let tuning = c.tuning(heard.period);
+            let struck = heard.struck(c.brightness, draws, line);
+            struck.turn(tuning, line)
         } else {
             KarplusStrongTicked {
                 answer: Answer::Refused(refused),
@@ -604,7 +537,7 @@ impl KarplusStrong {
 
     // Turns one after another, as many as there are marks: neither trigger nor controls are looked at, but for what the tuning says of them.
     fn ring(self, t: Tuning, line: &mut [f64], samples: &mut [f64], marks: &mut [u32]) -> Self
-        requires { (self.write_pos < self.len) × (self.len ≤ length line.old) × (t.delay ≤ 9610)
+        requires { (self.write_pos < self.len) × (self.len ≤ length line.old)
             × (length samples.old ≡ n_ports * length marks.old) }
         ensures line_after { strung result line.new ≡ after_ticks (held_next t) (length marks.old) (strung self line.old) }
         ensures samples_after { samples.new
@@ -613,14 +546,10 @@ impl KarplusStrong {
             ≡ tab (mark_at (held_answer t) (held_next t) (strung self line.old)) (length marks.old) }
     {
         let mut string = self;
-        let mut i = 0;
-        while i < marks.len() {
+        for i in 0..marks.len() {
             let ticked = string.turn(t, &mut *line);
-            let heard = ticked.answer;
-            let next = ticked.karplus_strong;
-            answer::put(heard, PORTS, i, &mut *samples, &mut *marks);
-            string = next;
-            i += 1;
+            answer::put(ticked.answer, PORTS, i, &mut *samples, &mut *marks);
+            string = ticked.karplus_strong;
         }
         string
     }
@@ -629,19 +558,12 @@ impl KarplusStrong {
     fn first_refusal(self, c: KarplusStrongControls, draws: &[u64], cells: usize, n: usize) -> u32
         ensures { result ≡ first_refusal_of self c draws.now cells n }
     {
-        let voct = c.voct;
-        let memo = self.freq_memo;
-        let sample_rate = self.sample_rate;
-        let trigger_edge = self.trigger_edge;
         let refused = self.refusal(cells);
         if refused == 0 {
             if n == 0 {
                 0
             } else {
-                let freq_memo = memo.voct_to_hz(VoltsPerOctave(finite_or(voct.0, 0.0)));
-                let freq = freq_memo.val;
-                let risen = trigger_edge.rising(c.trigger);
-                draws_refusal(risen.rising, period_of(sample_rate, freq), draws)
+                self.hear(c).refusal(draws)
             }
         } else {
             refused
@@ -666,35 +588,10 @@ impl KarplusStrong {
         ensures marks_after { let d = draws.now in marks.new
             ≡ tab (mark_at (karplus_strong_told_of c d) (karplus_strong_next_of c d) (strung self line.old)) (length marks.old) }
     {
-        let numbers = c.are_numbers();
-        let voct = c.voct;
-        let memo = self.freq_memo;
-        let sample_rate = self.sample_rate;
-        let trigger_edge = self.trigger_edge;
-        let damping = within(c.damping, 0.5, 0.0, 1.0);
-        let stretch = within(c.stretch, 0.0, -1.0, 1.0);
-        let freq_memo = memo.voct_to_hz(VoltsPerOctave(finite_or(voct.0, 0.0)));
-        let freq = freq_memo.val;
-        let period = period_of(sample_rate, freq);
-        let risen = trigger_edge.rising(c.trigger);
-        let edge = risen.edge;
-        let heard = KarplusStrong {
-            len: self.len,
-            write_pos: self.write_pos,
-            sample_rate,
-            lp_state: self.lp_state,
-            ap_x1: self.ap_x1,
-            ap_y1: self.ap_y1,
-            trigger_edge: edge,
-            freq_memo,
-        };
-        let struck = heard.strike_if(risen.rising, period, c.brightness, draws, line);
-        struck.ring(
-            tuned(period, damping, stretch, numbers),
-            line,
-            samples,
-            marks,
-        )
+        let heard = self.hear(c);
+        let tuning = c.tuning(heard.period);
+        let struck = heard.struck(c.brightness, draws, line);
+        struck.ring(tuning, line, samples, marks)
     }
 
     // As many ticks with these controls as there are marks.
@@ -744,23 +641,12 @@ impl KarplusStrong {
     {
         let refused = self.refusal(line.len());
         if refused == 0 {
-            let len = self.len;
-            let sample_rate = self.sample_rate;
-            let edge = self.trigger_edge;
-            let freq_memo = self.freq_memo;
-            blank(line, 0, len);
-            let trigger_edge = edge.reset();
+            blank(line, 0, self.len);
             KarplusStrongMade {
                 outcome: Outcome::Done,
                 karplus_strong: KarplusStrong {
-                    len,
-                    write_pos: 0,
-                    sample_rate,
-                    lp_state: 0.0,
-                    ap_x1: 0.0,
-                    ap_y1: 0.0,
-                    trigger_edge,
-                    freq_memo,
+                    trigger_edge: self.trigger_edge.reset(),
+                    ..self.at_rest(self.len)
                 },
             }
         } else {
@@ -798,21 +684,15 @@ impl KarplusStrong {
     {
         let refused = self.rate_refusal(sample_rate, line.len());
         if refused == 0 {
-            let trigger_edge = self.trigger_edge;
-            let freq_memo = self.freq_memo;
             let max_len = KarplusStrong::max_len_for(sample_rate);
-            blank(line, numeric::least(self.len, max_len), max_len);
+            blank(line, self.len.min(max_len), max_len);
             KarplusStrongMade {
                 outcome: Outcome::Done,
                 karplus_strong: KarplusStrong {
                     len: max_len,
                     write_pos: placed(self.write_pos, max_len),
                     sample_rate,
-                    lp_state: self.lp_state,
-                    ap_x1: self.ap_x1,
-                    ap_y1: self.ap_y1,
-                    trigger_edge,
-                    freq_memo,
+                    ..self
                 },
             }
         } else {

@@ -56,7 +56,7 @@ small_finite s c wanted k = go (eqb (lfo_refusal_of s) 0) refl
     n : ℕ
     n = lfo_refusal_of s
 
-    go : (b : Bool) → eqb n 0 ≡ b → accepted (cond b (lfo_sound_of s c wanted) (record { answer = answer.Refused n; lfo = s })).answer ≡ true
-        → all_finite (volts_of (cond b (lfo_sound_of s c wanted) (record { answer = answer.Refused n; lfo = s })).answer) ≡ true
+    go : (b : Bool) → eqb n 0 ≡ b → accepted (cond b (lfo_sound_of s c wanted) (record { answer = answer.Refused n; state = s })).answer ≡ true
+        → all_finite (volts_of (cond b (lfo_sound_of s c wanted) (record { answer = answer.Refused n; state = s })).answer) ≡ true
     go true e a = sound_small s c wanted k (eqb-true n 0 e)
     go false e a = absurd (false≢true a)

@@ -17,12 +17,13 @@ use Rattle.laws.specs.Machine.{replies, more}
 use Rattle.lfo.proofs.Reached.{Good, unrefused, tick_sounds, good_new, good, never_refused}
 use Rattle.lfo.specs.Calls.{Tick, Ticked, Fit, after, reply}
 use Rattle.lfo.specs.Consts.{n_ports}
-use Rattle.lfo.specs.Lfo.{new_lfo, new_like, made_unless, lfo_new_of, lfo_sound_of, lfo_tick_of, lfo_told_of, lfo_next_of, lfo_block_of}
+use Rattle.answer.specs.Calls.{made_unless}
+use Rattle.lfo.specs.Lfo.{new_lfo, new_like, lfo_new_of, lfo_sound_of, lfo_tick_of, lfo_told_of, lfo_next_of, lfo_block_of}
 use Rattle.lfo.specs.Promises.{taken, Forgets, BlockForgets, EdgeComes}
 use Rattle.lfo.specs.Waves.{rate_to_hz}
 use Rattle.lfo.specs.declared.Lfo.{Lfo}
 use Rattle.lfo.specs.declared.LfoControls.{LfoControls}
-use Rattle.lfo.specs.declared.LfoTicked.{LfoTicked}
+use Rattle.answer.specs.declared.Ticked as leaves
 
 -- what the edge asks of a threshold, and what both that are good have
 abbrev Above : Lfo → Type 0
@@ -60,8 +61,8 @@ forgets s h c w f a e =
     let g = good h in
     record {
       new = unfold lfo_new_of made_unless new_like in simp (unrefused (new_like s) (good_like s g));
-      state = ap (λ (t : LfoTicked). t.lfo) (struck_tick s c w g f e);
-      same = λ cs. ap (λ (t : LfoTicked). Ticked t.answer ∷ replies after reply t.lfo cs) (struck_tick s c w g f e);
+      state = ap (λ (t : leaves.Ticked Lfo). t.state) (struck_tick s c w g f e);
+      same = λ cs. ap (λ (t : leaves.Ticked Lfo). Ticked t.answer ∷ replies after reply t.state cs) (struck_tick s c w g f e);
     }
 
 pub block_forgets : BlockForgets
@@ -69,15 +70,15 @@ unfolding lfo_block_of
 block_forgets s h c w t o m f a z e =
     let g = good h in
     let tick = struck_tick s c w g f e in
-    let next = ap (λ (k : LfoTicked). k.lfo) tick in
-    let told = ap (λ (k : LfoTicked). k.answer) tick in
+    let next = ap (λ (k : leaves.Ticked Lfo). k.state) tick in
+    let told = ap (λ (k : leaves.Ticked Lfo). k.answer) tick in
     let accepts = sym ((never_refused s h).play c w t o m) ∙ a in
     simp (unrefused s g, unrefused (new_like s) (good_like s g))
     (block_same (lfo_next_of c w) s (new_like s) next n_ports 0 (lfo_told_of c w) t o m told (accepts, z))
 
 -- ---- an edge can be had
 rises : (s : Lfo) (c d : LfoControls) (w : ℕ) → Good s → le c.reset s.reset_edge.threshold ≡ true
-    → lt s.reset_edge.threshold d.reset ≡ true → taken (lfo_tick_of s c w).lfo d ≡ true
+    → lt s.reset_edge.threshold d.reset ≡ true → taken (lfo_tick_of s c w).state d ≡ true
 unfolding lfo_sound_of
 rises s c d w g l h = rw (tick_sounds s c w g) (rising_comes s.reset_edge c.reset d.reset l h)
 

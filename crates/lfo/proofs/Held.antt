@@ -32,8 +32,8 @@ use Rattle.lfo.specs.Waves.{rate_to_hz}
 use Rattle.lfo.specs.Promises.{NanSteers, low_reset, NanReset, BlockAccepts, BlockTallies}
 use Rattle.lfo.specs.declared.Lfo.{Lfo}
 use Rattle.lfo.specs.declared.LfoControls.{LfoControls}
-use Rattle.lfo.specs.declared.LfoTicked.{LfoTicked}
-use Rattle.common.specs.declared.Memo1.{Memo1}
+use Rattle.answer.specs.declared.Ticked.{Ticked}
+use Rattle.common.specs.Memo.{Memo1}
 
 -- ---- a turn of the loop
 pub heard : (wanted : ℕ) (depth : Float) (numbers : Bool) (step start : Turns) (i : ℕ) (p : Turns) (w : Wrapped) (v : Volts) (f : Bool) (a : Answer)
@@ -73,7 +73,7 @@ state_accepted s c p h k = simp ((accepts s h).0, k, (threshold_kept s.reset_edg
 -- in such a state a tick takes no edge and finds its rate in the memo
 held_sound : (s : Lfo) (c : LfoControls) (wanted : ℕ) (p : Turns)
     → lfo_sound_of (state_of s c p) c wanted
-    ≡ record { answer = told_of s c wanted p; lfo = state_of s c (held_next (step_of s c) p) }
+    ≡ record { answer = told_of s c wanted p; state = state_of s c (held_next (step_of s c) p) }
 unfolding lfo_sound_of held_told held_next restart_of
 held_sound s c wanted p = simp (recall1_again rate_to_hz s.freq_memo c.rate, rising_once s.reset_edge c.reset)
 
@@ -83,11 +83,11 @@ pub holds : (s : Lfo) (c : LfoControls) (wanted : ℕ) → lfo_refusal_of s ≡ 
 holds s c wanted h =
     record {
       good = restart_in s.phase (rising_of s.reset_edge c.reset).rising (accepts s h).1;
-      first = unfold lfo_sound_of held_told in ap (λ (t : LfoTicked). t.answer) (sounds s c wanted h);
-      second = unfold lfo_sound_of held_next in ap (λ (t : LfoTicked). t.lfo) (sounds s c wanted h);
+      first = unfold lfo_sound_of held_told in ap (λ (t : Ticked Lfo). t.answer) (sounds s c wanted h);
+      second = unfold lfo_sound_of held_next in ap (λ (t : Ticked Lfo). t.state) (sounds s c wanted h);
       stays = λ p k. unfold held_next in wrap_in _ (add-fits binary64 _ _);
-      answers = λ p k. ap (λ (t : LfoTicked). t.answer) (sounds (state_of s c p) c wanted (state_accepted s c p h k) ∙ held_sound s c wanted p);
-      moves = λ p k. ap (λ (t : LfoTicked). t.lfo) (sounds (state_of s c p) c wanted (state_accepted s c p h k) ∙ held_sound s c wanted p);
+      answers = λ p k. ap (λ (t : Ticked Lfo). t.answer) (sounds (state_of s c p) c wanted (state_accepted s c p h k) ∙ held_sound s c wanted p);
+      moves = λ p k. ap (λ (t : Ticked Lfo). t.state) (sounds (state_of s c p) c wanted (state_accepted s c p h k) ∙ held_sound s c wanted p);
     }
 
 -- ---- so none of them is refused
@@ -100,12 +100,12 @@ block_tallies s c wanted h = all_taken _ _ s (block_accepts s c wanted h)
 -- ---- a tick is refused by what refuses its state
 pub tick_refusal : (s : Lfo) (c : LfoControls) (wanted : ℕ) → refusal_of (lfo_tick_of s c wanted).answer ≡ lfo_refusal_of s
 unfolding lfo_tick_of lfo_sound_of
-tick_refusal s c wanted = refused_by (λ (t : LfoTicked). t.answer) (lfo_refusal_of s) _ _ (mark_says _ _ _ _ _).is_accepted refl
+tick_refusal s c wanted = refused_by (λ (t : Ticked Lfo). t.answer) (lfo_refusal_of s) _ _ (mark_says _ _ _ _ _).is_accepted refl
 
 -- ---- and marked over its controls
 pub nan_steers : NanSteers
 unfolding lfo_tick_of lfo_sound_of
-nan_steers s c wanted = tick_steers (λ (t : LfoTicked). t.answer) (controls_of c) (lfo_refusal_of s) _ _ (mark_steers _ _ _ _ (controls_of c)) refl
+nan_steers s c wanted = tick_steers (λ (t : Ticked Lfo). t.answer) (controls_of c) (lfo_refusal_of s) _ _ (mark_steers _ _ _ _ (controls_of c)) refl
 
 -- a reset that is NaN takes no edge, and neither does 0 V
 module _ (s : Lfo) (c : LfoControls) (wanted : ℕ) (h : c.reset ≡ nan) (a : lfo_refusal_of s ≡ 0) where
@@ -121,4 +121,4 @@ module _ (s : Lfo) (c : LfoControls) (wanted : ℕ) (h : c.reset ≡ nan) (a : l
 
 pub nan_reset : NanReset
 unfolding lfo_tick_of
-nan_reset s c wanted h = tick_sounds (λ (t : LfoTicked). t.answer) (lfo_refusal_of s) _ _ _ (reset_sounds s c wanted h) refl
+nan_reset s c wanted h = tick_sounds (λ (t : Ticked Lfo). t.answer) (lfo_refusal_of s) _ _ _ (reset_sounds s c wanted h) refl

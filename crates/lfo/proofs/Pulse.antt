@@ -27,7 +27,7 @@ use Rattle.lfo.specs.Promises.{summed, EocSays, Beside, EocBeside, BitsBeyond}
 use Rattle.lfo.specs.Waves.{sine_of, sin_wave, tri_wave, saw_wave, sqr_wave, sin_uni_wave, eoc_wave}
 use Rattle.lfo.specs.declared.Lfo.{Lfo}
 use Rattle.lfo.specs.declared.LfoControls.{LfoControls}
-use Rattle.lfo.specs.declared.LfoTicked.{LfoTicked}
+use Rattle.answer.specs.declared.Ticked.{Ticked}
 
 -- ---- when it comes
 -- 5.0 where it is wanted and a turn is passed
@@ -73,7 +73,7 @@ turned_is x = refl
 pub eoc_says : EocSays
 eoc_says s c wanted a =
     let sound = is_sound s c wanted a in
-    let told = ap (λ (t : LfoTicked). (volts_of t.answer).p15) sound ∙ eoc_sound s c wanted in
+    let told = ap (λ (t : Ticked Lfo). (volts_of t.answer).p15) sound ∙ eoc_sound s c wanted in
     let pulse = told ∙ wave_is (wants wanted 32) (turned_of (summed s c)) in
     let wave : Bool → Float = λ turned. cond (wants wanted 32 && turned) five zer in
     record {
@@ -81,7 +81,7 @@ eoc_says s c wanted a =
       by_range = pulse ∙ ap wave (turned_says (summed s c) (add-fits binary64 _ _));
       in_lost = λ h. told
           ∙ ap (eoc_wave (wants wanted 32))
-          (unturned s c wanted (lost_sound s c wanted (sym (ap (λ (t : LfoTicked). mark_number t.answer) sound) ∙ h)))
+          (unturned s c wanted (lost_sound s c wanted (sym (ap (λ (t : Ticked Lfo). mark_number t.answer) sound) ∙ h)))
           ∙ wave_low (wants wanted 32);
     }
 
@@ -138,11 +138,11 @@ module _ (s : Lfo) (c : LfoControls) (v w : ℕ) where
   sound_same : WantAlike 6 v w → lfo_sound_of s c v ≡ lfo_sound_of s c w
   unfolding lfo_sound_of
   sound_same h =
-      ap (λ (x : Volts). record { answer = mark_of x false true (is_fin (summed s c)) (all_numbers (controls_of c)); lfo = (lfo_sound_of s c v).lfo })
+      ap (λ (x : Volts). record { answer = mark_of x false true (is_fin (summed s c)) (all_numbers (controls_of c)); state = (lfo_sound_of s c v).state })
       (six_same v w _ _ _ h)
 
 -- of an accepted tick and of a refused one
-tick_beside : (b : Bool) (x y r : LfoTicked) → Beside x y → Beside (cond b x r) (cond b y r)
+tick_beside : (b : Bool) (x y r : Ticked Lfo) → Beside x y → Beside (cond b x r) (cond b y r)
 tick_beside true x y r h = h
 tick_beside false x y r h = record { volts = refl; told = refl; lfo = refl }
 
@@ -153,4 +153,4 @@ eoc_beside s c v w h = tick_beside (eqb (lfo_refusal_of s) 0) _ _ _ (sound_besid
 pub bits_beyond : BitsBeyond
 unfolding lfo_tick_of
 bits_beyond s c v w h =
-    ap (λ (t : LfoTicked). cond (eqb (lfo_refusal_of s) 0) t (record { answer = answer.Refused (lfo_refusal_of s); lfo = s })) (sound_same s c v w h)
+    ap (λ (t : Ticked Lfo). cond (eqb (lfo_refusal_of s) 0) t (record { answer = answer.Refused (lfo_refusal_of s); state = s })) (sound_same s c v w h)

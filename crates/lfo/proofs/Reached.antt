@@ -9,9 +9,10 @@ use lib.Ieee.Fits.{add-fits}
 use lib.ListN.{length}
 use Rattle.answer.proofs.Blocks.{block_keeps, block_refusal}
 use Rattle.answer.proofs.Laws.{mark_says}
-use Rattle.answer.specs.Answer.{accepted, outcome_number}
+use Rattle.answer.specs.Answer.{accepted}
 use Rattle.answer.specs.Block.{block_refusal_of}
-use Rattle.answer.specs.declared.Outcome.TheVariants as outcome
+use Rattle.answer.proofs.Calls.{made_cases, made_number}
+use Rattle.answer.specs.Calls.{Outcome, made_unless}
 use Rattle.common.proofs.EdgeLaws as edge
 use Rattle.common.proofs.MemoLaws.{recalled1}
 use Rattle.common.proofs.PhaseLaws.{wrap_in, zero_in}
@@ -24,25 +25,14 @@ use Rattle.laws.specs.Float.{zer}
 use Rattle.lfo.proofs.Accepted.{accepts, sounds}
 use Rattle.lfo.specs.Calls.{Call, Tick, Play, Reset, SetSampleRate, Told, Fit, FitCall, after, reply, First, ReachedLfo}
 use Rattle.lfo.specs.Consts.{n_ports}
-use Rattle.lfo.specs.Lfo.{new_lfo, lfo_refusal_of, lfo_rate_refusal_of, made_unless, lfo_new_of, lfo_sound_of, lfo_tick_of, lfo_block_of, restarted}
+use Rattle.lfo.specs.Lfo.{new_lfo, lfo_refusal_of, lfo_rate_refusal_of, lfo_new_of, lfo_sound_of, lfo_tick_of, lfo_block_of, restarted}
 use Rattle.lfo.specs.Lfo.{lfo_reset_of}
 use Rattle.lfo.specs.Lfo.{rated, lfo_set_sample_rate_of}
 use Rattle.lfo.specs.Promises.{NewAccepts, NeverRefused, GateSays, ThresholdKept}
 use Rattle.lfo.specs.Waves.{rate_to_hz}
 use Rattle.lfo.specs.declared.Lfo.{Lfo}
 use Rattle.lfo.specs.declared.LfoControls.{LfoControls}
-use Rattle.lfo.specs.declared.LfoMade.{LfoMade}
-use Rattle.lfo.specs.declared.LfoTicked.{LfoTicked}
-
--- ---- a call without samples
-made_cases : (P : LfoMade → Type 0) (n : ℕ) (old new : Lfo) → (n ≡ 0 → P (record { outcome = outcome.Done; lfo = new }))
-    → P (record { outcome = outcome.Refused n; lfo = old }) → P (made_unless n old new)
-unfolding made_unless
-made_cases P n old new d r = unless_refused P n _ _ d r
-
-made_number : (n : ℕ) (old new : Lfo) → outcome_number (made_unless n old new).outcome ≡ n
-unfolding outcome_number
-made_number n old new = made_cases (λ m. outcome_number m.outcome ≡ n) n old new sym refl
+use Rattle.answer.specs.declared.Ticked.{Ticked}
 
 -- ---- a good state
 pub record Good (s : Lfo) : Type 0 where
@@ -73,15 +63,15 @@ unfolding new_lfo
 new_accepted r t h = let a = accepts (new_lfo r t) h in (a.0, a.2)
 
 first_good : (s : Lfo) → First s → Good s
-unfolding lfo_new_of outcome_number
+unfolding lfo_new_of
 first_good s f =
     let new = new_lfo f.0 f.1 in
-    let number = ap (λ (m : LfoMade). outcome_number m.outcome) f.2 in
+    let number = ap (λ (m : Outcome Lfo). m.refused) f.2 in
     let a = new_accepted f.0 f.1 (sym (made_number _ new new) ∙ number) in
     let g = good_new f.0 f.1 a.0 a.1 in
-    subst Good (ap (λ (m : LfoMade). m.lfo) f.2) (made_cases (λ m. Good m.lfo) _ new new (λ e. g) g)
+    subst Good (ap (λ (m : Outcome Lfo). m.state) f.2) (made_cases (λ m. Good m.state) _ new new (λ e. g) g)
 
-sound_good : (s : Lfo) (c : LfoControls) (w : ℕ) → Good s → Fit c → Good (lfo_sound_of s c w).lfo
+sound_good : (s : Lfo) (c : LfoControls) (w : ℕ) → Good s → Fit c → Good (lfo_sound_of s c w).state
 unfolding lfo_sound_of
 sound_good s c w g f =
     record {
@@ -91,8 +81,8 @@ sound_good s c w g f =
       memo = recalled1 rate_to_hz s.freq_memo g.memo c.rate f;
     }
 
-tick_good : (s : Lfo) (c : LfoControls) (w : ℕ) → Good s → Fit c → Good (lfo_tick_of s c w).lfo
-tick_good s c w g f = subst (λ (t : LfoTicked). Good t.lfo) (sym (tick_sounds s c w g)) (sound_good s c w g f)
+tick_good : (s : Lfo) (c : LfoControls) (w : ℕ) → Good s → Fit c → Good (lfo_tick_of s c w).state
+tick_good s c w g f = subst (λ (t : Ticked Lfo). Good t.state) (sym (tick_sounds s c w g)) (sound_good s c w g f)
 
 rated_good : (s : Lfo) (r : Hertz) → Good s → lfo_rate_refusal_of s r ≡ 0 → Good (rated s r)
 unfolding rated lfo_rate_refusal_of
@@ -107,8 +97,8 @@ after_good : (s : Lfo) (c : Call) → Good s → FitCall c → Good (after s c)
 unfolding after lfo_block_of lfo_reset_of lfo_set_sample_rate_of
 after_good s (Tick c w) g f = tick_good s c w g f
 after_good s (Play c w t o m) g f = block_keeps n_ports _ _ _ Good (λ r h. tick_good r c w h f) s g t o m
-after_good s Reset g f = made_cases (λ m. Good m.lfo) _ s (restarted s) (λ e. restarted_good s g) g
-after_good s (SetSampleRate r) g f = made_cases (λ m. Good m.lfo) (lfo_rate_refusal_of s r) s (rated s r) (rated_good s r g) g
+after_good s Reset g f = made_cases (λ m. Good m.state) _ s (restarted s) (λ e. restarted_good s g) g
+after_good s (SetSampleRate r) g f = made_cases (λ m. Good m.state) (lfo_rate_refusal_of s r) s (rated s r) (rated_good s r g) g
 
 pub good : {s : Lfo} → ReachedLfo s → Good s
 good = always Good first_good after_good
@@ -154,16 +144,16 @@ gate_says =
 abbrev Keeps : Lfo → Lfo → Type 0
 Keeps s r = r.reset_edge.threshold ≡ s.reset_edge.threshold
 
-tick_keeps : (c : LfoControls) (w : ℕ) (s : Lfo) → Keeps s (lfo_tick_of s c w).lfo
+tick_keeps : (c : LfoControls) (w : ℕ) (s : Lfo) → Keeps s (lfo_tick_of s c w).state
 unfolding lfo_tick_of lfo_sound_of
 tick_keeps c w s =
     let kept = edge.same_gate (edge.threshold_kept s.reset_edge c.reset).rising in
-    unless_refused (λ (t : LfoTicked). Keeps s t.lfo) (lfo_refusal_of s) (lfo_sound_of s c w) _ (λ e. kept) refl
+    unless_refused (λ (t : Ticked Lfo). Keeps s t.state) (lfo_refusal_of s) (lfo_sound_of s c w) _ (λ e. kept) refl
 
 pub threshold_kept : ThresholdKept
 unfolding after lfo_block_of lfo_reset_of lfo_set_sample_rate_of
 threshold_kept s (Tick c w) = tick_keeps c w s
 threshold_kept s (Play c w t o m) = block_keeps n_ports _ _ _ (Keeps s) (λ r h. tick_keeps c w r ∙ h) s refl t o m
 threshold_kept s Reset =
-    made_cases (λ m. Keeps s m.lfo) _ s (restarted s) (λ e. unfold restarted in edge.same_gate (edge.threshold_kept s.reset_edge zer).reset) refl
-threshold_kept s (SetSampleRate r) = made_cases (λ m. Keeps s m.lfo) _ s (rated s r) (λ e. unfold rated in refl) refl
+    made_cases (λ m. Keeps s m.state) _ s (restarted s) (λ e. unfold restarted in edge.same_gate (edge.threshold_kept s.reset_edge zer).reset) refl
+threshold_kept s (SetSampleRate r) = made_cases (λ m. Keeps s m.state) _ s (rated s r) (λ e. unfold rated in refl) refl

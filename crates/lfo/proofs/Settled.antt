@@ -1,13 +1,14 @@
 -- Each contract is one equation, so it settles its answer.
+use Rattle.answer.proofs.Calls.{making_settled, changing_settled}
 use Rattle.lfo.specs.Promises.{Settled}
 use Rattle.laws.proofs.Settled as laws
 
 pub settled : Settled
 settled =
     record {
-      new = λ r t. laws.settled _;
+      new = λ r t. making_settled _;
       tick = λ s c wanted. laws.settled _;
       block = λ s c wanted t o m. laws.settled _;
-      reset = λ s. laws.settled _;
-      set_sample_rate = λ s r. laws.settled _;
+      reset = λ s. changing_settled s _;
+      set_sample_rate = λ s r. changing_settled s _;
     }

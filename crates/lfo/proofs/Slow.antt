@@ -12,7 +12,7 @@ use lib.IntN.{pos}
 use borrow.Author.Tests.{lt-ltb}
 use Rattle.common.proofs.MemoLaws.{recall1_is}
 use Rattle.common.specs.Consts.{five, rate_low, rate_high}
-use Rattle.common.specs.Memo.{filled1}
+use Rattle.common.specs.Memo.{filled}
 use Rattle.common.specs.Phase.{turns, increment_of, restart_of}
 use Rattle.common.specs.Ports.{wants}
 use Rattle.common.specs.Tests.{rate_ok, phase_ok}
@@ -90,7 +90,7 @@ step_in f r a b l h =
 -- ---- the promise
 struck_sum : (s : Lfo) (c : LfoControls) → Good s → Fit c → taken s c ≡ true
     → summed s c ≡ add binary64 zer (div binary64 (rate_to_hz c.rate).0 s.sample_rate.0)
-unfolding restart_of increment_of filled1
+unfolding restart_of increment_of filled
 struck_sum s c g f e = simp (e, recall1_is rate_to_hz s.freq_memo g.memo c.rate f)
 
 -- it is a phase, or, of a rate that is NaN, not finite

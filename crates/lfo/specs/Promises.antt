@@ -1,8 +1,10 @@
 -- Theorems about the Lfo: the statements. proofs/ proves each under the same name in small letters.
-use Rattle.std.specs.Prelude.{Bool, true, false, cond, not, ◌&&◌, List, ◌∷◌, [], ◌≡◌, ℕ, ◌*◌, ◌<◌, eqb, Float, length}
+use Rattle.std.specs.Prelude.{Result, Bool, true, false, cond, not, ◌&&◌, List, ◌∷◌, [], ◌≡◌, ℕ, ◌*◌, ◌<◌, eqb, Float, length}
 use Rattle.std.specs.Float.{nan, binary64}
 use Rattle.std.specs.Float.Ieee.{lt, le, ne, add, div}
-use Rattle.answer.specs.Answer.{volts_of, accepted, outcome_number, mark_number, host_number, lost}
+use Rattle.answer.specs.Calls.{outcome, making, changing}
+use Rattle.common.specs.declared.Refusal.{Refusal}
+use Rattle.answer.specs.Answer.{volts_of, accepted, mark_number, host_number, lost}
 use Rattle.answer.specs.Block.{Block, block_refusal_of, ports_of}
 use Rattle.answer.specs.Promises.{Steers, SoundsAs, AllAccepted, AllTaken}
 use Rattle.answer.specs.Mark.{all_finite}
@@ -22,17 +24,17 @@ use Rattle.lfo.specs.Lfo.{lfo_set_sample_rate_of}
 use Rattle.lfo.specs.Lfo.{restarted, rated}
 use Rattle.lfo.specs.Small.{is_small}
 use Rattle.lfo.specs.Waves.{rate_to_hz}
-use Rattle.answer.specs.declared.Outcome.TheVariants as outcome
+use Rattle.answer.specs.declared.Made.{Made}
+use Rattle.answer.specs.declared.Ticked.{Ticked}
+use Rattle.answer.specs.declared.Played.{Played}
 use Rattle.answer.specs.declared.Tally.{Tally}
 use Rattle.common.specs.declared.Hertz.{Hertz}
 use Rattle.lfo.specs.declared.Lfo.{Lfo}
 use Rattle.lfo.specs.declared.LfoControls.{LfoControls}
-use Rattle.lfo.specs.declared.LfoTicked.{LfoTicked}
-use Rattle.lfo.specs.declared.LfoMade.{LfoMade}
 
 -- ---- `new` refuses a bad rate, and then a bad threshold, alone: at each other rate there is a first state of each threshold
 abbrev pub NewAccepts : Type 0
-NewAccepts = (r : Hertz) (t : Float) → (outcome_number (lfo_new_of r t).outcome ≡ cond (rate_ok r) (cond (threshold_ok t) 0 2) 1)
+NewAccepts = (r : Hertz) (t : Float) → ((lfo_new_of r t).refused ≡ cond (rate_ok r) (cond (threshold_ok t) 0 2) 1)
     × (rate_ok r ≡ true → threshold_ok t ≡ true → First (new_lfo r t))
 
 -- ---- a reached state refuses no call but for the call's own input
@@ -71,7 +73,7 @@ taken s c = (rising_of s.reset_edge c.reset).rising
 
 -- a new one like it is to be had; fed this tick it is left in the same state, and fed this tick and then any calls it answers the same
 pub record Forgotten (s : Lfo) (c : LfoControls) (wanted : ℕ) : Type 0 where
-  pub new : lfo_new_of s.sample_rate s.reset_edge.threshold ≡ record { outcome = outcome.Done; lfo = new_like s }
+  pub new : lfo_new_of s.sample_rate s.reset_edge.threshold ≡ outcome 0 (new_like s)
   pub state : after s (Tick c wanted) ≡ after (new_like s) (Tick c wanted)
   pub same : (cs : List Call) → replies after reply s (Tick c wanted ∷ cs) ≡ replies after reply (new_like s) (Tick c wanted ∷ cs)
 
@@ -125,10 +127,10 @@ abbrev pub EocSays : Type 0
 EocSays = (s : Lfo) (c : LfoControls) (wanted : ℕ) → accepted (lfo_tick_of s c wanted).answer ≡ true → Pulses s c wanted
 
 -- it stands beside the Rust's five outputs: ticks whose masks want the same of these agree in them, in the mark and in the state
-pub record Beside (a b : LfoTicked) : Type 0 where
+pub record Beside (a b : Ticked Lfo) : Type 0 where
   pub volts : ports_of 5 (volts_of a.answer) ≡ ports_of 5 (volts_of b.answer)
   pub told : host_number a.answer ≡ host_number b.answer
-  pub lfo : a.lfo ≡ b.lfo
+  pub lfo : a.state ≡ b.state
 
 abbrev pub EocBeside : Type 0
 EocBeside = (s : Lfo) (c : LfoControls) (v w : ℕ) → WantAlike 5 v w → Beside (lfo_tick_of s c v) (lfo_tick_of s c w)
@@ -150,9 +152,9 @@ BlockTallies = (s : Lfo) (c : LfoControls) (wanted : ℕ) → lfo_refusal_of s �
 
 -- ---- each contract settles its answer
 pub record Settled : Type 0 where
-  pub new : (r : Hertz) (t : Float) → Settles (λ (m : LfoMade). m ≡ lfo_new_of r t)
-  pub tick : (s : Lfo) (c : LfoControls) (wanted : ℕ) → Settles (λ (t : LfoTicked). t ≡ lfo_tick_of s c wanted)
+  pub new : (r : Hertz) (t : Float) → Settles (λ (m : Made Lfo). making m ≡ lfo_new_of r t)
+  pub tick : (s : Lfo) (c : LfoControls) (wanted : ℕ) → Settles (λ (t : Ticked Lfo). t ≡ lfo_tick_of s c wanted)
   pub block : (s : Lfo) (c : LfoControls) (wanted : ℕ) (t : Tally) (o : List Float) (m : List ℕ)
       → Settles (λ (b : Block Lfo). b ≡ lfo_block_of s c wanted t o m)
-  pub reset : (s : Lfo) → Settles (λ (m : LfoMade). m ≡ lfo_reset_of s)
-  pub set_sample_rate : (s : Lfo) (r : Hertz) → Settles (λ (m : LfoMade). m ≡ lfo_set_sample_rate_of s r)
+  pub reset : (s : Lfo) → Settles (λ (m : Result Lfo Refusal). changing s m ≡ lfo_reset_of s)
+  pub set_sample_rate : (s : Lfo) (r : Hertz) → Settles (λ (m : Result Lfo Refusal). changing s m ≡ lfo_set_sample_rate_of s r)

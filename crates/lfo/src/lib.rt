@@ -2,12 +2,14 @@
 // Its outputs: p10 sin, p11 tri, p12 saw, p13 sqr, p14 sin_uni; and p15 eoc, the end of a cycle, which is ours.
 #![tactic(auto)]
 
-ghost use Rattle.std.specs.Prelude.{◌≡◌, true, false, ◌||◌, ◌<◌, ◌*◌, length};
+ghost use Rattle.std.specs.Prelude.{◌≡◌, true, false, ◌<◌, ◌*◌, length};
 ghost use Rattle.laws.specs.Lists.{tab};
 ghost use Rattle.common.specs.Memo.{recall1};
 ghost use Rattle.common.specs.Tests.{phase_ok};
 ghost use Rattle.answer.specs.Mark.{all_finite, all_numbers, mark_of};
-ghost use Rattle.answer.specs.Block.{after_ticks, joined, block, mark_at, frame_at};
+ghost use Rattle.common.specs.Refusal.{refused_number};
+ghost use Rattle.answer.specs.Block.{after_ticks, joined, block_said, mark_at, frame_at};
+ghost use Rattle.answer.specs.Calls.{making, changing};
 ghost use Rattle.lfo.specs.Consts.{n_ports};
 ghost use Rattle.lfo.specs.Waves.{rate_to_hz, shared_sine, sin_wave, tri_wave, saw_wave, sqr_wave, sin_uni_wave, eoc_wave};
 ghost use Rattle.lfo.specs.Small.{is_small};
@@ -15,15 +17,15 @@ ghost use Rattle.lfo.specs.Shortcuts.{held_told, held_next};
 ghost use Rattle.lfo.specs.Lfo.{controls_of, lfo_refusal_of, lfo_rate_refusal_of, lfo_new_of, lfo_outputs_of, lfo_sound_of, lfo_tick_of, lfo_told_of};
 ghost use Rattle.lfo.specs.Lfo.{lfo_next_of, lfo_block_of, lfo_reset_of, lfo_set_sample_rate_of};
 
-use answer::{Answer, Outcome, Tally, Volts};
-use common::{EdgeDetector, Hertz, Memo1, Turns};
+use answer::{Answer, Made, Played, Tally, Ticked, Volts};
+use common::{EdgeDetector, Hertz, Memo, Refusal, Turns};
 
 #[derive(Clone, Copy)]
 pub struct Lfo {
     pub phase: Turns,
     pub sample_rate: Hertz,
     pub reset_edge: EdgeDetector,
-    pub freq_memo: Memo1,
+    pub freq_memo: Memo<1, Hertz>,
 }
 
 // The inputs, in port order.
@@ -32,27 +34,6 @@ pub struct LfoControls {
     pub rate: f64,
     pub depth: f64,
     pub reset: f64,
-}
-
-#[derive(Clone, Copy)]
-pub struct LfoTicked {
-    pub answer: Answer,
-    pub lfo: Lfo,
-}
-
-// What a block leaves beside its samples and marks: `refused` is 0, or the number that refused it.
-#[derive(Clone, Copy)]
-pub struct LfoBlock {
-    pub refused: u32,
-    pub lfo: Lfo,
-    pub tally: Tally,
-}
-
-// What a call without samples leaves: a refused one the old state, and a refused `new` a state that refuses every call.
-#[derive(Clone, Copy)]
-pub struct LfoMade {
-    pub outcome: Outcome,
-    pub lfo: Lfo,
 }
 
 // How many outputs there are.
@@ -66,21 +47,10 @@ fn rate_to_hz(rate: f64) -> Hertz
 }
 
 // The Rust's get_or_compute([rate], ..); its answer is the new memo's val.
-fn recall(memo: Memo1, rate: f64) -> Memo1
+fn recall(memo: Memo<1, Hertz>, rate: f64) -> Memo<1, Hertz>
     ensures { result ≡ recall1 rate_to_hz memo rate }
 {
-    if memo.hits(rate) {
-        memo
-    } else {
-        let val = rate_to_hz(rate);
-        Memo1::filled(rate, val)
-    }
-}
-
-fn either(a: bool, b: bool) -> bool
-    ensures { result ≡ (a || b) }
-{
-    a || b
+    memo.get_or_compute([rate], || rate_to_hz(rate))
 }
 
 fn sin(want: bool, sine: f64, scale: f64) -> f64
@@ -164,32 +134,24 @@ impl LfoControls {
     fn are_numbers(self) -> bool
         ensures { result ≡ all_numbers (controls_of self) }
     {
-        answer::numbers3(self.rate, self.depth, self.reset)
+        answer::numbers([self.rate, self.depth, self.reset])
     }
 }
 
 impl Lfo {
     // Of a rate and of the threshold that its gate goes by.
-    pub fn new(sample_rate: Hertz, threshold: f64) -> LfoMade
-        ensures { result ≡ lfo_new_of sample_rate threshold }
+    pub fn new(sample_rate: Hertz, threshold: f64) -> Made<Lfo>
+        ensures { making result ≡ lfo_new_of sample_rate threshold }
     {
-        let lfo = Lfo {
+        let state = Lfo {
             phase: Turns(0.0),
             sample_rate,
             reset_edge: EdgeDetector::new(threshold),
-            freq_memo: Memo1::new(),
+            freq_memo: Memo::new(Hertz(0.0)),
         };
-        let n = lfo.refusal();
-        if n == 0 {
-            LfoMade {
-                outcome: Outcome::Done,
-                lfo,
-            }
-        } else {
-            LfoMade {
-                outcome: Outcome::Refused(n),
-                lfo,
-            }
+        Made {
+            outcome: state.refusal(),
+            state,
         }
     }
 
@@ -210,10 +172,8 @@ impl Lfo {
     fn shared_sine(wanted: u32, phase: Turns) -> f64
         ensures { result ≡ shared_sine wanted phase.0 }
     {
-        if either(
-            wanted & Self::WANT_SIN != 0,
-            wanted & Self::WANT_SIN_UNI != 0,
-        ) {
+        let shared = wanted & Self::WANT_SIN != 0 || wanted & Self::WANT_SIN_UNI != 0;
+        if shared {
             numeric::sin(phase.0 * numeric::TAU)
         } else {
             0.0
@@ -226,72 +186,59 @@ impl Lfo {
         ensures { result ≡ lfo_outputs_of wanted phase.0 depth turned }
     {
         let scale = 5.0 * depth;
-        answer::volts6(
+        Volts::of([
             sin(wanted & Self::WANT_SIN != 0, sine, scale),
             tri(wanted & Self::WANT_TRI != 0, phase, scale),
             saw(wanted & Self::WANT_SAW != 0, phase, scale),
             sqr(wanted & Self::WANT_SQR != 0, phase, scale),
             sin_uni(wanted & Self::WANT_SIN_UNI != 0, sine, depth),
             eoc(wanted & Self::WANT_EOC != 0, turned),
-        )
+        ])
     }
 
-    // 0, or what refuses this state: 1 its rate, 2 its phase or its gate's threshold.
-    fn refusal(self) -> u32
-        ensures { result ≡ lfo_refusal_of self }
+    // What refuses this state: its rate, then its phase or its gate's threshold.
+    fn refusal(self) -> Result<(), Refusal>
+        ensures { refused_number result ≡ lfo_refusal_of self }
     {
-        let sample_rate = self.sample_rate;
-        let phase = self.phase;
-        let edge = self.reset_edge;
-        common::gated_refusal(sample_rate, phase, edge.threshold)
+        common::gated_refusal(self.sample_rate, self.phase, self.reset_edge.threshold)
     }
 
     // An accepted tick: the Rust's tick_wanted.
-    fn sound(self, c: LfoControls, wanted: u32) -> LfoTicked
+    fn sound(self, c: LfoControls, wanted: u32) -> Ticked<Lfo>
         requires { lfo_refusal_of self ≡ 0 }
         ensures { result ≡ lfo_sound_of self c wanted }
     {
         let numbers = c.are_numbers();
-        let old = self.phase;
-        let sample_rate = self.sample_rate;
-        let edge = self.reset_edge;
-        let memo = self.freq_memo;
         let depth = c.depth / 10.0;
-        let freq_memo = recall(memo, c.rate);
-        let freq = freq_memo.val;
-        let risen = edge.rising(c.reset);
-        let reset_edge = risen.edge;
-        let phase = common::restart(old, risen.rising);
-        let from = phase.0;
-        let by = common::increment(freq, sample_rate).0;
-        let next = Turns(from + by);
+        let freq_memo = recall(self.freq_memo, c.rate);
+        let risen = self.reset_edge.rising(c.reset);
+        let phase = common::restart(self.phase, risen.rising);
+        let by = common::increment(freq_memo.val, self.sample_rate);
+        let next = Turns(phase.0 + by.0);
         let wrapped = common::wrap_phase(next);
-        let moved = wrapped.phase;
         let turned = wrapped.turned;
         let sine = Self::shared_sine(wanted, phase);
         let volts = Self::outputs(wanted, phase, sine, depth, turned);
-        LfoTicked {
+        Ticked {
             answer: mark(volts, is_small(depth), numeric::is_finite(next.0), numbers),
-            lfo: Lfo {
-                phase: moved,
-                sample_rate,
-                reset_edge,
+            state: Lfo {
+                phase: wrapped.phase,
+                reset_edge: risen.edge,
                 freq_memo,
+                ..self
             },
         }
     }
 
-    pub fn tick(self, c: LfoControls, wanted: u32) -> LfoTicked
+    pub fn tick(self, c: LfoControls, wanted: u32) -> Ticked<Lfo>
         ensures { result ≡ lfo_tick_of self c wanted }
     {
-        let n = self.refusal();
-        if n == 0 {
-            self.sound(c, wanted)
-        } else {
-            LfoTicked {
-                answer: Answer::Refused(n),
-                lfo: self,
-            }
+        match self.refusal() {
+            Ok(()) => self.sound(c, wanted),
+            Err(refused) => Ticked {
+                answer: Answer::Refused(refused.number()),
+                state: self,
+            },
         }
     }
 
@@ -314,8 +261,7 @@ impl Lfo {
     {
         let small = is_small(depth);
         let mut phase = start;
-        let mut i = 0;
-        while i < marks.len() {
+        for i in 0..marks.len() {
             let next = Turns(phase.0 + step.0);
             let wrapped = common::wrap_phase(next);
             let sine = Self::shared_sine(wanted, phase);
@@ -323,7 +269,6 @@ impl Lfo {
             let heard = mark(volts, small, numeric::is_finite(next.0), numbers);
             answer::put(heard, PORTS, i, &mut *samples, &mut *marks);
             phase = wrapped.phase;
-            i += 1;
         }
         phase
     }
@@ -337,21 +282,15 @@ impl Lfo {
         ensures marks_after { marks.new ≡ tab (mark_at (lfo_told_of c wanted) (lfo_next_of c wanted) self) (length marks.old) }
     {
         let numbers = c.are_numbers();
-        let old = self.phase;
-        let sample_rate = self.sample_rate;
-        let edge = self.reset_edge;
-        let memo = self.freq_memo;
-        let freq_memo = recall(memo, c.rate);
-        let freq = freq_memo.val;
-        let risen = edge.rising(c.reset);
-        let reset_edge = risen.edge;
-        let start = common::restart(old, risen.rising);
-        let step = common::increment(freq, sample_rate);
+        let freq_memo = recall(self.freq_memo, c.rate);
+        let risen = self.reset_edge.rising(c.reset);
+        let start = common::restart(self.phase, risen.rising);
+        let step = common::increment(freq_memo.val, self.sample_rate);
         Lfo {
             phase: Self::glide(start, step, c.depth / 10.0, numbers, wanted, samples, marks),
-            sample_rate,
-            reset_edge,
+            reset_edge: risen.edge,
             freq_memo,
+            ..self
         }
     }
 
@@ -363,96 +302,53 @@ impl Lfo {
         tally: Tally,
         samples: &mut [f64],
         marks: &mut [u32],
-    ) -> LfoBlock
-        ensures { block result.refused result.lfo result.tally samples.new marks.new
+    ) -> Result<Played<Lfo>, Refusal>
+        ensures { block_said self tally result samples.new marks.new
             ≡ lfo_block_of self c wanted tally samples.old marks.old }
     {
         let n = marks.len();
-        let refused = answer::block_refusal(PORTS, samples.len(), self.refusal(), tally, n);
-        if refused == 0 {
-            if n == 0 {
-                LfoBlock {
-                    refused: 0,
-                    lfo: self,
-                    tally,
-                }
-            } else {
-                let lfo = self.run(c, wanted, samples, marks);
-                LfoBlock {
-                    refused: 0,
-                    lfo,
-                    tally: tally.take_marks(marks).or(tally),
-                }
-            }
-        } else {
-            LfoBlock {
-                refused,
-                lfo: self,
-                tally,
-            }
+        answer::block_refusal(PORTS, samples.len(), self.refusal(), tally, n)?;
+        if n == 0 {
+            return Ok(Played { state: self, tally });
         }
+        let state = self.run(c, wanted, samples, marks);
+        Ok(Played {
+            state,
+            tally: tally.take_marks(marks).unwrap_or(tally),
+        })
     }
 
     // Phase and edge start again; the memo stays.
-    pub fn reset(self) -> LfoMade
-        ensures { result ≡ lfo_reset_of self }
+    pub fn reset(self) -> Result<Lfo, Refusal>
+        ensures { changing self result ≡ lfo_reset_of self }
     {
-        let n = self.refusal();
-        if n == 0 {
-            let sample_rate = self.sample_rate;
-            let edge = self.reset_edge;
-            let freq_memo = self.freq_memo;
-            LfoMade {
-                outcome: Outcome::Done,
-                lfo: Lfo {
-                    phase: Turns(0.0),
-                    sample_rate,
-                    reset_edge: edge.reset(),
-                    freq_memo,
-                },
-            }
-        } else {
-            LfoMade {
-                outcome: Outcome::Refused(n),
-                lfo: self,
-            }
-        }
+        self.refusal()?;
+        Ok(Lfo {
+            phase: Turns(0.0),
+            reset_edge: self.reset_edge.reset(),
+            ..self
+        })
     }
 
-    // What refuses a rate change: 1 the new rate or the old, then 2.
-    fn rate_refusal(self, sample_rate: Hertz) -> u32
-        ensures { result ≡ lfo_rate_refusal_of self sample_rate }
+    // What refuses a rate change: the new rate or the old, then the rest of the state.
+    fn rate_refusal(self, sample_rate: Hertz) -> Result<(), Refusal>
+        ensures { refused_number result ≡ lfo_rate_refusal_of self sample_rate }
     {
         if common::rate_ok(sample_rate) {
             self.refusal()
         } else {
-            1
+            Err(Refusal::Rate)
         }
     }
 
     // The memo stays: no frequency depends on the rate.
-    pub fn set_sample_rate(self, sample_rate: Hertz) -> LfoMade
-        ensures { result ≡ lfo_set_sample_rate_of self sample_rate }
+    pub fn set_sample_rate(self, sample_rate: Hertz) -> Result<Lfo, Refusal>
+        ensures { changing self result ≡ lfo_set_sample_rate_of self sample_rate }
     {
-        let refused = self.rate_refusal(sample_rate);
-        if refused == 0 {
-            let phase = self.phase;
-            let reset_edge = self.reset_edge;
-            let freq_memo = self.freq_memo;
-            LfoMade {
-                outcome: Outcome::Done,
-                lfo: Lfo {
-                    phase,
-                    sample_rate,
-                    reset_edge,
-                    freq_memo,
-                },
-            }
-        } else {
-            LfoMade {
-                outcome: Outcome::Refused(refused),
-                lfo: self,
-            }
-        }
+        self.rate_refusal(sample_rate)?;
+        Ok(Lfo {
+            sample_rate,
+            ..self
+        })
     }
 }

@@ -1,6 +1,7 @@
 -- One step of each definition that a loop follows, and parts of a text. Assumes nothing.
 use mathlib.Core.Bool.{Bool, true, false, cond}
 use mathlib.Core.List.{List, [], ◌∷◌, ◌++◌, append_assoc}
+use mathlib.Core.Logic.{inl, inr}
 use mathlib.Core.Path.{◌≡◌, refl, sym, ap, ◌∙◌}
 use Prim.Native.Nat.{ℕ, ◌+◌, ◌≤◌, ◌-◌, suc, ◌<◌, ◌^◌, ◌*◌}
 use native.Mathlib.Nat.{pow-succ', pow-le-pow_right}
@@ -8,41 +9,102 @@ use native.Mathlib.Numerals.{add-one}
 use native.Mathlib.Omega.{arith}
 use lib.Dec.{leb, leb-suc-suc, ltb, eqb}
 use lib.ListN.{length, get_or, take, drop, length-drop, length-take, drop_of_length-le}
-use lib.Seq.{drop-cons, drop-drop, take_all}
+use Rattle.std.specs.Prelude.{Some, None, Option, unwrap_or, option_and_then, ◌&&◌, ◌⊎◌}
+use Rattle.std.specs.List.{position_from}
+use Rattle.std.specs.Cmp.Lexicographic.{pointwise}
+use lib.Seq.{drop-cons, drop-drop}
 use borrow.Author.Tests.{lt-ltb, le-ltb, leb-true, leb-false, eqb-true, ne_eqb, eq-eqb}
 use Rattle.line.specs.Bytes.{same_of, has_of, until_of, past_of}
 use Rattle.line.specs.Line.{line_of, after_line, key_of, value_of, is_line, next_of}
-use Rattle.line.specs.Number.{digits_from}
-use Rattle.line.specs.declared.Number.TheVariants.{Whole, Malformed}
+use Rattle.line.specs.Number.{digits_from, digits_of, negative_of, signed_of}
+use Rattle.line.specs.declared.Number.{Number}
+use Rattle.line.specs.declared.Number.TheVariants.{Whole}
+
+pub no : false ≡ true → ⊥
+no p = let z : ◌≡◌ {A = ℕ} 0 1 = cc in omega arith
+
+-- where the first of a byte stands, and the text's length where there is none
+until_from : (x i : ℕ) (t : List ℕ) → unwrap_or (position_from (λ b. eqb b x) i t) (i + length t) ≡ i + length (until_of x t)
+unfolding until_of
+until_from x i [] = refl
+until_from x i (b ∷ bs) = step (eqb b x) (until_from x (i + 1) bs)
+  where
+    step : (e : Bool) → unwrap_or (position_from (λ b. eqb b x) (i + 1) bs) (i + 1 + length bs) ≡ i + 1 + length (until_of x bs)
+        → unwrap_or (cond e (Some i) (position_from (λ b. eqb b x) (i + 1) bs)) (i + suc (length bs)) ≡ i + length (cond e [] (b ∷ until_of x bs))
+    step true h = omega arith
+    step false h =
+        let n : i + suc (length bs) ≡ i + 1 + length bs = omega arith in
+        ap (unwrap_or (position_from (λ b. eqb b x) (i + 1) bs)) n ∙ h ∙ omega arith
+
+pub until_found : (x : ℕ) (t : List ℕ) {r : Option ℕ} {n : ℕ} → r ≡ position_from (λ b. eqb b x) 0 t → n ≡ unwrap_or r (length t)
+    → n ≡ length (until_of x t)
+until_found x t p e =
+    let zero : (n : ℕ) → 0 + n ≡ n = λ n. omega arith in
+    e ∙ ap (λ (r : Option ℕ). unwrap_or r (length t)) p
+    ∙ ap (unwrap_or (position_from (λ b. eqb b x) 0 t)) (sym (zero (length t))) ∙ until_from x 0 t ∙ zero _
+
+-- a test of which the first arm is none
+otherwise : (b : Bool) {r : Option Number} → r ≡ None → cond b None r ≡ None
+otherwise true e = refl
+otherwise false e = e
 
 module _ (s : List ℕ) (i : ℕ) (h : i < length s) where
-  pub until_here : (x : ℕ) → get_or s i 0 ≡ x → until_of x (drop i s) ≡ []
-  unfolding until_of
-  until_here x e = simp (drop-cons s i 0 h, eq-eqb (get_or s i 0) x e)
-
-  pub until_next : (x : ℕ) → (get_or s i 0 ≡ x → ⊥) → until_of x (drop i s) ≡ get_or s i 0 ∷ until_of x (drop (i + 1) s)
-  unfolding until_of
-  until_next x e = simp (add-one, drop-cons s i 0 h, ne_eqb (get_or s i 0) x e)
-
-  pub digits_low : (n : ℕ) → get_or s i 0 < 48 → digits_from n (drop i s) ≡ Malformed
+  pub digits_other : (n : ℕ) → (get_or s i 0 < 48) ⊎ (57 < get_or s i 0) → digits_from n (drop i s) ≡ None
   unfolding digits_from
-  digits_low n e = simp (drop-cons s i 0 h, lt-ltb (get_or s i 0) 48 e)
-
-  pub digits_high : (n : ℕ) → 48 ≤ get_or s i 0 → 57 < get_or s i 0 → digits_from n (drop i s) ≡ Malformed
-  unfolding digits_from
-  digits_high n l e = simp (drop-cons s i 0 h, le-ltb (get_or s i 0) 48 l, lt-ltb 57 (get_or s i 0) e)
+  digits_other n (inl e) = simp (drop-cons s i 0 h, lt-ltb (get_or s i 0) 48 e)
+  digits_other n (inr e) = simp (drop-cons s i 0 h, lt-ltb 57 (get_or s i 0) e) (otherwise (ltb (get_or s i 0) 48) refl)
 
   pub digits_next : (n : ℕ) → 48 ≤ get_or s i 0 → get_or s i 0 ≤ 57 → digits_from n (drop i s) ≡ digits_from (n * 10 + (get_or s i 0 - 48)) (drop (i + 1) s)
   unfolding digits_from
   digits_next n l e = simp (add-one, drop-cons s i 0 h, le-ltb (get_or s i 0) 48 l, le-ltb 57 (get_or s i 0) e)
 
-pub digits_end : (s : List ℕ) (i n : ℕ) → length s ≤ i → digits_from n (drop i s) ≡ Whole false n
+pub digits_end : (s : List ℕ) (i n : ℕ) → length s ≤ i → digits_from n (drop i s) ≡ Some (Whole false n)
 unfolding digits_from
 digits_end s i n h = simp (drop_of_length-le s h)
 
-pub until_end : (s : List ℕ) (i x : ℕ) → length s ≤ i → until_of x (drop i s) ≡ []
-unfolding until_of
-until_end s i x h = simp (drop_of_length-le s h)
+-- what is refused before the first digit is read, and what is left for the loop
+module _ (v : List ℕ) where
+  pub no_digits : length v ≡ 0 → digits_of v ≡ None
+  unfolding digits_of
+  no_digits e = simp (eq-eqb (length v) 0 e)
+
+  pub many_digits : 12 < length v → digits_of v ≡ None
+  unfolding digits_of
+  many_digits h = simp (lt-ltb 12 (length v) h) (otherwise (eqb (length v) 0) refl)
+
+  pub zero_first : get_or v 0 0 ≡ 48 → (length v ≡ 1 → ⊥) → digits_of v ≡ None
+  unfolding digits_of
+  zero_first e n = simp (eq-eqb (get_or v 0 0) 48 e, ne_eqb (length v) 1 n) (otherwise (eqb (length v) 0) (otherwise (ltb _ (length v)) refl))
+
+  pub other_first : (length v ≡ 0 → ⊥) → length v ≤ 12 → (get_or v 0 0 ≡ 48 → ⊥) → digits_of v ≡ digits_from 0 v
+  unfolding digits_of
+  other_first n h e = simp (ne_eqb (length v) 0 n, le-ltb 12 (length v) h, ne_eqb (get_or v 0 0) 48 e)
+
+pub zero_alone : (v : List ℕ) → get_or v 0 0 ≡ 48 → length v ≡ 1 → digits_of v ≡ digits_from 0 v
+unfolding digits_of digits_from
+zero_alone [] e n = absurd (omega arith)
+zero_alone (b ∷ []) e n = simp e
+zero_alone (b ∷ c ∷ cs) e n = absurd (let m : suc (suc (length cs)) ≡ 1 = n in omega arith)
+
+-- a minus sign comes first, or none
+pub signed_minus : (v d : List ℕ) {r : Option Number} → pointwise eqb (take 1 v) (45 ∷ []) ≡ true → d ≡ drop 1 v → r ≡ digits_of d
+    → signed_of v ≡ option_and_then negative_of r
+unfolding signed_of
+signed_minus [] d p e f = absurd (no p)
+signed_minus (b ∷ bs) d {r} p e f = simp (ne_eqb (suc (length bs)) 0 (λ z. omega arith), minus (eqb b 45) p, ← e, ← f)
+  where
+    minus : (t : Bool) → (t && true) ≡ true → t ≡ true
+    minus true p = refl
+    minus false p = p
+
+pub signed_plain : (v : List ℕ) → pointwise eqb (take 1 v) (45 ∷ []) ≡ false → signed_of v ≡ digits_of v
+unfolding signed_of digits_of
+signed_plain [] p = refl
+signed_plain (b ∷ bs) p = simp (ne_eqb (suc (length bs)) 0 (λ z. omega arith), plain (eqb b 45) p)
+  where
+    plain : (t : Bool) → (t && true) ≡ false → t ≡ false
+    plain true p = p
+    plain false p = refl
 
 pub empty : (l : List ℕ) → length l ≡ 0 → l ≡ []
 empty [] e = refl
@@ -51,35 +113,17 @@ empty (b ∷ bs) e = absurd (none e)
     none : suc (length bs) ≡ 0 → ⊥
     none e = omega arith
 
--- `same` passes equal bytes
-pub same_end : (s t : List ℕ) (i : ℕ) → length s ≤ i → length t ≤ i → same_of (drop i s) (drop i t) ≡ true
+-- `==` of two slices is the same as byte for byte
+pub same_pointwise : (s t : List ℕ) → pointwise eqb s t ≡ same_of s t
 unfolding same_of
-same_end s t i h g = simp (drop_of_length-le s h, drop_of_length-le t g)
-
-module _ (s t : List ℕ) (i : ℕ) (h : i < length s) (g : i < length t) where
-  pub same_no : (get_or s i 0 ≡ get_or t i 0 → ⊥) → same_of (drop i s) (drop i t) ≡ false
-  unfolding same_of
-  same_no e = simp (drop-cons s i 0 h, drop-cons t i 0 g, ne_eqb (get_or s i 0) (get_or t i 0) e)
-
-  pub same_next : get_or s i 0 ≡ get_or t i 0 → same_of (drop i s) (drop i t) ≡ same_of (drop (i + 1) s) (drop (i + 1) t)
-  unfolding same_of
-  same_next e = simp (add-one, drop-cons s i 0 h, drop-cons t i 0 g, eq-eqb (get_or s i 0) (get_or t i 0) e)
-
-pub no : false ≡ true → ⊥
-no p = let z : ◌≡◌ {A = ℕ} 0 1 = cc in omega arith
-
--- a test whose arms are both false
-either : {x : Bool} (b : Bool) → x ≡ false → cond b x false ≡ false
-either true e = e
-either false e = refl
-
--- lists of two lengths are not the same
-pub same_lengths : (s t : List ℕ) → (length s ≡ length t → ⊥) → same_of s t ≡ false
-unfolding same_of
-same_lengths [] [] h = absurd (h refl)
-same_lengths [] (b ∷ bs) h = refl
-same_lengths (b ∷ bs) [] h = refl
-same_lengths (b ∷ bs) (c ∷ cs) h = either (eqb b c) (same_lengths bs cs (λ e. h (ap suc e)))
+same_pointwise [] [] = refl
+same_pointwise [] (b ∷ bs) = refl
+same_pointwise (b ∷ bs) [] = refl
+same_pointwise (b ∷ bs) (c ∷ cs) = step (eqb b c) (same_pointwise bs cs)
+  where
+    step : (e : Bool) → pointwise eqb bs cs ≡ same_of bs cs → (e && pointwise eqb bs cs) ≡ cond e (same_of bs cs) false
+    step true h = h
+    step false h = refl
 
 -- what is the same is equal
 both : {b c : ℕ} {bs cs : List ℕ} (t : Bool) → eqb b c ≡ t → (same_of bs cs ≡ true → bs ≡ cs) → cond t (same_of bs cs) false ≡ true → b ∷ bs ≡ c ∷ cs
@@ -99,10 +143,6 @@ ten_fold n d i h l = rw (add-one, pow-succ' 10 i) (omega arith)
 
 pub twelve : (n i : ℕ) → n < 10 ^ i → i ≤ 12 → n < 10 ^ 12
 twelve n i h l = omega (arith, pow-le-pow_right {n = 10} (omega arith) {i = i} {j = 12} l)
-
--- `&s[at..]` is the rest
-pub rest_of : (s : List ℕ) (at : ℕ) → take (length s - at) (drop at s) ≡ drop at s
-rest_of s at = take_all (length s - at) (drop at s) (omega (arith, length-drop at s))
 
 -- where the rest begins
 pub drop_back : (s : List ℕ) (k : ℕ) → drop (length s - length (drop k s)) s ≡ drop k s

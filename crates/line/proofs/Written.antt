@@ -5,6 +5,7 @@ use mathlib.Core.List.{List, [], ◌∷◌, ◌++◌, append_assoc}
 use mathlib.Core.Bool.{Bool, true, false, cond}
 use native.Mathlib.Omega.{arith}
 use lib.ListN.{length}
+use Rattle.std.specs.Prelude.{Some, None}
 use lib.Dec.{ltb, eqb, lit≤}
 use borrow.Author.Tests.{le-ltb, ne_eqb, eq-eqb}
 use Rattle.text.specs.Decimal.{decimal_from, decimal_text}
@@ -16,16 +17,16 @@ use Rattle.line.specs.Number.{digits_from, digits_of, negative_of, signed_of, nu
 use Rattle.line.specs.Promises.{NumberRead}
 use Rattle.line.proofs.Laws.{no}
 use Rattle.line.specs.declared.Number.{Number}
-use Rattle.line.specs.declared.Number.TheVariants.{Whole, Nan, Malformed}
+use Rattle.line.specs.declared.Number.TheVariants.{Whole, Nan}
 
 -- ---- digits that are read, and one more of them
-no_number : {n : ℕ} → Malformed ≡ Whole false n → ⊥
+no_number : {n : ℕ} → None ≡ Some (Whole false n) → ⊥
 no_number q = let z : ◌≡◌ {A = ℕ} 0 1 = cc in omega arith
 
-same_size : {m n : ℕ} → Whole false m ≡ Whole false n → m ≡ n
+same_size : {m n : ℕ} → Some (Whole false m) ≡ Some (Whole false n) → m ≡ n
 same_size q = cc
 
-one_digit : (m d : ℕ) → d ≤ 9 → digits_from m ((48 + d) ∷ []) ≡ Whole false (m * 10 + d)
+one_digit : (m d : ℕ) → d ≤ 9 → digits_from m ((48 + d) ∷ []) ≡ Some (Whole false (m * 10 + d))
 unfolding digits_from
 one_digit m d h =
     let e : 48 + d - 48 ≡ d = omega arith in
@@ -33,18 +34,18 @@ one_digit m d h =
 
 module _ (n d : ℕ) (h : d ≤ 9) where
   abbrev More : ℕ → List ℕ → Type 0
-  More m xs = digits_from m xs ≡ Whole false n → digits_from m (xs ++ ((48 + d) ∷ [])) ≡ Whole false (n * 10 + d)
+  More m xs = digits_from m xs ≡ Some (Whole false n) → digits_from m (xs ++ ((48 + d) ∷ [])) ≡ Some (Whole false (n * 10 + d))
 
   byte : (m b : ℕ) (bs : List ℕ) (t u : Bool) → More (m * 10 + (b - 48)) bs
-      → cond t Malformed (cond u Malformed (digits_from (m * 10 + (b - 48)) bs)) ≡ Whole false n
-      → cond t Malformed (cond u Malformed (digits_from (m * 10 + (b - 48)) (bs ++ ((48 + d) ∷ [])))) ≡ Whole false (n * 10 + d)
+      → cond t None (cond u None (digits_from (m * 10 + (b - 48)) bs)) ≡ Some (Whole false n)
+      → cond t None (cond u None (digits_from (m * 10 + (b - 48)) (bs ++ ((48 + d) ∷ [])))) ≡ Some (Whole false (n * 10 + d))
   byte m b bs true u f e = absurd (no_number e)
   byte m b bs false true f e = absurd (no_number e)
   byte m b bs false false f e = f e
 
   more_digits : (m : ℕ) (xs : List ℕ) → More m xs
   unfolding digits_from
-  more_digits m [] e = one_digit m d h ∙ ap (λ (i : ℕ). Whole false (i * 10 + d)) (same_size e)
+  more_digits m [] e = one_digit m d h ∙ ap (λ (i : ℕ). Some (Whole false (i * 10 + d))) (same_size e)
   more_digits m (b ∷ bs) e = byte m b bs (ltb b 48) (ltb 57 b) (more_digits (m * 10 + (b - 48)) bs) e
 
 -- ---- what holds of one digit, and of one more after those of a tenth, holds of every number
@@ -54,16 +55,16 @@ module _ (P : ℕ → List ℕ → Type 0) (one : (n : ℕ) → n < 10 → P n (
   each_number = every P (λ n h. rw (glyph_small n h) (one n h)) (λ n t h p. rw (glyph_small (n % 10) (omega arith)) (more n t h p))
 
 -- its digits are read as the number
-read_one : (n : ℕ) → n < 10 → digits_from 0 ((48 + n) ∷ []) ≡ Whole false n
-read_one n h = let q : 0 * 10 + n ≡ n = omega arith in one_digit 0 n (omega arith) ∙ ap (Whole false) q
+read_one : (n : ℕ) → n < 10 → digits_from 0 ((48 + n) ∷ []) ≡ Some (Whole false n)
+read_one n h = let q : 0 * 10 + n ≡ n = omega arith in one_digit 0 n (omega arith) ∙ ap (λ (i : ℕ). Some (Whole false i)) q
 
-read_more : (n : ℕ) (t : List ℕ) → 10 ≤ n → digits_from 0 t ≡ Whole false (n / 10) → digits_from 0 (t ++ ((48 + n % 10) ∷ [])) ≡ Whole false n
+read_more : (n : ℕ) (t : List ℕ) → 10 ≤ n → digits_from 0 t ≡ Some (Whole false (n / 10)) → digits_from 0 (t ++ ((48 + n % 10) ∷ [])) ≡ Some (Whole false n)
 read_more n t h f =
     let q : n / 10 * 10 + n % 10 ≡ n = omega arith in
-    more_digits (n / 10) (n % 10) (omega arith) 0 t f ∙ ap (Whole false) q
+    more_digits (n / 10) (n % 10) (omega arith) 0 t f ∙ ap (λ (i : ℕ). Some (Whole false i)) q
 
-decimal_read : (n : ℕ) → digits_from 0 (decimal_text n) ≡ Whole false n
-decimal_read = each_number (λ n t. digits_from 0 t ≡ Whole false n) read_one read_more
+decimal_read : (n : ℕ) → digits_from 0 (decimal_text n) ≡ Some (Whole false n)
+decimal_read = each_number (λ n t. digits_from 0 t ≡ Some (Whole false n)) read_one read_more
 
 -- the first is a digit, and not 0 but of 0
 data First (n : ℕ) : List ℕ → Type 0 where
@@ -83,34 +84,34 @@ unfolding same_of
 not_nan b bs g = simp (ne_eqb b 110 (λ e. omega arith))
 
 module _ (n : ℕ) (p : 0 < n) where
-  unsigned : {v : List ℕ} → First n v → length v ≤ 12 → digits_from 0 v ≡ Whole false n → digits_of v ≡ Whole false n
+  unsigned : {v : List ℕ} → First n v → length v ≤ 12 → digits_from 0 v ≡ Some (Whole false n) → digits_of v ≡ Some (Whole false n)
   unfolding digits_of
   unsigned (first b bs l g f) s e =
       let h = f p in
       simp (ne_eqb (suc (length bs)) 0 (λ e. omega arith), le-ltb 12 (suc (length bs)) s, ne_eqb b 48 (λ e. omega arith), e)
 
-  plus_read : {v : List ℕ} → First n v → digits_of v ≡ Whole false n → number_of v ≡ Whole false n
+  plus_read : {v : List ℕ} → First n v → digits_of v ≡ Some (Whole false n) → number_of v ≡ Some (Whole false n)
   unfolding number_of signed_of
   plus_read (first b bs l g f) e =
       simp (not_nan b bs g, ne_eqb (suc (length bs)) 0 (λ e. omega arith), ne_eqb b 45 (λ e. omega arith), e)
 
-  minus_read : (v : List ℕ) → digits_of v ≡ Whole false n → number_of (45 ∷ v) ≡ Whole true n
+  minus_read : (v : List ℕ) → digits_of v ≡ Some (Whole false n) → number_of (45 ∷ v) ≡ Some (Whole true n)
   unfolding number_of signed_of negative_of
   minus_read v e = simp (not_nan 45 v (lit≤ tt), ne_eqb (suc (length v)) 0 (λ e. omega arith), e, ne_eqb n 0 (λ e. omega arith))
 
-  digits_read : n < 10 ^ 12 → digits_of (decimal_text n) ≡ Whole false n
+  digits_read : n < 10 ^ 12 → digits_of (decimal_text n) ≡ Some (Whole false n)
   digits_read h = unsigned (decimal_first n) (decimal_short 11 n h) (decimal_read n)
 
-  signed_read : (minus : Bool) → n < 10 ^ 12 → number_of (number_text (Whole minus n)) ≡ Whole minus n
+  signed_read : (minus : Bool) → n < 10 ^ 12 → number_of (number_text (Whole minus n)) ≡ Some (Whole minus n)
   unfolding number_text
   signed_read true h = minus_read (decimal_text n) (digits_read h)
   signed_read false h = plus_read (decimal_first n) (digits_read h)
 
-zero_read : number_of (number_text (Whole false 0)) ≡ Whole false 0
+zero_read : number_of (number_text (Whole false 0)) ≡ Some (Whole false 0)
 unfolding number_of number_text decimal_text decimal_from glyph signed_of digits_of same_of
 zero_read = refl
 
-nan_read : number_of (number_text Nan) ≡ Nan
+nan_read : number_of (number_text Nan) ≡ Some Nan
 unfolding number_of number_text same_of
 nan_read = refl
 
@@ -119,7 +120,6 @@ number_read (Whole minus (suc n)) (h, p) = signed_read (suc n) (omega arith) min
 number_read (Whole true zero) (h, p) = absurd (let z = p refl in omega arith)
 number_read (Whole false zero) (h, p) = zero_read
 number_read Nan h = nan_read
-number_read Malformed h = absurd h
 
 -- ---- the text of a number has no line feed
 joined_no : (x : ℕ) (s t : List ℕ) → has_of x s ≡ false → has_of x t ≡ false → has_of x (s ++ t) ≡ false
@@ -145,7 +145,6 @@ unfolding number_text has_of
 number_no_feed (Whole true n) = decimal_no_feed n
 number_no_feed (Whole false n) = decimal_no_feed n
 number_no_feed Nan = refl
-number_no_feed Malformed = refl
 
 -- ---- a line that is written is read: it is one of its key, with its value, and the text after it is what follows
 has_seam : (x : ℕ) (s t : List ℕ) → has_of x (s ++ (x ∷ t)) ≡ true

@@ -1,7 +1,8 @@
 // Lines of a text, each a key, an equals sign, a value and a line feed; and the one form of a number.
 #![tactic(auto)]
 
-ghost use Rattle.std.specs.Prelude.{◌≡◌, length, drop};
+ghost use Rattle.std.specs.Prelude.{◌≡◌, ◌==◌, length, drop};
+ghost use Rattle.std.specs.List.{position_from};
 ghost use Rattle.line.specs.Bytes.{same_of, has_of, until_of, past_of};
 ghost use Rattle.line.specs.Line.{value_of, is_line, next_of, moved_on};
 ghost use Rattle.line.specs.Number.{digits_of, negative_of, signed_of, number_of};
@@ -12,21 +13,21 @@ ghost use Rattle.line.specs.Number.{digits_of, negative_of, signed_of, number_of
 fn from(t: &[u8], at: usize) -> &[u8]
     ensures { result.now ≡ drop at t.now }
 {
-    if at <= t.len() { &t[at..] } else { &t[0..0] }
+    t.get(at..).unwrap_or(&[])
+}
+
+// Where the first `byte` stands.
+fn place_of(t: &[u8], byte: u8) -> Option<usize>
+    ensures { result ≡ position_from (λ b. b == byte) 0 t.now }
+{
+    t.iter().position(|b| *b == byte)
 }
 
 // How many bytes stand before the first `byte`: all of them where there is none.
 fn count_until(t: &[u8], byte: u8) -> usize
     ensures { result ≡ length (until_of byte t.now) }
 {
-    let mut i = 0;
-    while i < t.len() {
-        if t[i] == byte {
-            return i;
-        }
-        i += 1;
-    }
-    i
+    place_of(t, byte).unwrap_or(t.len())
 }
 
 fn has(t: &[u8], byte: u8) -> bool
@@ -48,20 +49,11 @@ fn past(t: &[u8], byte: u8) -> &[u8]
     from(t, count_until(t, byte) + 1)
 }
 
+// Kept: what the lines and the numbers are defined by is same_of, and this says so to callers of the library's ==.
 pub fn same(a: &[u8], b: &[u8]) -> bool
     ensures { result ≡ same_of a.now b.now }
 {
-    if a.len() != b.len() {
-        return false;
-    }
-    let mut i = 0;
-    while i < a.len() {
-        if a[i] != b[i] {
-            return false;
-        }
-        i += 1;
-    }
-    true
+    a == b
 }
 
 // ---- the line at a place
@@ -71,16 +63,8 @@ fn is_line(text: &[u8], at: usize, key: &[u8]) -> bool
     ensures { result ≡ is_line key.now (drop at text.now) }
 {
     let rest = from(text, at);
-    if has(rest, b'\n') {
-        let line = until(rest, b'\n');
-        if has(line, b'=') {
-            same(until(line, b'='), key)
-        } else {
-            false
-        }
-    } else {
-        false
-    }
+    let line = until(rest, b'\n');
+    has(rest, b'\n') && has(line, b'=') && same(until(line, b'='), key)
 }
 
 // The value of the line at `at`.
@@ -99,6 +83,7 @@ fn line_end(text: &[u8], at: usize) -> usize
 
 // ---- a reader, which keeps the text together with its place
 
+// Kept: the scope names this form, a small struct of the slice and a place, its methods thin above functions of the two, and its value a part of the slice.
 #[derive(Clone, Copy)]
 pub struct Reader<'a> {
     pub text: &'a [u8],
@@ -134,84 +119,61 @@ impl<'a> Reader<'a> {
 
 // ---- numbers
 
+// Kept: nan is one of the texts that are numbers, and None stands for those that are none.
 #[derive(Clone, Copy)]
 pub enum Number {
     Whole { minus: bool, size: u64 },
     Nan,
-    Malformed,
 }
 
+const MOST_DIGITS: usize = 12;
+
 // 1 to 12 digits, of which the first is 0 only where it is the only one.
-fn digits_of(v: &[u8]) -> Number
+fn digits_of(v: &[u8]) -> Option<Number>
     ensures { result ≡ digits_of v.now }
 {
-    if v.len() == 0 {
-        return Number::Malformed;
+    if v.is_empty() || MOST_DIGITS < v.len() {
+        return None;
     }
-    if 12 < v.len() {
-        return Number::Malformed;
-    }
-    if v[0] == b'0' {
-        if v.len() == 1 {
-            return Number::Whole {
-                minus: false,
-                size: 0,
-            };
-        }
-        return Number::Malformed;
+    if v[0] == b'0' && v.len() != 1 {
+        return None;
     }
     let mut size: u64 = 0;
-    let mut i = 0;
-    while i < v.len() {
-        let b = v[i];
-        if b < b'0' {
-            return Number::Malformed;
+    for &b in v {
+        if !b.is_ascii_digit() {
+            return None;
         }
-        if b'9' < b {
-            return Number::Malformed;
-        }
-        size = size * 10 + (b - b'0') as u64;
-        i += 1;
+        size = size * 10 + u64::from(b - b'0');
     }
-    Number::Whole { minus: false, size }
+    Some(Number::Whole { minus: false, size })
 }
 
 // A number with a minus sign before it; -0 is none.
 #[tactic(auto, unfolding(crate::specs::Number::negative_of))]
-fn negative_of(n: Number) -> Number
+fn negative_of(n: Number) -> Option<Number>
     ensures { result ≡ negative_of n }
 {
     match n {
-        Number::Whole { minus: _, size } => {
-            if size == 0 {
-                Number::Malformed
-            } else {
-                Number::Whole { minus: true, size }
-            }
-        }
-        Number::Nan => Number::Malformed,
-        Number::Malformed => Number::Malformed,
+        Number::Whole { size, .. } if size != 0 => Some(Number::Whole { minus: true, size }),
+        _ => None,
     }
 }
 
-fn signed_of(v: &[u8]) -> Number
+fn signed_of(v: &[u8]) -> Option<Number>
     ensures { result ≡ signed_of v.now }
 {
-    if v.len() == 0 {
-        return Number::Malformed;
-    }
-    if v[0] == b'-' {
-        negative_of(digits_of(&v[1..]))
-    } else {
-        digits_of(v)
+    match v.strip_prefix(b"-") {
+        Some(digits) => negative_of(digits_of(digits)?),
+        None => digits_of(v),
     }
 }
 
-pub fn number_of(v: &[u8]) -> Number
+// None where it is no number.
+pub fn number_of(v: &[u8]) -> Option<Number>
     ensures { result ≡ number_of v.now }
 {
     if same(v, b"nan") {
-        Number::Nan
+        Some(Number::Nan)
     } else {
         signed_of(v)
     }

@@ -29,7 +29,7 @@ use Rattle.noise_generator.specs.Pink.{new_pink, next_index, changed_of, Rows, r
 use Rattle.noise_generator.specs.Promises.{Bounded, SumsBounded}
 use Rattle.noise_generator.specs.declared.NoiseGenerator.{NoiseGenerator}
 use Rattle.noise_generator.specs.declared.NoiseGeneratorControls.{NoiseGeneratorControls}
-use Rattle.noise_generator.specs.declared.NoiseGeneratorTicked.{NoiseGeneratorTicked}
+use Rattle.answer.specs.declared.Ticked.{Ticked}
 use Rattle.noise_generator.specs.declared.PinkNoiseState.{PinkNoiseState}
 
 -- ---- a sum
@@ -161,7 +161,7 @@ pub record CalmNoise (s : NoiseGenerator) : Type 0 where
 
 -- an accepted tick: of the draws that it needs two are white's, and each pink has its own after them
 pub calm_turn : (correlation : Float) (numbers : Bool) (s : NoiseGenerator) (wanted : ℕ) (draws : List ℕ) → draws_ok draws (needed_of s) ≡ true → CalmNoise s
-    → CalmNoise (turn_of correlation numbers s wanted draws).noise_generator
+    → CalmNoise (turn_of correlation numbers s wanted draws).state
 unfolding turn_of needed_of
 calm_turn correlation numbers s wanted draws e c =
     let m = changed_of (next_index s.pink.index) in
@@ -179,9 +179,9 @@ calm_turn correlation numbers s wanted draws e c =
 
 -- any tick: a refused one leaves the state
 pub calm_tick : (s : NoiseGenerator) (c : NoiseGeneratorControls) (wanted : ℕ) (draws : List ℕ) → CalmNoise s
-    → CalmNoise (noise_generator_tick_of s c wanted draws).noise_generator
+    → CalmNoise (noise_generator_tick_of s c wanted draws).state
 calm_tick s c wanted draws h =
-    tick_by s c wanted draws (λ (t : NoiseGeneratorTicked). CalmNoise t.noise_generator)
+    tick_by s c wanted draws (λ (t : Ticked NoiseGenerator). CalmNoise t.state)
     (λ e. calm_turn (correlation_of s c) (numbers_of c) s wanted draws (draws_fine (needed_of s) draws e) h) (λ e. h)
 
 abbrev pub CalmDrawing : Drawing → Type 0

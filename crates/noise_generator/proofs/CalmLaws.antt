@@ -1,9 +1,8 @@
--- The test of rows; and a block of a calm generator, each tick of which has finite outputs.
-use Rattle.std.proofs.Common.{◌≡◌, ℕ, ◌+◌, ◌-◌, ◌<◌, Bool, true, false, not, List, length, get_or, take, drop, sym, refl, ap, ◌∙◌, subst, ⊎_elim, true≢false}
-use Rattle.std.proofs.Common.{le_of_suc-le-suc, not-suc-le-zero, le_of_lt, eq-or-lt_of_le, add-one}
-use lib.Ieee.{Float, nan}
+-- A block of a calm generator, each tick of which has finite outputs.
+use Rattle.std.proofs.Common.{◌≡◌, ℕ, ◌-◌, ◌<◌, true, List, length, take, drop, sym, ap, ◌∙◌}
+use Rattle.std.proofs.Common.{le_of_lt}
+use lib.Ieee.{Float}
 use Rattle.laws.proofs.Interval.{unit_within}
-use Rattle.laws.specs.Float.{InUnit}
 use Rattle.common.proofs.DrawLaws.{draws_fine}
 use Rattle.common.specs.Tests.{draws_refusal_of}
 use Rattle.answer.specs.Mark.{all_finite}
@@ -15,20 +14,6 @@ use Rattle.noise_generator.proofs.Bounds.{CalmNoise, calm_of, calm_at}
 use Rattle.noise_generator.proofs.Clean.{turn_finite}
 use Rattle.noise_generator.proofs.TickLaws.{numbers_of, At, drawing_at, ticks_at}
 use Rattle.noise_generator.proofs.TurnLaws.{rest_draws}
-
--- ---- the first i rows lie from -1 to 1
-abbrev pub UnitTo : List Float → ℕ → Type 0
-UnitTo l i = (k : ℕ) → k < i → InUnit (get_or l k nan)
-
-pub unit_none : (l : List Float) → UnitTo l 0
-unit_none l k h = absurd (not-suc-le-zero h)
-
--- the test of row i passed
-pub unit_more : (l : List Float) (i : ℕ) (b : Bool) → UnitTo l i → (b ≡ true → InUnit (get_or l i nan)) → not b ≡ false → UnitTo l (i + 1)
-unit_more l i false h f e = absurd (true≢false e)
-unit_more l i true h f e = λ k q.
-    ⊎_elim (λ (z : k ≡ i). subst (λ (j : ℕ). InUnit (get_or l j nan)) (sym z) (f refl)) (λ (m : k < i). h k m)
-    (eq-or-lt_of_le (le_of_suc-le-suc (subst (λ (m : ℕ). k < m) (add-one i) q)))
 
 -- ---- a block of a calm generator
 -- its tick i, whose state is x and whose draws start at `at`

@@ -2,6 +2,7 @@
 use Rattle.std.proofs.Common.{◌≡◌, ℕ, suc, ◌+◌, ◌*◌, ◌<◌, ◌≤◌, Bool, true, false, not, ◌&&◌, ◌||◌, T, List, get_or, sym, refl, ap, ◌∙◌, subst, le_trans}
 use Rattle.std.proofs.Common.{mul-pos, arith, lit<, lit≤}
 use mathlib.Core.Bool.{false≢true}
+use Rattle.std.specs.Prelude.{Option, Some, None}
 use lib.Ieee.Bits.{is_false}
 use lib.Ieee.{Float, nan, binary64, eq, is_nan, le, lt, mul, neg, of_bits, sub}
 use Rattle.laws.proofs.Interval.{Within, round_sized, unit_within, within_add, within_minus, within_mul, within_to}
@@ -30,11 +31,9 @@ use Rattle.noise_generator.specs.NoiseGenerator.{noise_generator_tick_of}
 use Rattle.noise_generator.specs.NoiseGenerator.{drawing, noise_generator_told_of, noise_generator_next_of}
 use Rattle.noise_generator.specs.Pink.{next_index, changed_of, sampled_of, pink_of}
 use Rattle.noise_generator.specs.Promises.{NanTold, Clean, Number, AlwaysClean, BlockClean}
-use Rattle.noise_generator.specs.declared.Correlation.{Correlation}
-use Rattle.noise_generator.specs.declared.Correlation.TheVariants as correlation
 use Rattle.noise_generator.specs.declared.NoiseGenerator.{NoiseGenerator}
 use Rattle.noise_generator.specs.declared.NoiseGeneratorControls.{NoiseGeneratorControls}
-use Rattle.noise_generator.specs.declared.NoiseGeneratorTicked.{NoiseGeneratorTicked}
+use Rattle.answer.specs.declared.Ticked.{Ticked}
 use Rattle.noise_generator.specs.declared.PinkNoiseState.{PinkNoiseState}
 use Rattle.noise_generator.proofs.Bounds.{Calm, CalmNoise, calm_turn, calm_at, calm_reached}
 use Rattle.noise_generator.proofs.Refusals.{accepted_taken, block_accepts}
@@ -120,9 +119,9 @@ numbers_given : (s : NoiseGenerator) (c : NoiseGeneratorControls) → Number s c
 unfolding all_numbers given_or given_in
 numbers_given s c = go c.correlation
   where
-    go : (x : Correlation) → T (not (is_nan (given_or x s.correlation))) → all_numbers (given_in x) ≡ true
-    go (correlation.Given x) h = rw (is_false (is_nan x) h) refl
-    go correlation.Stored h = refl
+    go : (x : Option Float) → T (not (is_nan (given_or x s.correlation))) → all_numbers (given_in x) ≡ true
+    go (Some x) h = rw (is_false (is_nan x) h) refl
+    go None h = refl
 
 pub tick_clean : (s : NoiseGenerator) (c : NoiseGeneratorControls) (wanted : ℕ) (draws : List ℕ) → CalmNoise s → Number s c
     → accepted (noise_generator_tick_of s c wanted draws).answer ≡ true → Clean (noise_generator_tick_of s c wanted draws).answer
@@ -130,7 +129,7 @@ tick_clean s c wanted draws calm h a =
     let e = accepted_taken s c wanted draws a in
     let d = draws_fine (needed_of s) draws e in
     let turn = tick_taken s c wanted draws e ∙ ap (λ (b : Bool). turn_of (correlation_of s c) b s wanted draws) (numbers_given s c h) in
-    subst (λ (t : NoiseGeneratorTicked). Clean t.answer) (sym turn)
+    subst (λ (t : Ticked NoiseGenerator). Clean t.answer) (sym turn)
     (turn_clean (correlation_of s c) s wanted draws d (correlation_within s c h) calm)
 
 pub always_clean : AlwaysClean
@@ -183,6 +182,6 @@ turn_nan numbers s wanted draws w = marked_nan _ numbers (volts_nan _ _ _ _ want
 pub nan_told : NanTold
 nan_told s c wanted draws a e w =
     let q : correlation_of s c ≡ nan = unfold correlation_of in ap (λ (x : Float). clamp_of x zer one) e ∙ clamp_nan zer one in
-    ap (λ (t : NoiseGeneratorTicked). mark_number t.answer) (tick_taken s c wanted draws (accepted_taken s c wanted draws a))
+    ap (λ (t : Ticked NoiseGenerator). mark_number t.answer) (tick_taken s c wanted draws (accepted_taken s c wanted draws a))
     ∙ ap (λ (x : Float). mark_number (turn_of x (numbers_of c) s wanted draws).answer) q
     ∙ turn_nan (numbers_of c) s wanted draws w

@@ -19,7 +19,7 @@ use Rattle.noise_generator.specs.Pink.{next_index, changed_of, Rows, row_of, row
 use Rattle.noise_generator.specs.Promises.{SameTo, OnlyItsDraws}
 use Rattle.noise_generator.specs.declared.NoiseGenerator.{NoiseGenerator}
 use Rattle.noise_generator.specs.declared.NoiseGeneratorControls.{NoiseGeneratorControls}
-use Rattle.noise_generator.specs.declared.NoiseGeneratorTicked.{NoiseGeneratorTicked}
+use Rattle.answer.specs.declared.Ticked.{Ticked}
 use Rattle.noise_generator.specs.declared.PinkNoiseState.{PinkNoiseState}
 
 -- ---- a tick
@@ -109,12 +109,12 @@ module _ (s : NoiseGenerator) (c : NoiseGeneratorControls) (wanted : ℕ) (d e :
   noise_same : (i : ℕ) → i ≤ n → (drawing_at s c wanted d i).noise ≡ (drawing_at s c wanted e i).noise
   unfolding after_ticks
   noise_same zero l = refl
-  noise_same (suc i) l = ap (λ (t : NoiseGeneratorTicked). t.noise_generator) (next_same i l (noise_same i (omega arith)))
+  noise_same (suc i) l = ap (λ (t : Ticked NoiseGenerator). t.state) (next_same i l (noise_same i (omega arith)))
 
   answers_same : (i : ℕ) → i < n → answer_at (noise_generator_told_of c wanted) (noise_generator_next_of c wanted) (drawing s d) i
       ≡ answer_at (noise_generator_told_of c wanted) (noise_generator_next_of c wanted) (drawing s e) i
   unfolding answer_at
-  answers_same i l = ap (λ (t : NoiseGeneratorTicked). t.answer) (next_same i l (noise_same i (omega arith)))
+  answers_same i l = ap (λ (t : Ticked NoiseGenerator). t.answer) (next_same i l (noise_same i (omega arith)))
 
 block_same : (s : NoiseGenerator) (c : NoiseGeneratorControls) (wanted : ℕ) (d e : List ℕ) (t : Tally) (o : List Float) (m : List ℕ)
     → SameTo (needed_by s (length m)) d e → noise_generator_block_of s c wanted d t o m ≡ noise_generator_block_of s c wanted e t o m

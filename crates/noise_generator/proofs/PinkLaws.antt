@@ -1,10 +1,13 @@
 -- The rows as the code goes through them.
-use Rattle.std.proofs.Common.{◌≡◌, ℕ, ◌+◌, ◌%◌, ◌^◌, ◌<◌, min, List, get_or, set, ap, ◌∙◌, add-one}
+use Rattle.std.proofs.Common.{◌≡◌, ℕ, ◌+◌, ◌%◌, ◌^◌, ◌<◌, min, List, get_or, set, sym, ap, ◌∙◌, add-one, mod-lt, lit<}
 use lib.Bits.{bit_xor}
 use lib.Ieee.{Float, nan, binary64, add, sub}
 use Rattle.numeric.specs.Draw.{bipolar_of}
-use Rattle.noise_generator.specs.Pink.{trailing_ones, changed_of, Rows, rowed, row_of, rows_of}
-use Rattle.noise_generator.proofs.RowLaws.{last_index_lem}
+use Rattle.std.proofs.lemmas.Nat.{xor_of_32}
+use Rattle.std.specs.Int.{w32, trailing_ones as ones_of}
+use Rattle.noise_generator.specs.Pink.{next_index, last_index, changed_of, Rows, rowed, row_of, rows_of, sampled_of}
+use Rattle.noise_generator.specs.declared.PinkNoiseState.{PinkNoiseState}
+use Rattle.noise_generator.proofs.RowLaws.{ones_of_not}
 
 pub row_more : (draws : List ℕ) (at i : ℕ) (r : Rows) (rows : List Float) (sum row : Float) → rowed rows sum ≡ rows_of draws at r i
     → row ≡ bipolar_of (get_or draws (at + i) 0)
@@ -12,8 +15,21 @@ pub row_more : (draws : List ℕ) (at i : ℕ) (r : Rows) (rows : List Float) (s
 unfolding rows_of row_of
 row_more draws at i r rows sum row e q = rw (add-one, q) (ap (λ (x : Rows). row_of draws at x i) e)
 
--- ---- the rows that change, from what the code asks of the counter: s is the index before, t its digits that differ
-module _ (i s t : ℕ) (below : s < 4294967296) (before : (s + 1) % 2 ^ 32 ≡ i) (ones : t ≡ trailing_ones 32 (bit_xor i s)) where
-  pub changed_min : min t 16 ≡ changed_of i
-  unfolding changed_of
-  changed_min = ap (λ (k : ℕ). min k 16) (ones ∙ ap (λ (r : ℕ). trailing_ones 32 (bit_xor i r)) (last_index_lem s i below before))
+-- after the last turn: j is the counter then, and n the rows that change
+pub rows_done : (draws : List ℕ) (at : ℕ) (p : PinkNoiseState) (rows : List Float) (sum : Float) (i n index j : ℕ) → i ≡ n → n ≡ changed_of j
+    → j ≡ next_index p.index → index ≡ j → rowed rows sum ≡ rows_of draws at (rowed p.rows p.running_sum) i
+    → record { rows = rows; running_sum = sum; index = index } ≡ sampled_of draws at p
+unfolding sampled_of
+rows_done draws at p rows sum i n index j z e f g h =
+    let all : rows_of draws at (rowed p.rows p.running_sum) (changed_of (next_index p.index)) ≡ rowed rows sum =
+    ap (rows_of draws at (rowed p.rows p.running_sum)) (sym (z ∙ e ∙ ap changed_of f)) ∙ sym h in
+    simp (all, g, f)
+
+-- ---- the rows that change, from what the code asks of the counter
+pub rows_that_change : (index ones rows : ℕ) → index < 2 ^ 32 → ones ≡ ones_of w32 (bit_xor index ((index + 4294967295) % 2 ^ 32)) → rows ≡ min ones 16
+    → rows ≡ changed_of index
+unfolding changed_of last_index
+rows_that_change index ones rows h e f =
+    let last = (index + 4294967295) % 2 ^ 32 in
+    let below : bit_xor index last < 2 ^ 32 = xor_of_32 index last h (mod-lt (index + 4294967295) (lit< tt)) in
+    f ∙ ap (λ (n : ℕ). min n 16) (e ∙ ones_of_not 32 (bit_xor index last) below)

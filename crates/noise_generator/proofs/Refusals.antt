@@ -17,7 +17,7 @@ use Rattle.noise_generator.specs.NoiseGenerator.{drawing, noise_generator_block_
 use Rattle.noise_generator.specs.Promises.{NeverRefused, RefusedLeaves, BlockAccepts, BlockTallies, NanSteers, NoiseMarks}
 use Rattle.noise_generator.specs.declared.NoiseGenerator.{NoiseGenerator}
 use Rattle.noise_generator.specs.declared.NoiseGeneratorControls.{NoiseGeneratorControls}
-use Rattle.noise_generator.specs.declared.NoiseGeneratorTicked.{NoiseGeneratorTicked}
+use Rattle.answer.specs.declared.Ticked.{Ticked}
 
 -- ---- a turn is accepted, and clean or steered where its outputs are finite
 module _ (k : Float) (numbers : Bool) (s : NoiseGenerator) (wanted : ℕ) (draws : List ℕ) where
@@ -36,13 +36,13 @@ module _ (k : Float) (numbers : Bool) (s : NoiseGenerator) (wanted : ℕ) (draws
 tick_refusal : (s : NoiseGenerator) (c : NoiseGeneratorControls) (wanted : ℕ) (draws : List ℕ)
     → refusal_of (noise_generator_tick_of s c wanted draws).answer ≡ draws_refusal_of (needed_of s) draws
 tick_refusal s c wanted draws =
-    tick_by s c wanted draws (λ (t : NoiseGeneratorTicked). refusal_of t.answer ≡ draws_refusal_of (needed_of s) draws)
+    tick_by s c wanted draws (λ (t : Ticked NoiseGenerator). refusal_of t.answer ≡ draws_refusal_of (needed_of s) draws)
     (λ e. accepted_unrefused _ (turn_accepted (correlation_of s c) (numbers_of c) s wanted draws) ∙ sym e) (λ e. unfold refusal_of in refl)
 
 pub tick_accepted : (s : NoiseGenerator) (c : NoiseGeneratorControls) (wanted : ℕ) (draws : List ℕ) → draws_refusal_of (needed_of s) draws ≡ 0
     → accepted (noise_generator_tick_of s c wanted draws).answer ≡ true
 tick_accepted s c wanted draws e =
-    ap (λ (t : NoiseGeneratorTicked). accepted t.answer) (tick_taken s c wanted draws e)
+    ap (λ (t : Ticked NoiseGenerator). accepted t.answer) (tick_taken s c wanted draws e)
     ∙ turn_accepted (correlation_of s c) (numbers_of c) s wanted draws
 
 pub accepted_taken : (s : NoiseGenerator) (c : NoiseGeneratorControls) (wanted : ℕ) (draws : List ℕ)
@@ -60,7 +60,7 @@ never_refused s =
 
 pub refused_leaves : RefusedLeaves
 refused_leaves s c wanted draws =
-    tick_by s c wanted draws (λ (t : NoiseGeneratorTicked). accepted t.answer ≡ false → t.noise_generator ≡ s)
+    tick_by s c wanted draws (λ (t : Ticked NoiseGenerator). accepted t.answer ≡ false → t.state ≡ s)
     (λ e z. absurd (true≢false (sym (turn_accepted (correlation_of s c) (numbers_of c) s wanted draws) ∙ z))) (λ e z. refl)
 
 pub noise_marks : NoiseMarks
@@ -80,7 +80,7 @@ block_tallies s c wanted draws n h = taken_to _ _ (drawing s draws) n (block_acc
 tick_steers : (s : NoiseGenerator) (c : NoiseGeneratorControls) (wanted : ℕ) (draws : List ℕ)
     → Steers (controls_of c) (noise_generator_tick_of s c wanted draws).answer
 tick_steers s c wanted draws =
-    tick_by s c wanted draws (λ (t : NoiseGeneratorTicked). Steers (controls_of c) t.answer) (λ e. unfold turn_of in mark_steers _ _ _ _ (controls_of c))
+    tick_by s c wanted draws (λ (t : Ticked NoiseGenerator). Steers (controls_of c) t.answer) (λ e. unfold turn_of in mark_steers _ _ _ _ (controls_of c))
     (λ e. refused_steers _ (controls_of c))
 
 pub nan_steers : NanSteers

@@ -13,17 +13,9 @@ use Rattle.noise_generator.specs.Pink.{next_index, last_index, trailing_ones, ch
 use Rattle.noise_generator.specs.Promises.{CounterClimbs, RowsChanged, RowChanges, NeededRange}
 
 -- ---- a u32 that wraps
-pub next_index_lem : (i : ℕ) → next_index i ≡ (i + 1) % 2 ^ 32
-unfolding next_index
-next_index_lem i = refl
-
-pub last_index_lem : (r i : ℕ) → r < 4294967296 → (r + 1) % 2 ^ 32 ≡ i → r ≡ last_index i
-unfolding last_index
-last_index_lem r i h e = omega arith
-
 pub next_below : (i : ℕ) → next_index i < 4294967296
 unfolding next_index
-next_below i = mod-lt (i + 1) (lit< tt)
+next_below i = mod-lt _ (lit< tt)
 
 pub counter_climbs : CounterClimbs
 unfolding next_index

@@ -14,12 +14,12 @@ use Rattle.noise_generator.specs.Pink.{new_pink}
 use Rattle.noise_generator.specs.Promises.{ResetNew}
 use Rattle.noise_generator.specs.declared.NoiseGenerator.{NoiseGenerator}
 use Rattle.noise_generator.specs.declared.NoiseGeneratorControls.{NoiseGeneratorControls}
-use Rattle.noise_generator.specs.declared.NoiseGeneratorTicked.{NoiseGeneratorTicked}
+use Rattle.answer.specs.declared.Ticked.{Ticked}
 
 pub tick_stored : (s : NoiseGenerator) (c : NoiseGeneratorControls) (wanted : ℕ) (draws : List ℕ)
-    → (noise_generator_tick_of s c wanted draws).noise_generator.correlation ≡ s.correlation
+    → (noise_generator_tick_of s c wanted draws).state.correlation ≡ s.correlation
 tick_stored s c wanted draws =
-    tick_by s c wanted draws (λ (t : NoiseGeneratorTicked). t.noise_generator.correlation ≡ s.correlation) (λ e. unfold turn_of in refl) (λ e. refl)
+    tick_by s c wanted draws (λ (t : Ticked NoiseGenerator). t.state.correlation ≡ s.correlation) (λ e. unfold turn_of in refl) (λ e. refl)
 
 -- as a property of what a block goes through
 abbrev Stores : Float → Drawing → Type 0

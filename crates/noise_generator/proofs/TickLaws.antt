@@ -14,15 +14,15 @@ use Rattle.noise_generator.specs.NoiseGenerator.{Drawing, drawing, noise_generat
 use Rattle.noise_generator.specs.Pink.{next_index, changed_of, sampled_of}
 use Rattle.noise_generator.specs.declared.NoiseGenerator.{NoiseGenerator}
 use Rattle.noise_generator.specs.declared.NoiseGeneratorControls.{NoiseGeneratorControls}
-use Rattle.noise_generator.specs.declared.NoiseGeneratorTicked.{NoiseGeneratorTicked}
+use Rattle.answer.specs.declared.Ticked.{Ticked}
 
 -- no control given is NaN
 abbrev pub numbers_of : NoiseGeneratorControls → Bool
 numbers_of c = all_numbers (controls_of c)
 
 -- ---- a tick
-abbrev pub refused : ℕ → NoiseGenerator → NoiseGeneratorTicked
-refused n s = record { answer = answer.Refused n; noise_generator = s }
+abbrev pub refused : ℕ → NoiseGenerator → Ticked NoiseGenerator
+refused n s = record { answer = answer.Refused n; state = s }
 
 module _ (s : NoiseGenerator) (c : NoiseGeneratorControls) (wanted : ℕ) (draws : List ℕ) where
   pub tick_taken : draws_refusal_of (needed_of s) draws ≡ 0
@@ -31,7 +31,7 @@ module _ (s : NoiseGenerator) (c : NoiseGeneratorControls) (wanted : ℕ) (draws
   tick_taken h = simp h
 
   -- its draws refuse it, or else it is that turn
-  pub tick_by : (P : NoiseGeneratorTicked → Type 0)
+  pub tick_by : (P : Ticked NoiseGenerator → Type 0)
       → (draws_refusal_of (needed_of s) draws ≡ 0 → P (turn_of (correlation_of s c) (numbers_of c) s wanted draws))
       → ((draws_refusal_of (needed_of s) draws ≡ 0 → ⊥) → P (refused (draws_refusal_of (needed_of s) draws) s))
       → P (noise_generator_tick_of s c wanted draws)
@@ -44,15 +44,15 @@ module _ (s : NoiseGenerator) (c : NoiseGeneratorControls) (wanted : ℕ) (draws
       go false e = g (eqb-false (draws_refusal_of (needed_of s) draws) 0 e)
 
 module _ (k : Float) (numbers : Bool) (s : NoiseGenerator) (wanted : ℕ) (draws : List ℕ) where
-  turn_index : (turn_of k numbers s wanted draws).noise_generator.pink.index ≡ next_index s.pink.index
+  turn_index : (turn_of k numbers s wanted draws).state.pink.index ≡ next_index s.pink.index
   unfolding turn_of sampled_of
   turn_index = refl
 
-  turn_index2 : (turn_of k numbers s wanted draws).noise_generator.pink2.index ≡ next_index s.pink2.index
+  turn_index2 : (turn_of k numbers s wanted draws).state.pink2.index ≡ next_index s.pink2.index
   unfolding turn_of sampled_of
   turn_index2 = refl
 
-  turn_correlation : (turn_of k numbers s wanted draws).noise_generator.correlation ≡ s.correlation
+  turn_correlation : (turn_of k numbers s wanted draws).state.correlation ≡ s.correlation
   unfolding turn_of
   turn_correlation = refl
 
@@ -139,17 +139,17 @@ module _ (s : NoiseGenerator) (c : NoiseGeneratorControls) (wanted : ℕ) (draws
 
       index : (noise_generator_next_of c wanted x).noise.pink.index ≡ next_index (after_ticks next_index i s.pink.index)
       index =
-          ap (λ (t : NoiseGeneratorTicked). t.noise_generator.pink.index) turn ∙ turn_index _ _ x.noise wanted x.draws
+          ap (λ (t : Ticked NoiseGenerator). t.state.pink.index) turn ∙ turn_index _ _ x.noise wanted x.draws
           ∙ ap next_index a.index
 
       index2 : (noise_generator_next_of c wanted x).noise.pink2.index ≡ next_index (after_ticks next_index i s.pink2.index)
       index2 =
-          ap (λ (t : NoiseGeneratorTicked). t.noise_generator.pink2.index) turn ∙ turn_index2 _ _ x.noise wanted x.draws
+          ap (λ (t : Ticked NoiseGenerator). t.state.pink2.index) turn ∙ turn_index2 _ _ x.noise wanted x.draws
           ∙ ap next_index a.index2
 
       correlation : (noise_generator_next_of c wanted x).noise.correlation ≡ s.correlation
       correlation =
-          ap (λ (t : NoiseGeneratorTicked). t.noise_generator.correlation) turn ∙ turn_correlation _ _ x.noise wanted x.draws
+          ap (λ (t : Ticked NoiseGenerator). t.state.correlation) turn ∙ turn_correlation _ _ x.noise wanted x.draws
           ∙ a.correlation
 
       left : drop (needed_of x.noise) x.draws ≡ drop (needed_by s (suc i)) draws
@@ -163,7 +163,7 @@ module _ (s : NoiseGenerator) (c : NoiseGeneratorControls) (wanted : ℕ) (draws
   ticks_at (suc i) l = at_next i l (drawing_at s c wanted draws i) (ticks_at i (omega arith))
 
   -- a turn of the block's loop, whose state is x and whose draws start at `at`
-  module _ (i : ℕ) (l : i < n) (x : NoiseGenerator) (at : ℕ) (t : NoiseGeneratorTicked)
+  module _ (i : ℕ) (l : i < n) (x : NoiseGenerator) (at : ℕ) (t : Ticked NoiseGenerator)
       (z : x ≡ (drawing_at s c wanted draws i).noise) (f : at ≡ needed_by s i) (e : t ≡ turn_of (correlation_of s c) (numbers_of c) x wanted (drop at draws))
     where
       ticked : t ≡ noise_generator_tick_of (drawing_at s c wanted draws i).noise c wanted (drawing_at s c wanted draws i).draws
@@ -174,11 +174,11 @@ module _ (s : NoiseGenerator) (c : NoiseGeneratorControls) (wanted : ℕ) (draws
 
       pub heard : t.answer ≡ answer_at (noise_generator_told_of c wanted) (noise_generator_next_of c wanted) (drawing s draws) i
       unfolding answer_at
-      heard = ap (λ (u : NoiseGeneratorTicked). u.answer) ticked
+      heard = ap (λ (u : Ticked NoiseGenerator). u.answer) ticked
 
-      pub moved : t.noise_generator ≡ (drawing_at s c wanted draws (i + 1)).noise
+      pub moved : t.state ≡ (drawing_at s c wanted draws (i + 1)).noise
       unfolding after_ticks
-      moved = rw add-one (ap (λ (u : NoiseGeneratorTicked). u.noise_generator) ticked)
+      moved = rw add-one (ap (λ (u : Ticked NoiseGenerator). u.state) ticked)
 
       pub advanced : at + needed_of x ≡ needed_by s (i + 1)
       advanced = ap₂ (λ (k : ℕ) (y : NoiseGenerator). k + needed_of y) f z ∙ (ticks_at i (omega arith)).needs

@@ -12,7 +12,7 @@ use Rattle.noise_generator.specs.NoiseGenerator.{correlation_of, turn_of}
 use Rattle.noise_generator.specs.Pink.{next_index, changed_of, Rows, rowed, row_of, rows_of, sampled_of}
 use Rattle.noise_generator.specs.Promises.{Moved, Leaves, TickLeaves}
 use Rattle.noise_generator.specs.declared.NoiseGenerator.{NoiseGenerator}
-use Rattle.noise_generator.specs.declared.NoiseGeneratorTicked.{NoiseGeneratorTicked}
+use Rattle.answer.specs.declared.Ticked.{Ticked}
 use Rattle.noise_generator.specs.declared.PinkNoiseState.{PinkNoiseState}
 
 -- ---- the rows after n turns of the loop
@@ -57,7 +57,7 @@ sampled_moves draws at p e =
 
 turn_leaves : (k : Float) (numbers : Bool) (s : NoiseGenerator) (wanted : ℕ) (draws : List ℕ) → length s.pink.rows ≡ 16
     → length s.pink2.rows ≡ 16
-    → Leaves s (turn_of k numbers s wanted draws).noise_generator draws
+    → Leaves s (turn_of k numbers s wanted draws).state draws
 unfolding turn_of
 turn_leaves k numbers s wanted draws e f =
     record {
@@ -69,5 +69,5 @@ turn_leaves k numbers s wanted draws e f =
 
 pub tick_leaves : TickLeaves
 tick_leaves s c wanted draws e f a =
-    subst (λ (t : NoiseGeneratorTicked). Leaves s t.noise_generator draws) (sym (tick_taken s c wanted draws (accepted_taken s c wanted draws a)))
+    subst (λ (t : Ticked NoiseGenerator). Leaves s t.state draws) (sym (tick_taken s c wanted draws (accepted_taken s c wanted draws a)))
     (turn_leaves (correlation_of s c) (numbers_of c) s wanted draws e f)

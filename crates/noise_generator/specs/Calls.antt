@@ -17,7 +17,7 @@ pub data Call : Type 0 where
 
 -- the state after a call; a refused one leaves it
 unfoldable pub after : NoiseGenerator → Call → NoiseGenerator
-after s (Tick c wanted draws) = (noise_generator_tick_of s c wanted draws).noise_generator
+after s (Tick c wanted draws) = (noise_generator_tick_of s c wanted draws).state
 after s (Play c wanted draws t o m) = (noise_generator_block_of s c wanted draws t o m).state
 after s Reset = restarted s
 after s (SetSampleRate r) = rated s r

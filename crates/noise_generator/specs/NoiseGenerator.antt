@@ -1,5 +1,5 @@
 -- The NoiseGenerator's calls, written from oscillators.rs, with the scope's marks and its refusals 5 and 6. The draws are lent.
-use Rattle.std.specs.Prelude.{ℕ, zero, suc, ◌+◌, ◌*◌, Bool, true, false, cond, List, [], ◌∷◌, length, drop, ◌==◌, slice_index, Float}
+use Rattle.std.specs.Prelude.{ℕ, zero, suc, ◌+◌, ◌*◌, Bool, true, false, cond, List, [], ◌∷◌, length, drop, ◌==◌, slice_index, Float, Option, Some, None}
 use Rattle.std.specs.Float.{binary64}
 use Rattle.std.specs.Float.Ieee.{add, sub, mul}
 use Rattle.laws.specs.Float.{zer, one}
@@ -17,12 +17,10 @@ use Rattle.answer.specs.declared.Tally.{Tally}
 use Rattle.answer.specs.declared.Volts.{Volts}
 use Rattle.noise_generator.specs.Consts.{n_ports, new_correlation}
 use Rattle.noise_generator.specs.Pink.{new_pink, next_index, changed_of, sampled_of, pink_of}
-use Rattle.noise_generator.specs.declared.Correlation.{Correlation}
-use Rattle.noise_generator.specs.declared.Correlation.TheVariants as correlation
 use Rattle.noise_generator.specs.declared.PinkNoiseState.{PinkNoiseState}
 use Rattle.noise_generator.specs.declared.NoiseGenerator.{NoiseGenerator}
 use Rattle.noise_generator.specs.declared.NoiseGeneratorControls.{NoiseGeneratorControls}
-use Rattle.noise_generator.specs.declared.NoiseGeneratorTicked.{NoiseGeneratorTicked}
+use Rattle.answer.specs.declared.Ticked.{Ticked}
 
 abbrev pub generator : PinkNoiseState → PinkNoiseState → Float → Float → NoiseGenerator
 generator pink pink2 correlation white = record { pink = pink; pink2 = pink2; correlation = correlation; last_white = white }
@@ -51,14 +49,14 @@ needed_by s n = 2 * n + (changed_by s.pink.index n + changed_by s.pink2.index n)
 
 -- ---- the tick
 -- get_or(0, self.correlation)
-unfoldable pub given_or : Correlation → Float → Float
-given_or (correlation.Given c) stored = c
-given_or correlation.Stored stored = stored
+unfoldable pub given_or : Option Float → Float → Float
+given_or (Some c) stored = c
+given_or None stored = stored
 
 -- the controls given to a tick: none where the stored one is taken
-unfoldable pub given_in : Correlation → List Float
-given_in (correlation.Given c) = c ∷ []
-given_in correlation.Stored = []
+unfoldable pub given_in : Option Float → List Float
+given_in (Some c) = c ∷ []
+given_in None = []
 
 abbrev pub controls_of : NoiseGeneratorControls → List Float
 controls_of c = given_in c.correlation
@@ -75,7 +73,7 @@ noise_generator_volts_of correlation white1 independent pink1 pink2 wanted =
 
 -- tick_wanted from its clamped correlation on, line by line: white's draw, independent's, pink's, pink2's. It has no phase and no clamp at its end;
 -- `numbers` says that no control given is NaN
-unfoldable pub turn_of : Float → Bool → NoiseGenerator → ℕ → List ℕ → NoiseGeneratorTicked
+unfoldable pub turn_of : Float → Bool → NoiseGenerator → ℕ → List ℕ → Ticked NoiseGenerator
 turn_of correlation numbers s wanted draws =
     let white1 = bipolar_of (slice_index draws 0) in
     let independent = bipolar_of (slice_index draws 1) in
@@ -83,7 +81,7 @@ turn_of correlation numbers s wanted draws =
     let pink2 = sampled_of draws (2 + changed_of (next_index s.pink.index)) s.pink2 in
     record {
       answer = mark_of (noise_generator_volts_of correlation white1 independent (pink_of pink) (pink_of pink2) wanted) false true true numbers;
-      noise_generator = generator pink pink2 s.correlation white1;
+      state = generator pink pink2 s.correlation white1;
     }
 
 -- the correlation that a tick goes by: the given one or the stored one, clamped
@@ -91,14 +89,14 @@ unfoldable pub correlation_of : NoiseGenerator → NoiseGeneratorControls → Fl
 correlation_of s c = clamp_of (given_or c.correlation s.correlation) zer one
 
 -- an accepted tick
-abbrev pub noise_generator_sound_of : NoiseGenerator → NoiseGeneratorControls → ℕ → List ℕ → NoiseGeneratorTicked
+abbrev pub noise_generator_sound_of : NoiseGenerator → NoiseGeneratorControls → ℕ → List ℕ → Ticked NoiseGenerator
 noise_generator_sound_of s c wanted draws = turn_of (correlation_of s c) (all_numbers (controls_of c)) s wanted draws
 
 -- 5 and 6 over the draws that it needs; a refused tick leaves the state
-unfoldable pub noise_generator_tick_of : NoiseGenerator → NoiseGeneratorControls → ℕ → List ℕ → NoiseGeneratorTicked
+unfoldable pub noise_generator_tick_of : NoiseGenerator → NoiseGeneratorControls → ℕ → List ℕ → Ticked NoiseGenerator
 noise_generator_tick_of s c wanted draws =
     let n = draws_refusal_of (needed_of s) draws in
-    cond (n == 0) (noise_generator_sound_of s c wanted draws) (record { answer = answer.Refused n; noise_generator = s })
+    cond (n == 0) (noise_generator_sound_of s c wanted draws) (record { answer = answer.Refused n; state = s })
 
 -- ---- a block: a generator with the draws that are left, which each tick takes its own from
 pub record Drawing : Type 0 where
@@ -113,7 +111,7 @@ abbrev pub noise_generator_told_of : NoiseGeneratorControls → ℕ → Drawing 
 noise_generator_told_of c wanted x = (noise_generator_tick_of x.noise c wanted x.draws).answer
 
 abbrev pub noise_generator_next_of : NoiseGeneratorControls → ℕ → Drawing → Drawing
-noise_generator_next_of c wanted x = drawing (noise_generator_tick_of x.noise c wanted x.draws).noise_generator (drop (needed_of x.noise) x.draws)
+noise_generator_next_of c wanted x = drawing (noise_generator_tick_of x.noise c wanted x.draws).state (drop (needed_of x.noise) x.draws)
 
 -- what it leaves, without the draws
 abbrev pub undrawn : Block Drawing → Block NoiseGenerator

@@ -1,6 +1,6 @@
 -- Theorems about the NoiseGenerator: the statements. proofs/ proves each under the same name in small letters.
 use Rattle.std.specs.Prelude.{◌≡◌, ℕ, ◌+◌, ◌*◌, ◌%◌, ◌^◌, ◌<◌, ◌≤◌, min, true, false, cond, not, ◌||◌, T, List, [], ◌∷◌, length, drop, ◌==◌, from_bits, is_nan}
-use Rattle.std.specs.Prelude.{nat_lt, slice_index, slice_index_or, Float}
+use Rattle.std.specs.Prelude.{nat_lt, slice_index, slice_index_or, Float, Some, None}
 use Rattle.std.specs.Int.Count.{count_trailing_zeros}
 use Rattle.std.specs.Float.{nan, binary64}
 use Rattle.std.specs.Float.Ieee.{le, neg}
@@ -23,10 +23,9 @@ use Rattle.noise_generator.specs.NoiseGenerator.{new_noise_generator, with_corre
 use Rattle.noise_generator.specs.NoiseGenerator.{noise_generator_tick_of, drawing, noise_generator_told_of, noise_generator_next_of, noise_generator_block_of}
 use Rattle.noise_generator.specs.NoiseGenerator.{controls_of, restarted, rated}
 use Rattle.noise_generator.specs.Calls.{First, ReachedNoiseGenerator}
-use Rattle.noise_generator.specs.declared.Correlation.TheVariants as correlation
 use Rattle.noise_generator.specs.declared.NoiseGenerator.{NoiseGenerator}
 use Rattle.noise_generator.specs.declared.NoiseGeneratorControls.{NoiseGeneratorControls}
-use Rattle.noise_generator.specs.declared.NoiseGeneratorTicked.{NoiseGeneratorTicked}
+use Rattle.answer.specs.declared.Ticked.{Ticked}
 use Rattle.noise_generator.specs.declared.PinkNoiseState.{PinkNoiseState}
 
 -- ---- the row counter climbs, past its top back to 0
@@ -62,7 +61,7 @@ NeverRefused = (s : NoiseGenerator) → Accepts s
 -- a refused tick leaves the state
 abbrev pub RefusedLeaves : Type 0
 RefusedLeaves = (s : NoiseGenerator) (c : NoiseGeneratorControls) (wanted : ℕ) (draws : List ℕ)
-    → accepted (noise_generator_tick_of s c wanted draws).answer ≡ false → (noise_generator_tick_of s c wanted draws).noise_generator ≡ s
+    → accepted (noise_generator_tick_of s c wanted draws).answer ≡ false → (noise_generator_tick_of s c wanted draws).state ≡ s
 
 -- ---- what an accepted tick leaves of a pink whose draws stand from place `at` on: row k is drawn anew where the counter comes to a multiple of 2 ^ k
 pub record Moved (draws : List ℕ) (at : ℕ) (p q : PinkNoiseState) : Type 0 where
@@ -81,7 +80,7 @@ pub record Leaves (s r : NoiseGenerator) (draws : List ℕ) : Type 0 where
 -- sixteen rows stand in the code's arrays
 abbrev pub TickLeaves : Type 0
 TickLeaves = (s : NoiseGenerator) (c : NoiseGeneratorControls) (wanted : ℕ) (draws : List ℕ) → length s.pink.rows ≡ 16 → length s.pink2.rows ≡ 16
-    → let t = noise_generator_tick_of s c wanted draws in accepted t.answer ≡ true → Leaves s t.noise_generator draws
+    → let t = noise_generator_tick_of s c wanted draws in accepted t.answer ≡ true → Leaves s t.state draws
 
 -- ---- a block is its ticks: each of them is accepted where the draws are enough for all, and a tally with room takes each of their answers
 abbrev pub BlockAccepts : Type 0
@@ -114,8 +113,8 @@ pub record OnlyItsDraws : Type 0 where
 -- ---- no tick is clean with a control that is NaN, and none is steered without one; a stored correlation isn't given
 abbrev pub NanSteers : Type 0
 NanSteers = (s : NoiseGenerator) (wanted : ℕ) (draws : List ℕ)
-    → ((x : Float) → Steers (x ∷ []) (noise_generator_tick_of s (record { correlation = correlation.Given x }) wanted draws).answer)
-    × Steers [] (noise_generator_tick_of s (record { correlation = correlation.Stored }) wanted draws).answer
+    → ((x : Float) → Steers (x ∷ []) (noise_generator_tick_of s (record { correlation = Some x }) wanted draws).answer)
+    × Steers [] (noise_generator_tick_of s (record { correlation = None }) wanted draws).answer
 
 -- ---- marks, for every state: notfinite where a wanted output isn't finite; else steered where a NaN was given, and clean
 abbrev pub NoiseMarks : Type 0
@@ -164,7 +163,7 @@ first_draws = 9007199254740991 ∷ 2251799813685248 ∷ 0 ∷ 6755399441055744 �
 
 abbrev pub FirstTick : Type 0
 FirstTick =
-    (noise_generator_tick_of new_noise_generator (record { correlation = correlation.Stored }) 15 first_draws).answer
+    (noise_generator_tick_of new_noise_generator (record { correlation = None }) 15 first_draws).answer
     ≡ answer.Clean
     (volts4 (from_bits binary64 0x4013ffffffffffff) (from_bits binary64 0xbfd4000000000000) (from_bits binary64 0xbfd0000000000004)
     (from_bits binary64 0x3f8ffffffffffffe))
@@ -180,7 +179,7 @@ pub record Settled : Type 0 where
   pub needed : (s : NoiseGenerator) → Settles (λ (r : ℕ). r ≡ needed_of s)
   pub needed_by : (s : NoiseGenerator) (ticks : ℕ) → Settles (λ (r : ℕ). r ≡ needed_by s ticks)
   pub tick : (s : NoiseGenerator) (c : NoiseGeneratorControls) (wanted : ℕ) (draws : List ℕ)
-      → Settles (λ (t : NoiseGeneratorTicked). t ≡ noise_generator_tick_of s c wanted draws)
+      → Settles (λ (t : Ticked NoiseGenerator). t ≡ noise_generator_tick_of s c wanted draws)
   pub block : (s : NoiseGenerator) (c : NoiseGeneratorControls) (wanted : ℕ) (draws : List ℕ) (t : Tally) (o : List Float) (m : List ℕ)
       → Settles (λ (b : Block NoiseGenerator). b ≡ noise_generator_block_of s c wanted draws t o m)
   pub reset : (s : NoiseGenerator) → Settles (λ (r : NoiseGenerator). r ≡ restarted s)

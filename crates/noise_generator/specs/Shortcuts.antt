@@ -6,27 +6,23 @@ use Rattle.numeric.specs.Draw.{bipolar_of}
 use Rattle.answer.specs.declared.Answer.{Answer}
 use Rattle.answer.specs.declared.Volts.{Volts}
 use Rattle.noise_generator.specs.Pink.{next_index, changed_of, sampled_of, pink_of}
-use Rattle.noise_generator.specs.NoiseGenerator.{generator, noise_generator_volts_of}
+use Rattle.noise_generator.specs.NoiseGenerator.{noise_generator_volts_of}
 use Rattle.noise_generator.specs.Promises.{Bounded}
 use Rattle.noise_generator.specs.declared.PinkNoiseState.{PinkNoiseState}
 use Rattle.noise_generator.specs.declared.NoiseGenerator.{NoiseGenerator}
-use Rattle.noise_generator.specs.declared.NoiseGeneratorTicked.{NoiseGeneratorTicked}
+use Rattle.answer.specs.declared.Ticked.{Ticked}
 use Rattle.noise_generator.specs.declared.Rowless.{Rowless}
 
--- ---- the code lends the rows, and has apart from them the sums and counters that a turn changes
-abbrev pub pink_at : List Float → Float → ℕ → PinkNoiseState
-pink_at rows sum index = record { rows = rows; running_sum = sum; index = index }
+-- ---- a turn: the code lends the rows, and has apart from them what else it changes
+abbrev pub pink_at : List Float → Rowless → PinkNoiseState
+pink_at rows r = record { rows = rows; running_sum = r.running_sum; index = r.index }
 
--- the generator of these rows, sums and counters; `stored` and `white` are its correlation and its last white
-abbrev pub whole : List Float → List Float → Rowless → Float → Float → NoiseGenerator
-whole rows rows2 r stored white = generator (pink_at rows r.sum r.index) (pink_at rows2 r.sum2 r.index2) stored white
+-- the draws of a tick of these pinks
+unfoldable pub needed_at : Rowless → Rowless → ℕ
+needed_at pink pink2 = 2 + (changed_of (next_index pink.index) + changed_of (next_index pink2.index))
 
-abbrev pub ticked : Answer → NoiseGenerator → NoiseGeneratorTicked
-ticked a s = record { answer = a; noise_generator = s }
-
--- the draws of a tick whose counters stand there
-unfoldable pub needed_at : ℕ → ℕ → ℕ
-needed_at index index2 = 2 + (changed_of (next_index index) + changed_of (next_index index2))
+abbrev pub ticked : Answer → NoiseGenerator → Ticked NoiseGenerator
+ticked a s = record { answer = a; state = s }
 
 -- the outputs of tick_wanted from its clamped correlation on
 abbrev pub turn_volts : Float → PinkNoiseState → PinkNoiseState → ℕ → List ℕ → Volts

@@ -8,26 +8,27 @@ ghost use Rattle.std.specs.Float.{nan};
 ghost use Rattle.laws.specs.Float.{InUnit};
 ghost use Rattle.laws.specs.Lists.{tab};
 ghost use Rattle.numeric.specs.Draw.{bipolar_of};
+ghost use Rattle.common.specs.Refusal.{refused_number};
 ghost use Rattle.common.specs.Tests.{draws_refusal_of};
-ghost use Rattle.answer.specs.Block.{after_ticks, joined, block, mark_at, frame_at};
+ghost use Rattle.answer.specs.Block.{after_ticks, joined, block_said, mark_at, frame_at};
 ghost use Rattle.answer.specs.Mark.{all_finite, all_numbers, mark_of};
 ghost use Rattle.noise_generator.specs.Consts.{n_ports};
-ghost use Rattle.noise_generator.specs.Pink.{new_pink, next_index, trailing_ones, changed_of, rowed, rows_of};
-ghost use Rattle.noise_generator.specs.NoiseGenerator.{new_noise_generator, with_correlation, needed_of, changed_by, needed_by};
+ghost use Rattle.noise_generator.specs.Pink.{new_pink, next_index, changed_of, sampled_of};
+ghost use Rattle.noise_generator.specs.NoiseGenerator.{generator, new_noise_generator, with_correlation, needed_of, changed_by, needed_by};
 ghost use Rattle.noise_generator.specs.NoiseGenerator.{mix_of, noise_generator_volts_of, turn_of, correlation_of, noise_generator_sound_of};
 ghost use Rattle.noise_generator.specs.NoiseGenerator.{noise_generator_tick_of};
 ghost use Rattle.noise_generator.specs.NoiseGenerator.{noise_generator_told_of, noise_generator_next_of, noise_generator_block_of};
 ghost use Rattle.noise_generator.specs.NoiseGenerator.{drawing, controls_of, restarted, rated};
-ghost use Rattle.noise_generator.specs.Shortcuts.{pink_at, whole, ticked, needed_at, turn_volts, Calm, climbed_of};
+ghost use Rattle.noise_generator.specs.Shortcuts.{pink_at, needed_at, ticked, turn_volts, Calm, climbed_of};
 ghost use Rattle.noise_generator.specs.Promises.{Bounded};
 
-use answer::{Answer, Tally};
-use common::Hertz;
+use answer::{Answer, Played, Tally, Ticked, Volts};
+use common::{Hertz, Refusal};
 
 // Pink noise: rows of which the counter changes row k at every 2^k-th sample, and their sum as it was rounded on the way.
 #[derive(Clone, Copy)]
 pub struct PinkNoiseState {
-    pub rows: [f64; 16],
+    pub rows: [f64; ROWS],
     pub running_sum: f64,
     pub index: u32,
 }
@@ -43,47 +44,38 @@ pub struct NoiseGenerator {
 
 // The one input: given to this tick, or left to the stored one.
 #[derive(Clone, Copy)]
-pub enum Correlation {
-    Given(f64),
-    Stored,
-}
-
-#[derive(Clone, Copy)]
 pub struct NoiseGeneratorControls {
-    pub correlation: Correlation,
+    pub correlation: Option<f64>,
 }
 
-#[derive(Clone, Copy)]
-pub struct NoiseGeneratorTicked {
-    pub answer: Answer,
-    pub noise_generator: NoiseGenerator,
-}
-
-// What a block leaves beside its samples and marks: `refused` is 0, or the number that refused it.
-#[derive(Clone, Copy)]
-pub struct NoiseGeneratorBlock {
-    pub refused: u32,
-    pub noise_generator: NoiseGenerator,
-    pub tally: Tally,
-}
+// How many rows a pink has.
+const ROWS: usize = 16;
 
 // How many outputs there are.
 const PORTS: usize = 4;
 
-// The sums and counters of both pinks, which a turn changes beside the lent rows.
+// What a turn goes by beside its draws: the clamped correlation, the mask, whether its outputs are known to be finite, and whether no NaN was given.
 #[derive(Clone, Copy)]
-struct Rowless {
-    sum: f64,
-    index: u32,
-    sum2: f64,
-    index2: u32,
+struct Asked {
+    correlation: f64,
+    wanted: u32,
+    calm: bool,
+    numbers: bool,
 }
 
-// What a tick leaves beside its rows, and how many draws it took.
+// A pink without its rows, which are lent beside it.
+#[derive(Clone, Copy)]
+struct Rowless {
+    running_sum: f64,
+    index: u32,
+}
+
+// What a turn leaves beside the rows, and how many draws it took.
 #[derive(Clone, Copy)]
 struct Turned {
     answer: Answer,
-    rest: Rowless,
+    pink: Rowless,
+    pink2: Rowless,
     last_white: f64,
     taken: usize,
 }
@@ -96,74 +88,55 @@ fn bipolar(draw: u64) -> f64
     (draw as f64) * 2.220446049250313e-16 - 1.0
 }
 
-// The Rust's trailing_ones: the zeros at the end of the complement.
-fn trailing_ones(x: u32) -> u32
-    ensures { result ≡ trailing_ones 32 x }
-{
-    u32::trailing_zeros(!x)
-}
-
 // The row counter's step, from its top back to 0.
+#[tactic(auto, unfolding(crate::specs::Pink::next_index))]
 fn next_index(index: u32) -> u32
     ensures { result ≡ next_index index }
 {
-    std::num::wrapping_add_u32(index, 1)
+    index.wrapping_add(1)
 }
 
 // How many rows change when the counter comes to an index: at 0 all sixteen.
+#[tactic(auto, using(crate::proofs::PinkLaws::rows_that_change))]
 fn changed(index: u32) -> usize
     ensures { result ≡ changed_of index }
 {
-    let changed_bits = trailing_ones(index ^ std::num::wrapping_sub_u32(index, 1)) as usize;
-    numeric::least(changed_bits, 16)
+    let changed_bits = (index ^ index.wrapping_sub(1)).trailing_ones();
+    numeric::least(changed_bits as usize, ROWS)
 }
 
 // From -1 to 1. A NaN isn't.
 fn in_unit(x: f64) -> bool
     ensures { result ≡ true → InUnit x }
 {
-    if x >= -1.0 { x <= 1.0 } else { false }
+    x >= -1.0 && x <= 1.0
 }
 
-fn rows_in_unit(rows: [f64; 16]) -> bool
+fn rows_in_unit(rows: [f64; ROWS]) -> bool
     ensures { result ≡ true → (i : ℕ) → i < 16 → InUnit (slice_index_or rows i nan) }
 {
-    let mut i = 0;
-    while i < 16 {
-        if !in_unit(rows[i]) {
-            return false;
-        }
-        i += 1;
-    }
-    true
+    rows.iter().all(|row| in_unit(*row))
 }
 
 impl PinkNoiseState {
+    #[tactic(auto, unfolding(crate::specs::Pink::new_pink, laws::specs::Lists::tab))]
     fn new() -> Self
         ensures { result ≡ new_pink }
     {
         PinkNoiseState {
-            rows: [0.0; 16],
+            rows: [0.0; ROWS],
             running_sum: 0.0,
             index: 0,
         }
     }
 
-    // The loop of the Rust's sample: the first n rows change, drawn from place `at` on. Answers the running sum. The counter's step, how many
-    // rows, and the division by 16.0 stand in `turn`.
-    fn sample(rows: &mut [f64; 16], sum: f64, n: usize, draws: &[u64], at: usize) -> f64
-        requires { (n ≤ 16) × (at + n ≤ length draws.now) × ((i : ℕ) → i < n → slice_index draws.now (at + i) < 9007199254740992) }
-        ensures { rowed rows.new result ≡ rows_of draws.now at (rowed rows.old sum) n }
+    fn rowless(self) -> Rowless
+        ensures { pink_at self.rows result ≡ self }
     {
-        let mut running_sum = sum;
-        let mut i = 0;
-        while i < n {
-            let row = bipolar(draws[at + i]);
-            running_sum = running_sum - rows[i] + row;
-            rows[i] = row;
-            i += 1;
+        Rowless {
+            running_sum: self.running_sum,
+            index: self.index,
         }
-        running_sum
     }
 
     // Whether its rows lie from -1 to 1 and their sum from -2^54 to 2^54: a sample leaves it so, since 1 more or less is rounded
@@ -171,20 +144,45 @@ impl PinkNoiseState {
     fn bounded(self) -> bool
         ensures { result ≡ true → Bounded self }
     {
-        let rows = self.rows;
-        if self.running_sum >= -18014398509481984.0 {
-            if self.running_sum <= 18014398509481984.0 {
-                rows_in_unit(rows)
-            } else {
-                false
-            }
-        } else {
-            false
+        self.running_sum >= -18014398509481984.0
+            && self.running_sum <= 18014398509481984.0
+            && rows_in_unit(self.rows)
+    }
+}
+
+impl Rowless {
+    // The pink of these rows.
+    fn with_rows(self, rows: [f64; ROWS]) -> PinkNoiseState
+        ensures { result ≡ pink_at rows self }
+    {
+        PinkNoiseState {
+            rows,
+            running_sum: self.running_sum,
+            index: self.index,
         }
+    }
+
+    // The Rust's sample but for what it answers: each row that changes is drawn, the draws standing from place `at` on.
+    #[tactic(auto, using(crate::proofs::RowLaws::changed_most), unfolding(crate::specs::Pink::rows_of))]
+    fn sample(self, rows: &mut [f64; ROWS], draws: &[u64], at: usize) -> Self
+        requires { let n = changed_of (next_index self.index) in
+            (at + n ≤ length draws.now) × ((i : ℕ) → i < n → slice_index draws.now (at + i) < 9007199254740992) }
+        ensures state { pink_at rows.new result ≡ sampled_of draws.now at (pink_at rows.old self) }
+        ensures index { result.index ≡ next_index self.index }
+    {
+        let index = next_index(self.index);
+        let mut running_sum = self.running_sum;
+        for i in 0..changed(index) {
+            let row = bipolar(draws[at + i]);
+            running_sum = running_sum - rows[i] + row;
+            rows[i] = row;
+        }
+        Rowless { running_sum, index }
     }
 }
 
 // a where the correlation is 1, b where it is 0.
+#[tactic(auto, unfolding(crate::specs::NoiseGenerator::mix_of))]
 fn mix(a: f64, b: f64, correlation: f64) -> f64
     ensures { result ≡ mix_of a b correlation }
 {
@@ -198,16 +196,15 @@ fn climbed(n: u64) -> u64
 {
     let mut sum = 0;
     let mut rest = n;
-    let mut i: usize = 0;
-    while i < 16 {
+    for _ in 0..ROWS {
         sum += rest;
-        rest = rest / 2;
-        i += 1;
+        rest /= 2;
     }
     sum
 }
 
 // The rows that change in n ticks.
+#[tactic(auto, using(crate::proofs::CountLaws::changed_by_lem))]
 fn changed_by(index: u32, n: u64) -> u64
     requires { n < 1152921504606846976 }
     ensures { result ≡ changed_by index n }
@@ -218,13 +215,36 @@ fn changed_by(index: u32, n: u64) -> u64
 
 impl NoiseGeneratorControls {
     // Whether no control that is given is NaN.
+    #[tactic(auto, unfolding(crate::specs::NoiseGenerator::given_in, answer::specs::Mark::all_numbers))]
     fn are_numbers(self) -> bool
         ensures { result ≡ all_numbers (controls_of self) }
     {
-        let input = self.correlation;
-        match input {
-            Correlation::Given(correlation) => answer::numbers1(correlation),
-            Correlation::Stored => true,
+        self.correlation
+            .is_none_or(|correlation| answer::numbers([correlation]))
+    }
+}
+
+impl Asked {
+    // The samples with their mark. Where `calm` says that they are finite, none is tested.
+    #[tactic(auto, using(answer::proofs::Laws::mark_known), unfolding(crate::specs::NoiseGenerator::noise_generator_volts_of))]
+    fn heard(self, white1: f64, independent: f64, pink1: f64, pink2_independent: f64) -> Answer
+        requires { self.calm ≡ true
+            → all_finite (noise_generator_volts_of self.correlation white1 independent pink1 pink2_independent self.wanted) ≡ true }
+        ensures { result ≡ mark_of (noise_generator_volts_of self.correlation white1 independent pink1 pink2_independent self.wanted)
+            false true true self.numbers }
+    {
+        let white2 = mix(white1, independent, self.correlation);
+        let pink2 = mix(pink1, pink2_independent, self.correlation);
+        let volts = Volts::of([
+            common::out(self.wanted & NoiseGenerator::WANT_WHITE != 0, white1),
+            common::out(self.wanted & NoiseGenerator::WANT_PINK != 0, pink1),
+            common::out(self.wanted & NoiseGenerator::WANT_WHITE2 != 0, white2),
+            common::out(self.wanted & NoiseGenerator::WANT_PINK2 != 0, pink2),
+        ]);
+        if self.calm {
+            answer::marked(volts, false, true, true, self.numbers)
+        } else {
+            answer::mark(volts, false, true, true, self.numbers)
         }
     }
 }
@@ -239,6 +259,7 @@ impl NoiseGenerator {
 
     const WANT_PINK2: u32 = 1 << 3;
 
+    #[tactic(auto, unfolding(crate::specs::NoiseGenerator::new_noise_generator))]
     pub fn new() -> Self
         ensures { result ≡ new_noise_generator }
     {
@@ -251,6 +272,7 @@ impl NoiseGenerator {
     }
 
     // A new one with another correlation. The clamp lets a NaN pass.
+    #[tactic(auto, unfolding(crate::specs::NoiseGenerator::with_correlation))]
     pub fn with_correlation(correlation: f64) -> Self
         ensures { result ≡ with_correlation correlation }
     {
@@ -263,22 +285,20 @@ impl NoiseGenerator {
     }
 
     // How many draws the next tick needs: white's, independent's, and one for each row that changes.
+    #[tactic(auto, using(crate::proofs::RowLaws::changed_most), unfolding(crate::specs::NoiseGenerator::needed_of))]
     pub fn needed(self) -> usize
         ensures { result ≡ needed_of self }
     {
-        let pink = self.pink;
-        let pink2 = self.pink2;
-        2 + changed(next_index(pink.index)) + changed(next_index(pink2.index))
+        2 + changed(next_index(self.pink.index)) + changed(next_index(self.pink2.index))
     }
 
     // The same of n ticks together.
+    #[tactic(auto, using(crate::proofs::CountLaws::changed_by_most), unfolding(crate::specs::NoiseGenerator::needed_by))]
     fn needed_in(self, n: u64) -> u64
         requires { n < 1152921504606846976 }
         ensures { result ≡ needed_by self n }
     {
-        let pink = self.pink;
-        let pink2 = self.pink2;
-        2 * n + changed_by(pink.index, n) + changed_by(pink2.index, n)
+        2 * n + changed_by(self.pink.index, n) + changed_by(self.pink2.index, n)
     }
 
     // How many draws the next so many ticks need together.
@@ -289,14 +309,11 @@ impl NoiseGenerator {
     }
 
     // The correlation that a tick goes by: the one it is given or the stored one, clamped.
+    #[tactic(auto, unfolding(crate::specs::NoiseGenerator::correlation_of, crate::specs::NoiseGenerator::given_or))]
     fn clamped(self, c: NoiseGeneratorControls) -> f64
         ensures { result ≡ correlation_of self c }
     {
-        let input = c.correlation;
-        match input {
-            Correlation::Given(correlation) => numeric::clamp(correlation, 0.0, 1.0),
-            Correlation::Stored => numeric::clamp(self.correlation, 0.0, 1.0),
-        }
+        numeric::clamp(c.correlation.unwrap_or(self.correlation), 0.0, 1.0)
     }
 
     // Whether every tick from here on with these controls has finite outputs. It has from every state that calls reach, unless the
@@ -304,165 +321,104 @@ impl NoiseGenerator {
     fn calm(self, c: NoiseGeneratorControls) -> bool
         ensures { result ≡ true → Calm self (correlation_of self c) }
     {
-        let pink = self.pink;
-        let pink2 = self.pink2;
-        if in_unit(self.clamped(c)) {
-            if pink.bounded() {
-                pink2.bounded()
-            } else {
-                false
-            }
-        } else {
-            false
-        }
+        in_unit(self.clamped(c)) && self.pink.bounded() && self.pink2.bounded()
     }
 
-    // The samples with their mark. Where `calm` says that they are finite, none is tested.
-    fn heard(
-        correlation: f64,
-        white1: f64,
-        independent: f64,
-        pink1: f64,
-        pink2_independent: f64,
-        wanted: u32,
-        calm: bool,
-        numbers: bool,
-    ) -> Answer
-        requires { calm ≡ true → all_finite (noise_generator_volts_of correlation white1 independent pink1 pink2_independent wanted) ≡ true }
-        ensures { result ≡ mark_of (noise_generator_volts_of correlation white1 independent pink1 pink2_independent wanted)
-            false true true numbers }
-    {
-        let white2 = mix(white1, independent, correlation);
-        let pink2 = mix(pink1, pink2_independent, correlation);
-        let volts = answer::volts4(
-            common::out(wanted & Self::WANT_WHITE != 0, white1),
-            common::out(wanted & Self::WANT_PINK != 0, pink1),
-            common::out(wanted & Self::WANT_WHITE2 != 0, white2),
-            common::out(wanted & Self::WANT_PINK2 != 0, pink2),
-        );
-        if calm {
-            answer::marked(volts, false, true, true, numbers)
-        } else {
-            answer::mark(volts, false, true, true, numbers)
-        }
-    }
-
-    // An accepted tick over lent rows: white's draw, independent's, those of pink and of pink2. `calm` says that its outputs are finite.
+    // An accepted tick: white's draw, independent's, those of pink and of pink2.
+    #[tactic(auto, using(crate::proofs::TurnLaws::turning), unfolding(crate::specs::NoiseGenerator::turn_of, crate::specs::Shortcuts::needed_at))]
     fn turn(
-        rows: &mut [f64; 16],
-        rows2: &mut [f64; 16],
-        rest: Rowless,
-        correlation: f64,
-        wanted: u32,
+        rows: &mut [f64; ROWS],
+        rows2: &mut [f64; ROWS],
+        pink: Rowless,
+        pink2: Rowless,
+        asked: Asked,
         draws: &[u64],
-        calm: bool,
-        numbers: bool,
     ) -> Turned
-        requires draws_value { draws_refusal_of (needed_at rest.index rest.index2) draws.now ≡ 0 }
-        requires draws_value_2 { calm ≡ true → all_finite (turn_volts correlation (pink_at rows.old rest.sum rest.index)
-            (pink_at rows2.old rest.sum2 rest.index2) wanted draws.now) ≡ true }
-        ensures last_white_after { (stored white : Float) → ticked result.answer (whole rows.new rows2.new result.rest stored result.last_white)
-            ≡ turn_of correlation numbers (whole rows.old rows2.old rest stored white) wanted draws.now }
-        ensures taken_value { result.taken ≡ needed_at rest.index rest.index2 }
+        requires draws_value { draws_refusal_of (needed_at pink pink2) draws.now ≡ 0 }
+        requires calm_value { asked.calm ≡ true
+            → all_finite (turn_volts asked.correlation (pink_at rows.old pink) (pink_at rows2.old pink2) asked.wanted draws.now) ≡ true }
+        ensures state { (stored white : Float)
+            → ticked result.answer (generator (pink_at rows.new result.pink) (pink_at rows2.new result.pink2) stored result.last_white)
+            ≡ turn_of asked.correlation asked.numbers (generator (pink_at rows.old pink) (pink_at rows2.old pink2) stored white) asked.wanted draws.now }
+        ensures taken { result.taken ≡ needed_at pink pink2 }
     {
-        let index = next_index(rest.index);
-        let index2 = next_index(rest.index2);
-        let n = changed(index);
-        let n2 = changed(index2);
         let white1 = bipolar(draws[0]);
         let independent = bipolar(draws[1]);
-        let sum = PinkNoiseState::sample(rows, rest.sum, n, draws, 2);
-        let sum2 = PinkNoiseState::sample(rows2, rest.sum2, n2, draws, 2 + n);
+        let after = pink.sample(rows, draws, 2);
+        let n = changed(after.index);
+        let after2 = pink2.sample(rows2, draws, 2 + n);
+        let n2 = changed(after2.index);
         Turned {
-            answer: Self::heard(
-                correlation,
+            answer: asked.heard(
                 white1,
                 independent,
-                sum / 16.0,
-                sum2 / 16.0,
-                wanted,
-                calm,
-                numbers,
+                after.running_sum / 16.0,
+                after2.running_sum / 16.0,
             ),
-            rest: Rowless {
-                sum,
-                index,
-                sum2,
-                index2,
-            },
+            pink: after,
+            pink2: after2,
             last_white: white1,
             taken: 2 + n + n2,
         }
     }
 
     // An accepted tick. One alone would pay more for the question whether its state is calm than the answer saves it.
-    fn sound(self, c: NoiseGeneratorControls, wanted: u32, draws: &[u64]) -> NoiseGeneratorTicked
+    #[tactic(auto, unfolding(crate::specs::Shortcuts::needed_at, crate::specs::NoiseGenerator::needed_of))]
+    fn sound(self, c: NoiseGeneratorControls, wanted: u32, draws: &[u64]) -> Ticked<NoiseGenerator>
         requires { draws_refusal_of (needed_of self) draws.now ≡ 0 }
         ensures { result ≡ noise_generator_sound_of self c wanted draws.now }
     {
-        let pink = self.pink;
-        let pink2 = self.pink2;
-        let mut rows = pink.rows;
-        let mut rows2 = pink2.rows;
-        let rest = Rowless {
-            sum: pink.running_sum,
-            index: pink.index,
-            sum2: pink2.running_sum,
-            index2: pink2.index,
+        let asked = Asked {
+            correlation: self.clamped(c),
+            wanted,
+            calm: false,
+            numbers: c.are_numbers(),
         };
-        let correlation = self.clamped(c);
-        let numbers = c.are_numbers();
+        let mut rows = self.pink.rows;
+        let mut rows2 = self.pink2.rows;
         let turned = Self::turn(
             &mut rows,
             &mut rows2,
-            rest,
-            correlation,
-            wanted,
+            self.pink.rowless(),
+            self.pink2.rowless(),
+            asked,
             draws,
-            false,
-            numbers,
         );
-        let answer = turned.answer;
-        let left = turned.rest;
-        NoiseGeneratorTicked {
-            answer,
-            noise_generator: NoiseGenerator {
-                pink: PinkNoiseState {
-                    rows,
-                    running_sum: left.sum,
-                    index: left.index,
-                },
-                pink2: PinkNoiseState {
-                    rows: rows2,
-                    running_sum: left.sum2,
-                    index: left.index2,
-                },
-                correlation: self.correlation,
+        Ticked {
+            answer: turned.answer,
+            state: NoiseGenerator {
+                pink: turned.pink.with_rows(rows),
+                pink2: turned.pink2.with_rows(rows2),
                 last_white: turned.last_white,
+                ..self
             },
         }
     }
 
-    pub fn tick(self, c: NoiseGeneratorControls, wanted: u32, draws: &[u64]) -> NoiseGeneratorTicked
+    #[tactic(auto, unfolding(crate::specs::NoiseGenerator::noise_generator_tick_of, common::specs::Refusal::refused_number))]
+    pub fn tick(
+        self,
+        c: NoiseGeneratorControls,
+        wanted: u32,
+        draws: &[u64],
+    ) -> Ticked<NoiseGenerator>
         ensures { result ≡ noise_generator_tick_of self c wanted draws.now }
     {
-        let refused = common::draws_refusal(self.needed(), draws);
-        if refused == 0 {
-            self.sound(c, wanted, draws)
-        } else {
-            NoiseGeneratorTicked {
-                answer: Answer::Refused(refused),
-                noise_generator: self,
-            }
+        match common::draws_refusal(self.needed(), draws) {
+            Ok(()) => self.sound(c, wanted, draws),
+            Err(refused) => Ticked {
+                answer: Answer::Refused(refused.number()),
+                state: self,
+            },
         }
     }
 
-    // Refusals 5 and 6 of n ticks, or 0. A tick needs four draws at least: where these are there, no count is too large.
-    fn draws_refusal(self, n: usize, draws: &[u64]) -> u32
-        ensures { result ≡ draws_refusal_of (needed_by self n) draws.now }
+    // What refuses the draws of n ticks. A tick needs four draws at least: where these are there, no count is too large.
+    fn draws_refusal(self, n: usize, draws: &[u64]) -> Result<(), Refusal>
+        ensures { refused_number result ≡ draws_refusal_of (needed_by self n) draws.now }
     {
         if draws.len() / 4 < n {
-            5
+            Err(Refusal::FewDraws)
         } else {
             common::draws_refusal(self.needed_in(n as u64) as usize, draws)
         }
@@ -487,53 +443,31 @@ impl NoiseGenerator {
             ≡ tab (mark_at (noise_generator_told_of c wanted) (noise_generator_next_of c wanted) (drawing self draws.now))
             (length marks.old) }
     {
-        let pink = self.pink;
-        let pink2 = self.pink2;
-        let mut rows = pink.rows;
-        let mut rows2 = pink2.rows;
-        let mut rest = Rowless {
-            sum: pink.running_sum,
-            index: pink.index,
-            sum2: pink2.running_sum,
-            index2: pink2.index,
+        let asked = Asked {
+            correlation: self.clamped(c),
+            wanted,
+            calm: self.calm(c),
+            numbers: c.are_numbers(),
         };
+        let mut rows = self.pink.rows;
+        let mut rows2 = self.pink2.rows;
+        let mut pink = self.pink.rowless();
+        let mut pink2 = self.pink2.rowless();
         let mut last_white = self.last_white;
-        let calm = self.calm(c);
-        let numbers = c.are_numbers();
         let mut at = 0;
-        let mut i = 0;
-        while i < marks.len() {
-            let correlation = self.clamped(c);
-            let turned = Self::turn(
-                &mut rows,
-                &mut rows2,
-                rest,
-                correlation,
-                wanted,
-                &draws[at..],
-                calm,
-                numbers,
-            );
-            let heard = turned.answer;
-            answer::put(heard, PORTS, i, &mut *samples, &mut *marks);
-            rest = turned.rest;
+        for i in 0..marks.len() {
+            let turned = Self::turn(&mut rows, &mut rows2, pink, pink2, asked, &draws[at..]);
+            answer::put(turned.answer, PORTS, i, samples, marks);
+            pink = turned.pink;
+            pink2 = turned.pink2;
             last_white = turned.last_white;
             at += turned.taken;
-            i += 1;
         }
         NoiseGenerator {
-            pink: PinkNoiseState {
-                rows,
-                running_sum: rest.sum,
-                index: rest.index,
-            },
-            pink2: PinkNoiseState {
-                rows: rows2,
-                running_sum: rest.sum2,
-                index: rest.index2,
-            },
-            correlation: self.correlation,
+            pink: pink.with_rows(rows),
+            pink2: pink2.with_rows(rows2),
             last_white,
+            ..self
         }
     }
 
@@ -546,30 +480,22 @@ impl NoiseGenerator {
         tally: Tally,
         samples: &mut [f64],
         marks: &mut [u32],
-    ) -> NoiseGeneratorBlock
-        ensures { block result.refused result.noise_generator result.tally samples.new marks.new
+    ) -> Result<Played<NoiseGenerator>, Refusal>
+        ensures { block_said self tally result samples.new marks.new
             ≡ noise_generator_block_of self c wanted draws.now tally samples.old marks.old }
     {
         let n = marks.len();
-        let needed = self.draws_refusal(n, draws);
-        let refused = answer::block_refusal(PORTS, samples.len(), needed, tally, n);
-        if refused == 0 {
-            let noise_generator = self.run(c, wanted, draws, samples, marks);
-            NoiseGeneratorBlock {
-                refused: 0,
-                noise_generator,
-                tally: tally.take_marks(marks).or(tally),
-            }
-        } else {
-            NoiseGeneratorBlock {
-                refused,
-                noise_generator: self,
-                tally,
-            }
-        }
+        let first = self.draws_refusal(n, draws);
+        answer::block_refusal(PORTS, samples.len(), first, tally, n)?;
+        let state = self.run(c, wanted, draws, samples, marks);
+        Ok(Played {
+            state,
+            tally: tally.take_marks(marks).unwrap_or(tally),
+        })
     }
 
     // The correlation stays.
+    #[tactic(auto, unfolding(crate::specs::NoiseGenerator::restarted))]
     pub fn reset(self) -> Self
         ensures { result ≡ restarted self }
     {
@@ -582,6 +508,7 @@ impl NoiseGenerator {
     }
 
     // Nothing of it depends on the rate.
+    #[tactic(auto, unfolding(crate::specs::NoiseGenerator::rated))]
     pub fn set_sample_rate(self, sample_rate: Hertz) -> Self
         ensures { result ≡ rated self sample_rate }
     {

@@ -19,8 +19,7 @@ use Rattle.common.proofs.EdgeLaws.{thresholds}
 use Rattle.score.specs.Control.{volts_of}
 use Rattle.score.specs.declared.Control.{Control}
 use Rattle.score.specs.declared.Control.TheVariants.{Microvolts, Nan}
-use Rattle.score.specs.declared.Gate.{Gate}
-use Rattle.score.specs.declared.Gate.TheVariants.{Absent, Issue}
+use Rattle.std.specs.Prelude.{Option, Some, None}
 use Rattle.score.specs.declared.VcoInputs.{VcoInputs}
 use Rattle.score.specs.declared.LfoInputs.{LfoInputs}
 use Rattle.score.specs.declared.FormantInputs.{FormantInputs}
@@ -65,20 +64,20 @@ unfolding rate_of
 rate_fits hz = of_int-fits binary64 (pos hz)
 
 -- a tick reaches the next state
-vco_next : (i : VcoInputs) (s : Vco) → vco.ReachedVco s → vco.ReachedVco (vco_tick_of s (vco_controls i) vco_all).vco
+vco_next : (i : VcoInputs) (s : Vco) → vco.ReachedVco s → vco.ReachedVco (vco_tick_of s (vco_controls i) vco_all).state
 unfolding vco.after vco_controls
 vco_next i s h = more h (vco.Tick (vco_controls i) vco_all) (volts_fit i.voct, volts_fit i.fm, volts_fit i.fm_lin)
 
-lfo_next : (i : LfoInputs) (s : Lfo) → lfo.ReachedLfo s → lfo.ReachedLfo (lfo_tick_of s (lfo_controls i) lfo_all).lfo
+lfo_next : (i : LfoInputs) (s : Lfo) → lfo.ReachedLfo s → lfo.ReachedLfo (lfo_tick_of s (lfo_controls i) lfo_all).state
 unfolding lfo.after lfo_controls
 lfo_next i s h = more h (lfo.Tick (lfo_controls i) lfo_all) (volts_fit i.rate)
 
-supersaw_next : (c : SupersawControls) (s : Supersaw) → supersaw.ReachedSupersaw s → supersaw.ReachedSupersaw (supersaw_tick_of s c).supersaw
+supersaw_next : (c : SupersawControls) (s : Supersaw) → supersaw.ReachedSupersaw s → supersaw.ReachedSupersaw (supersaw_tick_of s c).state
 unfolding supersaw.after
 supersaw_next c s h = more h (supersaw.Tick c) tt
 
 formant_next : (i : FormantInputs) (s : FormantOsc) → formant.ReachedFormantOsc s
-    → formant.ReachedFormantOsc (formant_osc_tick_of s (formant_controls i)).formant_osc
+    → formant.ReachedFormantOsc (formant_osc_tick_of s (formant_controls i)).state
 unfolding formant.after formant_controls
 formant_next i s h = more h (formant.Tick (formant_controls i)) (volts_fit i.vowel, volts_fit i.formant_shift)
 
@@ -107,10 +106,10 @@ either_good : (b : Bool) → threshold_ok (cond b gate_threshold low_gate_thresh
 either_good true = thresholds.first
 either_good false = thresholds.second
 
-gate_good : (g : Gate) → threshold_ok (threshold_of g) ≡ true
+gate_good : (g : Option ℕ) → threshold_ok (threshold_of g) ≡ true
 unfolding threshold_of
-gate_good Absent = thresholds.first
-gate_good (Issue n) = either_good (ltb n 2)
+gate_good None = thresholds.first
+gate_good (Some n) = either_good (ltb n 2)
 
 pub heard_accepted : (s : Score) → rate_ok (rate_of s.head.hz) ≡ true → (k : ℕ) → accepted (heard_at s k) ≡ true
 unfolding heard_at

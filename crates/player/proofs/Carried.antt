@@ -102,21 +102,21 @@ module _ (p : Player) where
   abbrev pub with_formant : FormantOsc → Player
   with_formant s = record { controls = p.controls; vco = p.vco; lfo = p.lfo; supersaw = p.supersaw; formant = s }
 
-  pub vco_carries : (c : VcoControls) → Carries (controls.Vco c) (λ s. (vco_tick_of s c vco_all).answer) (λ s. (vco_tick_of s c vco_all).vco) with_vco
+  pub vco_carries : (c : VcoControls) → Carries (controls.Vco c) (λ s. (vco_tick_of s c vco_all).answer) (λ s. (vco_tick_of s c vco_all).state) with_vco
   unfolding sound_of
   vco_carries c = record { same_answer = λ s. refl; same_next = λ s. refl }
 
-  pub lfo_carries : (c : LfoControls) → Carries (controls.Lfo c) (λ s. (lfo_tick_of s c lfo_all).answer) (λ s. (lfo_tick_of s c lfo_all).lfo) with_lfo
+  pub lfo_carries : (c : LfoControls) → Carries (controls.Lfo c) (λ s. (lfo_tick_of s c lfo_all).answer) (λ s. (lfo_tick_of s c lfo_all).state) with_lfo
   unfolding sound_of
   lfo_carries c = record { same_answer = λ s. refl; same_next = λ s. refl }
 
   pub supersaw_carries : (c : SupersawControls)
-      → Carries (controls.Supersaw c) (λ s. (supersaw_tick_of s c).answer) (λ s. (supersaw_tick_of s c).supersaw) with_supersaw
+      → Carries (controls.Supersaw c) (λ s. (supersaw_tick_of s c).answer) (λ s. (supersaw_tick_of s c).state) with_supersaw
   unfolding sound_of
   supersaw_carries c = record { same_answer = λ s. refl; same_next = λ s. refl }
 
   pub formant_carries : (c : FormantOscControls)
-      → Carries (controls.Formant c) (λ s. (formant_osc_tick_of s c).answer) (λ s. (formant_osc_tick_of s c).formant_osc) with_formant
+      → Carries (controls.Formant c) (λ s. (formant_osc_tick_of s c).answer) (λ s. (formant_osc_tick_of s c).state) with_formant
   unfolding sound_of
   formant_carries c = record { same_answer = λ s. refl; same_next = λ s. refl }
 

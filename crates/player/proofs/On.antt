@@ -13,11 +13,12 @@ use borrow.Author.Tests.{eq-eqb, le-leb}
 use Rattle.laws.specs.Lists.{tab}
 use Rattle.answer.specs.Answer.{host_number, volts_of, refusal_of, accepted, cleared, notfinite, lost, steered, clean, told}
 use Rattle.answer.specs.Block.{block, many_to, grown_by, counted_to, room_for, after_ticks, ports_of, joined, block_refusal_of, answer_at, ticks_of, block_of}
-use Rattle.answer.specs.Tally.{adds_up, new_tally, tally_of, tally_or, tallied_number, Run, new_run, settle, run, tally_after}
+use Rattle.answer.specs.Tally.{adds_up, new_tally, tally_of, tally_or, Run, new_run, settle, run, tally_after}
 use Rattle.answer.specs.declared.Answer.{Answer}
 use Rattle.answer.specs.declared.Tally.{Tally}
-use Rattle.answer.specs.declared.Tallied.{Tallied}
-use Rattle.answer.specs.declared.Tallied.TheVariants as tallied
+use Rattle.std.specs.Prelude.{Result, Ok, Err}
+use Rattle.common.specs.Refusal.{number_of, refused_number}
+use Rattle.common.specs.declared.Refusal.{Refusal}
 use Rattle.answer.proofs.Blocks.{room_left, ticks_keep, block_counts}
 use Rattle.answer.proofs.Laws.{accepted_unrefused}
 use Rattle.score.proofs.Text.{read_valid}
@@ -77,10 +78,10 @@ unfolding run
 run_last r [] a = refl
 run_last r (x ∷ xs) a = run_last (settle r x (tally_of r.tally x)) xs a
 
-settle_kept : (r : Run) (a : Answer) (u : Tallied) → (settle r a u).tally ≡ tally_or r.tally u
-unfolding settle tallied_number tally_or
-settle_kept r a (tallied.Taken t) = refl
-settle_kept r a (tallied.Refused n) = go (eqb n 0)
+settle_kept : (r : Run) (a : Answer) (u : Result Tally Refusal) → (settle r a u).tally ≡ tally_or r.tally u
+unfolding settle refused_number tally_or
+settle_kept r a (Ok t) = refl
+settle_kept r a (Err e) = go (eqb (number_of e) 0)
   where
     go : (b : Bool) → (cond b (record { tally = r.tally; took = a ∷ r.took }) r).tally ≡ r.tally
     go true = refl

@@ -10,7 +10,8 @@ use Rattle.line.specs.Number.{digits_from, digits_of, negative_of, signed_of, nu
 use Rattle.text.specs.Decimal.{decimal_from, decimal_text}
 use Rattle.text.specs.Hex.{glyph, hex_from, hex_text}
 use Rattle.answer.specs.Answer.{mark_number, volts4}
-use Rattle.answer.specs.Tally.{adds_up, one_if, counted, tallied_number, tally_or, tally_of, settle, run, tally_after}
+use Rattle.common.specs.Refusal.{number_of, refused_number}
+use Rattle.answer.specs.Tally.{adds_up, one_if, counted, tally_or, tally_of, settle, run, tally_after}
 use Rattle.answer.specs.declared.Answer.{Answer}
 use Rattle.answer.specs.declared.Answer.TheVariants as answer
 use Rattle.answer.specs.declared.Volts.{Volts}
@@ -19,10 +20,9 @@ use Rattle.score.specs.Control.{volts_of}
 use Rattle.score.specs.Lines.{osc_of, within_of, control_of, osc_line, whole_line, control_line}
 use Rattle.score.specs.Score.{osc, whole, control, end_of, inputs_of, gate, head_of, lines_of, score_of}
 use Rattle.score.specs.declared.Control.TheVariants.{Microvolts}
-use Rattle.score.specs.declared.Gate.TheVariants.{Absent}
+use Rattle.std.specs.Prelude.{None, Ok}
 use Rattle.score.specs.declared.Inputs.TheVariants.{Vco}
 use Rattle.score.specs.declared.Osc.TheVariants as kind
-use Rattle.score.specs.declared.Reading.TheVariants.{Values}
 use Rattle.score.specs.declared.Score.{Score}
 use Rattle.score.specs.declared.VcoInputs.{VcoInputs}
 use Rattle.common.specs.Consts.{gate_threshold}
@@ -50,12 +50,12 @@ inputs = record {
 }
 
 score : Score
-score = record { head = record { hz = 48000; gate = Absent; frames = 1 }; inputs = Vco inputs }
+score = record { head = record { hz = 48000; gate = None; frames = 1 }; inputs = Vco inputs }
 
 volts : Volts
 volts = volts4 (of_bits binary64 0) (of_bits binary64 0xc014000000000000) (of_bits binary64 0xc014000000000000) (of_bits binary64 0x4014000000000000)
 
-is_read : score_of given ≡ Values score
+is_read : score_of given ≡ Ok score
 unfolding given score inputs same_of has_of until_of past_of line_of after_line key_of value_of is_line digits_from digits_of negative_of signed_of number_of
     osc_of within_of
     control_of osc_line whole_line control_line osc whole control end_of inputs_of gate head_of lines_of score_of
@@ -87,7 +87,7 @@ text : printed (answer.Clean volts ∷ [])
     ≡ ascii "n=0\nmark=clean\nsin=0000000000000000\ntri=C014000000000000\nsaw=C014000000000000\nsqr=4014000000000000\n"
     ++ ascii "begun=1\nfinished=1\ncleared=0\nnotfinite=0\nlost=0\nsteered=0\nclaimed=yes\n"
 unfolding printed volts frames_text frame_text marked_text outputs_text waves_text sample_line word_line count_line decimal_text decimal_from glyph
-    hex_text hex_from to_bits of_bits end_text counts_text claimed_of tally_after run settle tallied_number tally_or tally_of adds_up counted one_if mark_number
+    hex_text hex_from to_bits of_bits end_text counts_text claimed_of tally_after run settle refused_number tally_or tally_of adds_up counted one_if mark_number
 text = refl
 
 pub worked : Worked

@@ -1,12 +1,10 @@
 -- What a score's lines hand to its oscillator: the rate in hertz, its gate's threshold and the inputs in volts.
-use Rattle.std.specs.Prelude.{cond, ℕ, pos, ltb, Float}
+use Rattle.std.specs.Prelude.{cond, ℕ, pos, ltb, Float, Option, Some, None}
 use Rattle.std.specs.Float.{binary64}
 use Rattle.std.specs.Float.Ieee.{of_int}
 use Rattle.common.specs.Consts.{gate_threshold, low_gate_threshold}
 use Rattle.common.specs.declared.Hertz.{Hertz}
 use Rattle.score.specs.Control.{volts_of}
-use Rattle.score.specs.declared.Gate.{Gate}
-use Rattle.score.specs.declared.Gate.TheVariants.{Absent, Issue}
 use Rattle.score.specs.declared.VcoInputs.{VcoInputs}
 use Rattle.score.specs.declared.LfoInputs.{LfoInputs}
 use Rattle.score.specs.declared.SupersawInputs.{SupersawInputs}
@@ -27,9 +25,9 @@ unfoldable pub rate_of : ℕ → Hertz
 rate_of hz = record { 0 = of_int binary64 (pos hz) }
 
 -- where a gate counts as high: at 1.0 V in banks from issue 2 on, and at 2.5 V in issue 1, which holds where no line says one
-unfoldable pub threshold_of : Gate → Float
-threshold_of Absent = gate_threshold
-threshold_of (Issue n) = cond (ltb n 2) gate_threshold low_gate_threshold
+unfoldable pub threshold_of : Option ℕ → Float
+threshold_of None = gate_threshold
+threshold_of (Some n) = cond (ltb n 2) gate_threshold low_gate_threshold
 
 unfoldable pub vco_controls : VcoInputs → VcoControls
 vco_controls i =

@@ -1,6 +1,6 @@
 -- What `render` prints of a score, written from the scope, "The score and its program": each frame is one tick of a new
 -- oscillator with the same inputs and all outputs wanted; the tally is given each answer.
-use Rattle.std.specs.Prelude.{ℕ, zero, suc, List, [], ◌∷◌, ◌++◌, Float}
+use Rattle.std.specs.Prelude.{ℕ, zero, suc, List, [], ◌∷◌, ◌++◌, Float, Result, Ok, Err}
 use Rattle.answer.specs.Tally.{tally_after}
 use Rattle.answer.specs.declared.Answer.{Answer}
 use Rattle.score.specs.declared.Osc.{Osc}
@@ -9,8 +9,8 @@ use Rattle.score.specs.declared.Inputs.TheVariants.{Vco, Lfo, Supersaw, Formant}
 use Rattle.score.specs.Score.{score_of}
 use Rattle.score.specs.Keys.{owner_of}
 use Rattle.score.specs.declared.Score.{Score}
-use Rattle.score.specs.declared.Reading.{Reading}
-use Rattle.score.specs.declared.Reading.TheVariants.{Values, Refused}
+use Rattle.score.specs.Refusal.{refusal_number}
+use Rattle.score.specs.declared.Refusal.{Refusal}
 use Rattle.vco.specs.Vco.{new_vco, vco_tick_of}
 use Rattle.lfo.specs.Lfo.{new_lfo, lfo_tick_of}
 use Rattle.supersaw.specs.Supersaw.{new_supersaw, supersaw_tick_of}
@@ -28,16 +28,16 @@ answers answer next (suc n) s = answer s ∷ answers answer next n (next s)
 unfoldable pub heard_from : Inputs → ℕ → Float → ℕ → List Answer
 heard_from (Vco i) hz t n =
     let c = vco_controls i in
-    answers (λ s. (vco_tick_of s c vco_all).answer) (λ s. (vco_tick_of s c vco_all).vco) n (new_vco (rate_of hz) t)
+    answers (λ s. (vco_tick_of s c vco_all).answer) (λ s. (vco_tick_of s c vco_all).state) n (new_vco (rate_of hz) t)
 heard_from (Lfo i) hz t n =
     let c = lfo_controls i in
-    answers (λ s. (lfo_tick_of s c lfo_all).answer) (λ s. (lfo_tick_of s c lfo_all).lfo) n (new_lfo (rate_of hz) t)
+    answers (λ s. (lfo_tick_of s c lfo_all).answer) (λ s. (lfo_tick_of s c lfo_all).state) n (new_lfo (rate_of hz) t)
 heard_from (Supersaw i) hz t n =
     let c = supersaw_controls i in
-    answers (λ s. (supersaw_tick_of s c).answer) (λ s. (supersaw_tick_of s c).supersaw) n (new_supersaw (rate_of hz))
+    answers (λ s. (supersaw_tick_of s c).answer) (λ s. (supersaw_tick_of s c).state) n (new_supersaw (rate_of hz))
 heard_from (Formant i) hz t n =
     let c = formant_controls i in
-    answers (λ s. (formant_osc_tick_of s c).answer) (λ s. (formant_osc_tick_of s c).formant_osc) n (new_formant_osc (rate_of hz))
+    answers (λ s. (formant_osc_tick_of s c).answer) (λ s. (formant_osc_tick_of s c).state) n (new_formant_osc (rate_of hz))
 
 unfoldable pub heard_of : Score → List Answer
 heard_of s = heard_from s.inputs s.head.hz (threshold_of s.head.gate) s.head.frames
@@ -52,9 +52,9 @@ unfoldable pub play_of : Score → List ℕ
 play_of s = frames_text (owner_of s.inputs) 0 (heard_of s) ++ end_text s.head.frames (tally_after (heard_of s))
 
 -- what it prints of a text: the score that it reads as, or the refusal
-abbrev pub printed_of : Reading → List ℕ
-printed_of (Values s) = play_of s
-printed_of (Refused n) = refused_text n
+abbrev pub printed_of : Result Score Refusal → List ℕ
+printed_of (Ok s) = play_of s
+printed_of (Err why) = refused_text (refusal_number why)
 
 unfoldable pub render_of : List ℕ → List ℕ
 render_of text = printed_of (score_of text)

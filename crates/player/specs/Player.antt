@@ -48,16 +48,16 @@ pub record Sounded : Type 0 where
 unfoldable pub sound_of : Controls → Player → Sounded
 sound_of (Vco c) p =
     let t = vco_tick_of p.vco c vco_all in
-    record { answer = t.answer; player = record { controls = p.controls; vco = t.vco; lfo = p.lfo; supersaw = p.supersaw; formant = p.formant } }
+    record { answer = t.answer; player = record { controls = p.controls; vco = t.state; lfo = p.lfo; supersaw = p.supersaw; formant = p.formant } }
 sound_of (Lfo c) p =
     let t = lfo_tick_of p.lfo c lfo_all in
-    record { answer = t.answer; player = record { controls = p.controls; vco = p.vco; lfo = t.lfo; supersaw = p.supersaw; formant = p.formant } }
+    record { answer = t.answer; player = record { controls = p.controls; vco = p.vco; lfo = t.state; supersaw = p.supersaw; formant = p.formant } }
 sound_of (Supersaw c) p =
     let t = supersaw_tick_of p.supersaw c in
-    record { answer = t.answer; player = record { controls = p.controls; vco = p.vco; lfo = p.lfo; supersaw = t.supersaw; formant = p.formant } }
+    record { answer = t.answer; player = record { controls = p.controls; vco = p.vco; lfo = p.lfo; supersaw = t.state; formant = p.formant } }
 sound_of (Formant c) p =
     let t = formant_osc_tick_of p.formant c in
-    record { answer = t.answer; player = record { controls = p.controls; vco = p.vco; lfo = p.lfo; supersaw = p.supersaw; formant = t.formant_osc } }
+    record { answer = t.answer; player = record { controls = p.controls; vco = p.vco; lfo = p.lfo; supersaw = p.supersaw; formant = t.state } }
 
 abbrev pub answer_by : Controls → Player → Answer
 answer_by c p = (sound_of c p).answer

@@ -1,5 +1,5 @@
 -- Theorems about playing a score: the statements. The proofs of the same names in small letters stand in proofs/.
-use Rattle.std.specs.Prelude.{ℕ, ◌+◌, ◌*◌, ◌≤◌, Bool, true, false, List, [], ◌∷◌, ◌++◌, ◌≡◌, Float, length}
+use Rattle.std.specs.Prelude.{ℕ, ◌+◌, ◌*◌, ◌≤◌, Bool, true, false, List, [], ◌∷◌, ◌++◌, ◌≡◌, Float, length, Option, Some, None, Ok}
 use Rattle.std.specs.Float.{binary64}
 use Rattle.std.specs.Float.Ieee.{of_bits}
 use Rattle.laws.specs.Machine.{Settles}
@@ -18,13 +18,10 @@ use Rattle.score.specs.Keys.{owner_of}
 use Rattle.score.specs.declared.Control.{Control}
 use Rattle.score.specs.declared.Control.TheVariants.{Microvolts, Nan}
 use Rattle.score.specs.declared.FormantInputs.{FormantInputs}
-use Rattle.score.specs.declared.Gate.{Gate}
-use Rattle.score.specs.declared.Gate.TheVariants.{Absent, Issue}
 use Rattle.score.specs.declared.Inputs.{Inputs}
 use Rattle.score.specs.declared.Inputs.TheVariants as inputs
 use Rattle.score.specs.declared.Score.{Score}
 use Rattle.score.specs.declared.SupersawInputs.{SupersawInputs}
-use Rattle.score.specs.declared.Reading.TheVariants.{Values}
 use Rattle.frame.specs.End.{claimed_of, end_text}
 use Rattle.frame.specs.Frames.{ports_in, played_text}
 use Rattle.player.specs.Begin.{rate_of, threshold_of}
@@ -99,25 +96,25 @@ pub record Rendered (s : Score) : Type 0 where
   pub with_nan : some_nan (inputs_in s.inputs) ≡ true → claims s ≡ false
 
 abbrev pub ReadRenders : Type 0
-ReadRenders = (text : List ℕ) (s : Score) → score_of text ≡ Values s → Rendered s
+ReadRenders = (text : List ℕ) (s : Score) → score_of text ≡ Ok s → Rendered s
 
 -- ---- and none of its frames is refused, played from any frame on, so many at a time: what is played is what the scope has
 abbrev pub PlaysOn : Type 0
-PlaysOn = (text : List ℕ) (s : Score) → score_of text ≡ Values s → (k n : ℕ) → k + n ≤ s.head.frames
+PlaysOn = (text : List ℕ) (s : Score) → score_of text ≡ Ok s → (k n : ℕ) → k + n ≤ s.head.frames
     → (o : List Float) (m : List ℕ) → length m ≡ n → length o ≡ ports_in (owner_of s.inputs) * n
     → played_of (player_at s k) (tally_at s k) o m ≡ block 0 (player_at s (k + n)) (tally_at s (k + n)) (samples_from s k n) (marks_from s k n)
 
 -- and so is what is printed of it
 abbrev pub PrintsOn : Type 0
-PrintsOn = (text : List ℕ) (s : Score) → score_of text ≡ Values s → (k n : ℕ) → k + n ≤ s.head.frames
+PrintsOn = (text : List ℕ) (s : Score) → score_of text ≡ Ok s → (k n : ℕ) → k + n ≤ s.head.frames
     → played_text (owner_of s.inputs) k (samples_from s k n) (marks_from s k n) ≡ text_from s k n
 
 -- ---- the gate's line
 -- 2.5 V in issue 1 and without a line, 1.0 V in issue 2
 pub record Issues : Type 0 where
-  pub absent : threshold_of Absent ≡ of_bits binary64 0x4004000000000000
-  pub first : threshold_of (Issue 1) ≡ of_bits binary64 0x4004000000000000
-  pub second : threshold_of (Issue 2) ≡ of_bits binary64 0x3ff0000000000000
+  pub absent : threshold_of None ≡ of_bits binary64 0x4004000000000000
+  pub first : threshold_of (Some 1) ≡ of_bits binary64 0x4004000000000000
+  pub second : threshold_of (Some 2) ≡ of_bits binary64 0x3ff0000000000000
 
 -- both oscillators that have a gate are new ones of that threshold
 pub record MadeWith (s : Score) : Type 0 where
@@ -129,12 +126,12 @@ GateHeld = (s : Score) → MadeWith s
 
 -- so a score without the line plays as one of issue 1
 abbrev pub GateAbsent : Type 0
-GateAbsent = (s : Score) → play_of (gated Absent s) ≡ play_of (gated (Issue 1) s)
+GateAbsent = (s : Score) → play_of (gated None s) ≡ play_of (gated (Some 1) s)
 
 -- and where the oscillator has no gate, the line does nothing
 pub record GateIdle : Type 0 where
-  pub supersaw : (s : Score) (g h : Gate) (i : SupersawInputs) → s.inputs ≡ inputs.Supersaw i → play_of (gated g s) ≡ play_of (gated h s)
-  pub formant : (s : Score) (g h : Gate) (i : FormantInputs) → s.inputs ≡ inputs.Formant i → play_of (gated g s) ≡ play_of (gated h s)
+  pub supersaw : (s : Score) (g h : Option ℕ) (i : SupersawInputs) → s.inputs ≡ inputs.Supersaw i → play_of (gated g s) ≡ play_of (gated h s)
+  pub formant : (s : Score) (g h : Option ℕ) (i : FormantInputs) → s.inputs ≡ inputs.Formant i → play_of (gated g s) ≡ play_of (gated h s)
 
 -- ---- each contract settles its answer and the lent buffers
 pub record Settled : Type 0 where

@@ -23,7 +23,7 @@ use Rattle.score.specs.Score.{score_of}
 use Rattle.score.specs.Keys.{owner_of}
 use Rattle.score.specs.declared.Osc.{Osc}
 use Rattle.score.specs.declared.Osc.TheVariants as osc
-use Rattle.score.specs.declared.Reading.TheVariants.{Values}
+use Rattle.std.specs.Prelude.{Option, Some, None, Ok}
 use Rattle.score.specs.declared.Score.{Score}
 use Rattle.frame.specs.Promises.{ShortTally}
 use Rattle.frame.specs.End.{end_text, refused_text}
@@ -40,17 +40,15 @@ use Rattle.player.proofs.Whole.{pieces, plays, piece_length}
 use Rattle.render.specs.Reads.{taken_of}
 use Rattle.render.specs.Writes.{piece_of, Begins, pieces_of, end_of}
 use Rattle.render.specs.Promises.{PiecesJoin}
-use Rattle.render.specs.declared.Taken.{Taken}
-use Rattle.render.specs.declared.Taken.TheVariants.{Text, Failed}
 
 -- a score that was read of some text
 abbrev pub IsRead : Score → Type 0
-IsRead s = (text : List ℕ) × (score_of text ≡ Values s)
+IsRead s = (text : List ℕ) × (score_of text ≡ Ok s)
 
-pub was_read : (taken : Taken) (input : List ℕ) (s : Score) → taken_of taken input ≡ Values s → IsRead s
+pub was_read : (taken : Option ℕ) (input : List ℕ) (s : Score) → taken_of taken input ≡ Ok s → IsRead s
 unfolding taken_of
-was_read (Text n) input s e = (take n input, e)
-was_read Failed input s e = absurd (not_refused e)
+was_read (Some n) input s e = (take n input, e)
+was_read None input s e = absurd (not_refused e)
 
 -- ---- where the playing stands between two pieces: after so many whole pieces, or after all frames
 pub record Stands (s : Score) (k : ℕ) (p : Player) (t : Tally) : Type 0 where
@@ -117,7 +115,8 @@ module _ {s : Score} {frames : ℕ} {osc : Osc} {ports : ℕ} {out : List ℕ} {
   pub next_most : k + n ≤ 480000
   next_most = let top = (read_valid i.read.0 s i.read.1).head.frames_most in omega (arith, some_left)
 
-  begins : Begins s k
+  -- a piece begins there
+  pub begins : Begins s k
   begins = go i.stands.whole
     where
       go : ((m : ℕ) × (k ≡ m * 400)) ⊎ (k ≡ s.head.frames) → Begins s k
@@ -164,14 +163,14 @@ module _ {s : Score} {frames : ℕ} {osc : Osc} {ports : ℕ} {out : List ℕ} {
       pub put_inside : (to ≤ length q) × (length q ≡ 65536)
       put_inside = let w = within _ _ _ put in (w.0, w.1 ∙ i.out_size)
 
-      -- the buffer holds the whole piece, which is handed on where a piece begins
-      pub piece_written : (take to q ≡ piece_of s k 400) × Begins s k × (wrote ≡ true)
+      -- the buffer holds the whole piece
+      pub piece_written : take to q ≡ piece_of s k 400
       unfolding piece_of
       piece_written =
           let top = (read_valid i.read.0 s i.read.1).head.frames_most in
           let l = piece_length s k n (omega (arith, some_left)) in
           let whole = put_whole out (text_from s k n) to q (rw (← same_text) put) (omega (arith, i.out_size)) in
-          (whole ∙ ap (text_from s k) (e ∙ ap (λ (f : ℕ). min 400 (f - k)) i.frames_are), begins, i.so_far)
+          whole ∙ ap (text_from s k) (e ∙ ap (λ (f : ℕ). min 400 (f - k)) i.frames_are)
 
       pub turn_next : {w : Bool} → w ≡ true → Turn s frames osc ports q (o' ++ drop (ports * n) sm) (m' ++ drop n mk) p' t' (k + n) w
       turn_next wrote_on =

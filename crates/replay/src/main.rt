@@ -18,7 +18,6 @@ use numeric::bits;
 use std::io;
 use std::io::Read;
 use std::num::{wrapping_add_u64, wrapping_sub_u64, wrapping_sub_usize};
-use text::Word;
 
 // The names, a line each. A further name is a line at the end, a number of `WORDS`, and an arm of `same_case` or of `answer`.
 const NAMES: [u8; 189] =
@@ -36,22 +35,19 @@ fn words_of(k: usize) -> usize {
 
 // ---- the words of a case
 
-fn word(words: &[u8], k: usize) -> Word {
+fn word(words: &[u8], k: usize) -> Option<u64> {
     if words.len() / 17 <= k {
-        return Word::Malformed;
+        return None;
     }
     let at = 17 * k;
     if words[at] != b' ' {
-        return Word::Malformed;
+        return None;
     }
     text::read_hex(&words[at + 1..at + 17])
 }
 
 fn is_word(words: &[u8], k: usize) -> bool {
-    match word(words, k) {
-        Word::Bits(_) => true,
-        Word::Malformed => false,
-    }
+    word(words, k).is_some()
 }
 
 // So many words, and nothing else.
@@ -74,10 +70,7 @@ fn are_words(words: &[u8], n: usize) -> bool {
 
 // The number of a word, 0 where it is none.
 fn value(words: &[u8], k: usize) -> u64 {
-    match word(words, k) {
-        Word::Bits(x) => x,
-        Word::Malformed => 0,
-    }
+    word(words, k).unwrap_or(0)
 }
 
 // The f64 that it stands for.

@@ -1,4 +1,3 @@
-pub mod Signed
 pub mod Steps
 pub mod Examples
 pub mod LineKinds

@@ -2,63 +2,53 @@
 -- which they are the text, or a refusal; and the text of a value in range says that value.
 -- Assumes nothing.
 use Prim.Native.Nat.{ℕ, zero, suc, ◌≤◌, ◌<◌, ◌^◌}
-use mathlib.Core.Path.{◌≡◌, refl, ap, sym, ◌∙◌}
+use mathlib.Core.Path.{◌≡◌, refl, sym, ◌∙◌}
 use mathlib.Core.List.{List}
 use mathlib.Core.Bool.{Bool, true, false, cond}
 use native.Mathlib.Omega.{arith}
 use lib.Dec.{ltb, lit≤}
+use Rattle.std.specs.Prelude.{Option, Some, None, Result, Ok, Err, ok_or}
 use lib.IntN.{pos, negsuc}
 use borrow.Author.Tests.{ltb-false, le-ltb}
 use Rattle.line.specs.Bytes.{same_of, has_of}
 use Rattle.line.specs.Number.{number_of, number_text}
+use Rattle.line.specs.Promises.{Writable}
 use Rattle.line.specs.declared.Number.{Number}
-use Rattle.line.specs.declared.Number.TheVariants.{Whole, Nan, Malformed}
+use Rattle.line.specs.declared.Number.TheVariants.{Whole, Nan}
 use Rattle.line.proofs.Laws.{no, same_equal}
 use Rattle.line.proofs.Decimal.{number_text_lem, no_minus_zero}
 use Rattle.line.proofs.Written.{number_read, number_no_feed}
 use Rattle.score.specs.Control.{signed, number_in}
 use Rattle.score.specs.Keys.{name_of}
-use Rattle.score.specs.Lines.{osc_of, within_of, control_of}
-use Rattle.score.specs.Score.{on_osc, on_whole, on_control}
+use Rattle.score.specs.Lines.{osc_of, numbered, within_of, control_of}
+use Rattle.score.specs.Refusal.{refusal_number, and_then}
 use Rattle.score.specs.Text.{control_text, whole_text}
 use Rattle.score.specs.Promises.{ValidInput}
 use Rattle.score.specs.declared.Control.{Control}
 use Rattle.score.specs.declared.Control.TheVariants as C
-use Rattle.score.specs.declared.ControlLine.{ControlLine}
-use Rattle.score.specs.declared.ControlLine.TheVariants as CL
-use Rattle.score.specs.declared.WholeLine.{WholeLine}
-use Rattle.score.specs.declared.WholeLine.TheVariants as WL
 use Rattle.score.specs.declared.Osc.{Osc}
 use Rattle.score.specs.declared.Osc.TheVariants as O
-use Rattle.score.specs.declared.OscLine.{OscLine}
-use Rattle.score.specs.declared.OscLine.TheVariants as OL
-use Rattle.score.specs.declared.Reading.{Reading}
-use Rattle.score.specs.declared.Reading.TheVariants.{Refused}
+use Rattle.score.specs.declared.Refusal.{Refusal}
+use Rattle.score.specs.declared.Refusal.TheVariants.{WrongLine, Malformed, OutOfRange}
 
--- what bytes say of a kind, a value or a refusal, and how a reading goes on from it; the text of a value, and which are in range
+-- what bytes say of a kind, a value or a refusal; the text of a value, and which are in range
 pub record Kind : Type 1 where
   pub Value : Type 0
-  pub Line : Type 0
-  pub read : Value → Line
-  pub refused : ℕ → Line
-  pub on : Line → (Value → Reading) → Reading
-  pub of : List ℕ → Line
+  pub of : List ℕ → Result Value Refusal
   pub text : Value → List ℕ
   pub valid : Value → Type 0
 
 -- a line is refused by 21, 22 or 23
-abbrev pub ByLine : ℕ → Type 0
-ByLine n = (21 ≤ n) × (n ≤ 23)
+abbrev pub ByLine : Refusal → Type 0
+ByLine why = (21 ≤ refusal_number why) × (refusal_number why ≤ 23)
 
-pub data Seen (K : Kind) (v : List ℕ) : K.Line → Type 0 where
-  value : (x : K.Value) → K.text x ≡ v → K.valid x → Seen K v (K.read x)
-  none : (n : ℕ) → ByLine n → Seen K v (K.refused n)
+pub data Seen (K : Kind) (v : List ℕ) : Result K.Value Refusal → Type 0 where
+  value : (x : K.Value) → K.text x ≡ v → K.valid x → Seen K v (Ok x)
+  none : (why : Refusal) → ByLine why → Seen K v (Err why)
 
 pub record Lawful (K : Kind) : Type 0 where
-  pub goes : (x : K.Value) (k : K.Value → Reading) → K.on (K.read x) k ≡ k x
-  pub stops : (n : ℕ) (k : K.Value → Reading) → K.on (K.refused n) k ≡ Refused n
   pub seen : (v : List ℕ) → Seen K v (K.of v)
-  pub again : (x : K.Value) → K.valid x → K.of (K.text x) ≡ K.read x
+  pub again : (x : K.Value) → K.valid x → K.of (K.text x) ≡ Ok x
   pub no_feed : (x : K.Value) → has_of 10 (K.text x) ≡ false
 
 -- either side of a test
@@ -68,18 +58,17 @@ tested P false p q = q refl
 
 -- ---- an oscillator's name
 abbrev pub osc_kind : Kind
-osc_kind =
-    record { Value = Osc; Line = OscLine; read = OL.Read; refused = OL.Refused; on = on_osc; of = osc_of; text = name_of; valid = λ _. Unit {0} }
+osc_kind = record { Value = Osc; of = osc_of; text = name_of; valid = λ _. Unit {0} }
 
 name_seen : (v : List ℕ) → Seen osc_kind v (osc_of v)
 unfolding osc_of
 name_seen v =
-    named O.Vco (named O.Lfo (named O.Supersaw (named O.Formant (none 21 (lit≤ tt, lit≤ tt)))))
+    named O.Vco (named O.Lfo (named O.Supersaw (named O.Formant (none WrongLine (lit≤ tt, lit≤ tt)))))
   where
-    named : (o : Osc) {l : OscLine} → Seen osc_kind v l → Seen osc_kind v (cond (same_of v (name_of o)) (OL.Read o) l)
+    named : (o : Osc) {l : Result Osc Refusal} → Seen osc_kind v l → Seen osc_kind v (cond (same_of v (name_of o)) (Ok o) l)
     named o s = tested (Seen osc_kind v) (same_of v (name_of o)) (λ e. value o (sym (same_equal v (name_of o) e)) tt) (λ _. s)
 
-name_again : (o : Osc) → osc_of (name_of o) ≡ OL.Read o
+name_again : (o : Osc) → osc_of (name_of o) ≡ Ok o
 unfolding osc_of same_of
 name_again O.Vco = refl
 name_again O.Lfo = refl
@@ -96,22 +85,25 @@ name_no_feed O.Formant = refl
 pub osc_laws : Lawful osc_kind
 osc_laws =
     record {
-      goes = λ x k. refl;
-      stops = λ n k. refl;
       seen = name_seen;
       again = λ o v. name_again o;
       no_feed = name_no_feed;
     }
 
 -- ---- a number is the text of its value
-number_is : (v : List ℕ) (x : Number) → number_of v ≡ x → (x ≡ Malformed → ⊥) → number_text x ≡ v
-number_is v x e h = ap number_text (sym e) ∙ number_text_lem v (λ m. h (sym e ∙ m))
+-- what is no number is malformed; what is one goes on
+module _ (K : Kind) (v : List ℕ) (f : Number → Result K.Value Refusal) (seen : (x : Number) → number_of v ≡ Some x → Seen K v (f x)) where
+  number_seen : Seen K v (and_then (numbered v) f)
+  unfolding numbered
+  number_seen = go (number_of v) refl
+    where
+      go : (r : Option Number) → number_of v ≡ r → Seen K v (and_then (ok_or r Malformed) f)
+      go None e = none Malformed (lit≤ tt, lit≤ tt)
+      go (Some x) e = seen x e
 
-not_malformed : {minus : Bool} {size : ℕ} → Whole minus size ≡ Malformed → ⊥
-not_malformed q = let z : ◌≡◌ {A = ℕ} 0 1 = cc in omega arith
-
-nan_is_one : Nan ≡ Malformed → ⊥
-nan_is_one q = let z : ◌≡◌ {A = ℕ} 0 1 = cc in omega arith
+number_again : {A : Type 0} (x : Number) (f : Number → Result A Refusal) → Writable x → and_then (numbered (number_text x)) f ≡ f x
+unfolding numbered
+number_again x f w = simp (number_read x w)
 
 small : (n : ℕ) → n ≤ 10000000 → n < 10 ^ 12
 small n h = omega arith
@@ -122,35 +114,29 @@ module _ (least most : ℕ) where
   whole_kind =
       record {
         Value = ℕ;
-        Line = WholeLine;
-        read = WL.Read;
-        refused = WL.Refused;
-        on = on_whole;
-        of = λ v. within_of least most (number_of v);
+        of = λ v. and_then (numbered v) (within_of least most);
         text = whole_text;
         valid = λ n. (least ≤ n) × (n ≤ most);
       }
 
-  within_seen : (v : List ℕ) (x : Number) → number_of v ≡ x → Seen whole_kind v (within_of least most x)
+  within_seen : (v : List ℕ) (x : Number) → number_of v ≡ Some x → Seen whole_kind v (within_of least most x)
   unfolding within_of
-  within_seen v (Whole true size) e = none 23 (lit≤ tt, lit≤ tt)
+  within_seen v (Whole true size) e = none OutOfRange (lit≤ tt, lit≤ tt)
   within_seen v (Whole false size) e =
-      tested (Seen whole_kind v) (ltb size least) (λ _. none 23 (lit≤ tt, lit≤ tt)) (λ l.
-      tested (Seen whole_kind v) (ltb most size) (λ _. none 23 (lit≤ tt, lit≤ tt)) (λ h.
-      value size (number_is v (Whole false size) e not_malformed) (ltb-false size least l, ltb-false most size h)))
-  within_seen v Nan e = none 22 (lit≤ tt, lit≤ tt)
-  within_seen v Malformed e = none 22 (lit≤ tt, lit≤ tt)
+      tested (Seen whole_kind v) (ltb size least) (λ _. none OutOfRange (lit≤ tt, lit≤ tt)) (λ l.
+      tested (Seen whole_kind v) (ltb most size) (λ _. none OutOfRange (lit≤ tt, lit≤ tt)) (λ h.
+      value size (number_text_lem v (Whole false size) e) (ltb-false size least l, ltb-false most size h)))
+  within_seen v Nan e = none Malformed (lit≤ tt, lit≤ tt)
 
-  whole_again : most ≤ 10000000 → (n : ℕ) → (least ≤ n) × (n ≤ most) → within_of least most (number_of (whole_text n)) ≡ WL.Read n
+  whole_again : most ≤ 10000000 → (n : ℕ) → (least ≤ n) × (n ≤ most) → and_then (numbered (whole_text n)) (within_of least most) ≡ Ok n
   unfolding within_of
-  whole_again top n (l, g) = simp (number_read (Whole false n) (small n (omega arith), λ e. absurd (no e)), le-ltb n least l, le-ltb most n g)
+  whole_again top n (l, g) =
+      number_again (Whole false n) (within_of least most) (small n (omega arith), λ e. absurd (no e)) ∙ simp (le-ltb n least l, le-ltb most n g)
 
   pub whole_laws : most ≤ 10000000 → Lawful whole_kind
   whole_laws top =
       record {
-        goes = λ x k. refl;
-        stops = λ n k. refl;
-        seen = λ v. within_seen v (number_of v) refl;
+        seen = λ v. number_seen whole_kind v (within_of least most) (within_seen v);
         again = whole_again top;
         no_feed = λ n. number_no_feed (Whole false n);
       }
@@ -160,16 +146,12 @@ abbrev pub control_kind : Kind
 control_kind =
     record {
       Value = Control;
-      Line = ControlLine;
-      read = CL.Read;
-      refused = CL.Refused;
-      on = on_control;
-      of = λ v. control_of (number_of v);
+      of = λ v. and_then (numbered v) control_of;
       text = control_text;
       valid = ValidInput;
     }
 
-signed_text : (v : List ℕ) (minus : Bool) (size : ℕ) → number_of v ≡ Whole minus size
+signed_text : (v : List ℕ) (minus : Bool) (size : ℕ) → number_of v ≡ Some (Whole minus size)
     → control_text (C.Microvolts (signed minus size)) ≡ number_text (Whole minus size)
 signed_text v true zero e = absurd (no_minus_zero v e)
 signed_text v true (suc n) e = refl
@@ -180,27 +162,24 @@ signed_valid true zero h = h
 signed_valid true (suc n) h = h
 signed_valid false n h = h
 
-input_seen : (v : List ℕ) (x : Number) → number_of v ≡ x → Seen control_kind v (control_of x)
+input_seen : (v : List ℕ) (x : Number) → number_of v ≡ Some x → Seen control_kind v (control_of x)
 unfolding control_of
 input_seen v (Whole minus size) e =
-    tested (Seen control_kind v) (ltb 10000000 size) (λ _. none 23 (lit≤ tt, lit≤ tt)) (λ h.
-    value (C.Microvolts (signed minus size)) (signed_text v minus size e ∙ number_is v (Whole minus size) e not_malformed)
+    tested (Seen control_kind v) (ltb 10000000 size) (λ _. none OutOfRange (lit≤ tt, lit≤ tt)) (λ h.
+    value (C.Microvolts (signed minus size)) (signed_text v minus size e ∙ number_text_lem v (Whole minus size) e)
     (signed_valid minus size (ltb-false 10000000 size h)))
-input_seen v Nan e = value C.Nan (number_is v Nan e nan_is_one) tt
-input_seen v Malformed e = none 22 (lit≤ tt, lit≤ tt)
+input_seen v Nan e = value C.Nan (number_text_lem v Nan e) tt
 
-control_again : (c : Control) → ValidInput c → control_of (number_of (control_text c)) ≡ CL.Read c
+control_again : (c : Control) → ValidInput c → and_then (numbered (control_text c)) control_of ≡ Ok c
 unfolding control_of
-control_again (C.Microvolts (pos n)) h = simp (number_read (Whole false n) (small n h, λ e. absurd (no e)), le-ltb 10000000 n h)
-control_again (C.Microvolts (negsuc n)) h = simp (number_read (Whole true (suc n)) (small (suc n) h, λ e. omega arith), le-ltb 10000000 (suc n) h)
-control_again C.Nan h = simp (number_read Nan tt)
+control_again (C.Microvolts (pos n)) h = number_again (Whole false n) control_of (small n h, λ e. absurd (no e)) ∙ simp (le-ltb 10000000 n h)
+control_again (C.Microvolts (negsuc n)) h = number_again (Whole true (suc n)) control_of (small (suc n) h, λ e. omega arith) ∙ simp (le-ltb 10000000 (suc n) h)
+control_again C.Nan h = number_again Nan control_of tt
 
 pub control_laws : Lawful control_kind
 control_laws =
     record {
-      goes = λ x k. refl;
-      stops = λ n k. refl;
-      seen = λ v. input_seen v (number_of v) refl;
+      seen = λ v. number_seen control_kind v control_of (input_seen v);
       again = control_again;
       no_feed = λ c. number_no_feed (number_in c);
     }

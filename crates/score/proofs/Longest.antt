@@ -5,6 +5,7 @@ use mathlib.Core.Path.{◌≡◌, refl, ap, ◌∙◌}
 use mathlib.Core.List.{List, [], ◌∷◌, ◌++◌}
 use native.Mathlib.Omega.{arith}
 use lib.Dec.{lit≤}
+use Rattle.std.specs.Prelude.{Option, Some, None, Ok}
 use lib.IntN.{pos, negsuc}
 use lib.ListN.{length, length-append}
 use Rattle.text.proofs.DecimalLaws.{decimal_short}
@@ -12,7 +13,7 @@ use Rattle.line.specs.Bytes.{ascii, same_of, has_of, until_of, past_of}
 use Rattle.line.specs.Line.{line_of, after_line, key_of, value_of, is_line}
 use Rattle.line.specs.Number.{digits_from, digits_of, negative_of, signed_of, number_of, number_text}
 use Rattle.score.specs.Keys.{osc_key, name_of, frames_key, input_keys, owner_of, controls_of}
-use Rattle.score.specs.Lines.{osc_of, within_of, control_of, osc_line, whole_line, control_line}
+use Rattle.score.specs.Lines.{osc_of, numbered, within_of, control_of, osc_line, whole_line, control_line}
 use Rattle.score.specs.Score.{osc, whole, gate, control, end_of, inputs_of, head_of, lines_of, score_of}
 use Rattle.score.specs.Text.{control_text, whole_text, line_text, key_text, gate_text, controls_text, head_text, inputs_text, text_of}
 use Rattle.score.specs.Promises.{ValidInput, ValidGate, ValidHead, ValidInputs, Valid, longest, LongestText}
@@ -20,15 +21,12 @@ use Rattle.score.proofs.Lines.{seam, head_lines}
 use Rattle.score.proofs.Text.{score_text, read_valid}
 use Rattle.score.specs.declared.Control.{Control}
 use Rattle.score.specs.declared.Control.TheVariants as C
-use Rattle.score.specs.declared.Gate.{Gate}
-use Rattle.score.specs.declared.Gate.TheVariants.{Absent, Issue}
 use Rattle.score.specs.declared.Head.{Head}
 use Rattle.score.specs.declared.Osc.{Osc}
 use Rattle.score.specs.declared.Osc.TheVariants as O
 use Rattle.score.specs.declared.Inputs.{Inputs}
 use Rattle.score.specs.declared.Inputs.TheVariants.{Vco, Lfo, Supersaw, Formant}
 use Rattle.score.specs.declared.Score.{Score}
-use Rattle.score.specs.declared.Reading.TheVariants.{Values}
 
 line_length : (key : String) (v rest : List ℕ) → length (line_text key v ++ rest) ≡ length (ascii key) + 2 + length v + length rest
 line_length key v rest =
@@ -47,10 +45,10 @@ unfolding number_text
 whole_short n h = decimal_short 5 n (omega arith)
 
 -- ---- lines
-gate_short : (g : Gate) (rest : List ℕ) → ValidGate g → length (gate_text g ++ rest) ≤ 7 + length rest
+gate_short : (g : Option ℕ) (rest : List ℕ) → ValidGate g → length (gate_text g ++ rest) ≤ 7 + length rest
 unfolding number_text
-gate_short Absent rest v = omega arith
-gate_short (Issue n) rest (l, g) = omega (arith, line_length "gate" (whole_text n) rest, decimal_short 0 n (omega arith))
+gate_short None rest v = omega arith
+gate_short (Some n) rest (l, g) = omega (arith, line_length "gate" (whole_text n) rest, decimal_short 0 n (omega arith))
 
 head_short : (h : Head) (rest : List ℕ) → ValidHead h → length (head_text h ++ rest) ≤ 31 + length rest
 head_short h rest v =
@@ -117,9 +115,9 @@ text_short s v =
 abbrev its_text : List ℕ
 its_text = ascii "osc=formant\nhz=192000\ngate=2\nframes=480000\nv_oct=-10000000\nvowel=-10000000\nformant_shift=-10000000\nvibrato=-10000000\n"
 
-its_reading : score_of its_text ≡ Values longest
-unfolding same_of has_of until_of past_of line_of after_line key_of value_of is_line digits_from digits_of negative_of signed_of number_of osc_of within_of
-    control_of
+its_reading : score_of its_text ≡ Ok longest
+unfolding same_of has_of until_of past_of line_of after_line key_of value_of is_line digits_from digits_of negative_of signed_of number_of osc_of numbered
+    within_of control_of
     osc_line whole_line control_line osc whole gate control end_of inputs_of head_of lines_of score_of
 its_reading = refl
 

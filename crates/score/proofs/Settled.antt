@@ -11,4 +11,6 @@ settled =
       within = λ n least most. laws.settled _;
       control_of = λ n. laws.settled _;
       read = λ text. laws.settled _;
+      name = λ o. laws.settled _;
+      number = λ why. laws.settled _;
     }

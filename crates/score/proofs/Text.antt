@@ -5,8 +5,9 @@ use mathlib.Core.Bool.{Bool, true, false, cond}
 use Prim.Native.Nat.{ℕ}
 use lib.ListN.{length}
 use lib.Dec.{ltb, lit≤}
+use Rattle.std.specs.Prelude.{Ok, Err}
 use Rattle.score.specs.Keys.{osc_key, name_of, hz_key, owner_of}
-use Rattle.score.specs.Score.{head_of, inputs_of, lines_of, score_of}
+use Rattle.score.specs.Score.{Reading, head_of, inputs_of, lines_of, score_of}
 use Rattle.score.specs.Text.{line_text, key_text, gate_text, head_text, inputs_text, text_of}
 use Rattle.score.specs.Promises.{ValidHead, ValidInputs, Valid, ScoreText, ReadValid}
 use Rattle.score.proofs.Lines.{head_lines, Says, not_refused, said_values, osc_says, whole_says, gate_says, control_says, end_says}
@@ -16,8 +17,7 @@ use Rattle.score.specs.declared.Osc.TheVariants as O
 use Rattle.score.specs.declared.Inputs.{Inputs}
 use Rattle.score.specs.declared.Inputs.TheVariants.{Vco, Lfo, Supersaw, Formant}
 use Rattle.score.specs.declared.Score.{Score}
-use Rattle.score.specs.declared.Reading.{Reading}
-use Rattle.score.specs.declared.Reading.TheVariants.{Values, Refused}
+use Rattle.score.specs.declared.Refusal.TheVariants.{TooLong}
 
 -- ---- the head
 head_says : (P : Score → Type 0) (t : List ℕ) (k : Head → List ℕ → Reading)
@@ -86,11 +86,11 @@ lines_say t =
     (its_lines o head i t r.owner r.written f e, record { head = v; inputs = r.valid })
 
 -- ---- a text that was accepted was read line by line
-accepted : (t : List ℕ) (s : Score) → score_of t ≡ Values s → (text_of s ≡ t) × Valid s
+accepted : (t : List ℕ) (s : Score) → score_of t ≡ Ok s → (text_of s ≡ t) × Valid s
 unfolding score_of
 accepted t s p = go (ltb _ (length t)) p
   where
-    go : (b : Bool) → cond b (Refused 20) (lines_of t) ≡ Values s → (text_of s ≡ t) × Valid s
+    go : (b : Bool) → cond b (Err TooLong) (lines_of t) ≡ Ok s → (text_of s ≡ t) × Valid s
     go true p = absurd (not_refused p)
     go false p = said_values s (lines_say t) p
 

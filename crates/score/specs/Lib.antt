@@ -1,9 +1,10 @@
 pub mod Control
+pub mod Refusal
 pub mod Keys
 pub mod Lines
 pub mod Score
-pub mod Places
 pub mod Examples
 pub mod Text
 pub mod Promises
 pub mod Settled
+pub mod Taken

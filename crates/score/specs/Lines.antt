@@ -1,51 +1,52 @@
--- One line of a score: what its value says, or the number of its refusal: 21 where the line isn't this one, 22 for a bad number form, 23 for a number out of
--- range.
+-- One line of a score: what its value says, or its refusal: WrongLine where the line isn't this one, Malformed for a bad number form, OutOfRange for a
+-- number out of range.
 -- Assumes nothing.
-use Rattle.std.specs.Prelude.{ℕ, List, cond, ltb}
+use Rattle.std.specs.Prelude.{ℕ, List, cond, ltb, Result, Ok, Err, ok_or}
 use Rattle.line.specs.Bytes.{ascii, same_of}
 use Rattle.line.specs.Line.{value_of, is_line}
 use Rattle.line.specs.Number.{number_of}
 use Rattle.line.specs.declared.Number.{Number}
-use Rattle.line.specs.declared.Number.TheVariants.{Whole, Nan, Malformed}
+use Rattle.line.specs.declared.Number.TheVariants.{Whole, Nan}
 use Rattle.score.specs.Control.{signed}
 use Rattle.score.specs.Keys.{osc_key, name_of}
+use Rattle.score.specs.Refusal.{and_then}
+use Rattle.score.specs.declared.Control.{Control}
 use Rattle.score.specs.declared.Control.TheVariants as C
+use Rattle.score.specs.declared.Osc.{Osc}
 use Rattle.score.specs.declared.Osc.TheVariants.{Vco, Lfo, Supersaw, Formant}
-use Rattle.score.specs.declared.OscLine.{OscLine}
-use Rattle.score.specs.declared.OscLine.TheVariants as OL
-use Rattle.score.specs.declared.WholeLine.{WholeLine}
-use Rattle.score.specs.declared.WholeLine.TheVariants as WL
-use Rattle.score.specs.declared.ControlLine.{ControlLine}
-use Rattle.score.specs.declared.ControlLine.TheVariants as CL
+use Rattle.score.specs.declared.Refusal.{Refusal}
+use Rattle.score.specs.declared.Refusal.TheVariants.{WrongLine, Malformed, OutOfRange}
 
 -- the oscillator that a value names
-unfoldable pub osc_of : List ℕ → OscLine
+unfoldable pub osc_of : List ℕ → Result Osc Refusal
 osc_of value =
-    cond (same_of value (name_of Vco)) (OL.Read Vco)
-    (cond (same_of value (name_of Lfo)) (OL.Read Lfo)
-    (cond (same_of value (name_of Supersaw)) (OL.Read Supersaw)
-    (cond (same_of value (name_of Formant)) (OL.Read Formant)
-    (OL.Refused 21))))
+    cond (same_of value (name_of Vco)) (Ok Vco)
+    (cond (same_of value (name_of Lfo)) (Ok Lfo)
+    (cond (same_of value (name_of Supersaw)) (Ok Supersaw)
+    (cond (same_of value (name_of Formant)) (Ok Formant)
+    (Err WrongLine))))
+
+-- the number that a value is
+unfoldable pub numbered : List ℕ → Result Number Refusal
+numbered value = ok_or (number_of value) Malformed
 
 -- a whole number from least to most
-unfoldable pub within_of : ℕ → ℕ → Number → WholeLine
+unfoldable pub within_of : ℕ → ℕ → Number → Result ℕ Refusal
 within_of least most (Whole minus size) =
-    cond minus (WL.Refused 23) (cond (ltb size least) (WL.Refused 23) (cond (ltb most size) (WL.Refused 23) (WL.Read size)))
-within_of least most Nan = WL.Refused 22
-within_of least most Malformed = WL.Refused 22
+    cond minus (Err OutOfRange) (cond (ltb size least) (Err OutOfRange) (cond (ltb most size) (Err OutOfRange) (Ok size)))
+within_of least most Nan = Err Malformed
 
 -- an input: microvolts from -10000000 to 10000000, or nan
-unfoldable pub control_of : Number → ControlLine
-control_of (Whole minus size) = cond (ltb 10000000 size) (CL.Refused 23) (CL.Read (C.Microvolts (signed minus size)))
-control_of Nan = CL.Read C.Nan
-control_of Malformed = CL.Refused 22
+unfoldable pub control_of : Number → Result Control Refusal
+control_of (Whole minus size) = cond (ltb 10000000 size) (Err OutOfRange) (Ok (C.Microvolts (signed minus size)))
+control_of Nan = Ok C.Nan
 
 -- the first line of a text
-unfoldable pub osc_line : List ℕ → OscLine
-osc_line text = cond (is_line (ascii osc_key) text) (osc_of (value_of text)) (OL.Refused 21)
+unfoldable pub osc_line : List ℕ → Result Osc Refusal
+osc_line text = cond (is_line (ascii osc_key) text) (osc_of (value_of text)) (Err WrongLine)
 
-unfoldable pub whole_line : List ℕ → ℕ → ℕ → List ℕ → WholeLine
-whole_line key least most text = cond (is_line key text) (within_of least most (number_of (value_of text))) (WL.Refused 21)
+unfoldable pub whole_line : List ℕ → ℕ → ℕ → List ℕ → Result ℕ Refusal
+whole_line key least most text = cond (is_line key text) (and_then (numbered (value_of text)) (within_of least most)) (Err WrongLine)
 
-unfoldable pub control_line : List ℕ → List ℕ → ControlLine
-control_line key text = cond (is_line key text) (control_of (number_of (value_of text))) (CL.Refused 21)
+unfoldable pub control_line : List ℕ → List ℕ → Result Control Refusal
+control_line key text = cond (is_line key text) (and_then (numbered (value_of text)) control_of) (Err WrongLine)

@@ -1,5 +1,5 @@
 -- The text of a score. Assumes nothing.
-use Rattle.std.specs.Prelude.{ℕ, List, [], ◌∷◌, ◌++◌, false}
+use Rattle.std.specs.Prelude.{ℕ, List, [], ◌∷◌, ◌++◌, false, Option, Some, None}
 use Prim.Native.String.{String}
 use Rattle.text.specs.Lines.{word_line}
 use Rattle.line.specs.Bytes.{ascii}
@@ -9,8 +9,6 @@ use Rattle.score.specs.Control.{number_in}
 use Rattle.score.specs.Keys.{osc_key, name_of, WholeKey, hz_key, gate_key, frames_key, input_keys, owner_of, controls_of}
 use Rattle.score.specs.declared.Control.{Control}
 use Rattle.score.specs.declared.Inputs.{Inputs}
-use Rattle.score.specs.declared.Gate.{Gate}
-use Rattle.score.specs.declared.Gate.TheVariants.{Absent, Issue}
 use Rattle.score.specs.declared.Head.{Head}
 use Rattle.score.specs.declared.Score.{Score}
 
@@ -30,9 +28,9 @@ abbrev pub key_text : WholeKey → ℕ → List ℕ
 key_text w n = line_text w.key (whole_text n)
 
 -- no line where the gate is absent
-abbrev pub gate_text : Gate → List ℕ
-gate_text Absent = []
-gate_text (Issue n) = key_text gate_key n
+abbrev pub gate_text : Option ℕ → List ℕ
+gate_text None = []
+gate_text (Some n) = key_text gate_key n
 
 abbrev pub head_text : Head → List ℕ
 head_text h = key_text hz_key h.hz ++ (gate_text h.gate ++ key_text frames_key h.frames)

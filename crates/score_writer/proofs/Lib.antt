@@ -1,3 +1,4 @@
+pub mod Ended
 pub mod Ranges
 pub mod Wrote
 pub mod Texts

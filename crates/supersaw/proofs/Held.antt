@@ -1,11 +1,11 @@
 -- A block's ticks are ticks of the phases alone: its voct stands still.
 use mathlib.Core.Bool.{Bool, true}
 use mathlib.Core.List.{List}
-use mathlib.Core.Path.{◌≡◌, refl, sym, ap, subst, ◌∙◌}
+use mathlib.Core.Path.{◌≡◌, refl, sym, ap, ◌∙◌}
 use Prim.Native.Nat.{ℕ, ◌+◌, ◌<◌}
 use native.Mathlib.Numerals.{add-one}
 use native.Mathlib.Omega.{arith}
-use lib.Dec.{T, lit<}
+use lib.Dec.{lit<}
 use lib.Ieee.Fits.{add-fits}
 use lib.Ieee.{Float, nan, binary64, add}
 use lib.ListN.{length}
@@ -19,32 +19,29 @@ use Rattle.common.proofs.PhaseLaws.{wrap_in}
 use Rattle.common.specs.Memo.{recall1, voct_to_hz_at}
 use Rattle.common.specs.Phase.{turns, wrap_of}
 use Rattle.common.specs.Tests.{phase_ok}
-use Rattle.common.specs.declared.Hertz.{Hertz}
-use Rattle.common.specs.declared.Memo1.{Memo1}
+use Rattle.common.specs.Memo.{Memo1}
 use Rattle.laws.proofs.Over.{length_tab, get_or_tab}
 use Rattle.laws.specs.Float.{zer, one}
 use Rattle.laws.specs.Lists.{all, tab}
 use Rattle.numeric.specs.Basic.{clamp_of}
-use Rattle.supersaw.proofs.LaneLaws.{advanced_of, ticked_of, sound_is, accepts, quiet_ramped}
+use Rattle.supersaw.proofs.LaneLaws.{advanced_of, ticked_of, sound_is, accepts}
 use Rattle.laws.proofs.All.{all_of}
-use Rattle.supersaw.proofs.Sign.{small, clamp_small}
-use Rattle.supersaw.specs.Shortcuts.{lanes_of, incs_of, wraps_of, sums_of, moved_of, stepped_of, quiet_of, ramped_of, held_told, held_next}
+use Rattle.supersaw.specs.Shortcuts.{lanes_of, incs_of, wraps_of, sums_of, moved_of, stepped_of, held_told, held_next}
 use Rattle.supersaw.specs.Supersaw.{phases_ok, controls_of, supersaw_refusal_of, supersaw_sound_of, supersaw_tick_of, supersaw_told_of, supersaw_next_of}
 use Rattle.supersaw.specs.Voices.{at}
 use Rattle.supersaw.specs.Promises.{NanSteers, BlockAccepts, BlockTallies}
-use Rattle.supersaw.specs.declared.Moved.{Moved}
 use Rattle.supersaw.specs.declared.Supersaw.{Supersaw}
 use Rattle.supersaw.specs.declared.SupersawControls.{SupersawControls}
-use Rattle.supersaw.specs.declared.SupersawTicked.{SupersawTicked}
+use Rattle.answer.specs.declared.Ticked.{Ticked}
 
 -- ---- a turn of the loop
-module _ (dt : List Float) (mix : Float) (numbers : Bool) (first : List Float) (i : ℕ) (t : List Float) (u : Moved) (e : u ≡ stepped_of t dt mix numbers)
+module _ (dt : List Float) (mix : Float) (numbers : Bool) (first : List Float) (i : ℕ) (t : List Float) (u : Ticked (List Float)) (e : u ≡ stepped_of t dt mix numbers)
     (z : t ≡ after_ticks (held_next dt mix numbers) i first) where
   pub heard : u.answer ≡ answer_at (held_told dt mix numbers) (held_next dt mix numbers) first i
   unfolding answer_at
   heard = simp (e, z)
 
-  pub moved : u.phases ≡ after_ticks (held_next dt mix numbers) (i + 1) first
+  pub moved : u.state ≡ after_ticks (held_next dt mix numbers) (i + 1) first
   unfolding after_ticks
   moved = rw add-one (simp (e, z))
 
@@ -107,7 +104,7 @@ tick_sounds : (s : Supersaw) (c : SupersawControls) → supersaw_refusal_of s �
 unfolding supersaw_tick_of
 tick_sounds s c h = simp h
 
-abbrev held_tick : Supersaw → SupersawControls → List Float → SupersawTicked
+abbrev held_tick : Supersaw → SupersawControls → List Float → Ticked Supersaw
 held_tick s c t = ticked_of s (stepped_of t (held_incs s c) (held_mix c) (held_numbers c)) (held_memo s c)
 
 first_sound : (s : Supersaw) (c : SupersawControls) → length s.phases ≡ 7 → supersaw_sound_of s c ≡ held_tick s c (lanes_of s.phases s.sub_phase)
@@ -117,14 +114,6 @@ first_sound s c k = sym (sound_is s c k)
 held_sound : (s : Supersaw) (c : SupersawControls) (t : List Float) → tab (at t) 8 ≡ t → supersaw_sound_of (state_of s c t) c ≡ held_tick s c t
 held_sound s c t h = sym (sound_is (state_of s c t) c (length_tab (at t) 7)) ∙ simp (recall1_again voct_to_hz_at s.freq_memo c.voct.0, ← lanes_back t h)
 
--- where it is quiet the shorter way gives the same
-pub quiet_held : (s : Supersaw) (c : SupersawControls) (detune : Float) (base : Hertz) (dt : List Float) (mix : Float) (numbers : Bool)
-    → supersaw_refusal_of s ≡ 0 → detune ≡ clamp_of c.detune zer one → dt ≡ incs_of detune base s.sample_rate
-    → (t : List Float) → quiet_of base t dt ≡ true → ramped_of t dt mix numbers ≡ stepped_of t dt mix numbers
-quiet_held s c detune base dt mix numbers h d i t q =
-    let D : T (small detune) = subst (λ (z : Float). T (small z)) (sym d) (clamp_small c.detune) in
-    quiet_ramped detune base s.sample_rate t dt D (accepts s h).0 i q mix numbers
-
 pub holds : (s : Supersaw) (c : SupersawControls) → supersaw_refusal_of s ≡ 0 → length s.phases ≡ 7
     → Holds (supersaw_told_of c) (supersaw_next_of c) (held_told (held_incs s c) (held_mix c) (held_numbers c))
     (held_next (held_incs s c) (held_mix c) (held_numbers c))
@@ -132,11 +121,11 @@ pub holds : (s : Supersaw) (c : SupersawControls) → supersaw_refusal_of s ≡ 
 holds s c h k =
     record {
       good = first_good s h;
-      first = ap (λ (t : SupersawTicked). t.answer) (tick_sounds s c h ∙ first_sound s c k);
-      second = ap (λ (t : SupersawTicked). t.supersaw) (tick_sounds s c h ∙ first_sound s c k);
+      first = ap (λ (t : Ticked Supersaw). t.answer) (tick_sounds s c h ∙ first_sound s c k);
+      second = ap (λ (t : Ticked Supersaw). t.state) (tick_sounds s c h ∙ first_sound s c k);
       stays = λ t g. held_good (held_incs s c) (held_mix c) (held_numbers c) t;
-      answers = λ t g. ap (λ (r : SupersawTicked). r.answer) (tick_sounds (state_of s c t) c (state_accepted s c t h g) ∙ held_sound s c t g.whole);
-      moves = λ t g. ap (λ (r : SupersawTicked). r.supersaw) (tick_sounds (state_of s c t) c (state_accepted s c t h g) ∙ held_sound s c t g.whole);
+      answers = λ t g. ap (λ (r : Ticked Supersaw). r.answer) (tick_sounds (state_of s c t) c (state_accepted s c t h g) ∙ held_sound s c t g.whole);
+      moves = λ t g. ap (λ (r : Ticked Supersaw). r.state) (tick_sounds (state_of s c t) c (state_accepted s c t h g) ∙ held_sound s c t g.whole);
     }
 
 -- ---- so none of them is refused
@@ -149,9 +138,9 @@ block_tallies s c k h = all_taken _ _ s (block_accepts s c k h)
 -- ---- a tick is refused by what refuses its state
 pub tick_refusal : (s : Supersaw) (c : SupersawControls) → refusal_of (supersaw_tick_of s c).answer ≡ supersaw_refusal_of s
 unfolding supersaw_tick_of supersaw_sound_of
-tick_refusal s c = refused_by (λ (t : SupersawTicked). t.answer) (supersaw_refusal_of s) _ _ (mark_says _ _ _ _ _).is_accepted refl
+tick_refusal s c = refused_by (λ (t : Ticked Supersaw). t.answer) (supersaw_refusal_of s) _ _ (mark_says _ _ _ _ _).is_accepted refl
 
 -- ---- and marked over its controls
 pub nan_steers : NanSteers
 unfolding supersaw_tick_of supersaw_sound_of
-nan_steers s c = tick_steers (λ (t : SupersawTicked). t.answer) (controls_of c) (supersaw_refusal_of s) _ _ (mark_steers _ _ _ _ (controls_of c)) refl
+nan_steers s c = tick_steers (λ (t : Ticked Supersaw). t.answer) (controls_of c) (supersaw_refusal_of s) _ _ (mark_steers _ _ _ _ (controls_of c)) refl

@@ -18,14 +18,14 @@ use Rattle.laws.proofs.Sign.{Plus, mul_plus, div_plus, above_plus}
 use Rattle.laws.proofs.Tests.{both_true, of_true}
 use Rattle.laws.specs.Float.{zer, one, two, is_fin}
 use Rattle.laws.specs.Lists.{all, tab}
-use Rattle.numeric.specs.Basic.{clamp_of}
+use Rattle.numeric.specs.Basic.{fabs_of, clamp_of}
 use Rattle.common.specs.Consts.{rate_low, rate_high}
 use Rattle.common.specs.Memo.{recall1, voct_to_hz_at}
 use Rattle.common.specs.Phase.{turns, increment_of, wrap_of, polyblep_of}
 use Rattle.common.specs.Tests.{rate_ok, phase_ok}
 use Rattle.common.specs.declared.Hertz.{Hertz}
-use Rattle.common.specs.declared.Memo1.{Memo1}
-use Rattle.supersaw.proofs.Sign.{small, one_plus}
+use Rattle.common.specs.Memo.{Memo1}
+use Rattle.supersaw.proofs.Sign.{small, one_plus, plus_of}
 use Rattle.supersaw.proofs.StepLaws.{Steady, steady_law}
 use Rattle.supersaw.specs.Consts.{detune_ratios, mix_levels}
 use Rattle.supersaw.specs.Shortcuts.{lanes_of, incs_of, saws_of, sums_of, wraps_of, lanes_finite, mix_to, total_mix}
@@ -35,8 +35,8 @@ use Rattle.supersaw.specs.Supersaw.{phases_ok, controls_of, supersaw_refusal_of,
 use Rattle.supersaw.specs.Voices.{at, freq_of, dt_of, saw_of, sub_dt_of, Voices, voice_of, voices_of}
 use Rattle.supersaw.specs.declared.Supersaw.{Supersaw}
 use Rattle.supersaw.specs.declared.SupersawControls.{SupersawControls}
-use Rattle.supersaw.specs.declared.SupersawTicked.{SupersawTicked}
-use Rattle.supersaw.specs.declared.Moved.{Moved}
+use Rattle.answer.specs.declared.Ticked.{Ticked}
+use Rattle.supersaw.specs.declared.lanes.Moved.{Moved}
 
 -- ---- the loop
 abbrev total_to : ℕ → Float
@@ -82,8 +82,8 @@ abbrev pub advanced_of : Supersaw → List Float → Memo1 → Supersaw
 advanced_of s t memo = record { phases = tab (at t) 7; sub_phase = turns (at t 7); sample_rate = s.sample_rate; freq_memo = memo }
 
 -- a tick of the lanes, put back into the state
-abbrev pub ticked_of : Supersaw → Moved → Memo1 → SupersawTicked
-ticked_of s r memo = record { answer = r.answer; supersaw = advanced_of s r.phases memo }
+abbrev pub ticked_of : Supersaw → Moved → Memo1 → Ticked Supersaw
+ticked_of s r memo = record { answer = r.answer; state = advanced_of s r.phases memo }
 
 pub sound_is : (s : Supersaw) (c : SupersawControls) → length s.phases ≡ 7
     → ticked_of s (stepped_of (lanes_of s.phases s.sub_phase)
@@ -138,7 +138,7 @@ module _ (detune : Float) (base rate : Hertz) (D : T (small detune)) (B : lt zer
       get_or-append (tab (λ (j : ℕ). (dt_of j detune base rate).0) 7) ((sub_dt_of base rate).0 ∷ []) nan i (omega arith)
       ∙ get_or_tab nan (λ (j : ℕ). (dt_of j detune base rate).0) 7 i l
 
-  incs_plus : (i : ℕ) → i < 8 → Plus (at (incs_of detune base rate) i)
+  pub incs_plus : (i : ℕ) → i < 8 → Plus (at (incs_of detune base rate) i)
   incs_plus i l =
       ⊎_elim (λ (e : i ≡ 7). subst (λ (j : ℕ). Plus (at (incs_of detune base rate) j)) (sym e) (unfold incs_of tab in low_plus))
       (λ (k : i < 7). subst Plus (sym (inc_at i k)) (dt_plus i k)) (eq-or-lt_of_le (le_of_suc-le-suc l))
@@ -169,17 +169,14 @@ module _ (t dt : List Float) (lane : (i : ℕ) → i < 8 → Steady (at t i) (at
   unfolding ramped_of stepped_of
   ramped_is mix numbers = λ j. moved_of (blend_of (ramps_are j) mix) (at (ramps_are j) 7) (sums_finite j) numbers (sums_are j)
 
-pub quiet_ramped : (detune : Float) (base rate : Hertz) (t dt : List Float) → T (small detune) → rate_ok rate ≡ true
-    → dt ≡ incs_of detune base rate → quiet_of base t dt ≡ true → (mix : Float) (numbers : Bool) → ramped_of t dt mix numbers ≡ stepped_of t dt mix numbers
-quiet_ramped detune base rate t dt D R i q = ramped_is t dt lane
+pub quiet_ramped : (base : Hertz) (t dt : List Float) → (lt zer base.0 ≡ true → (j : ℕ) → j < 8 → fabs_of (at dt j) ≡ at dt j)
+    → quiet_of base t dt ≡ true → (mix : Float) (numbers : Bool) → ramped_of t dt mix numbers ≡ stepped_of t dt mix numbers
+quiet_ramped base t dt forward q = ramped_is t dt lane
   where
     parts : (lt zer base.0 ≡ true) × (lanes_steady t dt ≡ true)
     parts = both_true (lt zer base.0) (lanes_steady t dt) (unfold quiet_of in q)
 
-    plus : (j : ℕ) → j < 8 → Plus (at dt j)
-    plus j k = rw i (incs_plus detune base rate D parts.0 R j k)
-
     lane : (j : ℕ) → j < 8 → Steady (at t j) (at dt j)
     lane j k =
-        steady_law (at t j) (at dt j) (plus j k)
+        steady_law (at t j) (at dt j) (plus_of (at dt j) (forward parts.0 j k))
         (all_at (λ (k : ℕ). steady_of (at t k) (at dt k)) 8 (unfold lanes_steady in parts.1) j k)

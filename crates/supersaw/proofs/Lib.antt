@@ -2,7 +2,6 @@ pub mod Loops
 pub mod Sign
 pub mod StepLaws
 pub mod LaneLaws
-pub mod TickLaws
 pub mod Held
 pub mod Reached
 pub mod Settled

@@ -1,17 +1,37 @@
--- A loop over seven of the eight lanes, whose last is given.
-use mathlib.Core.List.{List, [], ◌∷◌, ◌++◌}
-use mathlib.Core.Path.{◌≡◌, ap, ◌∙◌}
-use Prim.Native.Nat.{ℕ, ◌+◌, ◌≤◌, ◌<◌}
-use native.Mathlib.Nat.{le_antisymm, le_trans}
-use lib.Dec.{lit≤}
-use lib.ListN.{replicate, set}
-use Rattle.laws.specs.Lists.{tab, over}
-use Rattle.laws.proofs.Over.{over_more}
+-- A test of each number below n is the test of each cell of a list of n; an array made of a function of the index holds its answers.
+use mathlib.Core.Bool.{Bool, ◌&&◌}
+use mathlib.Core.List.{List}
+use mathlib.Core.Logic.{⊎_elim}
+use mathlib.Core.Path.{◌≡◌, refl, sym, ap, subst, ◌∙◌}
+use Prim.Native.Nat.{ℕ, zero, suc, ◌+◌, ◌≤◌, ◌<◌}
+use native.Mathlib.Nat.{eq-or-lt_of_le}
+use native.Mathlib.Numerals.{add-one}
+use native.Mathlib.Omega.{arith}
+use lib.ListN.{length, get_or, take}
+use Rattle.std.specs.List.{list_all}
+use Rattle.std.proofs.lemmas.List.{take_all}
+use Rattle.std.proofs.lemmas.List.Folds.{list_all_more}
+use denote.Param.Members.{Mut, Called}
+use Rattle.std.specs.Array.{IsFromFnResult, IsFromFnResultFrom}
+use Rattle.laws.specs.Lists.{all, tab}
+use Rattle.laws.proofs.Over.{by_cells}
 
-pub seven_more : {A : Type 0} (f : ℕ → A) (x : A) (i : ℕ) (m : List A) (v : A) → i < 7 → m ≡ over f i (replicate 8 x) → v ≡ f i
-    → set m i v ≡ over f (i + 1) (replicate 8 x)
-seven_more f x i m v l e h = over_more f i (replicate 8 x) m v (le_trans l (lit≤ tt)) e h
+all_taken : {A : Type 0} (d : A) (p : A → Bool) (l : List A) (n : ℕ) → n ≤ length l → list_all p (take n l) ≡ all (λ (i : ℕ). p (get_or l i d)) n
+unfolding all
+all_taken d p l zero h = refl
+all_taken d p l (suc n) h = rw (← add-one) (list_all_more p l n d (omega arith)) ∙ ap (λ (b : Bool). b && p (get_or l n d)) (all_taken d p l n (omega arith))
 
-pub seven_done : {A : Type 0} (f : ℕ → A) (x : A) (i : ℕ) (m : List A) → i ≤ 7 → 7 ≤ i → m ≡ over f i (replicate 8 x) → m ≡ (tab f 7 ++ (x ∷ []))
-unfolding over
-seven_done f x i m h k e = e ∙ ap (λ (j : ℕ). over f j (replicate 8 x)) (le_antisymm h k)
+pub all_list : {A : Type 0} (d : A) (p : A → Bool) (l : List A) (n : ℕ) → length l ≡ n → list_all p l ≡ all (λ (i : ℕ). p (get_or l i d)) n
+all_list {A} d p l n e = ap (λ (t : List A). list_all p t) (sym (take_all n l (omega arith))) ∙ all_taken d p l n (omega arith)
+
+module _ {F B : Type 0} (g : Mut F (ℕ × Unit {0}) B) (h : ℕ → B) (f : F)
+    (acts : (i : ℕ) (y : B) (q : F) → Called g f (i, tt) y q → (q ≡ f) × (y ≡ h i)) (ys : List B) (d : B) where
+  cells : (n i : ℕ) (p : F) → p ≡ f → IsFromFnResultFrom g p ys i n → (j : ℕ) → i ≤ j → j < i + n → get_or ys j d ≡ h j
+  cells zero i p e r j a b = absurd (omega arith)
+  cells (suc n) i p e r j a b =
+      let k = acts i r.1 r.0 (subst (λ (z : F). Called g z (i, tt) r.1 r.0) e r.3) in
+      ⊎_elim (λ (s : i ≡ j). subst (λ (m : ℕ). get_or ys m d ≡ h m) s (r.2.1 d ∙ k.1))
+      (λ (l : i < j). cells n (i + 1) r.0 k.0 r.4 j (omega arith) (omega arith)) (eq-or-lt_of_le a)
+
+  pub from_fn_tab : (n : ℕ) → IsFromFnResult g f ys n → ys ≡ tab h n
+  from_fn_tab n r = by_cells d h n ys r.long (λ i l. cells n 0 f refl r.each i (omega arith) (omega arith))

@@ -1,5 +1,5 @@
 -- A reached Supersaw has a good rate and good phases, so that no call on it is refused but for its own input.
-use mathlib.Core.Bool.{Bool, true, false, cond}
+use mathlib.Core.Bool.{Bool, true, false}
 use mathlib.Core.List.{List}
 use mathlib.Core.Path.{◌≡◌, refl, sym, ap, ◌∙◌, subst}
 use Prim.Native.Nat.{ℕ, zero, suc, ◌*◌, ◌≤◌, ◌<◌}
@@ -17,22 +17,22 @@ use Rattle.common.proofs.PhaseLaws.{wrap_in, zero_in}
 use Rattle.common.specs.Phase.{turns}
 use Rattle.common.specs.Tests.{rate_ok, phase_ok}
 use Rattle.common.specs.declared.Hertz.{Hertz}
+use Rattle.answer.specs.Calls.{Outcome, made_unless}
+use Rattle.answer.proofs.Calls.{made_cases, made_number}
 use Rattle.answer.proofs.Blocks.{block_keeps, block_refusal}
 use Rattle.answer.proofs.Laws.{mark_says}
-use Rattle.answer.specs.Answer.{accepted, outcome_number}
+use Rattle.answer.specs.Answer.{accepted}
 use Rattle.answer.specs.Block.{block_refusal_of}
 use Rattle.laws.proofs.All.{all_at, all_of}
 use Rattle.supersaw.specs.Consts.{n_ports}
 use Rattle.supersaw.specs.Calls.{Call, Tick, Play, Reset, SetSampleRate, Told, after, reply, First, ReachedSupersaw}
 use Rattle.supersaw.specs.Promises.{NewAccepts, NeverRefused}
-use Rattle.supersaw.specs.Supersaw.{start_phases, phases_ok, new_supersaw, supersaw_refusal_of, supersaw_rate_refusal_of, made_unless, supersaw_new_of}
+use Rattle.supersaw.specs.Supersaw.{start_phases, phases_ok, new_supersaw, supersaw_refusal_of, supersaw_rate_refusal_of, supersaw_new_of}
 use Rattle.supersaw.specs.Supersaw.{supersaw_sound_of, supersaw_tick_of, supersaw_block_of, restarted, supersaw_reset_of, rated, supersaw_set_sample_rate_of}
 use Rattle.supersaw.specs.Voices.{at, voice_of, voices_of}
 use Rattle.supersaw.specs.declared.Supersaw.{Supersaw}
 use Rattle.supersaw.specs.declared.SupersawControls.{SupersawControls}
-use Rattle.supersaw.specs.declared.SupersawTicked.{SupersawTicked}
-use Rattle.supersaw.specs.declared.SupersawMade.{SupersawMade}
-use Rattle.answer.specs.declared.Outcome.TheVariants as outcome
+use Rattle.answer.specs.declared.Ticked.{Ticked}
 
 -- seven phases, each in [0, 1)
 record Phases (ps : List Float) : Type 0 where
@@ -77,7 +77,7 @@ not_refused s h = simp (h.rate, seven, h.low)
     seven : phases_ok s.phases ≡ true
     seven = unfold phases_ok in all_of (λ (i : ℕ). phase_ok (turns (at s.phases i))) 7 h.phases.ok
 
-good_sound : (s : Supersaw) → Good s → (c : SupersawControls) → Good (supersaw_sound_of s c).supersaw
+good_sound : (s : Supersaw) → Good s → (c : SupersawControls) → Good (supersaw_sound_of s c).state
 unfolding supersaw_sound_of
 good_sound s h c = record { rate = h.rate; phases = voices_ok _ _ _ _ h.phases 7 (le_refl 7); low = wrap_in _ (add-fits binary64 _ _) }
 
@@ -85,32 +85,17 @@ tick_is : (s : Supersaw) → Good s → (c : SupersawControls) → supersaw_tick
 unfolding supersaw_tick_of
 tick_is s h c = simp (not_refused s h)
 
--- ---- a call without samples
-made_cases : (P : SupersawMade → Type 0) (n : ℕ) (old new : Supersaw) → (n ≡ 0 → P (record { outcome = outcome.Done; supersaw = new }))
-    → P (record { outcome = outcome.Refused n; supersaw = old }) → P (made_unless n old new)
-unfolding made_unless
-made_cases P n old new d r = go (eqb n 0) (eqb-true n 0)
-  where
-    go : (b : Bool) → (b ≡ true → n ≡ 0)
-        → P (cond b (record { outcome = outcome.Done; supersaw = new }) (record { outcome = outcome.Refused n; supersaw = old }))
-    go true z = d (z refl)
-    go false z = r
-
-made_number : (n : ℕ) (old new : Supersaw) → outcome_number (made_unless n old new).outcome ≡ n
-unfolding outcome_number
-made_number n old new = made_cases (λ m. outcome_number m.outcome ≡ n) n old new sym refl
-
 -- ---- so it stays one
 first_good : (s : Supersaw) → First s → Good s
-unfolding supersaw_new_of outcome_number
+unfolding supersaw_new_of
 first_good s f =
     let new = new_supersaw f.0 in
-    let number = ap (λ (m : SupersawMade). outcome_number m.outcome) f.1 in
+    let number = ap (λ (m : Outcome Supersaw). m.refused) f.1 in
     let g = good_new f.0 (passed (rate_ok f.0) 0 (sym (made_number _ new new) ∙ number)) in
-    subst Good (ap (λ (m : SupersawMade). m.supersaw) f.1) (made_cases (λ m. Good m.supersaw) _ new new (λ e. g) g)
+    subst Good (ap (λ (m : Outcome Supersaw). m.state) f.1) (made_cases (λ m. Good m.state) _ new new (λ e. g) g)
 
-good_tick : (s : Supersaw) → Good s → (c : SupersawControls) → Good (supersaw_tick_of s c).supersaw
-good_tick s h c = subst (λ (t : SupersawTicked). Good t.supersaw) (sym (tick_is s h c)) (good_sound s h c)
+good_tick : (s : Supersaw) → Good s → (c : SupersawControls) → Good (supersaw_tick_of s c).state
+good_tick s h c = subst (λ (t : Ticked Supersaw). Good t.state) (sym (tick_is s h c)) (good_sound s h c)
 
 rated_good : (s : Supersaw) (r : Hertz) → Good s → supersaw_rate_refusal_of s r ≡ 0 → Good (rated s r)
 unfolding supersaw_rate_refusal_of
@@ -120,8 +105,8 @@ good_after : (s : Supersaw) (c : Call) → Good s → Good (after s c)
 unfolding after supersaw_block_of supersaw_reset_of supersaw_set_sample_rate_of
 good_after s (Tick c) h = good_tick s h c
 good_after s (Play c t o m) h = block_keeps n_ports _ _ _ Good (λ r g. good_tick r g c) s h t o m
-good_after s Reset h = made_cases (λ m. Good m.supersaw) _ s (restarted s) (λ e. record { rate = h.rate; phases = start; low = zero_in }) h
-good_after s (SetSampleRate r) h = made_cases (λ m. Good m.supersaw) (supersaw_rate_refusal_of s r) s (rated s r) (rated_good s r h) h
+good_after s Reset h = made_cases (λ m. Good m.state) _ s (restarted s) (λ e. record { rate = h.rate; phases = start; low = zero_in }) h
+good_after s (SetSampleRate r) h = made_cases (λ m. Good m.state) (supersaw_rate_refusal_of s r) s (rated s r) (rated_good s r h) h
 
 good : {s : Supersaw} → ReachedSupersaw s → Good s
 good = always Good first_good (λ s c h f. good_after s c h)

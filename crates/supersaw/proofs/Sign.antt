@@ -1,5 +1,6 @@
 -- An increment has no minus sign: its factors have none, and 1 plus a product of two numbers from -1 to 1 has none.
 use mathlib.Core.Bool.{Bool, true, false, not, cond}
+use mathlib.Core.Path.{◌≡◌, refl}
 use Prim.Native.Nat.{ℕ, ◌+◌, ◌*◌, ◌≤◌}
 use native.Mathlib.Nat.{mul-pos, mul-le-mul}
 use native.Mathlib.Omega.{arith}
@@ -9,13 +10,30 @@ use lib.Ieee.{Float, nan, inf, fin, binary64, up, down, unlike, add, mul, lt, of
 use lib.Ieee.Fits.{down_pos}
 use Rattle.laws.proofs.Sign.{Plus, one_round}
 use Rattle.laws.specs.Float.{zer, one}
-use Rattle.numeric.specs.Basic.{clamp_of}
+use Rattle.numeric.specs.Basic.{fabs_of, clamp_of}
 
 -- from -1 to 1, or a NaN
 abbrev pub small : Float → Bool
 small nan = true
 small (inf s) = false
 small (fin s m e) = leb (m * up e) (down e)
+
+-- no minus sign, said by the magnitude
+pub fabs_plus : (x : Float) → Plus x → fabs_of x ≡ x
+unfolding fabs_of
+fabs_plus nan h = refl
+fabs_plus (inf true) h = absurd h
+fabs_plus (inf false) h = refl
+fabs_plus (fin true m e) h = absurd h
+fabs_plus (fin false m e) h = refl
+
+pub plus_of : (x : Float) → fabs_of x ≡ x → Plus x
+unfolding fabs_of
+plus_of nan h = tt
+plus_of (inf true) h = absurd (cc)
+plus_of (inf false) h = tt
+plus_of (fin true m e) h = absurd (cc)
+plus_of (fin false m e) h = tt
 
 pub one_plus : (x y : Float) → T (small x) → T (small y) → Plus (add binary64 one (mul binary64 x y))
 unfolding mul

@@ -2,10 +2,9 @@
 use Rattle.std.specs.Prelude.{List, ◌≡◌, ℕ, Float}
 use Rattle.laws.specs.Machine.{Reached}
 use Rattle.common.specs.declared.Hertz.{Hertz}
-use Rattle.answer.specs.Answer.{outcome_number}
+use Rattle.answer.specs.Calls.{outcome}
 use Rattle.answer.specs.Block.{Block}
 use Rattle.answer.specs.declared.Answer.{Answer}
-use Rattle.answer.specs.declared.Outcome.TheVariants as outcome
 use Rattle.answer.specs.declared.Tally.{Tally}
 use Rattle.supersaw.specs.Supersaw.{supersaw_new_of, supersaw_tick_of, supersaw_block_of, supersaw_reset_of, supersaw_set_sample_rate_of}
 use Rattle.supersaw.specs.declared.Supersaw.{Supersaw}
@@ -26,20 +25,20 @@ pub data Reply : Type 0 where
 
 -- the state after a call; a refused one leaves it
 unfoldable pub after : Supersaw → Call → Supersaw
-after s (Tick c) = (supersaw_tick_of s c).supersaw
+after s (Tick c) = (supersaw_tick_of s c).state
 after s (Play c t o m) = (supersaw_block_of s c t o m).state
-after s Reset = (supersaw_reset_of s).supersaw
-after s (SetSampleRate r) = (supersaw_set_sample_rate_of s r).supersaw
+after s Reset = (supersaw_reset_of s).state
+after s (SetSampleRate r) = (supersaw_set_sample_rate_of s r).state
 
 unfoldable pub reply : Supersaw → Call → Reply
 reply s (Tick c) = Ticked (supersaw_tick_of s c).answer
 reply s (Play c t o m) = Played (supersaw_block_of s c t o m)
-reply s Reset = Told (outcome_number (supersaw_reset_of s).outcome)
-reply s (SetSampleRate r) = Told (outcome_number (supersaw_set_sample_rate_of s r).outcome)
+reply s Reset = Told (supersaw_reset_of s).refused
+reply s (SetSampleRate r) = Told (supersaw_set_sample_rate_of s r).refused
 
 -- an accepted new one
 abbrev pub First : Supersaw → Type 0
-First s = (r : Hertz) × (supersaw_new_of r ≡ record { outcome = outcome.Done; supersaw = s })
+First s = (r : Hertz) × (supersaw_new_of r ≡ outcome 0 s)
 
 -- any call, of any controls
 abbrev pub FitCall : Call → Type 0

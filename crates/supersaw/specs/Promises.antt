@@ -1,10 +1,13 @@
 -- Theorems about the Supersaw: the statements. proofs/ proves each under the same name in small letters.
-use Rattle.std.specs.Prelude.{◌≡◌, true, cond, List, [], ◌∷◌, ℕ, ◌*◌, ◌<◌, eqb, Float, length}
+use Rattle.std.specs.Prelude.{Result, ◌≡◌, true, cond, List, [], ◌∷◌, ℕ, ◌*◌, ◌<◌, eqb, Float, length}
 use Rattle.laws.specs.Machine.{Settles}
 use Rattle.common.specs.Phase.{turns}
 use Rattle.common.specs.Tests.{rate_ok, phase_ok}
 use Rattle.common.specs.declared.Hertz.{Hertz}
-use Rattle.answer.specs.Answer.{accepted, outcome_number}
+use Rattle.common.specs.declared.Refusal.{Refusal}
+use Rattle.answer.specs.Calls.{making, changing}
+use Rattle.answer.specs.declared.Made.{Made}
+use Rattle.answer.specs.Answer.{accepted}
 use Rattle.answer.specs.Block.{Block, block_refusal_of}
 use Rattle.answer.specs.Promises.{Steers, AllAccepted, AllTaken}
 use Rattle.answer.specs.declared.Tally.{Tally}
@@ -15,12 +18,11 @@ use Rattle.supersaw.specs.Supersaw.{supersaw_block_of, supersaw_reset_of, supers
 use Rattle.supersaw.specs.Calls.{Told, Reset, SetSampleRate, reply, First, ReachedSupersaw}
 use Rattle.supersaw.specs.declared.Supersaw.{Supersaw}
 use Rattle.supersaw.specs.declared.SupersawControls.{SupersawControls}
-use Rattle.supersaw.specs.declared.SupersawTicked.{SupersawTicked}
-use Rattle.supersaw.specs.declared.SupersawMade.{SupersawMade}
+use Rattle.answer.specs.declared.Ticked.{Ticked}
 
 -- ---- `new` refuses a bad rate alone: at each other one there is a first state
 abbrev pub NewAccepts : Type 0
-NewAccepts = (r : Hertz) → (outcome_number (supersaw_new_of r).outcome ≡ cond (rate_ok r) 0 1) × (rate_ok r ≡ true → First (new_supersaw r))
+NewAccepts = (r : Hertz) → ((supersaw_new_of r).refused ≡ cond (rate_ok r) 0 1) × (rate_ok r ≡ true → First (new_supersaw r))
 
 -- ---- a reached state refuses no call but for the call's own input
 pub record Accepts (s : Supersaw) : Type 0 where
@@ -50,9 +52,9 @@ BlockTallies = (s : Supersaw) (c : SupersawControls) → length s.phases ≡ 7 �
 
 -- ---- each contract settles its answer
 pub record Settled : Type 0 where
-  pub new : (r : Hertz) → Settles (λ (m : SupersawMade). m ≡ supersaw_new_of r)
-  pub tick : (s : Supersaw) (c : SupersawControls) → Settles (λ (t : SupersawTicked). t ≡ supersaw_tick_of s c)
+  pub new : (r : Hertz) → Settles (λ (m : Made Supersaw). making m ≡ supersaw_new_of r)
+  pub tick : (s : Supersaw) (c : SupersawControls) → Settles (λ (t : Ticked Supersaw). t ≡ supersaw_tick_of s c)
   pub block : (s : Supersaw) (c : SupersawControls) (t : Tally) (o : List Float) (m : List ℕ)
       → Settles (λ (b : Block Supersaw). b ≡ supersaw_block_of s c t o m)
-  pub reset : (s : Supersaw) → Settles (λ (m : SupersawMade). m ≡ supersaw_reset_of s)
-  pub set_sample_rate : (s : Supersaw) (r : Hertz) → Settles (λ (m : SupersawMade). m ≡ supersaw_set_sample_rate_of s r)
+  pub reset : (s : Supersaw) → Settles (λ (m : Result Supersaw Refusal). changing s m ≡ supersaw_reset_of s)
+  pub set_sample_rate : (s : Supersaw) (r : Hertz) → Settles (λ (m : Result Supersaw Refusal). changing s m ≡ supersaw_set_sample_rate_of s r)

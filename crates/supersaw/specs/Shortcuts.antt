@@ -14,7 +14,7 @@ use Rattle.answer.specs.Mark.{mark_of}
 use Rattle.answer.specs.declared.Answer.{Answer}
 use Rattle.supersaw.specs.Consts.{mix_levels}
 use Rattle.supersaw.specs.Voices.{at, dt_of, saw_of, sub_dt_of}
-use Rattle.supersaw.specs.declared.Moved.{Moved}
+use Rattle.answer.specs.declared.Ticked.{Ticked}
 
 -- the phases
 unfoldable pub lanes_of : List Float → Turns → List Float
@@ -50,11 +50,11 @@ blend_of s mix = add binary64 (mul binary64 (at s 3) (sub binary64 one mix)) (mu
 
 -- a tick's answer from both outputs, whether the phases were finite before their wrap and whether no control is NaN, beside the phases
 -- after it
-unfoldable pub moved_of : Float → Float → Bool → Bool → List Float → Moved
-moved_of out low finite numbers t = record { answer = mark_of (volts2 out low) false true finite numbers; phases = t }
+unfoldable pub moved_of : Float → Float → Bool → Bool → List Float → Ticked (List Float)
+moved_of out low finite numbers t = record { answer = mark_of (volts2 out low) false true finite numbers; state = t }
 
 -- an accepted tick
-unfoldable pub stepped_of : List Float → List Float → Float → Bool → Moved
+unfoldable pub stepped_of : List Float → List Float → Float → Bool → Ticked (List Float)
 stepped_of t dt mix numbers =
     let saws = saws_of t dt in
     let next = sums_of t dt in
@@ -65,7 +65,7 @@ abbrev pub held_told : List Float → Float → Bool → List Float → Answer
 held_told dt mix numbers t = (stepped_of t dt mix numbers).answer
 
 abbrev pub held_next : List Float → Float → Bool → List Float → List Float
-held_next dt mix numbers t = (stepped_of t dt mix numbers).phases
+held_next dt mix numbers t = (stepped_of t dt mix numbers).state
 
 -- ---- the tick in which no oscillator comes near its step
 -- more than an increment above its step, and more than one below the next; every f64 fits
@@ -82,5 +82,5 @@ unfoldable pub ramps_of : List Float → List Float
 ramps_of t = tab (λ i. sub binary64 (sub binary64 (mul binary64 two (at t i)) one) zer) 8
 
 -- it has no residual and no wrap
-unfoldable pub ramped_of : List Float → List Float → Float → Bool → Moved
+unfoldable pub ramped_of : List Float → List Float → Float → Bool → Ticked (List Float)
 ramped_of t dt mix numbers = let ramps = ramps_of t in moved_of (blend_of ramps mix) (at ramps 7) true numbers (sums_of t dt)

@@ -1,16 +1,18 @@
--- Each contract, being one equation or two, settles what it speaks of.
-use Rattle.laws.proofs.Settled as laws
+-- Each contract, being one equation, settles what it speaks of.
+use Rattle.laws.proofs.Settled.{settled as equation}
 use Rattle.text.specs.Hex.{word_of}
 use Rattle.text.specs.Settled.{Settled}
 
 pub settled : Settled
 settled =
     record {
-      put_byte = λ out at b. laws.both _ _;
-      put_text = λ out at t. laws.both _ _;
-      put_hex = λ out at x. laws.both _ _;
-      read_hex = λ t. laws.settled (word_of t);
-      put_decimal = λ out at n. laws.both _ _;
-      put_word = λ out at key word. laws.both _ _;
-      put_count = λ out at key n. laws.both _ _;
+      new = λ out at. equation _;
+      place = λ p. equation _;
+      byte = λ p b. equation _;
+      text = λ p t. equation _;
+      hex = λ p x. equation _;
+      decimal = λ p n. equation _;
+      word = λ p key word. equation _;
+      count = λ p key n. equation _;
+      read_hex = λ t. equation (word_of t);
     }

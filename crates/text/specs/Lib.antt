@@ -1,4 +1,5 @@
 pub mod Put
+pub mod Page
 pub mod Hex
 pub mod Decimal
 pub mod Lines

@@ -1,10 +1,11 @@
 -- What holds of these texts: the statements. proofs/ proves each under the same name in small letters.
-use Rattle.std.specs.Prelude.{List, ◌++◌, ◌≡◌, ℕ, suc, ◌^◌, ◌≤◌, ◌<◌, length, get_or, take}
+use Rattle.std.specs.Prelude.{Some, List, ◌++◌, ◌≡◌, ℕ, suc, ◌^◌, ◌≤◌, ◌<◌, length, get_or, take}
 use Rattle.std.proofs.lemmas.List.Edits.{sets}
 use Rattle.text.specs.Decimal.{decimal_text, value_of}
 use Rattle.text.specs.Hex.{hex_text, word_of}
+use Rattle.text.specs.Page.{Lent, page_at, with_text}
 use Rattle.text.specs.Put.{place_of}
-use Rattle.text.specs.declared.Word.TheVariants.{Bits}
+use Rattle.text.specs.declared.Page.{Page}
 
 -- t was put into `out` at a place: r is the place after, and `after` the buffer
 abbrev pub Put : List ℕ → ℕ → List ℕ → ℕ → List ℕ → Type 0
@@ -24,9 +25,19 @@ PutWithin =
 abbrev pub PutWhole : Type 0
 PutWhole = (out t : List ℕ) (r : ℕ) (q : List ℕ) → Put out 0 t r q → length t ≤ length out → take r q ≡ t
 
+-- a page with a text has it put into the bytes that were lent, and is at the place after it
+abbrev pub PagePut : Type 0
+PagePut =
+    (out : Lent) (at : ℕ) (t : List ℕ) (q : Page) → q ≡ with_text (page_at out at) t
+    → (q.out.ghost_name ≡ out.ghost_name) × Put out.now at t q.at q.out.now
+
+-- on a page too
+abbrev pub PageThen : Type 0
+PageThen = (p : Page) (a b : List ℕ) → with_text (with_text p a) b ≡ with_text p (a ++ b)
+
 -- what is written in hexadecimal is read as the number
 abbrev pub HexRead : Type 0
-HexRead = (x : ℕ) → x < 2 ^ 64 → word_of (hex_text x) ≡ Bits x
+HexRead = (x : ℕ) → x < 2 ^ 64 → word_of (hex_text x) ≡ Some x
 
 -- what is written in decimal is the number
 abbrev pub DecimalRead : Type 0

@@ -1,4 +1,5 @@
 -- A quiet tick: what its test says, and that its samples are plain and finite.
+use Rattle.std.specs.Prelude.{None, Option}
 use mathlib.Core.Bool.{Bool, true, false, cond, ◌&&◌}
 use mathlib.Core.Path.{◌≡◌, refl, sym, ap, ◌∙◌, subst}
 use Prim.Native.Nat.{ℕ, ◌*◌, ◌≤◌, ◌<◌}
@@ -10,6 +11,7 @@ use lib.Ieee.Bits.{is_true}
 use lib.Ieee.{Float, nan, inf, fin, binary64, lt, le, eq, add, sub, mul, neg, round, up, down, of_bits}
 use lib.Ieee.Exact.{HasValue}
 use lib.Ieee.Fits.{and_r, down_pos}
+use Rattle.std.specs.Prelude.{Option, None}
 use Rattle.laws.specs.Float.{zer, one, two, F64, is_fin}
 use Rattle.laws.proofs.Interval.{Within, within_add, within_finite, within_minus, within_mul, within_neg, within_to}
 use Rattle.laws.proofs.Order.{lt_false, le_of_lt_true, float_le_trans, values_le}
@@ -29,8 +31,6 @@ use Rattle.vco.specs.Waves.{sine_of, saw_of, level_of, pw_edge_of, sqr_of, corne
 use Rattle.vco.specs.Shortcuts.{Quiet, plain_volts}
 use Rattle.vco.specs.Vco.{vco_volts_of, vco_answer_of}
 use Rattle.vco.proofs.QuietLaws.{away}
-use Rattle.common.specs.declared.Crossing.{Crossing}
-use Rattle.common.specs.declared.Crossing.TheVariants.{Nowhere}
 
 -- ---- the test
 -- from dt to 1 - dt both residuals are 0
@@ -42,7 +42,7 @@ below_one : (p : Float) → phase_ok (turns p) ≡ true → T (le p one)
 unfolding phase_ok
 below_one p h = le_of_lt_true p one (and_r (le zer p) (lt p one) (of_true (le zer p && lt p one) h))
 
-pub quiet_of : (at : Crossing) (p edge w : Float) → F64 p → F64 w → phase_ok (turns p) ≡ true → fabs_of w ≡ w → at ≡ Nowhere
+pub quiet_of : (at : Option Float) (p edge w : Float) → F64 p → F64 w → phase_ok (turns p) ≡ true → fabs_of w ≡ w → at ≡ None
     → le w (fabs_of (sub binary64 p half)) ≡ true → lt (fabs_of (sub binary64 p half)) (sub binary64 half w) ≡ true → le w edge ≡ true
     → le edge (sub binary64 one w) ≡ true → Quiet at p edge w
 quiet_of at p edge w t u h m n l k i j =
@@ -85,7 +85,7 @@ still w r =
     ∙ round_zero false (r.bottom * 1) (mul-pos r.bottom_pos (lit< tt))
     ∙ z
 
-quiet_volts : (at : Crossing) (p old pw w : Float) (wanted : ℕ) → Quiet at p (pw_edge_of p pw) w → mul binary64 (mul binary64 four w) zer ≡ zer
+quiet_volts : (at : Option Float) (p old pw w : Float) (wanted : ℕ) → Quiet at p (pw_edge_of p pw) w → mul binary64 (mul binary64 four w) zer ≡ zer
     → vco_volts_of at p old pw w wanted ≡ plain_volts p pw wanted
 unfolding vco_volts_of stepped_of
 quiet_volts at p old pw w wanted q z = simp (q.nowhere, q.wrap, q.fall, q.lower, q.upper, z)
@@ -137,7 +137,8 @@ plain_finite p pw wanted h =
     ) (unfold of_bits in refl)
 
 -- so a quiet tick is clean or steered, with plain samples
-pub quiet_answer : (at : Crossing) (p old pw dt : Float) (wanted : ℕ) (numbers : Bool) → phase_ok (turns p) ≡ true → Quiet at p (pw_edge_of p pw) (fabs_of dt)
+pub quiet_answer : (at : Option Float) (p old pw dt : Float) (wanted : ℕ) (numbers : Bool) → phase_ok (turns p) ≡ true
+    → Quiet at p (pw_edge_of p pw) (fabs_of dt)
     → marked_of (plain_volts p pw wanted) false true true numbers ≡ vco_answer_of at p old pw dt wanted numbers
 unfolding vco_answer_of mark_of
 quiet_answer at p old pw dt wanted numbers h q =

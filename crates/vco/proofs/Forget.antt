@@ -5,6 +5,7 @@ use mathlib.Core.Path.{◌≡◌, refl, sym, ap, ◌∙◌}
 use Prim.Native.Nat.{ℕ}
 use lib.Dec.{T}
 use lib.Ieee.{lt, le}
+use Rattle.answer.specs.Calls.{made_unless}
 use Rattle.answer.proofs.Blocks.{block_meets}
 use Rattle.answer.proofs.Laws.{mark_says}
 use Rattle.answer.specs.Answer.{volts_of}
@@ -15,7 +16,7 @@ use Rattle.common.proofs.MemoLaws.{recall3_is}
 use Rattle.common.specs.Edge.{reset_of}
 use Rattle.common.specs.Memo.{new_memo3, filled3, recall3}
 use Rattle.common.specs.Phase.{turns, restart_of}
-use Rattle.common.specs.declared.Memo3.{Memo3}
+use Rattle.common.specs.Memo.{Memo3}
 use Rattle.common.specs.Promises.{Coherent3}
 use Rattle.laws.specs.Float.{zer}
 use Rattle.laws.specs.Machine.{replies}
@@ -23,7 +24,8 @@ use Rattle.vco.proofs.Reached.{Good, good_unrefused, good_new, after_tick, Remem
 use Rattle.vco.specs.Calls.{Tick, Fit, after, reply}
 use Rattle.vco.specs.Consts.{n_ports}
 use Rattle.vco.specs.Promises.{taken, Forgets, BlockForgets, EdgeComes}
-use Rattle.vco.specs.Vco.{new_vco, new_like, made_unless, vco_new_of, frequency_of, crosses_of, vco_volts_of, vco_answer_of, vco_sound_of, vco_tick_of}
+use Rattle.answer.specs.Calls.{made_unless}
+use Rattle.vco.specs.Vco.{new_vco, new_like, vco_new_of, frequency_of, crosses_of, vco_volts_of, vco_answer_of, vco_sound_of, vco_tick_of}
 use Rattle.vco.specs.Vco.{vco_told_of}
 use Rattle.vco.specs.Vco.{vco_next_of, vco_block_of}
 use Rattle.vco.specs.declared.Vco.{Vco}
@@ -53,7 +55,7 @@ memo m h c f = recall3_is frequency_of m h c.voct.0 c.fm.0 c.fm_lin f.0 f.1 f.2
 
 -- the tick from the edge's parts: a coherent memo and an edge leave no trace of the state
 struck : (s : Vco) → Above s → Remembers s → (c : VcoControls) (wanted : ℕ) → Fit c → taken s c ≡ true
-    → (vco_sound_of s c wanted).vco ≡ (vco_sound_of (new_like s) c wanted).vco
+    → (vco_sound_of s c wanted).state ≡ (vco_sound_of (new_like s) c wanted).state
 unfolding vco_sound_of crosses_of restart_of
 struck s t h c wanted f e =
     simp (like s, crossed_is, rising_like s.sync_edge c.sync t e, e, memo s.freq_memo h c f, memo new_memo3 (inl refl) c f)
@@ -104,7 +106,7 @@ block_forgets s h c wanted t o m f a z e =
 
 -- ---- an edge can be had
 rises : (s : Vco) (c d : VcoControls) (wanted : ℕ) → Good s → le c.sync s.sync_edge.threshold ≡ true
-    → lt s.sync_edge.threshold d.sync ≡ true → taken (vco_tick_of s c wanted).vco d ≡ true
+    → lt s.sync_edge.threshold d.sync ≡ true → taken (vco_tick_of s c wanted).state d ≡ true
 unfolding vco_sound_of
 rises s c d wanted g l h = rw (tick_sound s g c wanted, crossed_is s.sync_edge c.sync) (rising_comes s.sync_edge c.sync d.sync l h)
 

@@ -1,4 +1,5 @@
 -- The scope's printed frame. Of the powers and the sine it uses only that 2 ^ 0 is 1 and the sine of 0 is 0.
+use Rattle.std.specs.Prelude.{None}
 use mathlib.Core.Bool.{true, false}
 use mathlib.Core.Path.{◌≡◌, refl, ap, ◌∙◌}
 use lib.Dec.{lit≤}
@@ -13,12 +14,11 @@ use Rattle.numeric.proofs.TrigLaws.{sin_zero}
 use Rattle.common.specs.Consts.{gate_threshold, c4, five, half}
 use Rattle.common.specs.Pitch.{voct_to_hz}
 use Rattle.common.specs.Phase.{polyblep_of, polyblamp_of, increment_of, restart_of}
-use Rattle.common.specs.Memo.{hits3, filled3, recall3}
+use Rattle.common.specs.Memo.{hits, filled, recall}
 use Rattle.common.proofs.EdgeLaws.{thresholds, crossed_is, rising_once}
 use Rattle.common.specs.Edge.{new_edge, rising_above_of, rising_of}
 use Rattle.common.specs.Ports.{out_of}
 use Rattle.common.specs.Tests.{rate_ok}
-use Rattle.common.specs.declared.Crossing.TheVariants.{Nowhere}
 use Rattle.common.specs.declared.Risen.{Risen}
 use Rattle.answer.specs.Answer.{volts4, answer_of}
 use Rattle.answer.specs.Mark.{all_finite, all_numbers, mark_of, marked_of, rule_of}
@@ -26,10 +26,11 @@ use Rattle.answer.specs.declared.Volts.{Volts}
 use Rattle.answer.specs.declared.Answer.TheVariants as answer
 use Rattle.vco.specs.Consts.{pw_low, pw_high}
 use Rattle.vco.specs.Waves.{sine_of, saw_of, level_of, pw_edge_of, sqr_of, corner_half_of, tri_of, stepped_of}
+use Rattle.vco.specs.declared.Vco.{Vco}
 use Rattle.vco.specs.Vco.{new_vco, controls_of, frequency_of, crosses_of, vco_volts_of, vco_answer_of, vco_sound_of}
 use Rattle.vco.specs.Promises.{frame_rate, frame_controls, FirstFrame}
 use Rattle.vco.proofs.Reached.{good_new, tick_sound}
-use Rattle.vco.specs.declared.VcoTicked.{VcoTicked}
+use Rattle.answer.specs.declared.Ticked.{Ticked}
 
 exp2_zero : exp2_of zer ≡ one
 exp2_zero =
@@ -63,8 +64,8 @@ numbers = refl
 
 -- so the tick is one without an edge, from phase 0 by 0
 frame_answer : (vco_sound_of (new_vco frame_rate gate_threshold) frame_controls 15).answer
-    ≡ vco_answer_of Nowhere zer zer (clamp_of half pw_low pw_high) zer 15 true
-unfolding vco_sound_of new_vco crosses_of restart_of increment_of recall3 hits3 filled3
+    ≡ vco_answer_of None zer zer (clamp_of half pw_low pw_high) zer 15 true
+unfolding vco_sound_of new_vco crosses_of restart_of increment_of recall hits filled
 frame_answer = simp (crossed_is, no_edge, still, no_step, numbers)
 
 silent : sine_of true zer ≡ zer
@@ -72,7 +73,7 @@ unfolding sine_of
 silent = let z : mul binary64 zer tau ≡ zer = unfold mul of_bits in refl in rw (z, sin_zero) (unfold mul of_bits in refl)
 
 abbrev frame_volts : Volts
-frame_volts = vco_volts_of Nowhere zer zer (clamp_of half pw_low pw_high) (fabs_of zer) 15
+frame_volts = vco_volts_of None zer zer (clamp_of half pw_low pw_high) (fabs_of zer) 15
 
 frame_sin : frame_volts.p10 ≡ zer
 unfolding vco_volts_of
@@ -101,7 +102,7 @@ frame_eoc = refl
 pub first_frame : FirstFrame
 first_frame =
     let good = good_new frame_rate gate_threshold rate thresholds.first in
-    ap (λ (t : VcoTicked). t.answer) (tick_sound (new_vco frame_rate gate_threshold) good frame_controls 15) ∙ frame_answer ∙ clean
+    ap (λ (t : Ticked Vco). t.answer) (tick_sound (new_vco frame_rate gate_threshold) good frame_controls 15) ∙ frame_answer ∙ clean
   where
     rate : rate_ok frame_rate ≡ true
     rate = unfold rate_ok le lt eq of_bits in refl
@@ -115,5 +116,5 @@ first_frame =
     marked : mark_of printed false true (is_fin (add binary64 zer zer)) true ≡ answer.Clean printed
     marked = unfold mark_of marked_of rule_of answer_of all_finite add of_bits in refl
 
-    clean : vco_answer_of Nowhere zer zer (clamp_of half pw_low pw_high) zer 15 true ≡ answer.Clean printed
+    clean : vco_answer_of None zer zer (clamp_of half pw_low pw_high) zer 15 true ≡ answer.Clean printed
     clean = unfold vco_answer_of in rw volts marked

@@ -3,10 +3,9 @@ use Rattle.std.specs.Prelude.{◌≡◌, List, ℕ, Float}
 use Rattle.laws.specs.Float.{F64}
 use Rattle.laws.specs.Machine.{Reached}
 use Rattle.common.specs.declared.Hertz.{Hertz}
-use Rattle.answer.specs.Answer.{outcome_number}
+use Rattle.answer.specs.Calls.{outcome}
 use Rattle.answer.specs.Block.{Block}
 use Rattle.answer.specs.declared.Answer.{Answer}
-use Rattle.answer.specs.declared.Outcome.TheVariants as outcome
 use Rattle.answer.specs.declared.Tally.{Tally}
 use Rattle.vco.specs.Vco.{vco_new_of, vco_tick_of, vco_block_of, vco_reset_of, vco_set_sample_rate_of}
 use Rattle.vco.specs.declared.Vco.{Vco}
@@ -37,20 +36,20 @@ FitCall (SetSampleRate r) = Unit {0}
 
 -- the state after a call; a refused one leaves it
 unfoldable pub after : Vco → Call → Vco
-after s (Tick c wanted) = (vco_tick_of s c wanted).vco
+after s (Tick c wanted) = (vco_tick_of s c wanted).state
 after s (Play c wanted t o m) = (vco_block_of s c wanted t o m).state
-after s Reset = (vco_reset_of s).vco
-after s (SetSampleRate r) = (vco_set_sample_rate_of s r).vco
+after s Reset = (vco_reset_of s).state
+after s (SetSampleRate r) = (vco_set_sample_rate_of s r).state
 
 unfoldable pub reply : Vco → Call → Reply
 reply s (Tick c wanted) = Ticked (vco_tick_of s c wanted).answer
 reply s (Play c wanted t o m) = Played (vco_block_of s c wanted t o m)
-reply s Reset = Told (outcome_number (vco_reset_of s).outcome)
-reply s (SetSampleRate r) = Told (outcome_number (vco_set_sample_rate_of s r).outcome)
+reply s Reset = Told (vco_reset_of s).refused
+reply s (SetSampleRate r) = Told (vco_set_sample_rate_of s r).refused
 
 -- an accepted new one
 abbrev pub First : Vco → Type 0
-First s = (r : Hertz) × (t : Float) × (vco_new_of r t ≡ record { outcome = outcome.Done; vco = s })
+First s = (r : Hertz) × (t : Float) × (vco_new_of r t ≡ outcome 0 s)
 
 abbrev pub ReachedVco : Vco → Type 0
 ReachedVco = Reached First FitCall after

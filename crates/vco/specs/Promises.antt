@@ -1,5 +1,5 @@
 -- Theorems about the Vco: the statements. The proofs of the same names in small letters stand in proofs/.
-use Rattle.std.specs.Prelude.{◌≡◌, Bool, true, false, cond, List, [], ◌∷◌, ℕ, ◌*◌, ◌<◌, eqb, Float, length}
+use Rattle.std.specs.Prelude.{Result, ◌≡◌, Bool, true, false, cond, List, [], ◌∷◌, ℕ, ◌*◌, ◌<◌, eqb, Float, length}
 use Rattle.std.specs.Float.{nan, binary64}
 use Rattle.std.specs.Float.Ieee.{lt, le, neg, of_bits}
 use Rattle.laws.specs.Float.{zer}
@@ -9,11 +9,13 @@ use Rattle.common.specs.Edge.{new_edge, rising_of}
 use Rattle.common.specs.Ports.{WantAlike}
 use Rattle.common.specs.Tests.{rate_ok, phase_ok, threshold_ok}
 use Rattle.common.specs.declared.Hertz.{Hertz}
-use Rattle.answer.specs.Answer.{accepted, volts_of, outcome_number, volts4}
+use Rattle.common.specs.declared.Refusal.{Refusal}
+use Rattle.answer.specs.Calls.{outcome, making, changing}
+use Rattle.answer.specs.declared.Made.{Made}
+use Rattle.answer.specs.Answer.{accepted, volts_of, volts4}
 use Rattle.answer.specs.Block.{Block, block_refusal_of}
 use Rattle.answer.specs.Promises.{Steers, SoundsAs, AllAccepted, AllTaken}
 use Rattle.answer.specs.declared.Answer.TheVariants as answer
-use Rattle.answer.specs.declared.Outcome.TheVariants as outcome
 use Rattle.answer.specs.declared.Tally.{Tally}
 use Rattle.vco.specs.Consts.{n_ports}
 use Rattle.vco.specs.Vco.{new_vco, new_like, vco_refusal_of, vco_new_of, vco_tick_of, vco_told_of, vco_next_of, vco_block_of, vco_reset_of}
@@ -22,12 +24,11 @@ use Rattle.vco.specs.Vco.{vco_set_sample_rate_of}
 use Rattle.vco.specs.Calls.{Call, Tick, Reset, SetSampleRate, Told, Fit, after, reply, First, ReachedVco}
 use Rattle.vco.specs.declared.Vco.{Vco}
 use Rattle.vco.specs.declared.VcoControls.{VcoControls}
-use Rattle.vco.specs.declared.VcoTicked.{VcoTicked}
-use Rattle.vco.specs.declared.VcoMade.{VcoMade}
+use Rattle.answer.specs.declared.Ticked.{Ticked}
 
 -- ---- `new` refuses a bad rate, and then a bad threshold, alone: at each other rate there is a first state of each threshold
 abbrev pub NewAccepts : Type 0
-NewAccepts = (r : Hertz) (t : Float) → (outcome_number (vco_new_of r t).outcome ≡ cond (rate_ok r) (cond (threshold_ok t) 0 2) 1)
+NewAccepts = (r : Hertz) (t : Float) → ((vco_new_of r t).refused ≡ cond (rate_ok r) (cond (threshold_ok t) 0 2) 1)
     × (rate_ok r ≡ true → threshold_ok t ≡ true → First (new_vco r t))
 
 -- ---- a reached state refuses no call but for the call's own input
@@ -67,7 +68,7 @@ taken s c = (rising_of s.sync_edge c.sync).rising
 -- what a new one like it does, fed this tick first
 pub record Forgotten (s : Vco) (c : VcoControls) (wanted : ℕ) : Type 0 where
   -- it is to be had and accepts the tick
-  pub new : vco_new_of s.sample_rate s.sync_edge.threshold ≡ record { outcome = outcome.Done; vco = new_like s }
+  pub new : vco_new_of s.sample_rate s.sync_edge.threshold ≡ outcome 0 (new_like s)
   pub accepts : accepted (vco_tick_of (new_like s) c wanted).answer ≡ true
   -- in the edge tick: all but saw, square and mark
   pub sin : (volts_of (vco_tick_of s c wanted).answer).p10 ≡ (volts_of (vco_tick_of (new_like s) c wanted).answer).p10
@@ -123,12 +124,12 @@ BlockTallies = (s : Vco) (c : VcoControls) (wanted : ℕ) → vco_refusal_of s �
 
 -- ---- each contract settles its answer
 pub record Settled : Type 0 where
-  pub new : (r : Hertz) (t : Float) → Settles (λ (m : VcoMade). m ≡ vco_new_of r t)
-  pub tick : (s : Vco) (c : VcoControls) (wanted : ℕ) → Settles (λ (t : VcoTicked). t ≡ vco_tick_of s c wanted)
+  pub new : (r : Hertz) (t : Float) → Settles (λ (m : Made Vco). making m ≡ vco_new_of r t)
+  pub tick : (s : Vco) (c : VcoControls) (wanted : ℕ) → Settles (λ (t : Ticked Vco). t ≡ vco_tick_of s c wanted)
   pub block : (s : Vco) (c : VcoControls) (wanted : ℕ) (t : Tally) (o : List Float) (m : List ℕ)
       → Settles (λ (b : Block Vco). b ≡ vco_block_of s c wanted t o m)
-  pub reset : (s : Vco) → Settles (λ (m : VcoMade). m ≡ vco_reset_of s)
-  pub set_sample_rate : (s : Vco) (r : Hertz) → Settles (λ (m : VcoMade). m ≡ vco_set_sample_rate_of s r)
+  pub reset : (s : Vco) → Settles (λ (m : Result Vco Refusal). changing s m ≡ vco_reset_of s)
+  pub set_sample_rate : (s : Vco) (r : Hertz) → Settles (λ (m : Result Vco Refusal). changing s m ≡ vco_set_sample_rate_of s r)
 
 -- ---- the scope's example 10: the frame that `render` prints
 -- 48,000 Hz; voct 0, fm 0, pw 0.5, sync 0 and fm_lin -5 V

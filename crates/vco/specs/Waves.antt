@@ -1,5 +1,5 @@
 -- The Vco's waveforms, written from Vco::tick_wanted. p is its `phase`, dt its `dt_abs`, and old its `p_old`.
-use Rattle.std.specs.Prelude.{Bool, cond, Float}
+use Rattle.std.specs.Prelude.{None, Option, Some, Bool, cond, Float}
 use Rattle.std.specs.Float.{binary64}
 use Rattle.std.specs.Float.Ieee.{lt, mul, div, sub, add, neg}
 use Rattle.common.specs.Consts.{four, five, half}
@@ -8,8 +8,6 @@ use Rattle.laws.specs.Float.{zer, one, two}
 use Rattle.numeric.specs.Basic.{fabs_of, tau}
 use Rattle.numeric.specs.Floor.{floor_of}
 use Rattle.numeric.specs.Trig.{sin_of}
-use Rattle.common.specs.declared.Crossing.{Crossing}
-use Rattle.common.specs.declared.Crossing.TheVariants.{Nowhere, At}
 
 -- sin(phase * TAU) * 5.0
 unfoldable pub sine_of : Bool → Float → Float
@@ -40,6 +38,6 @@ unfoldable pub tri_of : Float → Float → Float → Float
 tri_of p lower upper = sub binary64 (add binary64 (sub binary64 one (mul binary64 four (fabs_of (sub binary64 p half)))) lower) upper
 
 -- at a sync edge: x += (step / 2.0) * blep with blep = polyblep((1.0 - frac) * dt_abs, dt_abs)
-unfoldable pub stepped_of : Crossing → Float → Float → Float → Float
-stepped_of Nowhere x step dt = x
-stepped_of (At frac) x step dt = add binary64 x (mul binary64 (div binary64 step two) (polyblep_of (mul binary64 (sub binary64 one frac) dt) dt))
+unfoldable pub stepped_of : Option Float → Float → Float → Float → Float
+stepped_of None x step dt = x
+stepped_of (Some frac) x step dt = add binary64 x (mul binary64 (div binary64 step two) (polyblep_of (mul binary64 (sub binary64 one frac) dt) dt))

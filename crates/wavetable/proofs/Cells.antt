@@ -1,19 +1,21 @@
 -- Numbers of a table, and tables of the bank.
-use mathlib.Core.Bool.{Bool, true, false, ◌&&◌, false≢true}
+use mathlib.Core.Bool.{Bool, true, false}
 use mathlib.Core.List.{List, ◌++◌, append_assoc}
 use mathlib.Core.Logic.{◌≢◌}
 use mathlib.Core.Path.{◌≡◌, refl, sym, ap, ◌∙◌}
-use Prim.Native.Nat.{ℕ, ◌+◌, ◌*◌, ◌/◌, ◌%◌, ◌<◌, ◌≤◌}
+use Prim.Native.Nat.{ℕ, zero, suc, ◌+◌, ◌*◌, ◌/◌, ◌%◌, ◌<◌}
 use native.Mathlib.Omega.{arith}
-use lib.Dec.{eqb, leb}
+use lib.Dec.{eqb}
 use lib.Ieee.{Float, nan, binary64, mul}
 use lib.ListN.{length, get_or, set, take, length-append, length-take}
 use lib.Seq.{get_or-set_same, get_or-set_other, take_at, take_all}
-use borrow.Author.Tests.{eqb-true, eqb-false, leb-true}
+use borrow.Author.Tests.{eqb-true, eqb-false}
 use Rattle.laws.proofs.Over.{by_cells, length_tab, tab_ext, tab_append}
 use Rattle.laws.specs.Lists.{tab}
 use Rattle.wavetable.specs.Bank.{plain_of, series_of, sum_of, terms_of, scale_of, is_series, cell_of, table_cell, table_of, bank_cell, bank_of}
-use Rattle.wavetable.specs.Shortcuts.{Right}
+use Rattle.wavetable.specs.Shortcuts.{number_of, Right}
+use Rattle.wavetable.specs.declared.bank.TheConstants.WavetableType.{ALL}
+use Rattle.wavetable.specs.declared.bank.WavetableType.TheVariants.{Sine}
 
 pub plain_cell : (t j : ℕ) (v : Float) → is_series t ≡ false → v ≡ plain_of t (j / 256) (j % 256) → v ≡ table_cell t j
 unfolding table_cell cell_of
@@ -23,19 +25,7 @@ pub series_cell : (t l i : ℕ) (s b : Float) → is_series t ≡ true → s ≡
 unfolding cell_of series_of
 series_cell t l i s b h e f = rw (h, e, f)
 
-pub series_within : (t : ℕ) → is_series t ≡ true → (1 ≤ t) × (t ≤ 5)
-unfolding is_series
-series_within t = go (leb 1 t) (leb t 5) refl refl
-  where
-    go : (a b : Bool) → leb 1 t ≡ a → leb t 5 ≡ b → (a && b) ≡ true → (1 ≤ t) × (t ≤ 5)
-    go true true p q h = (leb-true 1 t p, leb-true t 5 q)
-    go true false p q h = absurd (false≢true h)
-    go false b p q h = absurd (false≢true h)
-
 -- ---- places of a series, one after another
-pub right_none : (t : ℕ) (p : List Float) → Right t p 0 8
-right_none t p l m h k b = absurd (let z : 8 ≤ l = omega arith in omega arith)
-
 pub right_more : (t i level n : ℕ) (p : List Float) (v : Float) → level + 1 ≡ n → length p ≡ 2048 → i < 256 → level < 8 → v ≡ cell_of t level i
     → Right t p i n → Right t (set p (256 * level + i) v) i level
 right_more t i level n p v o s h k e r l m a b c = go (eqb (256 * l + m) (256 * level + i)) refl
@@ -50,9 +40,6 @@ right_more t i level n p v o s h k e r l m a b c = go (eqb (256 * l + m) (256 * 
         let z : 256 * l + m ≢ 256 * level + i = eqb-false _ _ q in
         get_or-set_other p (256 * level + i) (256 * l + m) v nan z ∙ r l m a b (omega arith)
 
-pub right_next : (t i : ℕ) (p : List Float) → Right t p i 0 → Right t p (i + 1) 8
-right_next t i p r l m a b c = r l m a b (omega arith)
-
 pub right_all : (t : ℕ) (p : List Float) → length p ≡ 2048 → Right t p 256 8 → p ≡ table_of t
 unfolding table_of table_cell
 right_all t p s r = by_cells nan (table_cell t) 2048 p s each
@@ -63,6 +50,17 @@ right_all t p s r = by_cells nan (table_cell t) 2048 p s each
         ap (λ x. get_or p x nan) (sym q) ∙ r (j / 256) (j % 256) (omega arith) (omega arith) (omega arith)
 
 -- ---- tables of the bank, one after another
+pub in_order : (n : ℕ) → n < 8 → number_of (get_or ALL n Sine) ≡ n
+in_order zero h = refl
+in_order (suc zero) h = refl
+in_order (suc (suc zero)) h = refl
+in_order (suc (suc (suc zero))) h = refl
+in_order (suc (suc (suc (suc zero)))) h = refl
+in_order (suc (suc (suc (suc (suc zero))))) h = refl
+in_order (suc (suc (suc (suc (suc (suc zero)))))) h = refl
+in_order (suc (suc (suc (suc (suc (suc (suc zero))))))) h = refl
+in_order (suc (suc (suc (suc (suc (suc (suc (suc n)))))))) h = absurd (omega arith)
+
 cell_of_table : (t j : ℕ) → j < 2048 → bank_cell (j + 2048 * t) ≡ table_cell t j
 unfolding bank_cell
 cell_of_table t j h =

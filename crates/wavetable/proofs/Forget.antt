@@ -8,6 +8,7 @@ use lib.Dec.{T, eqb}
 use lib.Ieee.{Float, le}
 use lib.ListN.{length}
 use borrow.Author.Tests.{eq-eqb}
+use Rattle.answer.specs.Calls.{made_unless}
 use Rattle.answer.proofs.Blocks.{block_fits, block_refusal, block_same}
 use Rattle.answer.specs.Block.{block_of}
 use Rattle.common.proofs.EdgeLaws.{threshold_in, rising_like, rising_comes}
@@ -22,13 +23,13 @@ use Rattle.wavetable.proofs.Reached.{Good, good_unrefused, refused_sized, tick_s
 use Rattle.wavetable.specs.Calls.{Fit, after, reply, Tick, Ticked}
 use Rattle.wavetable.specs.Promises.{taken, Forgets, BlockForgets, EdgeComes}
 use Rattle.wavetable.specs.Consts.{n_ports, bank_size}
-use Rattle.wavetable.specs.Wavetable.{new_wavetable, new_like, edge_of, made_unless, wavetable_tick_refusal_of, wavetable_new_of, wavetable_sound_of}
+use Rattle.wavetable.specs.Wavetable.{new_wavetable, new_like, edge_of, wavetable_tick_refusal_of, wavetable_new_of, wavetable_sound_of}
 use Rattle.wavetable.specs.Wavetable.{wavetable_tick_of, wavetable_told_of, wavetable_next_of, wavetable_block_of}
 use Rattle.common.specs.declared.EdgeDetector.{EdgeDetector}
 use Rattle.common.specs.declared.Risen.{Risen}
 use Rattle.wavetable.specs.declared.Wavetable.{Wavetable}
 use Rattle.wavetable.specs.declared.WavetableControls.{WavetableControls}
-use Rattle.wavetable.specs.declared.WavetableTicked.{WavetableTicked}
+use Rattle.answer.specs.declared.Ticked as leaves
 
 -- what the edge asks of a threshold, and what both that are good have
 abbrev Above : Wavetable → Type 0
@@ -65,8 +66,8 @@ forgets s h c bank f a e =
     let q = struck_tick s c bank g f (sym (tick_accepted s c bank g) ∙ a) e in
     record {
       new = unfold wavetable_new_of new_like made_unless in simp (good_unrefused (new_like s) (new_good s g));
-      state = ap (λ (t : WavetableTicked). t.wavetable) q;
-      same = λ cs. ap (λ (t : WavetableTicked). Ticked t.answer ∷ replies after reply t.wavetable cs) q;
+      state = ap (λ (t : leaves.Ticked Wavetable). t.state) q;
+      same = λ cs. ap (λ (t : leaves.Ticked Wavetable). Ticked t.answer ∷ replies after reply t.state cs) q;
     }
 
 -- ---- so does a block that begins with it
@@ -78,15 +79,15 @@ block_forgets s h c t bank o m f z l e =
     let fits = sym (block_refusal n_ports (wavetable_tick_refusal_of s (length bank)) (wavetable_told_of c bank) (wavetable_next_of c bank) s t o m) ∙ z in
     let b = bank_sized s (length bank) (block_fits n_ports _ t o m _ refl fits).1 in
     let q = struck_tick s c bank g f (eq-eqb _ _ b) e in
-    let same = ap (λ (x : WavetableTicked). x.answer) q in
-    let leaves = ap (λ (x : WavetableTicked). x.wavetable) q in
+    let same = ap (λ (x : leaves.Ticked Wavetable). x.answer) q in
+    let leaves = ap (λ (x : leaves.Ticked Wavetable). x.state) q in
     let k = refused_sized s (length bank) g ∙ sym (refused_sized new (length bank) (new_good s g)) in
     block_same (wavetable_next_of c bank) s new leaves n_ports _ (wavetable_told_of c bank) t o m same (fits, l)
     ∙ ap (λ (n : ℕ). block_of n_ports n (wavetable_told_of c bank) (wavetable_next_of c bank) new t o m) k
 
 -- ---- an edge can be had
 -- the tick leaves the edge record that the sync makes
-kept : (s : Wavetable) (c : WavetableControls) (bank : List Float) → edge_of (wavetable_sound_of s c bank).wavetable ≡ (rising_of (edge_of s) c.sync).edge
+kept : (s : Wavetable) (c : WavetableControls) (bank : List Float) → edge_of (wavetable_sound_of s c bank).state ≡ (rising_of (edge_of s) c.sync).edge
 unfolding wavetable_sound_of rising_of rising_above_of
 kept s c bank = refl
 
@@ -95,7 +96,7 @@ unfolding after
 edge_comes s h c d bank f b l k =
     let sounds = tick_sounds s c bank (good h) (eq-eqb _ _ b) in (
       (never_refused (after s (Tick c bank)) (more h (Tick c bank) f)).tick d bank ∙ eq-eqb _ _ b,
-      ap (λ (t : WavetableTicked). taken t.wavetable d) sounds
+      ap (λ (t : leaves.Ticked Wavetable). taken t.state d) sounds
           ∙ ap (λ (e : EdgeDetector). (rising_of e d.sync).rising) (kept s c bank)
           ∙ rising_comes (edge_of s) c.sync d.sync l k,
     )

@@ -18,10 +18,9 @@ use Rattle.common.proofs.EdgeLaws.{rising_once}
 use Rattle.common.proofs.MemoLaws.{recall1_again}
 use Rattle.common.proofs.PhaseLaws.{restart_in, wrap_in}
 use Rattle.common.specs.Edge.{rising_above_of, rising_of}
-use Rattle.common.specs.Memo.{recall1, voct_to_hz_at}
+use Rattle.common.specs.Memo.{Memo1, recall1, voct_to_hz_at}
 use Rattle.common.specs.Phase.{turns, wrap_phase_of, increment_of, restart_of}
 use Rattle.common.specs.Tests.{phase_ok}
-use Rattle.common.specs.declared.Memo1.{Memo1}
 use Rattle.common.specs.declared.Risen.{Risen}
 use Rattle.common.specs.declared.Turns.{Turns}
 use Rattle.common.specs.declared.Wrapped.{Wrapped}
@@ -36,7 +35,7 @@ use Rattle.wavetable.specs.Promises.{taken, BlockAccepts, BlockTallies}
 use Rattle.wavetable.specs.declared.Pair.{Pair}
 use Rattle.wavetable.specs.declared.Wavetable.{Wavetable}
 use Rattle.wavetable.specs.declared.WavetableControls.{WavetableControls}
-use Rattle.wavetable.specs.declared.WavetableTicked.{WavetableTicked}
+use Rattle.answer.specs.declared.Ticked.{Ticked}
 
 -- ---- the pair that a tick reads
 pub mix_pair : (bank : List Float) (table morph inc phase : Float)
@@ -92,7 +91,7 @@ tick_sounds s c bank h = simp h
 -- what a state answers whose sync and memo hold
 first_sound : (s : Wavetable) (c : WavetableControls) (bank : List Float)
     → wavetable_sound_of s c bank
-    ≡ record { answer = told_of s c bank (first_of s c); wavetable = state_of s c (held_next (step_of s c) (first_of s c)) }
+    ≡ record { answer = told_of s c bank (first_of s c); state = state_of s c (held_next (step_of s c) (first_of s c)) }
 unfolding wavetable_sound_of held_answer held_next
 first_sound s c bank = simp mix_pair
 
@@ -104,7 +103,7 @@ no_second v t = ap (λ (r : Risen). r.rising) (rising_once (record { prev = v; t
 -- in such a state a tick takes no edge and finds its frequency in the memo
 held_sound : (s : Wavetable) (c : WavetableControls) (bank : List Float) (p : Turns)
     → wavetable_sound_of (state_of s c p) c bank
-    ≡ record { answer = told_of s c bank p; wavetable = state_of s c (held_next (step_of s c) p) }
+    ≡ record { answer = told_of s c bank p; state = state_of s c (held_next (step_of s c) p) }
 unfolding wavetable_sound_of held_answer held_next restart_of
 held_sound s c bank p = simp (recall1_again voct_to_hz_at s.freq_memo c.v_oct.0, no_second, mix_pair)
 
@@ -114,12 +113,12 @@ pub holds : (s : Wavetable) (c : WavetableControls) (bank : List Float) → wave
 holds s c bank h =
     record {
       good = restart_in s.phase (taken s c) (accepts s (length bank) h).1;
-      first = ap (λ (t : WavetableTicked). t.answer) (tick_sounds s c bank h ∙ first_sound s c bank);
-      second = ap (λ (t : WavetableTicked). t.wavetable) (tick_sounds s c bank h ∙ first_sound s c bank);
+      first = ap (λ (t : Ticked Wavetable). t.answer) (tick_sounds s c bank h ∙ first_sound s c bank);
+      second = ap (λ (t : Ticked Wavetable). t.state) (tick_sounds s c bank h ∙ first_sound s c bank);
       stays = λ p k. unfold held_next in wrap_in _ (add-fits binary64 _ _);
       answers =
-          λ p k. ap (λ (t : WavetableTicked). t.answer) (tick_sounds (state_of s c p) c bank (state_accepted s c (length bank) p h k) ∙ held_sound s c bank p);
-      moves = λ p k. ap (λ (t : WavetableTicked). t.wavetable)
+          λ p k. ap (λ (t : Ticked Wavetable). t.answer) (tick_sounds (state_of s c p) c bank (state_accepted s c (length bank) p h k) ∙ held_sound s c bank p);
+      moves = λ p k. ap (λ (t : Ticked Wavetable). t.state)
           (tick_sounds (state_of s c p) c bank (state_accepted s c (length bank) p h k) ∙ held_sound s c bank p);
     }
 

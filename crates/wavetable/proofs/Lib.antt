@@ -1,5 +1,4 @@
 pub mod Counts
-pub mod Terms
 pub mod Cells
 pub mod Levels
 pub mod Fractions

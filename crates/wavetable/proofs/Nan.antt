@@ -23,12 +23,12 @@ use Rattle.wavetable.specs.Reads.{table_pos_of, table_index_of, blend_of, mix_of
 use Rattle.wavetable.specs.Wavetable.{edge_of, controls_of, wavetable_tick_refusal_of, wavetable_sound_of, wavetable_tick_of}
 use Rattle.wavetable.specs.declared.Wavetable.{Wavetable}
 use Rattle.wavetable.specs.declared.WavetableControls.{WavetableControls}
-use Rattle.wavetable.specs.declared.WavetableTicked.{WavetableTicked}
+use Rattle.answer.specs.declared.Ticked.{Ticked}
 
 pub nan_steers : NanSteers
 unfolding wavetable_tick_of wavetable_sound_of
 nan_steers s c bank =
-    tick_steers (λ (t : WavetableTicked). t.answer) (controls_of c) (wavetable_tick_refusal_of s (length bank)) _ _ (mark_steers _ _ _ _ (controls_of c)) refl
+    tick_steers (λ (t : Ticked Wavetable). t.answer) (controls_of c) (wavetable_tick_refusal_of s (length bank)) _ _ (mark_steers _ _ _ _ (controls_of c)) refl
 
 -- ---- what is read
 pos_nan : table_pos_of nan ≡ nan
@@ -76,12 +76,12 @@ module _ (s : Wavetable) (c : WavetableControls) (bank : List Float) (h : c.tabl
   unfolding wavetable_sound_of
   table_sounds = rw (nan_given (controls_of c) 1 (lit< tt) h, h, same_mix) (mark_sounds _ _ _ _ _ _ refl)
 
-  table_state : (wavetable_tick_of s c bank).wavetable ≡ (wavetable_tick_of s (second_table c) bank).wavetable
+  table_state : (wavetable_tick_of s c bank).state ≡ (wavetable_tick_of s (second_table c) bank).state
   unfolding wavetable_tick_of wavetable_sound_of
   table_state = go (eqb (wavetable_tick_refusal_of s (length bank)) 0)
     where
-      go : (b : Bool) → let refused : WavetableTicked = record { answer = answer.Refused (wavetable_tick_refusal_of s (length bank)); wavetable = s } in
-          (cond b (wavetable_sound_of s c bank) refused).wavetable ≡ (cond b (wavetable_sound_of s (second_table c) bank) refused).wavetable
+      go : (b : Bool) → let refused : Ticked Wavetable = record { answer = answer.Refused (wavetable_tick_refusal_of s (length bank)); state = s } in
+          (cond b (wavetable_sound_of s c bank) refused).state ≡ (cond b (wavetable_sound_of s (second_table c) bank) refused).state
       go true = unfold wavetable_sound_of in refl
       go false = refl
 
@@ -89,7 +89,7 @@ pub nan_table : NanTable
 unfolding wavetable_tick_of
 nan_table s c bank h =
     let sounds = table_sounds s c bank h in
-    (tick_sounds (λ (t : WavetableTicked). t.answer) (wavetable_tick_refusal_of s (length bank)) _ _ _ (λ a. sounds) refl, table_state s c bank h)
+    (tick_sounds (λ (t : Ticked Wavetable). t.answer) (wavetable_tick_refusal_of s (length bank)) _ _ _ (λ a. sounds) refl, table_state s c bank h)
 
 -- ---- a sync that is NaN takes no edge, and neither does 0 V
 module _ (s : Wavetable) (c : WavetableControls) (bank : List Float) (h : c.sync ≡ nan) (a : wavetable_tick_refusal_of s (length bank) ≡ 0) where
@@ -105,4 +105,4 @@ module _ (s : Wavetable) (c : WavetableControls) (bank : List Float) (h : c.sync
 
 pub nan_sync : NanSync
 unfolding wavetable_tick_of
-nan_sync s c bank h = tick_sounds (λ (t : WavetableTicked). t.answer) (wavetable_tick_refusal_of s (length bank)) _ _ _ (sync_sounds s c bank h) refl
+nan_sync s c bank h = tick_sounds (λ (t : Ticked Wavetable). t.answer) (wavetable_tick_refusal_of s (length bank)) _ _ _ (sync_sounds s c bank h) refl

@@ -9,9 +9,11 @@ use lib.Dec.{eqb}
 use lib.Ieee.Fits.{add-fits}
 use lib.Ieee.{Float, binary64}
 use lib.ListN.{length}
+use Rattle.answer.proofs.Calls.{made_cases, made_number}
+use Rattle.answer.specs.Calls.{Outcome, made_unless}
 use Rattle.answer.proofs.Blocks.{block_keeps, block_refusal}
 use Rattle.answer.proofs.Laws.{mark_says}
-use Rattle.answer.specs.Answer.{accepted, outcome_number}
+use Rattle.answer.specs.Answer.{accepted}
 use Rattle.answer.specs.Block.{block_refusal_of}
 use Rattle.common.proofs.EdgeLaws.{threshold_in}
 use Rattle.common.proofs.MemoLaws.{recalled1}
@@ -26,25 +28,13 @@ use Rattle.wavetable.specs.Calls.{Call, Fit, after, reply, FitCall, First, Reach
 use Rattle.wavetable.specs.Promises.{NewAccepts, NeverRefused, GateSays, ThresholdKept}
 use Rattle.wavetable.specs.Consts.{n_ports, bank_size}
 use Rattle.wavetable.specs.Wavetable.{new_wavetable, new_like, wavetable_refusal_of, wavetable_tick_refusal_of, wavetable_rate_refusal_of}
-use Rattle.wavetable.specs.Wavetable.{made_unless, wavetable_new_of, wavetable_sound_of, wavetable_tick_of, wavetable_block_of}
+use Rattle.wavetable.specs.Wavetable.{wavetable_new_of, wavetable_sound_of, wavetable_tick_of, wavetable_block_of}
 use Rattle.wavetable.specs.Wavetable.{restarted, wavetable_reset_of, rated, wavetable_set_sample_rate_of}
 use Rattle.answer.specs.declared.Answer.TheVariants as answer
-use Rattle.answer.specs.declared.Outcome.TheVariants as outcome
 use Rattle.common.specs.declared.Hertz.{Hertz}
 use Rattle.wavetable.specs.declared.Wavetable.{Wavetable}
 use Rattle.wavetable.specs.declared.WavetableControls.{WavetableControls}
-use Rattle.wavetable.specs.declared.WavetableMade.{WavetableMade}
-use Rattle.wavetable.specs.declared.WavetableTicked.{WavetableTicked}
-
--- ---- a call without samples
-made_cases : (P : WavetableMade → Type 0) (n : ℕ) (old new : Wavetable) → (n ≡ 0 → P (record { outcome = outcome.Done; wavetable = new }))
-    → P (record { outcome = outcome.Refused n; wavetable = old }) → P (made_unless n old new)
-unfolding made_unless
-made_cases P n old new d r = unless_refused P n _ _ d r
-
-made_number : (n : ℕ) (old new : Wavetable) → outcome_number (made_unless n old new).outcome ≡ n
-unfolding outcome_number
-made_number n old new = made_cases (λ m. outcome_number m.outcome ≡ n) n old new sym refl
+use Rattle.answer.specs.declared.Ticked.{Ticked}
 
 -- ---- a good state
 pub record Good (s : Wavetable) : Type 0 where
@@ -63,11 +53,11 @@ unfolding wavetable_tick_refusal_of
 refused_sized s size g = simp (good_unrefused s g)
 
 -- a tick that sounds where the bank's size is right, and is refused by 4 where it isn't
-abbrev sized : Bool → Wavetable → WavetableControls → List Float → WavetableTicked
-sized b s c bank = cond b (wavetable_sound_of s c bank) (record { answer = answer.Refused 4; wavetable = s })
+abbrev sized : Bool → Wavetable → WavetableControls → List Float → Ticked Wavetable
+sized b s c bank = cond b (wavetable_sound_of s c bank) (record { answer = answer.Refused 4; state = s })
 
 by_size : (b : Bool) (s : Wavetable) (c : WavetableControls) (bank : List Float)
-    → cond (eqb (cond b 0 4) 0) (wavetable_sound_of s c bank) (record { answer = answer.Refused (cond b 0 4); wavetable = s }) ≡ sized b s c bank
+    → cond (eqb (cond b 0 4) 0) (wavetable_sound_of s c bank) (record { answer = answer.Refused (cond b 0 4); state = s }) ≡ sized b s c bank
 by_size true s c bank = refl
 by_size false s c bank = refl
 
@@ -106,15 +96,15 @@ unfolding new_wavetable
 new_accepted r t h = let a = unrefused (new_wavetable r t) h in (a.0, a.2)
 
 first_good : (s : Wavetable) → First s → Good s
-unfolding wavetable_new_of outcome_number
+unfolding wavetable_new_of
 first_good s f =
     let new = new_wavetable f.0 f.1 in
-    let number = ap (λ (m : WavetableMade). outcome_number m.outcome) f.2 in
+    let number = ap (λ (m : Outcome Wavetable). m.refused) f.2 in
     let a = new_accepted f.0 f.1 (sym (made_number _ new new) ∙ number) in
     let g = good_new f.0 f.1 a.0 a.1 in
-    subst Good (ap (λ (m : WavetableMade). m.wavetable) f.2) (made_cases (λ m. Good m.wavetable) _ new new (λ e. g) g)
+    subst Good (ap (λ (m : Outcome Wavetable). m.state) f.2) (made_cases (λ m. Good m.state) _ new new (λ e. g) g)
 
-sound_good : (s : Wavetable) (c : WavetableControls) (bank : List Float) → Good s → Fit c → Good (wavetable_sound_of s c bank).wavetable
+sound_good : (s : Wavetable) (c : WavetableControls) (bank : List Float) → Good s → Fit c → Good (wavetable_sound_of s c bank).state
 unfolding wavetable_sound_of
 sound_good s c bank g f =
     record {
@@ -124,13 +114,13 @@ sound_good s c bank g f =
       memo = recalled1 voct_to_hz_at s.freq_memo g.memo c.v_oct.0 f;
     }
 
-sized_good : (b : Bool) (s : Wavetable) (c : WavetableControls) (bank : List Float) → Good s → Fit c → Good (sized b s c bank).wavetable
+sized_good : (b : Bool) (s : Wavetable) (c : WavetableControls) (bank : List Float) → Good s → Fit c → Good (sized b s c bank).state
 sized_good true s c bank g f = sound_good s c bank g f
 sized_good false s c bank g f = g
 
-tick_good : (c : WavetableControls) (bank : List Float) → Fit c → (s : Wavetable) → Good s → Good (wavetable_tick_of s c bank).wavetable
+tick_good : (c : WavetableControls) (bank : List Float) → Fit c → (s : Wavetable) → Good s → Good (wavetable_tick_of s c bank).state
 tick_good c bank f s g =
-    subst (λ (t : WavetableTicked). Good t.wavetable) (sym (tick_sized s c bank g)) (sized_good (eqb (length bank) bank_size) s c bank g f)
+    subst (λ (t : Ticked Wavetable). Good t.state) (sym (tick_sized s c bank g)) (sized_good (eqb (length bank) bank_size) s c bank g f)
 
 restarted_good : (s : Wavetable) → Good s → Good (restarted s)
 unfolding restarted
@@ -144,8 +134,8 @@ after_good : (s : Wavetable) (c : Call) → Good s → FitCall c → Good (after
 unfolding after wavetable_block_of wavetable_reset_of wavetable_set_sample_rate_of
 after_good s (Tick c bank) g f = tick_good c bank f s g
 after_good s (Play c t bank o m) g f = block_keeps n_ports _ _ _ Good (tick_good c bank f) s g t o m
-after_good s Reset g f = made_cases (λ m. Good m.wavetable) _ s (restarted s) (λ e. restarted_good s g) g
-after_good s (SetSampleRate r) g f = made_cases (λ m. Good m.wavetable) (wavetable_rate_refusal_of s r) s (rated s r) (rated_good s r g) g
+after_good s Reset g f = made_cases (λ m. Good m.state) _ s (restarted s) (λ e. restarted_good s g) g
+after_good s (SetSampleRate r) g f = made_cases (λ m. Good m.state) (wavetable_rate_refusal_of s r) s (rated s r) (rated_good s r g) g
 
 pub good : {s : Wavetable} → ReachedWavetable s → Good s
 good = always Good first_good after_good
@@ -187,14 +177,14 @@ gate_says = record { new = λ r t. refl; asked = λ s ok bad. simp (ok, bad, and
 abbrev Keeps : Wavetable → Wavetable → Type 0
 Keeps s r = r.threshold ≡ s.threshold
 
-tick_keeps : (c : WavetableControls) (bank : List Float) (s : Wavetable) → Keeps s (wavetable_tick_of s c bank).wavetable
+tick_keeps : (c : WavetableControls) (bank : List Float) (s : Wavetable) → Keeps s (wavetable_tick_of s c bank).state
 unfolding wavetable_tick_of wavetable_sound_of
 tick_keeps c bank s =
-    unless_refused (λ (t : WavetableTicked). Keeps s t.wavetable) (wavetable_tick_refusal_of s (length bank)) (wavetable_sound_of s c bank) _ (λ e. refl) refl
+    unless_refused (λ (t : Ticked Wavetable). Keeps s t.state) (wavetable_tick_refusal_of s (length bank)) (wavetable_sound_of s c bank) _ (λ e. refl) refl
 
 pub threshold_kept : ThresholdKept
 unfolding after wavetable_block_of wavetable_reset_of wavetable_set_sample_rate_of
 threshold_kept s (Tick c bank) = tick_keeps c bank s
 threshold_kept s (Play c t bank o m) = block_keeps n_ports _ _ _ (Keeps s) (λ r h. tick_keeps c bank r ∙ h) s refl t o m
-threshold_kept s Reset = made_cases (λ m. Keeps s m.wavetable) _ s (restarted s) (λ e. unfold restarted in refl) refl
-threshold_kept s (SetSampleRate r) = made_cases (λ m. Keeps s m.wavetable) _ s (rated s r) (λ e. unfold rated in refl) refl
+threshold_kept s Reset = made_cases (λ m. Keeps s m.state) _ s (restarted s) (λ e. unfold restarted in refl) refl
+threshold_kept s (SetSampleRate r) = made_cases (λ m. Keeps s m.state) _ s (rated s r) (λ e. unfold rated in refl) refl

@@ -1,5 +1,5 @@
 -- The bank, written from Wavetable::generate_tables: each number by itself, operation by operation.
-use Rattle.std.specs.Prelude.{Bool, true, cond, ◌&&◌, List, ℕ, zero, suc, ◌+◌, ◌*◌, ◌/◌, ◌%◌, eqb, leb, ltb, Float, length}
+use Rattle.std.specs.Prelude.{Bool, true, cond, ◌&&◌, List, ℕ, zero, suc, ◌+◌, ◌*◌, ◌/◌, ◌%◌, eqb, leb, ltb, Float, length, Result, Ok, Err}
 use Rattle.std.specs.Float.{binary64}
 use Rattle.std.specs.Float.Ieee.{add, mul, div, le, neg, of_bits}
 use Rattle.common.specs.Consts.{three, four, half}
@@ -9,8 +9,8 @@ use Rattle.numeric.specs.Basic.{pi, real_of}
 use Rattle.numeric.specs.Trig.{sin_of}
 use Rattle.wavetable.specs.Consts.{table_size, num_tables, part_size, bank_size, table_size_real, eight, quarter, eighth}
 use Rattle.wavetable.specs.Harmonics.{max_harmonic}
-use Rattle.answer.specs.declared.Outcome.{Outcome}
-use Rattle.answer.specs.declared.Outcome.TheVariants.{Done, Refused}
+use Rattle.common.specs.declared.Refusal.{Refusal}
+use Rattle.common.specs.declared.Refusal.TheVariants as refusal
 
 -- the closure partial at place i: sin(phase * harmonic * 2.0 * pi), phase = i / TABLE_SIZE
 unfoldable pub partial_of : Float → ℕ → Float
@@ -132,16 +132,16 @@ bank_of = tab bank_cell bank_size
 
 -- ---- the fills: what they say, and the slice after them; l is the slice as it stood
 pub record Filled : Type 0 where
-  pub outcome : Outcome
+  pub outcome : Result (Unit {0}) Refusal
   pub cells : List Float
 
-abbrev pub filled : Outcome → List Float → Filled
+abbrev pub filled : Result (Unit {0}) Refusal → List Float → Filled
 filled o l = record { outcome = o; cells = l }
 
--- 4: a part that hasn't a table's 2,048 numbers, or no such table
+-- refused by 4: a part that hasn't a table's 2,048 numbers, or no such table
 unfoldable pub fill_table_of : ℕ → List Float → Filled
-fill_table_of table l = cond (eqb (length l) part_size && ltb table num_tables) (filled Done (table_of table)) (filled (Refused 4) l)
+fill_table_of table l = cond (eqb (length l) part_size && ltb table num_tables) (filled (Ok tt) (table_of table)) (filled (Err refusal.Bank) l)
 
--- 4: a bank that hasn't 16,384 numbers
+-- refused by 4: a bank that hasn't 16,384 numbers
 unfoldable pub fill_bank_of : List Float → Filled
-fill_bank_of l = cond (eqb (length l) bank_size) (filled Done bank_of) (filled (Refused 4) l)
+fill_bank_of l = cond (eqb (length l) bank_size) (filled (Ok tt) bank_of) (filled (Err refusal.Bank) l)

@@ -4,10 +4,9 @@ use Rattle.laws.specs.Float.{F64}
 use Rattle.laws.specs.Machine.{Reached}
 use Rattle.wavetable.specs.Wavetable.{wavetable_new_of, wavetable_tick_of, wavetable_block_of, wavetable_reset_of, wavetable_set_sample_rate_of}
 use Rattle.common.specs.declared.Hertz.{Hertz}
-use Rattle.answer.specs.Answer.{outcome_number}
+use Rattle.answer.specs.Calls.{outcome}
 use Rattle.answer.specs.Block.{Block}
 use Rattle.answer.specs.declared.Answer.{Answer}
-use Rattle.answer.specs.declared.Outcome.TheVariants as outcome
 use Rattle.answer.specs.declared.Tally.{Tally}
 use Rattle.wavetable.specs.declared.Wavetable.{Wavetable}
 use Rattle.wavetable.specs.declared.WavetableControls.{WavetableControls}
@@ -37,20 +36,20 @@ FitCall (SetSampleRate r) = Unit {0}
 
 -- the state after a call; a refused one leaves it
 unfoldable pub after : Wavetable → Call → Wavetable
-after s (Tick c bank) = (wavetable_tick_of s c bank).wavetable
+after s (Tick c bank) = (wavetable_tick_of s c bank).state
 after s (Play c t bank o m) = (wavetable_block_of s c t bank o m).state
-after s Reset = (wavetable_reset_of s).wavetable
-after s (SetSampleRate r) = (wavetable_set_sample_rate_of s r).wavetable
+after s Reset = (wavetable_reset_of s).state
+after s (SetSampleRate r) = (wavetable_set_sample_rate_of s r).state
 
 unfoldable pub reply : Wavetable → Call → Reply
 reply s (Tick c bank) = Ticked (wavetable_tick_of s c bank).answer
 reply s (Play c t bank o m) = Played (wavetable_block_of s c t bank o m)
-reply s Reset = Told (outcome_number (wavetable_reset_of s).outcome)
-reply s (SetSampleRate r) = Told (outcome_number (wavetable_set_sample_rate_of s r).outcome)
+reply s Reset = Told (wavetable_reset_of s).refused
+reply s (SetSampleRate r) = Told (wavetable_set_sample_rate_of s r).refused
 
 -- an accepted new one
 abbrev pub First : Wavetable → Type 0
-First s = (r : Hertz) × (t : Float) × (wavetable_new_of r t ≡ record { outcome = outcome.Done; wavetable = s })
+First s = (r : Hertz) × (t : Float) × (wavetable_new_of r t ≡ outcome 0 s)
 
 abbrev pub ReachedWavetable : Wavetable → Type 0
 ReachedWavetable = Reached First FitCall after

@@ -1,12 +1,14 @@
 -- Theorems about the Wavetable: the statements. proofs/ proves each under the same name in small letters.
-use Rattle.std.specs.Prelude.{Bool, true, false, cond, List, ◌∷◌, [], ◌≡◌, ℕ, ◌*◌, ◌<◌, eqb, Float, length}
+use Rattle.std.specs.Prelude.{Result, Bool, true, false, cond, List, ◌∷◌, [], ◌≡◌, ℕ, ◌*◌, ◌<◌, eqb, Float, length}
 use Rattle.std.specs.Float.{nan}
 use Rattle.std.specs.Float.Ieee.{lt, le}
-use Rattle.answer.specs.Answer.{accepted, outcome_number}
+use Rattle.answer.specs.Answer.{accepted}
+use Rattle.answer.specs.Calls.{outcome, making, changing}
 use Rattle.answer.specs.Block.{Block, block_refusal_of}
 use Rattle.answer.specs.Promises.{Steers, SoundsAs, AllAccepted, AllTaken}
-use Rattle.answer.specs.declared.Outcome.TheVariants as outcome
+use Rattle.answer.specs.declared.Made.{Made}
 use Rattle.answer.specs.declared.Tally.{Tally}
+use Rattle.answer.specs.declared.Ticked.{Ticked}
 use Rattle.common.specs.Consts.{five}
 use Rattle.common.specs.Edge.{new_edge, rising_of}
 use Rattle.common.specs.Tests.{rate_ok, phase_ok, threshold_ok}
@@ -19,14 +21,13 @@ use Rattle.wavetable.specs.Wavetable.{new_wavetable, new_like, edge_of, wavetabl
 use Rattle.wavetable.specs.Wavetable.{wavetable_next_of, restarted, rated}
 use Rattle.wavetable.specs.Wavetable.{wavetable_new_of, wavetable_tick_of, wavetable_block_of, wavetable_reset_of, wavetable_set_sample_rate_of}
 use Rattle.common.specs.declared.Hertz.{Hertz}
+use Rattle.common.specs.declared.Refusal.{Refusal}
 use Rattle.wavetable.specs.declared.Wavetable.{Wavetable}
 use Rattle.wavetable.specs.declared.WavetableControls.{WavetableControls}
-use Rattle.wavetable.specs.declared.WavetableTicked.{WavetableTicked}
-use Rattle.wavetable.specs.declared.WavetableMade.{WavetableMade}
 
 -- ---- `new` refuses a bad rate, and then a bad threshold, alone: at each other rate there is a first state of each threshold
 abbrev pub NewAccepts : Type 0
-NewAccepts = (r : Hertz) (t : Float) → (outcome_number (wavetable_new_of r t).outcome ≡ cond (rate_ok r) (cond (threshold_ok t) 0 2) 1)
+NewAccepts = (r : Hertz) (t : Float) → ((wavetable_new_of r t).refused ≡ cond (rate_ok r) (cond (threshold_ok t) 0 2) 1)
     × (rate_ok r ≡ true → threshold_ok t ≡ true → First (new_wavetable r t))
 
 -- ---- a reached state refuses no call but for the call's own input: a tick for its bank's size alone, a block for that, for samples
@@ -67,7 +68,7 @@ taken s c = (rising_of (edge_of s) c.sync).rising
 -- a new one like it is to be had; this tick leaves both in the same state, and fed it and then any calls, blocks among them,
 -- each lent the same bank, both answer the same
 pub record Forgotten (s : Wavetable) (c : WavetableControls) (bank : List Float) : Type 0 where
-  pub new : wavetable_new_of s.sample_rate s.threshold ≡ record { outcome = outcome.Done; wavetable = new_like s }
+  pub new : wavetable_new_of s.sample_rate s.threshold ≡ outcome 0 (new_like s)
   pub state : after s (Tick c bank) ≡ after (new_like s) (Tick c bank)
   pub same : (cs : List Call) → replies after reply s (Tick c bank ∷ cs) ≡ replies after reply (new_like s) (Tick c bank ∷ cs)
 
@@ -100,7 +101,7 @@ second_table c = record { v_oct = c.v_oct; table = zer; morph = one; sync = c.sy
 abbrev pub NanTable : Type 0
 NanTable = (s : Wavetable) (c : WavetableControls) (bank : List Float) → c.table ≡ nan
     → SoundsAs (wavetable_tick_of s c bank).answer (wavetable_tick_of s (second_table c) bank).answer
-    × ((wavetable_tick_of s c bank).wavetable ≡ (wavetable_tick_of s (second_table c) bank).wavetable)
+    × ((wavetable_tick_of s c bank).state ≡ (wavetable_tick_of s (second_table c) bank).state)
 
 -- ---- a sync that is NaN never rises, and sounds as 0 V there: where that tick is clean, this one is steered
 abbrev pub low_sync : WavetableControls → WavetableControls
@@ -121,11 +122,11 @@ BlockTallies = (s : Wavetable) (c : WavetableControls) (bank : List Float) → w
 
 -- ---- each contract settles its answer, and what a fill or a block leaves in the lent slices
 pub record Settled : Type 0 where
-  pub new : (r : Hertz) (t : Float) → Settles (λ (a : WavetableMade). a ≡ wavetable_new_of r t)
-  pub tick : (s : Wavetable) (c : WavetableControls) (bank : List Float) → Settles (λ (a : WavetableTicked). a ≡ wavetable_tick_of s c bank)
+  pub new : (r : Hertz) (t : Float) → Settles (λ (m : Made Wavetable). making m ≡ wavetable_new_of r t)
+  pub tick : (s : Wavetable) (c : WavetableControls) (bank : List Float) → Settles (λ (a : Ticked Wavetable). a ≡ wavetable_tick_of s c bank)
   pub block : (s : Wavetable) (c : WavetableControls) (t : Tally) (bank o : List Float) (m : List ℕ)
       → Settles (λ (b : Block Wavetable). b ≡ wavetable_block_of s c t bank o m)
-  pub reset : (s : Wavetable) → Settles (λ (a : WavetableMade). a ≡ wavetable_reset_of s)
-  pub set_sample_rate : (s : Wavetable) (r : Hertz) → Settles (λ (a : WavetableMade). a ≡ wavetable_set_sample_rate_of s r)
+  pub reset : (s : Wavetable) → Settles (λ (m : Result Wavetable Refusal). changing s m ≡ wavetable_reset_of s)
+  pub set_sample_rate : (s : Wavetable) (r : Hertz) → Settles (λ (m : Result Wavetable Refusal). changing s m ≡ wavetable_set_sample_rate_of s r)
   pub fill_table : (table : ℕ) (l : List Float) → Settles (λ (f : Filled). f ≡ fill_table_of table l)
   pub fill_bank : (l : List Float) → Settles (λ (f : Filled). f ≡ fill_bank_of l)

@@ -1,6 +1,6 @@
 -- Shortcuts of the code: no public contract and no promise cites them, so nobody need believe them; proofs/ shows that they are what the
 -- definitions say.
-use Rattle.std.specs.Prelude.{Bool, true, false, cond, List, ◌≡◌, ℕ, ◌+◌, ◌*◌, ◌%◌, ◌<◌, ◌≤◌, eqb, Float, get_or}
+use Rattle.std.specs.Prelude.{Bool, true, false, cond, List, ◌≡◌, ℕ, ◌+◌, ◌*◌, ◌%◌, ◌<◌, ◌≤◌, eqb, Float, get_or, Result, MatchResult}
 use Rattle.std.specs.Float.{nan, binary64}
 use Rattle.std.specs.Float.Ieee.{add, sub, mul, neg}
 use Rattle.answer.specs.Answer.{volts1}
@@ -13,9 +13,28 @@ use Rattle.laws.specs.Float.{one, is_fin}
 use Rattle.numeric.specs.Basic.{whole_of, real_of}
 use Rattle.numeric.specs.Floor.{floor_of}
 use Rattle.wavetable.specs.Bank.{harmonic_of, turned, coef_of, cell_of}
-use Rattle.wavetable.specs.Consts.{table_size, num_mips, bank_size, table_size_real, quarter, eighth}
+use Rattle.wavetable.specs.Consts.{table_size, num_tables, num_mips, bank_size, table_size_real, quarter, eighth}
 use Rattle.wavetable.specs.Reads.{between, start_of, select_level, table_pos_of, table_index_of, blend_of}
 use Rattle.wavetable.specs.declared.Pair.{Pair}
+use Rattle.common.specs.declared.Refusal.{Refusal}
+use Rattle.common.specs.declared.Refusal.TheVariants as refusal
+use Rattle.wavetable.specs.declared.bank.WavetableType.{WavetableType}
+use Rattle.wavetable.specs.declared.bank.WavetableType.TheVariants as tables
+
+-- ---- a table's number in the bank
+abbrev pub number_of : WavetableType → ℕ
+number_of tables.Sine = 0
+number_of tables.Triangle = 1
+number_of tables.Saw = 2
+number_of tables.Square = 3
+number_of tables.Pulse25 = 4
+number_of tables.Pulse12 = 5
+number_of tables.FormantA = 6
+number_of tables.FormantO = 7
+
+-- the result is the table of this number, or a refusal where there is none
+abbrev pub IsTable : ℕ → Result WavetableType Refusal → Type 0
+IsTable number r = MatchResult r (λ table. number_of table ≡ number) (λ e. (e ≡ refusal.Bank) × (num_tables ≤ number))
 
 -- ---- the fill of a series: its levels share their terms, which spares the same sines at another level
 unfoldable pub first_sign : ℕ → Float

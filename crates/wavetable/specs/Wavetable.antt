@@ -4,6 +4,7 @@ use Rattle.std.specs.Float.{binary64}
 use Rattle.std.specs.Float.Ieee.{add}
 use Rattle.answer.specs.Answer.{volts1}
 use Rattle.answer.specs.Block.{Block, block_of}
+use Rattle.answer.specs.Calls.{Outcome, made_unless}
 use Rattle.answer.specs.Mark.{all_numbers, mark_of}
 use Rattle.common.specs.Edge.{rising_of}
 use Rattle.common.specs.Memo.{new_memo1, recall1, voct_to_hz_at}
@@ -16,12 +17,10 @@ use Rattle.common.specs.declared.EdgeDetector.{EdgeDetector}
 use Rattle.common.specs.declared.Hertz.{Hertz}
 use Rattle.answer.specs.declared.Answer.{Answer}
 use Rattle.answer.specs.declared.Answer.TheVariants as answer
-use Rattle.answer.specs.declared.Outcome.TheVariants as outcome
 use Rattle.answer.specs.declared.Tally.{Tally}
 use Rattle.wavetable.specs.declared.Wavetable.{Wavetable}
 use Rattle.wavetable.specs.declared.WavetableControls.{WavetableControls}
-use Rattle.wavetable.specs.declared.WavetableTicked.{WavetableTicked}
-use Rattle.wavetable.specs.declared.WavetableMade.{WavetableMade}
+use Rattle.answer.specs.declared.Ticked.{Ticked}
 
 -- Wavetable::new, and the threshold of its gate; the bank isn't the state's
 unfoldable pub new_wavetable : Hertz → Float → Wavetable
@@ -43,12 +42,8 @@ wavetable_tick_refusal_of s size = let n = wavetable_refusal_of s in cond (eqb n
 unfoldable pub wavetable_rate_refusal_of : Wavetable → Hertz → ℕ
 wavetable_rate_refusal_of s r = cond (rate_ok r) (wavetable_refusal_of s) 1
 
--- the new state and that all is done, unless n refuses; then the old one
-unfoldable pub made_unless : ℕ → Wavetable → Wavetable → WavetableMade
-made_unless n old new = cond (eqb n 0) (record { outcome = outcome.Done; wavetable = new }) (record { outcome = outcome.Refused n; wavetable = old })
-
 -- refused by what refuses its state, 1 and 2: a refused one refuses every call
-unfoldable pub wavetable_new_of : Hertz → Float → WavetableMade
+unfoldable pub wavetable_new_of : Hertz → Float → Outcome Wavetable
 wavetable_new_of r t = let s = new_wavetable r t in made_unless (wavetable_refusal_of s) s s
 
 -- the last sync sample and the threshold as an edge record: the Rust keeps the sample plain, and has no threshold
@@ -60,7 +55,7 @@ abbrev pub controls_of : WavetableControls → List Float
 controls_of c = c.v_oct.0 ∷ c.table ∷ c.morph ∷ c.sync ∷ []
 
 -- tick_generic, line by line
-unfoldable pub wavetable_sound_of : Wavetable → WavetableControls → List Float → WavetableTicked
+unfoldable pub wavetable_sound_of : Wavetable → WavetableControls → List Float → Ticked Wavetable
 wavetable_sound_of s c bank =
     let phase = (restart_of s.phase (rising_of (edge_of s) c.sync).rising).0 in
     let memo = recall1 voct_to_hz_at s.freq_memo c.v_oct.0 in
@@ -71,7 +66,7 @@ wavetable_sound_of s c bank =
     let next = add binary64 phase inc in
     record {
       answer = mark_of (volts1 out) false true (is_fin next) (all_numbers (controls_of c));
-      wavetable = record {
+      state = record {
         phase = (wrap_phase_of (turns next)).phase;
         prev_sync = c.sync;
         threshold = s.threshold;
@@ -81,17 +76,17 @@ wavetable_sound_of s c bank =
     }
 
 -- a refused tick leaves the state
-unfoldable pub wavetable_tick_of : Wavetable → WavetableControls → List Float → WavetableTicked
+unfoldable pub wavetable_tick_of : Wavetable → WavetableControls → List Float → Ticked Wavetable
 wavetable_tick_of s c bank =
     let n = wavetable_tick_refusal_of s (length bank) in
-    cond (eqb n 0) (wavetable_sound_of s c bank) (record { answer = answer.Refused n; wavetable = s })
+    cond (eqb n 0) (wavetable_sound_of s c bank) (record { answer = answer.Refused n; state = s })
 
 -- a block of as many ticks with these controls and this bank as there are marks
 abbrev pub wavetable_told_of : WavetableControls → List Float → Wavetable → Answer
 wavetable_told_of c bank s = (wavetable_tick_of s c bank).answer
 
 abbrev pub wavetable_next_of : WavetableControls → List Float → Wavetable → Wavetable
-wavetable_next_of c bank s = (wavetable_tick_of s c bank).wavetable
+wavetable_next_of c bank s = (wavetable_tick_of s c bank).state
 
 unfoldable pub wavetable_block_of : Wavetable → WavetableControls → Tally → List Float → List Float → List ℕ → Block Wavetable
 wavetable_block_of s c t bank o m = block_of n_ports (wavetable_tick_refusal_of s (length bank)) (wavetable_told_of c bank) (wavetable_next_of c bank) s t o m
@@ -100,12 +95,12 @@ wavetable_block_of s c t bank o m = block_of n_ports (wavetable_tick_refusal_of 
 unfoldable pub restarted : Wavetable → Wavetable
 restarted s = record { phase = turns zer; prev_sync = zer; threshold = s.threshold; sample_rate = s.sample_rate; freq_memo = s.freq_memo }
 
-unfoldable pub wavetable_reset_of : Wavetable → WavetableMade
+unfoldable pub wavetable_reset_of : Wavetable → Outcome Wavetable
 wavetable_reset_of s = made_unless (wavetable_refusal_of s) s (restarted s)
 
 -- self.sample_rate = sample_rate
 unfoldable pub rated : Wavetable → Hertz → Wavetable
 rated s r = record { phase = s.phase; prev_sync = s.prev_sync; threshold = s.threshold; sample_rate = r; freq_memo = s.freq_memo }
 
-unfoldable pub wavetable_set_sample_rate_of : Wavetable → Hertz → WavetableMade
+unfoldable pub wavetable_set_sample_rate_of : Wavetable → Hertz → Outcome Wavetable
 wavetable_set_sample_rate_of s r = made_unless (wavetable_rate_refusal_of s r) s (rated s r)

@@ -10,8 +10,10 @@ ghost use Rattle.std.specs.Float.Ieee.{sub};
 ghost use Rattle.laws.specs.Lists.{tab};
 ghost use Rattle.answer.specs.Answer.{volts1};
 ghost use Rattle.answer.specs.Mark.{all_numbers, mark_of};
-ghost use Rattle.answer.specs.Block.{after_ticks, joined, block, mark_at, frame_at};
+ghost use Rattle.answer.specs.Block.{after_ticks, joined, block_said, mark_at, frame_at};
+ghost use Rattle.answer.specs.Calls.{making, changing};
 ghost use Rattle.common.specs.Edge.{rising_of};
+ghost use Rattle.common.specs.Refusal.{refused_number};
 ghost use Rattle.numeric.specs.Basic.{whole_of, real_of};
 ghost use Rattle.numeric.specs.Floor.{floor_of};
 ghost use Rattle.wavetable.specs.Consts.{n_ports, table_size, num_tables, num_mips, bank_size};
@@ -22,8 +24,8 @@ ghost use Rattle.wavetable.specs.Wavetable.{controls_of, wavetable_refusal_of, w
 ghost use Rattle.wavetable.specs.Wavetable.{wavetable_new_of, wavetable_tick_of, wavetable_told_of, wavetable_next_of, wavetable_block_of};
 ghost use Rattle.wavetable.specs.Wavetable.{wavetable_reset_of, wavetable_set_sample_rate_of};
 
-use answer::{Answer, Outcome, Tally};
-use common::{EdgeDetector, Hertz, Memo1, Turns, VoltsPerOctave};
+use answer::{Answer, Made, Played, Tally, Ticked, Volts};
+use common::{EdgeDetector, Hertz, Memo, Refusal, Turns, VoltsPerOctave};
 
 #[derive(Clone, Copy)]
 pub struct Wavetable {
@@ -31,7 +33,7 @@ pub struct Wavetable {
     pub prev_sync: f64,
     pub threshold: f64,
     pub sample_rate: Hertz,
-    pub freq_memo: Memo1,
+    pub freq_memo: Memo<1, Hertz>,
 }
 
 // The inputs, in port order.
@@ -41,27 +43,6 @@ pub struct WavetableControls {
     pub table: f64,
     pub morph: f64,
     pub sync: f64,
-}
-
-#[derive(Clone, Copy)]
-pub struct WavetableTicked {
-    pub answer: Answer,
-    pub wavetable: Wavetable,
-}
-
-// What a block leaves beside its samples and marks: `refused` is 0, or the number that refused it.
-#[derive(Clone, Copy)]
-pub struct WavetableBlock {
-    pub refused: u32,
-    pub wavetable: Wavetable,
-    pub tally: Tally,
-}
-
-// What new, reset and set_sample_rate say, beside the state after it.
-#[derive(Clone, Copy)]
-pub struct WavetableMade {
-    pub outcome: Outcome,
-    pub wavetable: Wavetable,
 }
 
 // What is read of the bank: where the levels of two neighbouring tables begin, and how much of the upper one is heard.
@@ -117,6 +98,7 @@ fn max_harmonic(table: usize, level: usize) -> usize
 }
 
 // The highest harmonic that stays below half the sample rate. The Rust works it out for each table.
+#[tactic(auto, unfolding(crate::specs::Reads::allowed_of))]
 fn allowed(phase_inc: Turns) -> f64
     ensures { result ≡ allowed_of phase_inc.0 }
 {
@@ -128,17 +110,13 @@ fn select_level(table: usize, allowed: f64) -> usize
     requires { table < num_tables }
     ensures { result ≡ level_from table allowed num_mips }
 {
-    let mut level = 0;
-    while level < NUM_MIPS {
-        if real(max_harmonic(table, level)) <= allowed {
-            return level;
-        }
-        level += 1;
-    }
-    NUM_MIPS - 1
+    (0..NUM_MIPS)
+        .find(|level| real(max_harmonic(table, *level)) <= allowed)
+        .unwrap_or(NUM_MIPS - 1)
 }
 
 // Where a level of a table begins in the bank.
+#[tactic(auto, unfolding(crate::specs::Reads::start_of))]
 fn start(table_idx: usize, level: usize) -> usize
     ensures { result ≡ start_of table_idx level }
 {
@@ -178,6 +156,7 @@ fn synced(prev_sync: f64, threshold: f64, sync: f64) -> bool
 }
 
 // From 0, the first table, to 7, the last. The clamp lets a NaN pass.
+#[tactic(auto, unfolding(crate::specs::Reads::table_pos_of))]
 fn table_pos(table: f64) -> f64
     ensures { result ≡ table_pos_of table }
 {
@@ -185,6 +164,7 @@ fn table_pos(table: f64) -> f64
 }
 
 // The lower of the two tables.
+#[tactic(auto, unfolding(crate::specs::Reads::table_index_of))]
 fn table_index(pos: f64) -> usize
     ensures { result ≡ table_index_of pos }
 {
@@ -192,6 +172,7 @@ fn table_index(pos: f64) -> usize
 }
 
 // How much of the upper table; 1 where a control is NaN, since `min` gives the other number.
+#[tactic(auto, unfolding(crate::specs::Reads::blend_of))]
 fn blended(pos: f64, index: usize, morph: f64) -> f64
     ensures { result ≡ blend_of pos index morph }
 {
@@ -200,6 +181,7 @@ fn blended(pos: f64, index: usize, morph: f64) -> f64
 }
 
 // The tables that the controls ask for, at the levels that the pitch allows.
+#[tactic(auto, using(crate::proofs::Accepted::index_few), unfolding(crate::specs::Shortcuts::pair_of, crate::specs::Reads::select_level))]
 fn choose(table: f64, morph: f64, phase_inc: Turns) -> Pair
     ensures { result ≡ pair_of table morph phase_inc.0 }
 {
@@ -216,6 +198,7 @@ fn choose(table: f64, morph: f64, phase_inc: Turns) -> Pair
 }
 
 // The sample in volts: both tables at their levels, blended. What the two reads share is worked out once.
+#[tactic(auto, unfolding(crate::specs::Shortcuts::mix_at))]
 fn mix(bank: &[f64], pair: Pair, phase: Turns) -> f64
     requires { (length bank.now ≡ bank_size) × PairFits pair }
     ensures { result ≡ mix_at bank.now pair phase.0 }
@@ -234,7 +217,7 @@ fn mix(bank: &[f64], pair: Pair, phase: Turns) -> f64
 fn heard(out: f64, phases: bool, numbers: bool) -> Answer
     ensures { result ≡ mark_of (volts1 out) false true phases numbers }
 {
-    answer::mark(answer::volts1(out), false, true, phases, numbers)
+    answer::mark(Volts::of([out]), false, true, phases, numbers)
 }
 
 impl WavetableControls {
@@ -242,109 +225,96 @@ impl WavetableControls {
     fn are_numbers(self) -> bool
         ensures { result ≡ all_numbers (controls_of self) }
     {
-        let v_oct = self.v_oct;
-        answer::numbers4(v_oct.0, self.table, self.morph, self.sync)
+        answer::numbers([self.v_oct.0, self.table, self.morph, self.sync])
     }
 }
 
 impl Wavetable {
     // Of a rate and of the threshold that its gate goes by. A refused new hands out the state with the bad one, which every later call refuses.
-    pub fn new(sample_rate: Hertz, threshold: f64) -> WavetableMade
-        ensures { result ≡ wavetable_new_of sample_rate threshold }
+    #[tactic(auto, unfolding(crate::specs::Wavetable::wavetable_new_of, crate::specs::Wavetable::new_wavetable, answer::specs::Calls::made_unless))]
+    pub fn new(sample_rate: Hertz, threshold: f64) -> Made<Wavetable>
+        ensures { making result ≡ wavetable_new_of sample_rate threshold }
     {
-        let wavetable = Wavetable {
-            phase: Turns(0.0),
+        let state = Wavetable {
+            phase: Turns(0.0), // as in the Rust
             prev_sync: 0.0,
             threshold,
             sample_rate,
-            freq_memo: Memo1::new(),
+            freq_memo: Memo::new(Hertz(0.0)),
         };
-        let n = wavetable.refusal();
-        if n == 0 {
-            WavetableMade {
-                outcome: Outcome::Done,
-                wavetable,
-            }
-        } else {
-            WavetableMade {
-                outcome: Outcome::Refused(n),
-                wavetable,
-            }
+        Made {
+            outcome: state.refusal(),
+            state,
         }
     }
 
-    // 0, or the number that refuses this state: 1 its rate, 2 its phase or its gate's threshold.
-    fn refusal(self) -> u32
-        ensures { result ≡ wavetable_refusal_of self }
+    // What refuses this state: its rate, then its phase or its gate's threshold.
+    #[tactic(auto, unfolding(crate::specs::Wavetable::wavetable_refusal_of))]
+    fn refusal(self) -> Result<(), Refusal>
+        ensures { refused_number result ≡ wavetable_refusal_of self }
     {
-        let sample_rate = self.sample_rate;
-        let phase = self.phase;
-        common::gated_refusal(sample_rate, phase, self.threshold)
+        common::gated_refusal(self.sample_rate, self.phase, self.threshold)
     }
 
-    // The same, then 4 for a bank of another size.
-    fn tick_refusal(self, size: usize) -> u32
-        ensures { result ≡ wavetable_tick_refusal_of self size }
+    // The same, then a bank of another size.
+    #[tactic(auto, unfolding(crate::specs::Wavetable::wavetable_tick_refusal_of, common::specs::Refusal::refused_number))]
+    fn tick_refusal(self, size: usize) -> Result<(), Refusal>
+        ensures { refused_number result ≡ wavetable_tick_refusal_of self size }
     {
-        let n = self.refusal();
-        if n == 0 {
-            if size == BANK_SIZE { 0 } else { 4 }
+        self.refusal()?;
+        if size == BANK_SIZE {
+            Ok(())
         } else {
-            n
+            Err(Refusal::Bank)
         }
     }
 
-    // What refuses a change to this rate: 1 on the new rate and on the old, then 2.
-    fn rate_refusal(self, sample_rate: Hertz) -> u32
-        ensures { result ≡ wavetable_rate_refusal_of self sample_rate }
+    // What refuses a change to this rate: the new rate or the old, then the rest of the state.
+    #[tactic(auto, unfolding(crate::specs::Wavetable::wavetable_rate_refusal_of, common::specs::Refusal::refused_number, common::specs::Refusal::number_of))]
+    fn rate_refusal(self, sample_rate: Hertz) -> Result<(), Refusal>
+        ensures { refused_number result ≡ wavetable_rate_refusal_of self sample_rate }
     {
         if common::rate_ok(sample_rate) {
             self.refusal()
         } else {
-            1
+            Err(Refusal::Rate)
         }
     }
 
     // An accepted tick: the Rust's tick_generic.
-    fn sound(self, c: WavetableControls, bank: &[f64]) -> WavetableTicked
+    #[tactic(auto, using(crate::proofs::Accepted::pair_fits, crate::proofs::Held::mix_pair), unfolding(crate::specs::Wavetable::wavetable_sound_of))]
+    fn sound(self, c: WavetableControls, bank: &[f64]) -> Ticked<Wavetable>
         requires { length bank.now ≡ bank_size }
         ensures { result ≡ wavetable_sound_of self c bank.now }
     {
         let numbers = c.are_numbers();
-        let old = self.phase;
-        let sample_rate = self.sample_rate;
-        let memo = self.freq_memo;
-        let v_oct = c.v_oct;
-        let phase = common::restart(old, synced(self.prev_sync, self.threshold, c.sync));
-        let freq_memo = memo.voct_to_hz(v_oct);
-        let freq = freq_memo.val;
-        let phase_inc = common::increment(freq, sample_rate);
+        let phase = common::restart(self.phase, synced(self.prev_sync, self.threshold, c.sync));
+        let freq_memo = self.freq_memo.voct_to_hz(c.v_oct);
+        let phase_inc = common::increment(freq_memo.val, self.sample_rate);
         let out = mix(bank, choose(c.table, c.morph, phase_inc), phase);
         let next = Turns(phase.0 + phase_inc.0);
+        // Kept: the phase is wrapped before the mark is asked for: after it a tick with a moving pitch took 53 ns instead of 50.
         let moved = common::wrap_phase(next).phase;
-        WavetableTicked {
+        Ticked {
             answer: heard(out, numeric::is_finite(next.0), numbers),
-            wavetable: Wavetable {
+            state: Wavetable {
                 phase: moved,
                 prev_sync: c.sync,
-                threshold: self.threshold,
-                sample_rate,
                 freq_memo,
+                ..self
             },
         }
     }
 
-    pub fn tick(self, c: WavetableControls, bank: &[f64]) -> WavetableTicked
+    pub fn tick(self, c: WavetableControls, bank: &[f64]) -> Ticked<Wavetable>
         ensures { result ≡ wavetable_tick_of self c bank.now }
     {
-        let n = self.tick_refusal(bank.len());
-        if n == 0 {
-            self.sound(c, bank)
-        } else {
-            WavetableTicked {
-                answer: Answer::Refused(n),
-                wavetable: self,
-            }
+        match self.tick_refusal(bank.len()) {
+            Ok(()) => self.sound(c, bank),
+            Err(refused) => Ticked {
+                answer: Answer::Refused(refused.number()),
+                state: self,
+            },
         }
     }
 
@@ -366,14 +336,12 @@ impl Wavetable {
             ≡ tab (mark_at (held_answer bank.now pair numbers step) (held_next step) first) (length marks.old) }
     {
         let mut phase = first;
-        let mut i = 0;
-        while i < marks.len() {
+        for i in 0..marks.len() {
             let next = Turns(phase.0 + step.0);
             let out = mix(bank, pair, phase);
             let told = heard(out, numeric::is_finite(next.0), numbers);
-            answer::put(told, PORTS, i, &mut *samples, &mut *marks);
+            answer::put(told, PORTS, i, samples, marks);
             phase = common::wrap_phase(next).phase;
-            i += 1;
         }
         phase
     }
@@ -388,21 +356,15 @@ impl Wavetable {
             ≡ tab (mark_at (wavetable_told_of c bank.now) (wavetable_next_of c bank.now) self) (length marks.old) }
     {
         let numbers = c.are_numbers();
-        let old = self.phase;
-        let sample_rate = self.sample_rate;
-        let memo = self.freq_memo;
-        let v_oct = c.v_oct;
-        let first = common::restart(old, synced(self.prev_sync, self.threshold, c.sync));
-        let freq_memo = memo.voct_to_hz(v_oct);
-        let freq = freq_memo.val;
-        let step = common::increment(freq, sample_rate);
+        let first = common::restart(self.phase, synced(self.prev_sync, self.threshold, c.sync));
+        let freq_memo = self.freq_memo.voct_to_hz(c.v_oct);
+        let step = common::increment(freq_memo.val, self.sample_rate);
         let pair = choose(c.table, c.morph, step);
         Wavetable {
             phase: Self::glide(pair, first, step, numbers, bank, samples, marks),
             prev_sync: c.sync,
-            threshold: self.threshold,
-            sample_rate,
             freq_memo,
+            ..self
         }
     }
 
@@ -414,75 +376,42 @@ impl Wavetable {
         bank: &[f64],
         samples: &mut [f64],
         marks: &mut [u32],
-    ) -> WavetableBlock
-        ensures { block result.refused result.wavetable result.tally samples.new marks.new
+    ) -> Result<Played<Wavetable>, Refusal>
+        ensures { block_said self tally result samples.new marks.new
             ≡ wavetable_block_of self c tally bank.now samples.old marks.old }
     {
         let n = marks.len();
-        let number = self.tick_refusal(bank.len());
-        let refused = answer::block_refusal(PORTS, samples.len(), number, tally, n);
-        if refused == 0 {
-            if n == 0 {
-                WavetableBlock {
-                    refused: 0,
-                    wavetable: self,
-                    tally,
-                }
-            } else {
-                let wavetable = self.run(c, bank, samples, marks);
-                WavetableBlock {
-                    refused: 0,
-                    wavetable,
-                    tally: tally.take_marks(marks).or(tally),
-                }
-            }
-        } else {
-            WavetableBlock {
-                refused,
-                wavetable: self,
-                tally,
-            }
+        let first = self.tick_refusal(bank.len());
+        answer::block_refusal(PORTS, samples.len(), first, tally, n)?;
+        if n == 0 {
+            return Ok(Played { state: self, tally });
         }
+        let state = self.run(c, bank, samples, marks);
+        Ok(Played {
+            state,
+            tally: tally.take_marks(marks).unwrap_or(tally),
+        })
     }
 
     // Phase and last sync sample start again; the memo stays.
-    pub fn reset(self) -> WavetableMade
-        ensures { result ≡ wavetable_reset_of self }
+    pub fn reset(self) -> Result<Wavetable, Refusal>
+        ensures { changing self result ≡ wavetable_reset_of self }
     {
-        let n = self.refusal();
-        if n == 0 {
-            let start = Turns(0.0);
-            let mut wavetable = self;
-            wavetable.phase = start;
-            wavetable.prev_sync = 0.0;
-            WavetableMade {
-                outcome: Outcome::Done,
-                wavetable,
-            }
-        } else {
-            WavetableMade {
-                outcome: Outcome::Refused(n),
-                wavetable: self,
-            }
-        }
+        self.refusal()?;
+        Ok(Wavetable {
+            phase: Turns(0.0),
+            prev_sync: 0.0, // the threshold stays
+            ..self
+        })
     }
 
-    pub fn set_sample_rate(self, sample_rate: Hertz) -> WavetableMade
-        ensures { result ≡ wavetable_set_sample_rate_of self sample_rate }
+    pub fn set_sample_rate(self, sample_rate: Hertz) -> Result<Wavetable, Refusal>
+        ensures { changing self result ≡ wavetable_set_sample_rate_of self sample_rate }
     {
-        let n = self.rate_refusal(sample_rate);
-        if n == 0 {
-            let mut wavetable = self;
-            wavetable.sample_rate = sample_rate;
-            WavetableMade {
-                outcome: Outcome::Done,
-                wavetable,
-            }
-        } else {
-            WavetableMade {
-                outcome: Outcome::Refused(n),
-                wavetable: self,
-            }
-        }
+        self.rate_refusal(sample_rate)?;
+        Ok(Wavetable {
+            sample_rate,
+            ..self
+        })
     }
 }

@@ -6,18 +6,18 @@ use Rattle.answer.proofs.Laws.{at_most_one}
 use Rattle.answer.specs.Block.{many_to, cells_of}
 use Rattle.answer.proofs.count_of.Goals as goal
 
-pub loop-i-init : goal.loop-i-init
+pub loop-mark-init : goal.loop-mark-init
 unfolding many_to
-loop-i-init c = (omega arith, refl, omega arith)
+loop-mark-init c = (omega arith, refl, omega arith)
 
 pub overflow_add-many : goal.overflow_add-many
 overflow_add-many c = let o = at_most_one _ _ _ c.one_if-many.ensures in omega arith
 
-pub loop-i-preserved : goal.loop-i-preserved
+pub loop-mark-preserved : goal.loop-mark-preserved
 unfolding many_to
-loop-i-preserved c = let s = c.loop-i.invariant in
+loop-mark-preserved c = let s = c.loop-mark.invariant in
     let o = at_most_one _ _ _ c.one_if-many.ensures in
     (omega arith, rw (add-one, s.1, c.one_if-many.ensures), omega arith)
 
 pub returns : goal.returns
-returns c = let s = c.loop-i.invariant in s.1 ∙ ap (λ k. many_to c.args.k (cells_of c.args.marks.now) k) (le_antisymm s.0 c.loop-i-test.false)
+returns c = let s = c.loop-mark.invariant in s.1 ∙ ap (λ k. many_to c.args.k (cells_of c.args.marks.now) k) (le_antisymm s.0 c.loop-mark-test.false)

@@ -1,7 +1,8 @@
-use mathlib.Core.Path.{◌≡◌}
+use mathlib.Core.Path.{◌≡◌, ◌∙◌}
 use Prim.Native.Nat.{ℕ, ◌*◌}
 use native.Mathlib.Nat.{zero-mul, pos_of_ne-zero}
 use lib.Dec.{eqb}
+use borrow.Author.Tests.{ne_eqb}
 use Rattle.answer.proofs.Blocks.{whole_frames, part_frames}
 use Rattle.answer.proofs.fits.Goals as goal
 
@@ -13,4 +14,4 @@ pub returns-then-samples-ports-eq0 : goal.returns-then-samples-ports-eq0
 returns-then-samples-ports-eq0 c = whole_frames _ _ _ (pos_of_ne-zero c.if-ports-eq0.false) c.if-samples-ports-eq0.true
 
 pub returns-else-samples-ports-eq0 : goal.returns-else-samples-ports-eq0
-returns-else-samples-ports-eq0 c = part_frames _ _ _ c.if-samples-ports-eq0.false
+returns-else-samples-ports-eq0 c = ne_eqb _ _ c.if-samples-ports-eq0.false ∙ part_frames _ _ _ c.if-samples-ports-eq0.false

@@ -1,10 +1,11 @@
 use Rattle.answer.specs.Mark.{mark_of}
 use Rattle.answer.proofs.mark.Goals as goal
+use Rattle.answer.proofs.mark.Goals.{then-sums, else-sums}
 
-pub returns-then-sums : goal.returns-then-sums
+pub returns : goal.returns
 unfolding mark_of
-returns-then-sums c = simp (c.marked.ensures, c.all_finite.ensures, c.if-sums.true)
-
-pub returns-else-sums : goal.returns-else-sums
-unfolding mark_of
-returns-else-sums c = simp (c.marked-else-sums.ensures, c.if-sums.false)
+returns c =
+    elim c.if-sums.branch [
+      | then-sums w ↦ simp (c.marked.ensures, w.marked-is, w.all_finite.ensures, w.if-sums.true)
+      | else-sums w ↦ simp (c.marked.ensures, w.marked-is, w.if-sums.false)
+    ]

@@ -23,4 +23,4 @@ returns-in-Steered c = simp c.in-Steered.is
 
 pub returns-in-Refused : goal.returns-in-Refused
 unfolding volts_of
-returns-in-Refused c = simp (c.volts1.ensures, c.in-Refused.is)
+returns-in-Refused c = simp (c.of.ensures, c.in-Refused.is)

@@ -1,11 +1,15 @@
-use borrow.Author.Tests.{ne_eqb, eq-eqb}
-use Rattle.boundary.specs.Flat.{tally_sized}
+use mathlib.Core.Path.{◌∙◌}
+use Rattle.std.proofs.lemmas.Result.{err_from_is_err_and}
+use Rattle.common.specs.Refusal.{refused_number}
+use Rattle.boundary.proofs.Flat.{fit, unfit}
 use Rattle.boundary.proofs.block_tally.Goals as goal
 
-pub returns-then-refused-eq0 : goal.returns-then-refused-eq0
-unfolding tally_sized
-returns-then-refused-eq0 c = simp (c.tally_of.ensures, ← c.sizes-refused.ensures, eq-eqb _ _ c.if-refused-eq0.true)
+pub returns-in_err-sizes : goal.returns-in_err-sizes
+unfolding refused_number
+returns-in_err-sizes c =
+    let p = err_from_is_err_and c.from_residual.result c.from_residual.ensures.1 in
+    rw (p.1, p.2) (unfit _ _ _ _ c.in_err-sizes.field-0.0 c.in_err-sizes.ensures _)
 
-pub returns-else-refused-eq0 : goal.returns-else-refused-eq0
-unfolding tally_sized
-returns-else-refused-eq0 c = simp (← c.sizes-refused.ensures, ne_eqb _ _ c.if-refused-eq0.false)
+pub returns : goal.returns
+unfolding refused_number
+returns c = c.tally_of.ensures ∙ fit _ _ _ _ c.in_ok-sizes.ensures _

@@ -14,4 +14,5 @@ returns-then-wholes-ne-WHOLES c = simp (eq-eqb _ _ c.if-microvolts-ne-MICROVOLTS
 
 pub returns : goal.returns
 unfolding score_values_at
-returns c = c.put_values.ensures ∙ simp (eq-eqb _ _ c.if-microvolts-ne-MICROVOLTS.false, eq-eqb _ _ c.if-wholes-ne-WHOLES.false, c.read.ensures)
+returns c = rw c.code_of.ensures
+    (c.read_microvolts.ensures ∙ simp (eq-eqb _ _ c.if-microvolts-ne-MICROVOLTS.false, eq-eqb _ _ c.if-wholes-ne-WHOLES.false))

@@ -1,29 +1,35 @@
 -- `gruttisol_score_write`: the lengths are asked first, then the values, then the room.
 use mathlib.Core.Path.{◌∙◌}
+use lib.ListN.{length}
 use borrow.Author.Tests.{ne_eqb, eq-eqb}
 use Rattle.exports_score.specs.Calls.{score_write_at}
 use Rattle.exports_score.proofs.Saved.{held_saved}
 use Rattle.exports_score.proofs.gruttisol_score_write.Goals as goal
 
-pub returns-then-microvolts-ne-MICROVOLTS : goal.returns-then-microvolts-ne-MICROVOLTS
+pub returns-in_default : goal.returns-in_default
 unfolding score_write_at
-returns-then-microvolts-ne-MICROVOLTS c = simp (ne_eqb _ _ c.if-microvolts-ne-MICROVOLTS.true)
+returns-in_default c = simp (ne_eqb (length c.args.microvolts.now) 5 c.in_default.ensures.cases)
 
-pub returns-then-wholes-ne-WHOLES : goal.returns-then-wholes-ne-WHOLES
+pub returns-in_default-as_array : goal.returns-in_default-as_array
 unfolding score_write_at
-returns-then-wholes-ne-WHOLES c = simp (eq-eqb _ _ c.if-microvolts-ne-MICROVOLTS.false, ne_eqb _ _ c.if-wholes-ne-WHOLES.true)
+returns-in_default-as_array c = simp
+    (eq-eqb (length c.args.microvolts.now) 5 c.in-Some.ensures.cases.long, ne_eqb (length c.args.wholes.now) 4 c.in_default-as_array.ensures.cases)
 
 pub returns-then-written-ne-WRITTEN : goal.returns-then-written-ne-WRITTEN
 unfolding score_write_at
-returns-then-written-ne-WRITTEN c = simp
-    (eq-eqb _ _ c.if-microvolts-ne-MICROVOLTS.false, eq-eqb _ _ c.if-wholes-ne-WHOLES.false, ne_eqb _ _ c.if-written-ne-WRITTEN.true)
+returns-then-written-ne-WRITTEN c = simp (
+  eq-eqb (length c.args.microvolts.now) 5 c.in-Some.ensures.cases.long,
+  eq-eqb (length c.args.wholes.now) 4 c.in-Some-as_array.ensures.cases.long,
+  ne_eqb _ _ c.if-written-ne-WRITTEN.true,
+)
 
 pub returns : goal.returns
 unfolding score_write_at
-returns c = c.save.ensures
+returns c = rw c.code_of.ensures (c.save.ensures
     ∙ simp (
-      eq-eqb _ _ c.if-microvolts-ne-MICROVOLTS.false,
-      eq-eqb _ _ c.if-wholes-ne-WHOLES.false,
+      c.in-Some.ensures.cases.same,
+      c.in-Some-as_array.ensures.cases.same,
+      eq-eqb (length c.args.microvolts.now) 5 c.in-Some.ensures.cases.long,
+      eq-eqb (length c.args.wholes.now) 4 c.in-Some-as_array.ensures.cases.long,
       eq-eqb _ _ c.if-written-ne-WRITTEN.false,
-      c.score_at.ensures,
-    ) (held_saved _ _ _ _)
+    ) (held_saved _ _ _ _))

@@ -1,35 +1,23 @@
--- `inputs_at`: by the number of the oscillator.
-use borrow.Author.Tests.{ne_eqb, eq-eqb}
-use Rattle.exports_score.specs.Cells.{inputs_at}
+-- `inputs_at`: the cells past the last input are asked first.
+use Rattle.score.specs.declared.Osc.TheVariants as O
+use Rattle.exports_score.proofs.Cells.{inputs_refused, inputs_taken}
 use Rattle.exports_score.proofs.inputs_at.Goals as goal
 
-pub returns-then-osc-eq0 : goal.returns-then-osc-eq0
-unfolding inputs_at
-returns-then-osc-eq0 c = simp (eq-eqb _ _ c.if-osc-eq0.true, c.vco_at.ensures)
+pub returns-then-not-are_zeros : goal.returns-then-not-are_zeros
+returns-then-not-are_zeros c = inputs_refused _ _ c.told-microvolts c.inputs_of.ensures c.are_zeros.ensures c.if-not-are_zeros.true
 
-pub returns-then-osc-eq1 : goal.returns-then-osc-eq1
-unfolding inputs_at
-returns-then-osc-eq1 c = simp (ne_eqb _ _ c.if-osc-eq0.false, eq-eqb _ _ c.if-osc-eq1.true, c.lfo_at.ensures)
+pub returns-in-Vco : goal.returns-in-Vco
+returns-in-Vco c = inputs_taken _ _ c.told-microvolts c.inputs_of.ensures c.are_zeros.ensures O.Vco c.if-not-are_zeros.false c.in-Vco.is
+    c.controls_at-controls.ensures
 
-pub returns-then-osc-eq2 : goal.returns-then-osc-eq2
-unfolding inputs_at
-returns-then-osc-eq2 c = simp (ne_eqb _ _ c.if-osc-eq0.false, ne_eqb _ _ c.if-osc-eq1.false, eq-eqb _ _ c.if-osc-eq2.true, c.supersaw_at.ensures)
+pub returns-in-Lfo : goal.returns-in-Lfo
+returns-in-Lfo c = inputs_taken _ _ c.told-microvolts c.inputs_of.ensures c.are_zeros.ensures O.Lfo c.if-not-are_zeros.false c.in-Lfo.is
+    c.controls_at-controls.ensures
 
-pub returns-then-osc-eq3 : goal.returns-then-osc-eq3
-unfolding inputs_at
-returns-then-osc-eq3 c = simp (
-  ne_eqb _ _ c.if-osc-eq0.false,
-  ne_eqb _ _ c.if-osc-eq1.false,
-  ne_eqb _ _ c.if-osc-eq2.false,
-  eq-eqb _ _ c.if-osc-eq3.true,
-  c.formant_at.ensures,
-)
+pub returns-in-Supersaw : goal.returns-in-Supersaw
+returns-in-Supersaw c = inputs_taken _ _ c.told-microvolts c.inputs_of.ensures c.are_zeros.ensures O.Supersaw c.if-not-are_zeros.false c.in-Supersaw.is
+    c.controls_at-controls.ensures
 
-pub returns : goal.returns
-unfolding inputs_at
-returns c = simp (
-  ne_eqb _ _ c.if-osc-eq0.false,
-  ne_eqb _ _ c.if-osc-eq1.false,
-  ne_eqb _ _ c.if-osc-eq2.false,
-  ne_eqb _ _ c.if-osc-eq3.false,
-)
+pub returns-in-Formant : goal.returns-in-Formant
+returns-in-Formant c = inputs_taken _ _ c.told-microvolts c.inputs_of.ensures c.are_zeros.ensures O.Formant c.if-not-are_zeros.false c.in-Formant.is
+    c.controls_at-controls.ensures

@@ -1,7 +1,4 @@
-use mathlib.Core.Path.{◌≡◌, refl, ap, ◌∙◌}
-use native.Mathlib.Nat.{le_antisymm}
-use native.Mathlib.Omega.{arith}
-use lib.ListN.{length, length-set}
+use Rattle.std.proofs.Common.{◌≡◌, ◌<◌, refl, ap, ◌∙◌, length, le_antisymm, arith}
 use Rattle.laws.proofs.Over.{over_done, over_none, over_more}
 use Rattle.common.specs.declared.Turns.{Turns}
 use Rattle.formant_osc.specs.Shortcuts.{phase_at}
@@ -11,35 +8,24 @@ use Rattle.formant_osc.proofs.pulse.Goals as goal
 
 pub loop-i-init : goal.loop-i-init
 unfolding phase_at
-loop-i-init c = (omega arith, refl, refl, over_none _ _, over_none _ _, refl)
+loop-i-init c = record { pulses = over_none _ _; flags = over_none _ _; moved = refl }
 
 pub loop-i-preserved : goal.loop-i-preserved
 loop-i-preserved c = let s = c.loop-i.invariant in
-    let z = c.requires in
-    let k = c.kept_turns.ensures in
-    let f = c.is_finite.ensures in
-    let w = pulse_turn _ _ _ _ _ _ _ _ _ _ (omega arith) s.3 s.5 k c.wrap_of_several.ensures f c.flag.ensures in (
-      omega arith,
-      simp length-set s.1,
-      simp length-set s.2,
-      over_more _ _ _ _ _ (omega arith) s.3 (c.glottal_pulse.ensures ∙ ap (λ (p : Turns). glottal_pulse p.0) s.5),
-      over_more _ _ _ _ _ (omega arith) s.4 w.1,
-      w.0,
-    )
-
-pub shape_of-samples : goal.shape_of-samples
-shape_of-samples c = c.loop-i.invariant.1
-
-pub shape_of-marks : goal.shape_of-marks
-shape_of-marks c = c.loop-i.invariant.2
+    let more : c.loop-i.i < length c.args.samples.now = omega arith in
+    let w = pulse_turn _ _ _ _ _ _ _ _ _ _ more s.pulses s.moved c.kept_turns.ensures c.wrap_of_several.ensures c.is_finite.ensures c.flag.ensures in
+    record {
+      pulses = over_more _ _ _ _ _ more s.pulses (c.glottal_pulse.ensures ∙ ap (λ (p : Turns). glottal_pulse p.0) s.moved);
+      flags = over_more _ _ _ _ _ c.loop-i-test.true s.flags w.1;
+      moved = w.0;
+    }
 
 pub returns : goal.returns
 returns c = let s = c.loop-i.invariant in
     let a = c.args in
-    let n : c.loop-i.i ≡ length a.marks.now = le_antisymm s.0 (omega arith) in
+    let n : c.loop-i.i ≡ length a.marks.now = le_antisymm c.loop-i.auto.i-end c.loop-i-test.false in
     record {
-      value = s.5 ∙ ap (phase_at a.samples.now a.start) n;
-      samples_after = over_done _ _ _ _ _ n c.requires s.3;
-      marks_after = over_done _ _ _ _ _ n refl
-          s.4;
+      value = s.moved ∙ ap (phase_at a.samples.now a.start) n;
+      samples_after = over_done _ _ _ _ _ n c.requires s.pulses;
+      marks_after = over_done _ _ _ _ _ n refl s.flags;
     }

@@ -1,10 +1,7 @@
-use Rattle.std.proofs.Common.{◌≡◌, ◌-◌, ◌≤◌, length}
+use Rattle.std.proofs.Common.{◌≡◌}
 use Rattle.laws.specs.Lists.{over}
 use Rattle.karplus_strong.specs.Line.{level_at}
 use Rattle.karplus_strong.proofs.level.Given as goal
 
-abbrev pub invariant-loop-i : goal.invariant-loop-i
-invariant-loop-i l = (l.i ≤ l.n) × (length l.line ≡ length l.initial.line) × (l.line ≡ over (level_at l.mean l.initial.line) l.i l.initial.line)
-
-abbrev pub decreases-loop-i : goal.decreases-loop-i
-decreases-loop-i l = l.n - l.i
+abbrev pub invariant-loop-cell : goal.invariant-loop-cell
+invariant-loop-cell l = l.cells ≡ over (level_at l.mean l.initial.cells) l.cell-index l.initial.cells

@@ -1,23 +1,15 @@
 -- `line::signed_of` meets its contract. Assumes nothing.
-use mathlib.Core.Path.{sym, ap, ◌∙◌}
-use borrow.Author.Tests.{ne_eqb, eq-eqb}
-use Rattle.line.proofs.Laws.{rest_of}
-use Rattle.line.specs.Number.{digits_of, signed_of}
+use mathlib.Core.Path.{sym, ◌∙◌}
+use Rattle.line.proofs.Laws.{signed_minus, signed_plain}
 use Rattle.line.proofs.signed_of.Goals as goal
 
-pub returns-then-v-eq0 : goal.returns-then-v-eq0
-unfolding signed_of
-returns-then-v-eq0 c = simp (eq-eqb _ _ c.if-v-eq0.true)
+pub returns-in_err-digits_of-in-Some : goal.returns-in_err-digits_of-in-Some
+returns-in_err-digits_of-in-Some c = let (p, e, n) = c.in-Some.ensures.cases in
+    c.from_residual.ensures ∙ sym (signed_minus _ _ p e c.in_err-digits_of-in-Some.ensures)
 
-pub returns-then-v-eq45 : goal.returns-then-v-eq45
-unfolding signed_of
-returns-then-v-eq45 c = simp (
-  ne_eqb _ _ c.if-v-eq0.false,
-  eq-eqb _ _ c.if-v-eq45.true,
-  ap digits_of (sym (rest_of c.args.v.now 1)) ∙ sym c.digits_of.ensures,
-  c.negative_of.ensures,
-)
+pub returns-in_ok-digits_of-in-Some : goal.returns-in_ok-digits_of-in-Some
+returns-in_ok-digits_of-in-Some c = let (p, e, n) = c.in-Some.ensures.cases in
+    c.negative_of.ensures ∙ sym (signed_minus _ _ p e c.in_ok-digits_of-in-Some.ensures)
 
-pub returns-else-v-eq45 : goal.returns-else-v-eq45
-unfolding signed_of
-returns-else-v-eq45 c = simp (ne_eqb _ _ c.if-v-eq0.false, ne_eqb _ _ c.if-v-eq45.false, c.digits_of-else-v-eq45.ensures)
+pub returns-in-None : goal.returns-in-None
+returns-in-None c = c.digits_of-in-None.ensures ∙ sym (signed_plain _ c.in-None.ensures.cases)

@@ -1,11 +1,10 @@
 -- `play`: between two pieces the player stands where the pieces before it end.
 use mathlib.Core.Bool.{true}
-use mathlib.Core.Path.{◌≡◌, refl, sym}
+use mathlib.Core.Path.{◌≡◌, refl}
 use native.Mathlib.Omega.{arith}
-use lib.Seq.{length-take-le}
-use Rattle.text.proofs.PutLaws.{within}
+use Rattle.text.specs.Page.{with_text, page_at}
 use Rattle.render.proofs.Written.{was_read, stands_first, room_samples, samples_cut, samples_room}
-use Rattle.render.proofs.Written.{samples_told, piece_written, turn_next, end_written}
+use Rattle.render.proofs.Written.{samples_told, begins, piece_written, turn_next, end_written}
 use Rattle.render.proofs.play.Goals as goal
 
 pub loop-first-init : goal.loop-first-init
@@ -24,57 +23,51 @@ loop-first-init g c =
 
 pub overflow_mul-room : goal.overflow_mul-room
 overflow_mul-room g c =
-    let most = room_samples c.loop-first.invariant c.loop-first-test.true _ c.lesser-n.ensures in
+    let most = room_samples c.loop-first.invariant c.loop-first-test.true _ c.min-n.ensures in
     omega (arith, most, c.loop-first.invariant.samples_size)
 
 pub slice_bounds-samples-end : goal.slice_bounds-samples-end
-slice_bounds-samples-end g c = room_samples c.loop-first.invariant c.loop-first-test.true _ c.lesser-n.ensures
+slice_bounds-samples-end g c = room_samples c.loop-first.invariant c.loop-first-test.true _ c.min-n.ensures
 
 pub slice_bounds-play-end : goal.slice_bounds-play-end
-slice_bounds-play-end g c = samples_cut c.loop-first.invariant c.loop-first-test.true _ c.lesser-n.ensures
+slice_bounds-play-end g c = samples_cut c.loop-first.invariant c.loop-first-test.true _ c.min-n.ensures
 
 pub slice_bounds-samples-end-in-loop-first : goal.slice_bounds-samples-end-in-loop-first
 slice_bounds-samples-end-in-loop-first g c =
-    samples_room c.loop-first.invariant c.loop-first-test.true _ c.lesser-n.ensures
+    samples_room c.loop-first.invariant c.loop-first-test.true _ c.min-n.ensures
     c.play-played.ensures c.play-played.auto.samples c.play-played.auto.marks
 
 pub slice_bounds-put_frames-end : goal.slice_bounds-put_frames-end
 slice_bounds-put_frames-end g c =
-    samples_told c.loop-first.invariant c.loop-first-test.true _ c.lesser-n.ensures
+    samples_told c.loop-first.invariant c.loop-first-test.true _ c.min-n.ensures
     c.play-played.ensures c.play-played.auto.samples c.play-played.auto.marks
-
-pub slice_bounds-write_piece-end : goal.slice_bounds-write_piece-end
-slice_bounds-write_piece-end g c = (within _ _ _ (c.put_frames-to.ensures.value, c.put_frames-to.ensures.out_after)).0
-
-pub slice_bounds-write_piece-end-in-loop-first : goal.slice_bounds-write_piece-end-in-loop-first
-slice_bounds-write_piece-end-in-loop-first g c =
-    sym (length-take-le _ _ (within _ _ _ (c.put_frames-to.ensures.value, c.put_frames-to.ensures.out_after)).0)
 
 pub write_piece-wrote-requires : goal.write_piece-wrote-requires
+unfolding with_text page_at
 write_piece-wrote-requires g c =
-    let w = piece_written c.loop-first.invariant c.loop-first-test.true _ c.lesser-n.ensures
-    c.play-played.ensures c.play-played.auto.samples c.play-played.auto.marks
-    (c.put_frames-to.ensures.value, c.put_frames-to.ensures.out_after) in
-    (c.requires.1, w.0, w.1, w.2)
+    let i = c.loop-first.invariant in
+    let some = c.loop-first-test.true in (
+      c.requires.1,
+      piece_written i some _ c.min-n.ensures c.play-played.ensures c.play-played.auto.samples c.play-played.auto.marks
+          (rw (c.place-to.ensures, c.put_frames.ensures, c.new-page.ensures) (refl, grind arith)),
+      begins i some _ c.min-n.ensures,
+      i.so_far,
+    )
 
 pub loop-first-preserved : goal.loop-first-preserved
+unfolding with_text page_at
 loop-first-preserved g c =
     let on : c.write_piece-wrote.result ≡ true = cc in
-    turn_next c.loop-first.invariant c.loop-first-test.true _ c.lesser-n.ensures
+    turn_next c.loop-first.invariant c.loop-first-test.true _ c.min-n.ensures
     c.play-played.ensures c.play-played.auto.samples c.play-played.auto.marks
-    (c.put_frames-to.ensures.value, c.put_frames-to.ensures.out_after) on
-
-pub slice_bounds-write_end-end : goal.slice_bounds-write_end-end
-slice_bounds-write_end-end g c = (within _ _ _ (c.put_end-to.ensures.value, c.put_end-to.ensures.out_after)).0
-
-pub slice_bounds-write_end-end-2 : goal.slice_bounds-write_end-end-2
-slice_bounds-write_end-end-2 g c =
-    sym (length-take-le _ _ (within _ _ _ (c.put_end-to.ensures.value, c.put_end-to.ensures.out_after)).0)
+    {to = c.place-to.result}
+    (rw (c.place-to.ensures, c.put_frames.ensures, c.new-page.ensures) (refl, grind arith)) on
 
 pub write_end-requires : goal.write_end-requires
+unfolding with_text page_at
 write_end-requires g c =
     let i = c.loop-first.invariant in (
       c.requires.1,
-      end_written i c.loop-first-test.false _ _ (c.put_end-to.ensures.value, c.put_end-to.ensures.out_after),
+      end_written i c.loop-first-test.false _ _ (rw (c.place-to-2.ensures, c.put_end.ensures, c.new-page-2.ensures) (refl, grind arith)),
       i.so_far,
     )

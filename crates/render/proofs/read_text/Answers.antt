@@ -5,14 +5,14 @@ use Rattle.render.proofs.read_text.Goals as goal
 
 pub loop-n-smaller : goal.loop-n-smaller
 loop-n-smaller g c =
-    let (more, within) = on_reaches _ _ _ _ c.read_on.ensures c.in-On.is in
+    let (more, within) = on_reaches _ _ _ _ c.read_on.ensures c.in-Continue.is in
     omega arith
 
 pub loop-n-preserved : goal.loop-n-preserved
-loop-n-preserved g c = (on_reaches _ _ _ _ c.read_on.ensures c.in-On.is).1
+loop-n-preserved g c = (on_reaches _ _ _ _ c.read_on.ensures c.in-Continue.is).1
 
-pub returns-in-Stop : goal.returns-in-Stop
-returns-in-Stop g c = stop_within _ _ _ _ c.read_on.ensures c.in-Stop.is
+pub returns-in-Break : goal.returns-in-Break
+returns-in-Break g c = stop_within _ _ _ _ c.read_on.ensures c.in-Break.is
 
 pub returns : goal.returns
 returns g c = text_within _ _ c.loop-n.invariant

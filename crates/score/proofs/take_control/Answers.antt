@@ -1,25 +1,14 @@
--- `score::take_control` meets its contract: the line at the place, or the refusal that came before. Assumes nothing.
-use mathlib.Core.Path.{◌∙◌}
-use Rattle.score.specs.Places.{from}
-use Rattle.score.specs.Score.{control}
-use Rattle.score.proofs.Steps.{control_at, text_after}
+-- `score::take_control` meets its contract. Assumes nothing.
+use Rattle.std.proofs.lemmas.Result.{err_from_is_err_and}
+use Rattle.score.proofs.Steps.{control_taken, control_malformed, control_other}
 use Rattle.score.proofs.take_control.Goals as goal
 
-pub returns-in-Read : goal.returns-in-Read
-unfolding from control
-returns-in-Read c = λ k.
-    simp (
-      c.in-At.is,
-      control_at _ _ _ _ c.line_at-line.ensures _ c.control_in.ensures
-          ∙ c.in-Read.is,
-      text_after _ _ _ _ c.line_at-line.ensures,
-    )
+pub returns-in_err-value : goal.returns-in_err-value
+returns-in_err-value c = let p = err_from_is_err_and c.from_residual.result c.from_residual.ensures.1 in rw (p.1, p.2) (control_other _ c.in_err-value.ensures)
 
-pub returns-in-Refused-control_in : goal.returns-in-Refused-control_in
-unfolding from control
-returns-in-Refused-control_in c = λ k.
-    simp (c.in-At.is, control_at _ _ _ _ c.line_at-line.ensures _ c.control_in.ensures ∙ c.in-Refused-control_in.is)
+pub returns-in_err-numbered : goal.returns-in_err-numbered
+returns-in_err-numbered c = let p = err_from_is_err_and c.from_residual-in_err-numbered.result c.from_residual-in_err-numbered.ensures.1 in
+    rw (p.1, p.2) (control_malformed _ c.in_ok-value.ensures c.in_err-numbered.ensures)
 
-pub returns-in-Refused : goal.returns-in-Refused
-unfolding from control
-returns-in-Refused c = λ k. simp c.in-Refused.is
+pub returns : goal.returns
+returns c = control_taken _ _ c.in_ok-value.ensures c.in_ok-numbered.ensures c.control_of.ensures

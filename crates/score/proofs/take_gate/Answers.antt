@@ -1,34 +1,17 @@
--- `score::take_gate` meets its contract: the line at the place, where it is the gate's, or the refusal that came before. Assumes nothing.
-use mathlib.Core.Path.{◌∙◌}
-use Rattle.score.specs.Places.{from}
-use Rattle.score.specs.Score.{whole, gate}
-use Rattle.score.proofs.Steps.{asked_at, whole_at, text_after}
+-- `score::take_gate` meets its contract: the line here, where it is the gate's. Assumes nothing.
+use Rattle.std.proofs.lemmas.Result.{err_from_is_err_and}
+use Rattle.score.specs.Score.{gate}
 use Rattle.score.proofs.take_gate.Goals as goal
 
-pub returns-in-Read : goal.returns-in-Read
-unfolding from gate whole
-returns-in-Read c = λ k.
-    simp (
-      c.in-At.is,
-      asked_at _ _ _ _ c.line_at-line.ensures ∙ c.if-line.true,
-      whole_at _ _ _ _ c.line_at-line.ensures _ _ _ c.whole_in.ensures ∙ c.in-Read.is,
-      text_after _ _ _ _ c.line_at-line.ensures,
-    )
+pub returns-in_err-issue : goal.returns-in_err-issue
+unfolding gate
+returns-in_err-issue c = let p = err_from_is_err_and c.from_residual.result c.from_residual.ensures.1 in
+    rw (p.1, p.2) (λ k. simp (← c.is_line.ensures, c.if-is_line.true) (c.in_err-issue.ensures _))
 
-pub returns-in-Refused-whole_in : goal.returns-in-Refused-whole_in
-unfolding from gate whole
-returns-in-Refused-whole_in c = λ k.
-    simp (
-      c.in-At.is,
-      asked_at _ _ _ _ c.line_at-line.ensures ∙ c.if-line.true,
-      whole_at _ _ _ _ c.line_at-line.ensures _ _ _ c.whole_in.ensures ∙ c.in-Refused-whole_in.is,
-    )
+pub returns-in_ok-issue : goal.returns-in_ok-issue
+unfolding gate
+returns-in_ok-issue c = λ k. simp (← c.is_line.ensures, c.if-is_line.true) (c.in_ok-issue.ensures _)
 
-pub returns-else-line : goal.returns-else-line
-unfolding from gate
-returns-else-line c = λ k.
-    simp (c.in-At.is, asked_at _ _ _ _ c.line_at-line.ensures ∙ c.if-line.false)
-
-pub returns-in-Refused : goal.returns-in-Refused
-unfolding from
-returns-in-Refused c = λ k. simp c.in-Refused.is
+pub returns-else-is_line : goal.returns-else-is_line
+unfolding gate
+returns-else-is_line c = λ k. simp (← c.is_line.ensures, c.if-is_line.false)

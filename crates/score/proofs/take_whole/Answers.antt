@@ -1,25 +1,15 @@
--- `score::take_whole` meets its contract: the line at the place, or the refusal that came before. Assumes nothing.
-use mathlib.Core.Path.{◌∙◌}
-use Rattle.score.specs.Places.{from}
-use Rattle.score.specs.Score.{whole}
-use Rattle.score.proofs.Steps.{whole_at, text_after}
+-- `score::take_whole` meets its contract. Assumes nothing.
+use Rattle.std.proofs.lemmas.Result.{err_from_is_err_and}
+use Rattle.score.proofs.Steps.{whole_taken, whole_malformed, whole_other}
 use Rattle.score.proofs.take_whole.Goals as goal
 
-pub returns-in-Read : goal.returns-in-Read
-unfolding from whole
-returns-in-Read c = λ k.
-    simp (
-      c.in-At.is,
-      whole_at _ _ _ _ c.line_at-line.ensures _ _ _ c.whole_in.ensures
-          ∙ c.in-Read.is,
-      text_after _ _ _ _ c.line_at-line.ensures,
-    )
+pub returns-in_err-value : goal.returns-in_err-value
+returns-in_err-value c = let p = err_from_is_err_and c.from_residual.result c.from_residual.ensures.1 in
+    rw (p.1, p.2) (whole_other _ _ _ c.in_err-value.ensures)
 
-pub returns-in-Refused-whole_in : goal.returns-in-Refused-whole_in
-unfolding from whole
-returns-in-Refused-whole_in c = λ k.
-    simp (c.in-At.is, whole_at _ _ _ _ c.line_at-line.ensures _ _ _ c.whole_in.ensures ∙ c.in-Refused-whole_in.is)
+pub returns-in_err-numbered : goal.returns-in_err-numbered
+returns-in_err-numbered c = let p = err_from_is_err_and c.from_residual-in_err-numbered.result c.from_residual-in_err-numbered.ensures.1 in
+    rw (p.1, p.2) (whole_malformed _ c.in_ok-value.ensures c.in_err-numbered.ensures _ _)
 
-pub returns-in-Refused : goal.returns-in-Refused
-unfolding from whole
-returns-in-Refused c = λ k. simp c.in-Refused.is
+pub returns : goal.returns
+returns c = whole_taken _ _ _ _ c.in_ok-value.ensures c.in_ok-numbered.ensures c.within.ensures

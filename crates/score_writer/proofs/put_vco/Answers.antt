@@ -1,12 +1,16 @@
--- `score_writer::put_vco`: five lines, one after the other.
-use Rattle.text.proofs.PutLaws.{after}
-use Rattle.score_writer.proofs.Put.{ended}
+-- `score_writer::put_vco`: a line after the other.
+use mathlib.Core.List.{append_assoc, append-nil}
+use Rattle.text.proofs.PageLaws.{page_then}
 use Rattle.score_writer.proofs.put_vco.Goals as goal
 
 pub returns : goal.returns
-returns c = let both = after _ _ _ _ (c.put_control-a.ensures.value, c.put_control-a.ensures.out_after)
-    (after _ _ _ _ (c.put_control-b.ensures.value, c.put_control-b.ensures.out_after)
-    (after _ _ _ _ (c.put_control-c.ensures.value, c.put_control-c.ensures.out_after)
-    (after _ _ _ _ (c.put_control-d.ensures.value, c.put_control-d.ensures.out_after)
-    (ended _ _ _ (c.put_control.ensures.value, c.put_control.ensures.out_after))))) in
-    record { value = both.0; out_after = both.1 }
+returns c = simp (
+  c.put_control-5.ensures,
+  c.put_control-4.ensures,
+  c.put_control-3.ensures,
+  c.put_control-2.ensures,
+  c.put_control.ensures,
+  page_then,
+  append_assoc,
+  append-nil,
+)

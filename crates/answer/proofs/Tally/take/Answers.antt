@@ -6,11 +6,11 @@ use Rattle.answer.specs.Tally.{tally_of}
 use Rattle.answer.proofs.Tally.take.Goals as goal
 
 pub count-requires : goal.count-requires
-count-requires c = (omega arith, adds c.args.self (sym c.adds_up.ensures ∙ c.if-adds_up.true))
+count-requires c = (omega arith, adds c.args.self (sym c.adds_up.ensures ∙ c.if-not-adds_up.false))
 
 pub returns-then-n-eq0 : goal.returns-then-n-eq0
 unfolding tally_of
-returns-then-n-eq0 c = simp (eq-eqb _ _ c.if-n-eq0.true, ← c.mark_number-n.ensures, c.if-adds_up.true, ← c.adds_up.ensures)
+returns-then-n-eq0 c = simp (eq-eqb _ _ c.if-n-eq0.true, ← c.mark_number-n.ensures, c.if-not-adds_up.false, ← c.adds_up.ensures)
 
 pub returns-then-self-eq4294967295 : goal.returns-then-self-eq4294967295
 unfolding tally_of
@@ -18,7 +18,7 @@ returns-then-self-eq4294967295 c = simp (
   eq-eqb _ _ c.if-self-eq4294967295.true,
   ne_eqb _ _ c.if-n-eq0.false,
   ← c.mark_number-n.ensures,
-  c.if-adds_up.true,
+  c.if-not-adds_up.false,
   ← c.adds_up.ensures,
 )
 
@@ -29,10 +29,10 @@ returns-else-self-eq4294967295 c = simp (
   ne_eqb _ _ c.if-self-eq4294967295.false,
   ne_eqb _ _ c.if-n-eq0.false,
   ← c.mark_number-n.ensures,
-  c.if-adds_up.true,
+  c.if-not-adds_up.false,
   ← c.adds_up.ensures,
 )
 
-pub returns-else-adds_up : goal.returns-else-adds_up
+pub returns-then-not-adds_up : goal.returns-then-not-adds_up
 unfolding tally_of
-returns-else-adds_up c = simp (c.if-adds_up.false, ← c.adds_up.ensures)
+returns-then-not-adds_up c = simp (c.if-not-adds_up.true, ← c.adds_up.ensures)

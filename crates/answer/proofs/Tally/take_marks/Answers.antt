@@ -13,29 +13,29 @@ few : (t : Tally) (n : ℕ) (b : Bool) → b ≡ room_for t n → b ≡ true →
 few t n b e h = let r = room_says t n (sym e ∙ h) in omega arith
 
 pub count_of-clean-requires : goal.count_of-clean-requires
-count_of-clean-requires c = few _ _ _ c.has_room.ensures c.if-has_room.true
+count_of-clean-requires c = few _ _ _ c.has_room.ensures c.if-not-has_room.false
 
 pub grown-requires : goal.grown-requires
 grown-requires c = let a = c.args in
-    let h = room_says a.self (length a.marks.now) (sym c.has_room.ensures ∙ c.if-has_room.true) in
+    let h = room_says a.self (length a.marks.now) (sym c.has_room.ensures ∙ c.if-not-has_room.false) in
     let all = c.if-clean-marks.true in
     (h.0, omega arith)
 
 pub count_of-requires : goal.count_of-requires
-count_of-requires c = few _ _ _ c.has_room.ensures c.if-has_room.true
+count_of-requires c = few _ _ _ c.has_room.ensures c.if-not-has_room.false
 
 pub count_of-requires-else-clean-marks : goal.count_of-requires-else-clean-marks
-count_of-requires-else-clean-marks c = few _ _ _ c.has_room.ensures c.if-has_room.true
+count_of-requires-else-clean-marks c = few _ _ _ c.has_room.ensures c.if-not-has_room.false
 
 pub count_of-requires-else-clean-marks-2 : goal.count_of-requires-else-clean-marks-2
-count_of-requires-else-clean-marks-2 c = few _ _ _ c.has_room.ensures c.if-has_room.true
+count_of-requires-else-clean-marks-2 c = few _ _ _ c.has_room.ensures c.if-not-has_room.false
 
 pub count_of-requires-else-clean-marks-3 : goal.count_of-requires-else-clean-marks-3
-count_of-requires-else-clean-marks-3 c = few _ _ _ c.has_room.ensures c.if-has_room.true
+count_of-requires-else-clean-marks-3 c = few _ _ _ c.has_room.ensures c.if-not-has_room.false
 
 pub grown-requires-else-clean-marks : goal.grown-requires-else-clean-marks
 grown-requires-else-clean-marks c = let a = c.args in
-    let h = room_says a.self (length a.marks.now) (sym c.has_room.ensures ∙ c.if-has_room.true) in
+    let h = room_says a.self (length a.marks.now) (sym c.has_room.ensures ∙ c.if-not-has_room.false) in
     let m = many_most (cells_of a.marks.now) (length a.marks.now) in
     let v = c.count_of-clean.ensures in
     let w = c.count_of.ensures in
@@ -51,7 +51,7 @@ returns-then-clean-marks c = let a = c.args in
     simp (
       c.grown.ensures,
       c.count_of-clean.ensures,
-      c.if-has_room.true,
+      c.if-not-has_room.false,
       ← c.has_room.ensures,
       all_clean a.self (cells_of a.marks.now) (length a.marks.now) all,
     )
@@ -65,10 +65,10 @@ returns-else-clean-marks c = simp (
   c.count_of-else-clean-marks.ensures,
   c.count_of.ensures,
   c.count_of-clean.ensures,
-  c.if-has_room.true,
+  c.if-not-has_room.false,
   ← c.has_room.ensures,
 )
 
-pub returns-else-has_room : goal.returns-else-has_room
+pub returns-then-not-has_room : goal.returns-then-not-has_room
 unfolding marks_taken
-returns-else-has_room c = simp (c.if-has_room.false, ← c.has_room.ensures)
+returns-then-not-has_room c = simp (c.if-not-has_room.true, ← c.has_room.ensures)

@@ -9,7 +9,7 @@ blank-requires c = let a = accepted _ _ (sym c.refusal-refused.ensures ∙ c.if-
     (omega arith, omega arith)
 
 pub returns-then-refused-eq0 : goal.returns-then-refused-eq0
-returns-then-refused-eq0 c = made_parts (reset_made _ _ _ c.refusal-refused.ensures c.if-refused-eq0.true _ _ c.reset-trigger_edge.ensures c.blank.ensures)
+returns-then-refused-eq0 c = made_parts (reset_made _ _ _ c.refusal-refused.ensures c.if-refused-eq0.true _ _ _ c.at_rest.ensures c.reset.ensures c.blank.ensures)
 
 pub returns-else-refused-eq0 : goal.returns-else-refused-eq0
 returns-else-refused-eq0 c = made_parts (reset_no _ _ _ c.refusal-refused.ensures c.if-refused-eq0.false)

@@ -1,4 +1,4 @@
-use Rattle.karplus_strong.proofs.Parts.{ticked_parts, turn_clean, turn_cleared}
+use Rattle.karplus_strong.proofs.Parts.{tap_by, ticked_parts, turn_clean, turn_cleared}
 use Rattle.karplus_strong.specs.Step.{filtered_of, stretched_of}
 use Rattle.std.proofs.Common.{sym, ◌∙◌}
 use Rattle.karplus_strong.proofs.KarplusStrong.turn.Goals as goal
@@ -6,11 +6,11 @@ use Rattle.karplus_strong.proofs.KarplusStrong.turn.Goals as goal
 pub returns-then-is_settled : goal.returns-then-is_settled
 unfolding filtered_of stretched_of
 returns-then-is_settled c = ticked_parts
-    (turn_clean _ _ _ _ c.tap-sample.ensures (sym c.is_settled.ensures ∙ c.if-is_settled.true) _ _ _ c.after-next.ensures
-    c.volts1.ensures c.marked.ensures)
+    (turn_clean c.args.self c.args.t _ _ (tap_by _ _ _ _ _ _ _ c.behind.ensures c.behind-2.ensures) (sym c.is_settled.ensures ∙ c.if-is_settled.true)
+    _ _ _ c.after.ensures c.volts1.ensures c.marked.ensures)
 
 pub returns-else-is_settled : goal.returns-else-is_settled
 unfolding filtered_of stretched_of
 returns-else-is_settled c = ticked_parts
-    (turn_cleared _ _ _ _ c.tap-sample.ensures (sym c.is_settled.ensures ∙ c.if-is_settled.false) _ _ _ c.volts1-else-is_settled.ensures
-    c.marked-else-is_settled.ensures c.blank.ensures)
+    (turn_cleared c.args.self c.args.t _ _ (tap_by _ _ _ _ _ _ _ c.behind.ensures c.behind-2.ensures) (sym c.is_settled.ensures ∙ c.if-is_settled.false)
+    _ _ _ _ c.volts1-else-is_settled.ensures c.marked-else-is_settled.ensures c.blank.ensures c.at_rest.ensures)

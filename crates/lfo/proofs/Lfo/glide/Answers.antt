@@ -24,11 +24,6 @@ outputs-volts-requires c = c.shared_sine-sine.ensures
 pub mark-heard-requires : goal.mark-heard-requires
 mark-heard-requires c = λ t. rw c.outputs-volts.ensures (outputs_finite _ _ _ _ c.loop-i.invariant.6 (sym c.is_small-small.ensures ∙ t))
 
-pub overflow_add-i : goal.overflow_add-i
-overflow_add-i c = let s = c.loop-i.invariant in
-    let t = c.loop-i-test.true in
-    omega arith
-
 pub loop-i-smaller : goal.loop-i-smaller
 loop-i-smaller c = let t = c.loop-i-test.true in
     omega arith
@@ -42,8 +37,8 @@ loop-i-preserved c = let s = c.loop-i.invariant in
       omega arith,
       k.samples ∙ s.1,
       k.marks ∙ s.2,
-      rw c.put.ensures.samples_after (frames_more n_ports six_ports _ _ _ _ _ _ _ _ _ s.2 (rw s.2 at t) (s.1 ∙ c.requires.1) s.3 a),
-      rw c.put.ensures.marks_after (marks_more n_ports six_ports _ _ _ _ _ _ _ (rw s.2 at t) s.4 a),
+      rw c.put.ensures.samples_after (frames_more n_ports six_ports _ _ _ _ _ _ _ _ _ s.2 t (s.1 ∙ c.requires.1) s.3 a),
+      rw c.put.ensures.marks_after (marks_more n_ports six_ports _ _ _ _ _ _ _ t s.4 a),
       moved _ _ _ _ _ w s.5,
       rw w (wrap_in _ (add-fits binary64 _ _)),
       s.7,

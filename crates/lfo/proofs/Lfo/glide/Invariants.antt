@@ -19,6 +19,3 @@ invariant-loop-i l = (l.i ≤ length l.initial.marks)
     × (l.phase ≡ after_ticks (held_next l.step) l.i l.initial.phase)
     × (phase_ok l.phase ≡ true)
     × (length l.initial.marks < 18446744073709551616)
-
-abbrev pub decreases-loop-i : goal.decreases-loop-i
-decreases-loop-i l = length l.initial.marks - l.i

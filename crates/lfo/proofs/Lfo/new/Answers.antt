@@ -1,15 +1,9 @@
-use borrow.Author.Tests.{ne_eqb, eq-eqb}
-use Rattle.lfo.specs.Lfo.{new_lfo, made_unless, lfo_new_of}
+use Rattle.answer.proofs.Calls.{making_made}
+use Rattle.lfo.specs.Lfo.{new_lfo, lfo_new_of}
 use Rattle.lfo.proofs.Lfo.new.Goals as goal
 
-pub returns-then-n-eq0 : goal.returns-then-n-eq0
-unfolding lfo_new_of made_unless new_lfo
-returns-then-n-eq0 c = let memo = c.new-2.ensures in
-    let edge = c.new.ensures in
-    simp (memo, edge, ← (simp (memo, edge) at c.refusal-n.ensures), eq-eqb _ _ c.if-n-eq0.true)
-
-pub returns-else-n-eq0 : goal.returns-else-n-eq0
-unfolding lfo_new_of made_unless new_lfo
-returns-else-n-eq0 c = let memo = c.new-2.ensures in
-    let edge = c.new.ensures in
-    simp (memo, edge, ← (simp (memo, edge) at c.refusal-n.ensures), ne_eqb _ _ c.if-n-eq0.false)
+pub returns : goal.returns
+unfolding lfo_new_of new_lfo
+returns c = let edge = c.new.ensures in
+    let memo = c.new-2.ensures in
+    simp (edge, memo, (simp (edge, memo) at c.refusal.ensures)) (making_made _ _)

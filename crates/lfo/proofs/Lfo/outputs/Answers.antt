@@ -6,7 +6,7 @@ use Rattle.lfo.proofs.Lfo.outputs.Goals as goal
 pub returns : goal.returns
 unfolding lfo_outputs_of shared_sine
 returns c = simp (
-  c.volts6.ensures,
+  c.of.ensures,
   c.eoc.ensures,
   c.sin_uni.ensures,
   c.sqr.ensures,

@@ -1,11 +1,14 @@
-use borrow.Author.Tests.{ne_eqb, eq-eqb}
-use Rattle.lfo.specs.Lfo.{made_unless, rated, lfo_set_sample_rate_of}
+use Rattle.answer.proofs.Calls.{change_done, change_refused}
+use Rattle.std.proofs.lemmas.Result.{err_from_is_err_and}
+use Rattle.lfo.specs.Lfo.{rated, lfo_set_sample_rate_of}
 use Rattle.lfo.proofs.Lfo.set_sample_rate.Goals as goal
 
-pub returns-then-refused-eq0 : goal.returns-then-refused-eq0
-unfolding lfo_set_sample_rate_of made_unless rated
-returns-then-refused-eq0 c = simp (eq-eqb _ _ c.if-refused-eq0.true, ← c.rate_refusal-refused.ensures)
+pub returns-in_err-rate_refusal : goal.returns-in_err-rate_refusal
+unfolding lfo_set_sample_rate_of
+returns-in_err-rate_refusal c =
+    let p = err_from_is_err_and c.from_residual.result c.from_residual.ensures.1 in
+    rw (p.1, p.2) (change_refused c.rate_refusal.result c.in_err-rate_refusal.field-0.0 _ _ _ c.rate_refusal.ensures c.in_err-rate_refusal.was)
 
-pub returns-else-refused-eq0 : goal.returns-else-refused-eq0
-unfolding lfo_set_sample_rate_of made_unless
-returns-else-refused-eq0 c = simp (ne_eqb _ _ c.if-refused-eq0.false, ← c.rate_refusal-refused.ensures)
+pub returns : goal.returns
+unfolding lfo_set_sample_rate_of rated
+returns c = change_done c.rate_refusal.result _ _ _ _ c.rate_refusal.ensures c.in_ok-rate_refusal.was

@@ -1,10 +1,22 @@
+use mathlib.Core.Bool.{true≢false}
+use mathlib.Core.Path.{sym, ◌∙◌}
+use borrow.Author.Tests.{ne_eqb, eq-eqb}
 use Rattle.lfo.specs.Waves.{sine_of, shared_sine}
 use Rattle.lfo.proofs.Lfo.shared_sine.Goals as goal
+use Rattle.lfo.proofs.Lfo.shared_sine.Goals.{then-wanted-ne0, else-wanted-ne0}
 
-pub returns-then-either : goal.returns-then-either
+pub returns-then-shared : goal.returns-then-shared
 unfolding shared_sine sine_of
-returns-then-either c = simp (c.sin.ensures, c.if-either.true, ← c.either.ensures)
+returns-then-shared c =
+    elim c.if-wanted-ne0.branch [
+      then-wanted-ne0 w ↦ simp (c.sin.ensures, ne_eqb _ _ w.if-wanted-ne0.true)
+      | else-wanted-ne0 w ↦ simp (c.sin.ensures, eq-eqb _ _ w.if-wanted-ne0.false, sym w.shared-is ∙ c.if-shared.true)
+    ]
 
-pub returns-else-either : goal.returns-else-either
+pub returns-else-shared : goal.returns-else-shared
 unfolding shared_sine
-returns-else-either c = simp (c.if-either.false, ← c.either.ensures)
+returns-else-shared c =
+    elim c.if-wanted-ne0.branch [
+      then-wanted-ne0 w ↦ absurd (true≢false (simp (ne_eqb _ _ w.if-wanted-ne0.true) at (sym w.shared-is ∙ c.if-shared.false)))
+      | else-wanted-ne0 w ↦ simp (eq-eqb _ _ w.if-wanted-ne0.false, sym w.shared-is ∙ c.if-shared.false)
+    ]

@@ -1,33 +1,33 @@
 use Rattle.std.proofs.Common.{refl, ap, ◌∙◌}
-use Rattle.answer.specs.Tally.{tally_or}
-use Rattle.answer.proofs.Blocks.{block_refused, block_fits, block_done}
+use Rattle.std.proofs.lemmas.Result.{err_from_is_err_and}
+use Rattle.answer.proofs.Said.{said_fits, said_refused, said_done, kept_or}
 use Rattle.noise_generator.specs.Consts.{n_ports}
 use Rattle.noise_generator.specs.NoiseGenerator.{drawing, undrawn, noise_generator_told_of, noise_generator_next_of, noise_generator_block_of}
-use Rattle.noise_generator.proofs.TurnLaws.{undrawn_done}
+use Rattle.noise_generator.proofs.TurnLaws.{undrawn_ok, undrawn_err}
 use Rattle.noise_generator.proofs.NoiseGenerator.block.Goals as goal
 
-pub run-noise_generator-requires : goal.run-noise_generator-requires
-run-noise_generator-requires c = let a = c.args in
-    let e = rw c.draws_refusal-needed.ensures at c.block_refusal-refused.ensures in
-    let f = block_fits n_ports _ a.tally a.samples.now a.marks.now _ e c.if-refused-eq0.true in
+pub returns-in_err-block_refusal : goal.returns-in_err-block_refusal
+unfolding noise_generator_block_of
+returns-in_err-block_refusal c = let a = c.args in
+    let s = drawing a.self a.draws.now in
+    let p = err_from_is_err_and c.from_residual.result c.from_residual.ensures.1 in
+    rw (p.1, p.2)
+    (undrawn_err s _ _ _ _
+    ∙ ap undrawn
+    (said_refused n_ports _ a.tally a.samples.now a.marks.now _ _ c.draws_refusal-first.ensures c.block_refusal.ensures
+    (noise_generator_told_of a.c a.wanted) (noise_generator_next_of a.c a.wanted) s _ c.in_err-block_refusal.was))
+
+pub run-state-requires : goal.run-state-requires
+run-state-requires c = let a = c.args in
+    let f = said_fits n_ports _ a.tally a.samples.now a.marks.now _ _ c.draws_refusal-first.ensures c.block_refusal.ensures _ c.in_ok-block_refusal.was in
     (f.1, f.0)
 
-pub returns-then-refused-eq0 : goal.returns-then-refused-eq0
+pub returns : goal.returns
 unfolding noise_generator_block_of
-returns-then-refused-eq0 c = let a = c.args in
+returns c = let a = c.args in
     let s = drawing a.self a.draws.now in
-    let e = rw c.draws_refusal-needed.ensures at c.block_refusal-refused.ensures in
-    let tallied = c.or.ensures ∙ ap (tally_or a.tally) c.take_marks.ensures in
-    undrawn_done _ _ _ _ _ _ c.run-noise_generator.ensures.value
-    (block_done n_ports _ (noise_generator_told_of a.c a.wanted) (noise_generator_next_of a.c a.wanted) s a.tally a.samples.now a.marks.now _ e
-    c.if-refused-eq0.true _ _ _ _ refl c.run-noise_generator.ensures.samples_after c.run-noise_generator.ensures.marks_after tallied)
-
-pub returns-else-refused-eq0 : goal.returns-else-refused-eq0
-unfolding noise_generator_block_of
-returns-else-refused-eq0 c = let a = c.args in
-    let s = drawing a.self a.draws.now in
-    let e = rw c.draws_refusal-needed.ensures at c.block_refusal-refused.ensures in
-    ap undrawn
-    (block_refused n_ports _ (noise_generator_told_of a.c a.wanted) (noise_generator_next_of a.c a.wanted) s a.tally a.samples.now
-    a.marks.now _ e
-    c.if-refused-eq0.false)
+    undrawn_ok s _ _ _ _ _ _ c.run-state.ensures.value
+    ∙ ap undrawn
+    (said_done n_ports _ a.tally a.samples.now a.marks.now _ _ c.draws_refusal-first.ensures c.block_refusal.ensures
+    (noise_generator_told_of a.c a.wanted) (noise_generator_next_of a.c a.wanted) s _ c.in_ok-block_refusal.was _ _ _ _ refl
+    c.run-state.ensures.samples_after c.run-state.ensures.marks_after (kept_or _ _ _ _ c.unwrap_or.ensures c.take_marks.ensures))

@@ -1,3 +1,4 @@
+use Rattle.common.specs.Refusal.{number_of, refused_number}
 use Rattle.supersaw.specs.Supersaw.{supersaw_rate_refusal_of}
 use Rattle.supersaw.proofs.Supersaw.rate_refusal.Goals as goal
 
@@ -6,5 +7,5 @@ unfolding supersaw_rate_refusal_of
 returns-then-rate_ok c = simp (c.refusal.ensures, c.if-rate_ok.true, ← c.rate_ok.ensures)
 
 pub returns-else-rate_ok : goal.returns-else-rate_ok
-unfolding supersaw_rate_refusal_of
+unfolding supersaw_rate_refusal_of refused_number number_of
 returns-else-rate_ok c = simp (c.if-rate_ok.false, ← c.rate_ok.ensures)

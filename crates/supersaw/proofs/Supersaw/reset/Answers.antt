@@ -1,11 +1,14 @@
-use borrow.Author.Tests.{eq-eqb, ne_eqb}
-use Rattle.supersaw.specs.Supersaw.{made_unless, supersaw_reset_of}
+use Rattle.answer.proofs.Calls.{change_done, change_refused}
+use Rattle.std.proofs.lemmas.Result.{err_from_is_err_and}
+use Rattle.supersaw.specs.Supersaw.{restarted, supersaw_reset_of}
 use Rattle.supersaw.proofs.Supersaw.reset.Goals as goal
 
-pub returns-then-n-eq0 : goal.returns-then-n-eq0
-unfolding supersaw_reset_of made_unless
-returns-then-n-eq0 c = simp (c.start-phases.ensures, eq-eqb _ _ c.if-n-eq0.true, ← c.refusal-n.ensures)
+pub returns-in_err-refusal : goal.returns-in_err-refusal
+unfolding supersaw_reset_of
+returns-in_err-refusal c =
+    let p = err_from_is_err_and c.from_residual.result c.from_residual.ensures.1 in
+    rw (p.1, p.2) (change_refused c.refusal.result c.in_err-refusal.field-0.0 _ _ _ c.refusal.ensures c.in_err-refusal.was)
 
-pub returns-else-n-eq0 : goal.returns-else-n-eq0
-unfolding supersaw_reset_of made_unless
-returns-else-n-eq0 c = simp (ne_eqb _ _ c.if-n-eq0.false, ← c.refusal-n.ensures)
+pub returns : goal.returns
+unfolding supersaw_reset_of restarted
+returns c = rw c.start.ensures (change_done c.refusal.result _ _ _ _ c.refusal.ensures c.in_ok-refusal.was)

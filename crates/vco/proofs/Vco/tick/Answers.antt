@@ -1,16 +1,19 @@
 use mathlib.Core.Path.{sym, ◌∙◌}
+use Rattle.answer.specs.declared.Answer.TheVariants as answer
+use Rattle.common.proofs.RefusalLaws.{passed, stopped}
+use Rattle.common.specs.Refusal.{refused_number}
 use Rattle.vco.proofs.StateLaws.{unrefused}
 use Rattle.vco.specs.Vco.{vco_tick_of}
-use borrow.Author.Tests.{eq-eqb, ne_eqb}
 use Rattle.vco.proofs.Vco.tick.Goals as goal
 
 pub sound-requires : goal.sound-requires
-sound-requires c = (unrefused c.args.self (sym c.refusal-n.ensures ∙ c.if-n-eq0.true)).1
+unfolding refused_number
+sound-requires c = (unrefused c.args.self (sym c.in-Ok.ensures)).1
 
-pub returns-then-n-eq0 : goal.returns-then-n-eq0
-unfolding vco_tick_of
-returns-then-n-eq0 c = simp (c.sound.ensures, eq-eqb _ _ c.if-n-eq0.true, ← c.refusal-n.ensures)
+pub returns-in-Ok : goal.returns-in-Ok
+unfolding vco_tick_of refused_number
+returns-in-Ok c = c.sound.ensures ∙ passed _ c.in-Ok.ensures _ _
 
-pub returns-else-n-eq0 : goal.returns-else-n-eq0
-unfolding vco_tick_of
-returns-else-n-eq0 c = simp (ne_eqb _ _ c.if-n-eq0.false, ← c.refusal-n.ensures)
+pub returns-in-Err : goal.returns-in-Err
+unfolding vco_tick_of refused_number
+returns-in-Err c = stopped c.in-Err.refused _ _ c.in-Err.ensures c.number.ensures _ (λ k. record { answer = answer.Refused k; state = c.args.self })

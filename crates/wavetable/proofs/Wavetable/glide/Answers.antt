@@ -17,13 +17,6 @@ loop-i-init c = (omega arith, refl, refl, joined_none _ _, over_none _ _, refl)
 pub mix-out-requires : goal.mix-out-requires
 mix-out-requires c = (c.requires.0, c.requires.1)
 
-pub overflow_add-i : goal.overflow_add-i
-overflow_add-i c = let s = c.loop-i.invariant in
-    omega (arith, s.0, s.2, c.loop-i-test.true, c.well_formed)
-
-pub loop-i-smaller : goal.loop-i-smaller
-loop-i-smaller c = omega (arith, c.loop-i.invariant.2, c.loop-i-test.true)
-
 pub loop-i-preserved : goal.loop-i-preserved
 loop-i-preserved c = let s = c.loop-i.invariant in
     let t = c.loop-i-test.true in
@@ -33,8 +26,8 @@ loop-i-preserved c = let s = c.loop-i.invariant in
       omega arith,
       k.samples ∙ s.1,
       k.marks ∙ s.2,
-      rw c.put.ensures.samples_after (frames_more n_ports one_port _ _ _ _ _ _ _ _ _ s.2 (rw s.2 at t) (s.1 ∙ c.requires.2) s.3 a),
-      rw c.put.ensures.marks_after (marks_more n_ports one_port _ _ _ _ _ _ _ (rw s.2 at t) s.4 a),
+      rw c.put.ensures.samples_after (frames_more n_ports one_port _ _ _ _ _ _ _ _ _ s.2 t (s.1 ∙ c.requires.2) s.3 a),
+      rw c.put.ensures.marks_after (marks_more n_ports one_port _ _ _ _ _ _ _ t s.4 a),
       moved _ _ _ _ _ c.wrap_phase.ensures s.5,
     )
 

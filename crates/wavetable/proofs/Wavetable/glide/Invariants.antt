@@ -1,5 +1,5 @@
 use mathlib.Core.Path.{◌≡◌}
-use Prim.Native.Nat.{◌-◌, ◌≤◌}
+use Prim.Native.Nat.{◌≤◌}
 use lib.ListN.{length}
 use lib.Seq.{sets}
 use Rattle.laws.specs.Lists.{over}
@@ -15,6 +15,3 @@ invariant-loop-i l = (l.i ≤ length l.initial.marks)
     × (l.samples ≡ sets l.initial.samples 0 (joined (frame_at n_ports (held_answer l.bank l.pair l.numbers l.step) (held_next l.step) l.initial.phase) l.i))
     × (l.marks ≡ over (mark_at (held_answer l.bank l.pair l.numbers l.step) (held_next l.step) l.initial.phase) l.i l.initial.marks)
     × (l.phase ≡ after_ticks (held_next l.step) l.i l.initial.phase)
-
-abbrev pub decreases-loop-i : goal.decreases-loop-i
-decreases-loop-i l = length l.initial.marks - l.i

@@ -1,11 +1,14 @@
-use borrow.Author.Tests.{ne_eqb, eq-eqb}
-use Rattle.wavetable.specs.Wavetable.{made_unless, rated, wavetable_set_sample_rate_of}
+use Rattle.answer.proofs.Calls.{change_done, change_refused}
+use Rattle.std.proofs.lemmas.Result.{err_from_is_err_and}
+use Rattle.wavetable.specs.Wavetable.{rated, wavetable_set_sample_rate_of}
 use Rattle.wavetable.proofs.Wavetable.set_sample_rate.Goals as goal
 
-pub returns-then-n-eq0 : goal.returns-then-n-eq0
-unfolding wavetable_set_sample_rate_of made_unless rated
-returns-then-n-eq0 c = simp (eq-eqb _ _ c.if-n-eq0.true, ← c.rate_refusal-n.ensures)
+pub returns-in_err-rate_refusal : goal.returns-in_err-rate_refusal
+unfolding wavetable_set_sample_rate_of
+returns-in_err-rate_refusal c =
+    let p = err_from_is_err_and c.from_residual.result c.from_residual.ensures.1 in
+    rw (p.1, p.2) (change_refused c.rate_refusal.result c.in_err-rate_refusal.field-0.0 _ _ _ c.rate_refusal.ensures c.in_err-rate_refusal.was)
 
-pub returns-else-n-eq0 : goal.returns-else-n-eq0
-unfolding wavetable_set_sample_rate_of made_unless
-returns-else-n-eq0 c = simp (ne_eqb _ _ c.if-n-eq0.false, ← c.rate_refusal-n.ensures)
+pub returns : goal.returns
+unfolding wavetable_set_sample_rate_of rated
+returns c = change_done c.rate_refusal.result _ _ _ _ c.rate_refusal.ensures c.in_ok-rate_refusal.was

@@ -1,16 +1,19 @@
 use mathlib.Core.Path.{sym, ◌∙◌}
-use borrow.Author.Tests.{ne_eqb, eq-eqb}
+use Rattle.answer.specs.declared.Answer.TheVariants as answer
+use Rattle.common.proofs.RefusalLaws.{passed, stopped}
+use Rattle.common.specs.Refusal.{refused_number}
 use Rattle.wavetable.proofs.Accepted.{bank_sized}
 use Rattle.wavetable.specs.Wavetable.{wavetable_tick_of}
 use Rattle.wavetable.proofs.Wavetable.tick.Goals as goal
 
 pub sound-requires : goal.sound-requires
-sound-requires c = bank_sized _ _ (sym c.tick_refusal-n.ensures ∙ c.if-n-eq0.true)
+unfolding refused_number
+sound-requires c = bank_sized _ _ (sym c.in-Ok.ensures)
 
-pub returns-then-n-eq0 : goal.returns-then-n-eq0
-unfolding wavetable_tick_of
-returns-then-n-eq0 c = simp (c.sound.ensures, eq-eqb _ _ c.if-n-eq0.true, ← c.tick_refusal-n.ensures)
+pub returns-in-Ok : goal.returns-in-Ok
+unfolding wavetable_tick_of refused_number
+returns-in-Ok c = c.sound.ensures ∙ passed _ c.in-Ok.ensures _ _
 
-pub returns-else-n-eq0 : goal.returns-else-n-eq0
-unfolding wavetable_tick_of
-returns-else-n-eq0 c = simp (ne_eqb _ _ c.if-n-eq0.false, ← c.tick_refusal-n.ensures)
+pub returns-in-Err : goal.returns-in-Err
+unfolding wavetable_tick_of refused_number
+returns-in-Err c = stopped c.in-Err.refused _ _ c.in-Err.ensures c.number.ensures _ (λ k. record { answer = answer.Refused k; state = c.args.self })

@@ -10,19 +10,15 @@ use Rattle.wavetable.proofs.bank.factors.Goals as goal
 
 pub loop-k-init : goal.loop-k-init
 unfolding turned
-loop-k-init c = (omega arith, refl, λ j h. absurd (not-suc-le-zero h), c.first_sign-sign.ensures)
-
-pub factor-requires : goal.factor-requires
-factor-requires c = (c.loop-k-test.true, c.loop-k.invariant.3)
+loop-k-init c = record { size = refl; filled = λ j h. absurd (not-suc-le-zero h); sign = c.first_sign-sign.ensures }
 
 pub loop-k-preserved : goal.loop-k-preserved
 unfolding turned
-loop-k-preserved c = let s = c.loop-k.invariant in (
-  omega arith,
-  simp length-set s.1,
-  cells_more nan _ _ c.loop-k.f _ (omega arith) c.factor.ensures s.2,
-  rw add-one (ap neg s.3),
-)
+loop-k-preserved c = let s = c.loop-k.invariant in record {
+  size = simp length-set s.size;
+  filled = cells_more nan _ _ _ _ (omega arith) c.factor.ensures s.filled;
+  sign = rw add-one (ap neg s.sign);
+}
 
 pub returns : goal.returns
-returns c = let s = c.loop-k.invariant in by_cells nan _ 64 _ s.1 (λ i h. s.2 i (omega arith))
+returns c = let s = c.loop-k.invariant in by_cells nan _ 64 _ s.size (λ i h. s.filled i (omega arith))

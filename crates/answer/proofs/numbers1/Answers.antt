@@ -1,6 +1,0 @@
-use Rattle.answer.specs.Mark.{all_numbers}
-use Rattle.answer.proofs.numbers1.Goals as goal
-
-pub returns : goal.returns
-unfolding all_numbers
-returns c = simp c.and_number.ensures

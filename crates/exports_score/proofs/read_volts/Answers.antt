@@ -1,0 +1,12 @@
+-- `read_volts`: the cells of what was read, or what refused it.
+use Rattle.score.proofs.Steps.{stopped}
+use Rattle.exports_score.specs.Calls.{kept_of}
+use Rattle.exports_score.proofs.read_volts.Goals as goal
+
+pub returns-in_err-s : goal.returns-in_err-s
+unfolding kept_of
+returns-in_err-s c = rw (stopped _ c.from_residual.ensures.1) (simp (← c.in_err-s.ensures))
+
+pub returns : goal.returns
+unfolding kept_of
+returns c = simp (← c.in_ok-s.ensures, c.put_floats.ensures, c.put_wholes.ensures)

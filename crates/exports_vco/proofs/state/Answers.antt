@@ -1,8 +1,0 @@
-use mathlib.Core.Path.{◌∙◌}
-use Rattle.boundary.proofs.Laws.{edge_part}
-use Rattle.exports_vco.specs.State.{state_of}
-use Rattle.exports_vco.proofs.state.Goals as goal
-
-pub returns : goal.returns
-unfolding state_of
-returns c = simp (c.edge_of-sync_edge.ensures ∙ edge_part c.args.floats.now 2)

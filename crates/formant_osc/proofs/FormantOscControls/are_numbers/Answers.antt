@@ -1,4 +1,0 @@
-use Rattle.formant_osc.proofs.FormantOscControls.are_numbers.Goals as goal
-
-pub returns : goal.returns
-returns c = c.numbers4.ensures

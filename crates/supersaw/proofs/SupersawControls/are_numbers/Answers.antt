@@ -1,4 +1,0 @@
-use Rattle.supersaw.proofs.SupersawControls.are_numbers.Goals as goal
-
-pub returns : goal.returns
-returns c = c.numbers3.ensures

@@ -1,4 +1,0 @@
-use Rattle.wavetable.proofs.synced.Goals as goal
-
-pub returns : goal.returns
-returns c = simp c.rising.ensures
