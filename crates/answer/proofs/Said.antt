@@ -65,4 +65,4 @@ block_back s t (Ok p) o m = refl
 block_back s t (Err e) o m = simp (refuses e, reason_back e)
 
 pub block_tells : BlockTells
-block_tells s t b x y p q = sym (block_back s t x.0 x.1.0 x.1.1) ∙ ap block_read (p ∙ sym q) ∙ block_back s t y.0 y.1.0 y.1.1
+block_tells S s t b x y p q = sym (block_back s t x.0 x.1 x.2) ∙ ap block_read (p ∙ sym q) ∙ block_back s t y.0 y.1 y.2

@@ -132,5 +132,5 @@ TakenTo answer next s n = (t : Tally) → room_for t n ≡ true
 
 -- what a block's call says of itself tells what it leaves: its answer, the samples and the marks
 abbrev pub BlockTells : Type 1
-BlockTells = {S : Type 0} (s : S) (t : Tally) (b : Block S)
-    → Settles (λ (x : Result (Played S) Refusal × List Float × List ℕ). block_said s t x.0 x.1.0 x.1.1 ≡ b)
+BlockTells = (S : Type 0) (s : S) (t : Tally) (b : Block S)
+    → Settles (λ (x : Result (Played S) Refusal × List Float × List ℕ). block_said s t x.0 x.1 x.2 ≡ b)

@@ -84,18 +84,6 @@ unfit nf nw f w e h x = go (eqb (length f) nf) (eqb (length w) nw) h
     go false b k = ap Err (sym (reason_back e) ∙ ap reason k)
 
 -- a memo's key of one number, and of three, from its cells
-pub one_key : (k : List ℕ) → length k ≡ 1 → get_or k 0 0 ∷ [] ≡ k
-one_key [] h = absurd (omega arith)
-one_key (x ∷ []) h = refl
-one_key (x ∷ y ∷ k) h = absurd (omega arith)
-
-pub three_keys : (k : List ℕ) → length k ≡ 3 → get_or k 0 0 ∷ get_or k 1 0 ∷ get_or k 2 0 ∷ [] ≡ k
-three_keys [] h = absurd (omega arith)
-three_keys (x ∷ []) h = absurd (omega arith)
-three_keys (x ∷ y ∷ []) h = absurd (omega arith)
-three_keys (x ∷ y ∷ z ∷ []) h = refl
-three_keys (x ∷ y ∷ z ∷ u ∷ k) h = absurd (omega arith)
-
 -- a bool that is read back from a whole number
 pub flag : (b : Bool) → not (eqb (cond b 1 0) 0) ≡ b
 flag true = refl

@@ -1,5 +1,5 @@
 -- What the crates above count on: the statements. The proofs of the same names in small letters stand in proofs/.
-use Rattle.std.specs.Prelude.{◌≡◌, ℕ, true, false, cond, not, ◌&&◌, ◌⊎◌, T, List, [], ◌∷◌, Some, None, Float}
+use Rattle.std.specs.Prelude.{◌≡◌, Bool, true, false, cond, not, ◌&&◌, ◌⊎◌, T, Some, None, Float}
 use Rattle.std.specs.Float.{nan, binary64}
 use Rattle.std.specs.Float.Ieee.{lt, le, neg, of_bits}
 use Rattle.laws.specs.Float.{zer, one, F64, is_fin}
@@ -20,14 +20,13 @@ WrapIn = (x : Float) → F64 x → phase_ok (turns (wrap_of x)) ≡ true
 abbrev pub TurnedSays : Type 0
 TurnedSays = (x : Float) → F64 x → turned_of x ≡ (is_fin x && not (phase_ok (turns x)))
 
--- all of a list of numbers are f64s
-abbrev pub AllF64 : List Float → Type 0
-AllF64 [] = T true
-AllF64 (x ∷ xs) = F64 x × AllF64 xs
+-- two keys are found the same where they are one
+abbrev pub Tells : {K : Type 0} → (K → K → Bool) → Type 0
+Tells same = (a b : _) → same a b ≡ true → a ≡ b
 
--- a memo that is empty, or holds what its closure computes for some keys
-abbrev pub Coherent : {n : ℕ} {V : Type 0} → (List Float → V) → Memo n V → Type 0
-Coherent f m = (m.valid ≡ false) ⊎ ((xs : List Float) × AllF64 xs × (m ≡ filled xs (f xs)))
+-- a memo that is empty, or holds what its closure computes for some key
+abbrev pub Coherent : {K V : Type 0} → (K → V) → Memo K V → Type 0
+Coherent {K = K} f m = (m.valid ≡ false) ⊎ ((k : K) × (m ≡ filled k (f k)))
 
 abbrev pub Coherent1 : (Float → Hertz) → Memo1 → Type 0
 Coherent1 f m = (m.valid ≡ false) ⊎ ((x : Float) × F64 x × (m ≡ filled1 x (f x)))
@@ -38,7 +37,7 @@ Coherent3 f m = (m.valid ≡ false) ⊎ ((x : Float) × (y : Float) × (z : Floa
 -- such a memo leaves, hit or miss, exactly what a miss would: so it can't be told from an empty one
 abbrev pub RecallIs : Type 1
 RecallIs =
-    (n : ℕ) (V : Type 0) (f : List Float → V) (m : Memo n V) → Coherent f m → (xs : List Float) → AllF64 xs → recall (f xs) m xs ≡ filled xs (f xs)
+    (K V : Type 0) (same : K → K → Bool) → Tells same → (f : K → V) (m : Memo K V) → Coherent f m → (k : K) → recall same (f k) m k ≡ filled k (f k)
 
 abbrev pub Recall1Is : Type 0
 Recall1Is = (f : Float → Hertz) (m : Memo1) → Coherent1 f m → (x : Float) → F64 x → recall1 f m x ≡ filled1 x (f x)
@@ -117,7 +116,8 @@ RisingOnce = (e : EdgeDetector) (v : Float) → rising_of (rising_of e v).edge v
 
 -- and keys that stand still are a hit, whatever the memo held
 abbrev pub RecallAgain : Type 1
-RecallAgain = (n : ℕ) (V : Type 0) (v : V) (m : Memo n V) (xs : List Float) → recall v (recall v m xs) xs ≡ recall v m xs
+RecallAgain = (K V : Type 0) (same : K → K → Bool) → ((k : K) → same k k ≡ true) → (v : V) (m : Memo K V) (k : K)
+    → recall same v (recall same v m k) k ≡ recall same v m k
 
 abbrev pub Recall1Again : Type 0
 Recall1Again = (f : Float → Hertz) (m : Memo1) (x : Float) → recall1 f (recall1 f m x) x ≡ recall1 f m x

@@ -3,7 +3,7 @@ use Rattle.std.specs.Prelude.{◌≡◌, Bool, List, ℕ, Result, Float}
 use Rattle.laws.specs.Machine.{Settles}
 use Rattle.common.specs.Pitch.{voct_to_hz}
 use Rattle.common.specs.Phase.{wrap_phase_of, polyblep_of, polyblamp_of, increment_of, restart_of}
-use Rattle.common.specs.Memo.{new_memo, hits, filled, recall, Memo1, recall1, voct_to_hz_at}
+use Rattle.common.specs.Memo.{Key3, key3, new_memo, hits, filled, recall, Memo1, recall1, voct_to_hz_at}
 use Rattle.common.specs.Edge.{new_edge, rising_above_of, rising_of, crossed_above_of, crossed_of, reset_of}
 use Rattle.common.specs.Ports.{out_of}
 use Rattle.common.specs.Refusal.{number_of, refused_number}
@@ -26,10 +26,11 @@ pub record Settled : Type 1 where
   pub polyblamp : (t dt : Turns) → Settles (λ (r : Float). r ≡ polyblamp_of t.0 dt.0)
   pub increment : (freq rate : Hertz) → Settles (λ (r : Turns). r ≡ increment_of freq rate)
   pub restart : (phase : Turns) (rising : Bool) → Settles (λ (r : Turns). r ≡ restart_of phase rising)
-  pub memo_new : {V : Type 0} (n : ℕ) (v : V) → Settles (λ (r : Memo n V). r ≡ new_memo n v)
-  pub memo_hits : {n : ℕ} {V : Type 0} (m : Memo n V) (xs : List Float) → Settles (λ (r : Bool). r ≡ hits m xs)
-  pub memo_filled : {n : ℕ} {V : Type 0} (xs : List Float) (v : V) → Settles (λ (r : Memo n V). r ≡ filled xs v)
-  pub memo_get_or_compute : {n : ℕ} {V : Type 0} (v : V) (m : Memo n V) (xs : List Float) → Settles (λ (r : Memo n V). r ≡ recall v m xs)
+  pub key3 : (x y z : Float) → Settles (λ (r : Key3). r ≡ key3 x y z)
+  pub memo_new : {K V : Type 0} (k : K) (v : V) → Settles (λ (r : Memo K V). r ≡ new_memo k v)
+  pub memo_hits : {K V : Type 0} (same : K → K → Bool) (m : Memo K V) (k : K) → Settles (λ (r : Bool). r ≡ hits same m k)
+  pub memo_filled : {K V : Type 0} (k : K) (v : V) → Settles (λ (r : Memo K V). r ≡ filled k v)
+  pub memo_get_or_compute : {K V : Type 0} (same : K → K → Bool) (v : V) (m : Memo K V) (k : K) → Settles (λ (r : Memo K V). r ≡ recall same v m k)
   pub memo_voct_to_hz : (m : Memo1) (v : VoltsPerOctave) → Settles (λ (r : Memo1). r ≡ recall1 voct_to_hz_at m v.0)
   pub edge_new : (t : Float) → Settles (λ (r : EdgeDetector). r ≡ new_edge t)
   pub edge_rising : (e : EdgeDetector) (v : Float) → Settles (λ (r : Risen). r ≡ rising_of e v)

@@ -7,7 +7,7 @@ ghost use Rattle.std.specs.Float.Ieee.{le};
 ghost use Rattle.laws.specs.Float.{zer, one};
 ghost use Rattle.common.specs.Pitch.{voct_to_hz};
 ghost use Rattle.common.specs.Phase.{turns, wrap_of, turned_of, wrap_phase_of, polyblep_of, polyblamp_of, increment_of, restart_of};
-ghost use Rattle.common.specs.Memo.{bits_of, new_memo, hits, filled, Gives, recall, recall1, voct_to_hz_at};
+ghost use Rattle.common.specs.Memo.{key3, new_memo, hits, filled, Gives, recall, recall1, voct_to_hz_at};
 ghost use Rattle.common.specs.Edge.{new_edge, seen_of, rising_above_of, rising_of, crossed_above_of, crossed_of, reset_of};
 ghost use Rattle.common.specs.Ports.{out_of};
 ghost use Rattle.common.specs.Refusal.{number_of, refused_number};
@@ -220,81 +220,75 @@ pub fn restart(phase: Turns, rising: bool) -> Turns
     if rising { Turns(0.0) } else { phase }
 }
 
-// Remembers what was computed for the last keys, of which there are N. They are kept as bits, so 0.0 and -0.0 differ.
+// The Rust's Memo: it remembers what was computed for the last key. The Rust keys it by the bits of N f64s; here the key is one number or a tuple of them,
+// as `numeric::bits` gives them, so 0.0 and -0.0 differ.
 // Kept: `valid` stands beside the key and the value and no Option holds them, since a host's flat state has a field for each of the three.
 #[derive(Clone, Copy)]
-pub struct Memo<const N: usize, V> {
-    pub key: [u64; N],
+pub struct Memo<K, V> {
+    pub key: K,
     pub val: V,
     pub valid: bool,
 }
 
-// The bits of each key.
-// Kept: a loop, since `key.map(numeric::bits)` requires of N that its iterator fits in memory, and each caller would have to require it too.
-#[inline]
-#[tactic(auto, using(crate::proofs::MemoLaws::bits_more, crate::proofs::MemoLaws::bits_whole))]
-fn bits_of<const N: usize>(key: [f64; N]) -> [u64; N]
-    ensures { result ≡ bits_of key.entry }
+// The key of three f64s.
+pub fn key3(x: f64, y: f64, z: f64) -> (u64, u64, u64)
+    ensures { result ≡ key3 x y z }
 {
-    let mut bits = [0; N];
-    for i in 0..N {
-        bits[i] = numeric::bits(key[i]);
-    }
-    bits
+    (numeric::bits(x), numeric::bits(y), numeric::bits(z))
 }
 
-impl<const N: usize, V: Copy> Memo<N, V> {
-    // An empty one. What val is can't be told.
-    pub fn new(val: V) -> Self
-        ensures { result ≡ new_memo N val }
+impl<K: Copy + PartialEq, V: Copy> Memo<K, V> {
+    // An empty one. What key and val are can't be told.
+    pub fn new(key: K, val: V) -> Self
+        ensures { result ≡ new_memo key val }
     {
         Memo {
-            key: [0; N],
+            key,
             val,
             valid: false,
         }
     }
 
-    // Whether the memo holds the value for these keys.
-    #[inline]
+    // Whether the memo holds the value for this key.
     #[tactic(auto, unfolding(crate::specs::Memo::hits))]
-    pub fn hits(self, key: [f64; N]) -> bool
-        ensures { result ≡ hits self key.entry }
+    pub fn hits(self, key: K) -> bool
+        ensures { result ≡ hits K.eq self key }
     {
-        self.valid && self.key == bits_of(key)
+        self.valid && self.key == key
     }
 
-    // A memo that holds this value for these keys.
-    #[inline]
+    // A memo that holds this value for this key.
     #[tactic(auto, unfolding(crate::specs::Memo::filled))]
-    pub fn filled(key: [f64; N], val: V) -> Self
-        ensures { result ≡ filled key.entry val }
+    pub fn filled(key: K, val: V) -> Self
+        ensures { result ≡ filled key val }
     {
         Memo {
-            key: bits_of(key),
+            key,
             val,
             valid: true,
         }
     }
 
-    // The memo that holds the value for these keys, which is computed where it isn't at hand. The Rust's answer is this memo's val.
-    #[inline]
-    #[tactic(auto, using(crate::proofs::MemoLaws::recall_hit, crate::proofs::MemoLaws::recall_miss))]
-    pub fn get_or_compute<F: FnOnce() -> V>(self, key: [f64; N], compute: F) -> Self
+    // The memo that holds the value for this key, which is computed where it isn't at hand. The Rust's answer is this memo's val.
+    #[tactic(auto, unfolding(crate::specs::Memo::recall))]
+    pub fn get_or_compute<F: FnOnce() -> V>(self, key: K, compute: F) -> Self
         requires { F.pre compute }
-        ensures { (v : V) → Gives (F.post compute) v → result ≡ recall v self key.entry }
+        ensures { (v : V) → Gives (F.post compute) v → result ≡ recall K.eq v self key }
     {
-        let val = if self.hits(key) { self.val } else { compute() };
-        Memo::filled(key, val)
+        if self.hits(key) {
+            self
+        } else {
+            Memo::filled(key, compute())
+        }
     }
 }
 
-impl Memo<1, Hertz> {
+impl Memo<u64, Hertz> {
     // The Rust's get_or_compute([voct], || voct_to_hz(voct)).
     pub fn voct_to_hz(self, voct: VoltsPerOctave) -> Self
         ensures { result ≡ recall1 voct_to_hz_at self voct.0 }
     {
-        self.get_or_compute([voct.0], || voct_to_hz(voct))
+        self.get_or_compute(numeric::bits(voct.0), || voct_to_hz(voct))
     }
 }
 

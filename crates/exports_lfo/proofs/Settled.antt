@@ -1,12 +1,12 @@
 -- What is stored is read back, and each contract, being one equation, settles what it speaks of.
-use Rattle.boundary.proofs.Flat.{flag, one_key}
+use Rattle.boundary.proofs.Flat.{flag}
 use Rattle.exports_lfo.specs.Promises.{ReadBack, Settled}
 use Rattle.exports_lfo.specs.State.{state_of, floats_of, wholes_of}
 use Rattle.laws.proofs.Settled as laws
 
 pub read_back : ReadBack
 unfolding state_of floats_of wholes_of
-read_back s l = simp (flag, one_key s.freq_memo.key l)
+read_back s = simp flag
 
 pub settled : Settled
 settled =

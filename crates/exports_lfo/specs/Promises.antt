@@ -1,14 +1,14 @@
 -- Theorems about the exported calls: the statements. proofs/ proves each under the same name in small letters.
-use Rattle.std.specs.Prelude.{List, ◌≡◌, ℕ, Float, length}
+use Rattle.std.specs.Prelude.{List, ◌≡◌, ℕ, Float}
 use Rattle.boundary.specs.Flat.{Kept, Heard, Played}
 use Rattle.laws.specs.Machine.{Settles}
 use Rattle.exports_lfo.specs.Calls.{lfo_new_at, lfo_reset_at, lfo_set_sample_rate_at, lfo_tick_at, lfo_block_at}
 use Rattle.exports_lfo.specs.State.{state_of, floats_of, wholes_of}
 use Rattle.lfo.specs.declared.Lfo.{Lfo}
 
--- the slices hold the whole state. Here a memo's key is a list of any length; in the code it has one number.
+-- the slices hold the whole state
 abbrev pub ReadBack : Type 0
-ReadBack = (s : Lfo) → length s.freq_memo.key ≡ 1 → state_of (floats_of s) (wholes_of s) ≡ s
+ReadBack = (s : Lfo) → state_of (floats_of s) (wholes_of s) ≡ s
 
 -- each contract settles the number and every lent slice at exit
 pub record Settled : Type 0 where

@@ -22,14 +22,14 @@ state_of f w =
       phase = record { 0 = get_or f 0 nan };
       sample_rate = record { 0 = get_or f 1 nan };
       reset_edge = edge_at f 2;
-      freq_memo = record { key = get_or w 0 0 ∷ []; val = record { 0 = get_or f (2 + n_edge) nan }; valid = not (eqb (get_or w 1 0) 0) };
+      freq_memo = record { key = get_or w 0 0; val = record { 0 = get_or f (2 + n_edge) nan }; valid = not (eqb (get_or w 1 0) 0) };
     }
 
 unfoldable pub floats_of : Lfo → List Float
 floats_of s = s.phase.0 ∷ s.sample_rate.0 ∷ (edge_floats s.reset_edge ++ (s.freq_memo.val.0 ∷ []))
 
 unfoldable pub wholes_of : Lfo → List ℕ
-wholes_of s = get_or s.freq_memo.key 0 0 ∷ cond s.freq_memo.valid 1 0 ∷ []
+wholes_of s = s.freq_memo.key ∷ cond s.freq_memo.valid 1 0 ∷ []
 
 -- [sin, tri, saw, sqr, sin_uni, eoc]
 unfoldable pub samples_of : Volts → List Float

@@ -52,7 +52,7 @@ impl Layout for Cells {
             sample_rate: Hertz(floats[1]),
             reset_edge: boundary::edge_of(&floats[EDGE..VAL]),
             freq_memo: Memo {
-                key: [wholes[0]],
+                key: wholes[0],
                 val: Hertz(floats[VAL]),
                 valid: wholes[1] != 0,
             },
@@ -64,7 +64,7 @@ impl Layout for Cells {
         floats[1] = s.sample_rate.0;
         boundary::put_edge(s.reset_edge, &mut floats[EDGE..VAL]);
         floats[VAL] = s.freq_memo.val.0;
-        wholes[0] = s.freq_memo.key[0];
+        wholes[0] = s.freq_memo.key;
         wholes[1] = s.freq_memo.valid as u64;
     }
 

@@ -1,7 +1,7 @@
 -- What is stored is read back, and each contract, being one equation, settles what it speaks of.
 use mathlib.Core.Path.{◌≡◌, refl}
 use lib.Ieee.{nan}
-use Rattle.boundary.proofs.Flat.{flag, one_key}
+use Rattle.boundary.proofs.Flat.{flag}
 use Rattle.exports_supersaw.specs.Promises.{ReadBack, Settled}
 use Rattle.exports_supersaw.specs.State.{state_of, floats_of, wholes_of}
 use Rattle.laws.proofs.Over.{by_cells}
@@ -11,9 +11,9 @@ use Rattle.supersaw.specs.Voices.{at}
 
 pub read_back : ReadBack
 unfolding state_of floats_of wholes_of tab
-read_back s h l =
+read_back s h =
     let p : s.phases ≡ tab (at s.phases) 7 = by_cells nan (at s.phases) 7 s.phases h (λ i l. refl) in
-    simp (flag, one_key s.freq_memo.key l, ← p)
+    simp (flag, ← p)
 
 pub settled : Settled
 settled =

@@ -6,9 +6,9 @@ use Rattle.exports_supersaw.specs.Calls.{supersaw_new_at, supersaw_reset_at, sup
 use Rattle.exports_supersaw.specs.State.{state_of, floats_of, wholes_of}
 use Rattle.supersaw.specs.declared.Supersaw.{Supersaw}
 
--- the slices hold the whole state. Here its phases and its memo's key are lists of any length; in the code they have seven numbers and one.
+-- the slices hold the whole state, whose phases are seven
 abbrev pub ReadBack : Type 0
-ReadBack = (s : Supersaw) → length s.phases ≡ 7 → length s.freq_memo.key ≡ 1 → state_of (floats_of s) (wholes_of s) ≡ s
+ReadBack = (s : Supersaw) → length s.phases ≡ 7 → state_of (floats_of s) (wholes_of s) ≡ s
 
 -- each contract settles the number and every lent slice at exit
 pub record Settled : Type 0 where

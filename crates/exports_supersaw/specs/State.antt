@@ -22,14 +22,14 @@ state_of f w =
       phases = tab (at f) 7;
       sub_phase = record { 0 = at f 7 };
       sample_rate = record { 0 = at f 8 };
-      freq_memo = record { key = get_or w 0 0 ∷ []; val = record { 0 = at f 9 }; valid = not (eqb (get_or w 1 0) 0) };
+      freq_memo = record { key = get_or w 0 0; val = record { 0 = at f 9 }; valid = not (eqb (get_or w 1 0) 0) };
     }
 
 unfoldable pub floats_of : Supersaw → List Float
 floats_of s = tab (at s.phases) 7 ++ (s.sub_phase.0 ∷ s.sample_rate.0 ∷ s.freq_memo.val.0 ∷ [])
 
 unfoldable pub wholes_of : Supersaw → List ℕ
-wholes_of s = get_or s.freq_memo.key 0 0 ∷ cond s.freq_memo.valid 1 0 ∷ []
+wholes_of s = s.freq_memo.key ∷ cond s.freq_memo.valid 1 0 ∷ []
 
 -- [out, sub]
 unfoldable pub samples_of : Volts → List Float

@@ -47,7 +47,7 @@ impl Layout for Cells {
             sub_phase: Turns(floats[7]),
             sample_rate: Hertz(floats[8]),
             freq_memo: Memo {
-                key: [wholes[0]],
+                key: wholes[0],
                 val: Hertz(floats[9]),
                 valid: wholes[1] != 0,
             },
@@ -59,7 +59,7 @@ impl Layout for Cells {
         floats[7] = s.sub_phase.0;
         floats[8] = s.sample_rate.0;
         floats[9] = s.freq_memo.val.0;
-        wholes[0] = s.freq_memo.key[0];
+        wholes[0] = s.freq_memo.key;
         wholes[1] = s.freq_memo.valid as u64;
     }
 

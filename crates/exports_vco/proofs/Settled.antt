@@ -1,12 +1,12 @@
 -- What is stored is read back, and each contract, being one equation, settles what it speaks of.
-use Rattle.boundary.proofs.Flat.{flag, three_keys}
+use Rattle.boundary.proofs.Flat.{flag}
 use Rattle.exports_vco.specs.Promises.{ReadBack, Settled}
 use Rattle.exports_vco.specs.State.{state_of, floats_of, wholes_of}
 use Rattle.laws.proofs.Settled as laws
 
 pub read_back : ReadBack
 unfolding state_of floats_of wholes_of
-read_back s l = simp (flag, three_keys s.freq_memo.key l)
+read_back s = simp flag
 
 pub settled : Settled
 settled =

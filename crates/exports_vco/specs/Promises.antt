@@ -1,5 +1,5 @@
 -- Theorems about the exported calls: the statements. proofs/ proves each under the same name in small letters.
-use Rattle.std.specs.Prelude.{List, ◌≡◌, ℕ, Float, length}
+use Rattle.std.specs.Prelude.{List, ◌≡◌, ℕ, Float}
 use Rattle.boundary.specs.Flat.{Kept, Heard, Played}
 use Rattle.laws.specs.Machine.{Settles}
 use Rattle.exports_vco.specs.Calls.{vco_new_at, vco_reset_at, vco_set_sample_rate_at, vco_tick_at, vco_block_at}
@@ -7,9 +7,9 @@ use Rattle.exports_vco.specs.State.{state_of, floats_of, wholes_of}
 use Rattle.vco.specs.declared.Vco.{Vco}
 use Rattle.vco.specs.declared.VcoControls.{VcoControls}
 
--- the slices hold the whole state. Here a memo's key is a list of any length; in the code it has three numbers.
+-- the slices hold the whole state
 abbrev pub ReadBack : Type 0
-ReadBack = (s : Vco) → length s.freq_memo.key ≡ 3 → state_of (floats_of s) (wholes_of s) ≡ s
+ReadBack = (s : Vco) → state_of (floats_of s) (wholes_of s) ≡ s
 
 -- each contract settles the number and every lent slice at exit
 pub record Settled : Type 0 where

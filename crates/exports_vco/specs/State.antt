@@ -23,7 +23,7 @@ state_of f w =
       sample_rate = record { 0 = get_or f 1 nan };
       sync_edge = edge_at f 2;
       freq_memo = record {
-        key = get_or w 0 0 ∷ get_or w 1 0 ∷ get_or w 2 0 ∷ [];
+        key = (get_or w 0 0, get_or w 1 0, get_or w 2 0);
         val = record { 0 = get_or f (2 + n_edge) nan };
         valid = not (eqb (get_or w 3 0) 0);
       };
@@ -33,7 +33,7 @@ unfoldable pub floats_of : Vco → List Float
 floats_of s = s.phase.0 ∷ s.sample_rate.0 ∷ (edge_floats s.sync_edge ++ (s.freq_memo.val.0 ∷ []))
 
 unfoldable pub wholes_of : Vco → List ℕ
-wholes_of s = let m = s.freq_memo in get_or m.key 0 0 ∷ get_or m.key 1 0 ∷ get_or m.key 2 0 ∷ cond m.valid 1 0 ∷ []
+wholes_of s = let m = s.freq_memo in m.key.0 ∷ m.key.1 ∷ m.key.2 ∷ cond m.valid 1 0 ∷ []
 
 -- [sin, tri, saw, sqr]
 unfoldable pub samples_of : Volts → List Float

@@ -52,7 +52,7 @@ impl Layout for Cells {
             sample_rate: Hertz(floats[1]),
             sync_edge: boundary::edge_of(&floats[EDGE..VAL]),
             freq_memo: Memo {
-                key: [wholes[0], wholes[1], wholes[2]],
+                key: (wholes[0], wholes[1], wholes[2]),
                 val: Hertz(floats[VAL]),
                 valid: wholes[3] != 0,
             },
@@ -64,9 +64,9 @@ impl Layout for Cells {
         floats[1] = s.sample_rate.0;
         boundary::put_edge(s.sync_edge, &mut floats[EDGE..VAL]);
         floats[VAL] = s.freq_memo.val.0;
-        wholes[0] = s.freq_memo.key[0];
-        wholes[1] = s.freq_memo.key[1];
-        wholes[2] = s.freq_memo.key[2];
+        wholes[0] = s.freq_memo.key.0;
+        wholes[1] = s.freq_memo.key.1;
+        wholes[2] = s.freq_memo.key.2;
         wholes[3] = s.freq_memo.valid as u64;
     }
 

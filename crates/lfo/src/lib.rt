@@ -25,7 +25,7 @@ pub struct Lfo {
     pub phase: Turns,
     pub sample_rate: Hertz,
     pub reset_edge: EdgeDetector,
-    pub freq_memo: Memo<1, Hertz>,
+    pub freq_memo: Memo<u64, Hertz>,
 }
 
 // The inputs, in port order.
@@ -46,11 +46,11 @@ fn rate_to_hz(rate: f64) -> Hertz
     Hertz(0.01 * numeric::pow3000(numeric::clamp(rate, 0.0, 1.0)))
 }
 
-// The Rust's get_or_compute([rate], ..); its answer is the new memo's val.
-fn recall(memo: Memo<1, Hertz>, rate: f64) -> Memo<1, Hertz>
+// The Rust's get_or_compute(numeric::bits(rate), ..); its answer is the new memo's val.
+fn recall(memo: Memo<u64, Hertz>, rate: f64) -> Memo<u64, Hertz>
     ensures { result ≡ recall1 rate_to_hz memo rate }
 {
-    memo.get_or_compute([rate], || rate_to_hz(rate))
+    memo.get_or_compute(numeric::bits(rate), || rate_to_hz(rate))
 }
 
 fn sin(want: bool, sine: f64, scale: f64) -> f64
@@ -147,7 +147,7 @@ impl Lfo {
             phase: Turns(0.0),
             sample_rate,
             reset_edge: EdgeDetector::new(threshold),
-            freq_memo: Memo::new(Hertz(0.0)),
+            freq_memo: Memo::new(0, Hertz(0.0)),
         };
         Made {
             outcome: state.refusal(),

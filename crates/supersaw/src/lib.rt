@@ -26,7 +26,7 @@ pub struct Supersaw {
     pub phases: [f64; 7],
     pub sub_phase: Turns,
     pub sample_rate: Hertz,
-    pub freq_memo: Memo<1, Hertz>,
+    pub freq_memo: Memo<u64, Hertz>,
 }
 
 // The inputs, in port order.
@@ -108,7 +108,7 @@ impl Supersaw {
             phases: Self::start(),
             sub_phase: Turns(0.0),
             sample_rate,
-            freq_memo: Memo::new(Hertz(0.0)),
+            freq_memo: Memo::new(0, Hertz(0.0)),
         };
         if common::rate_ok(sample_rate) {
             Made {

@@ -28,7 +28,7 @@ pub struct Vco {
     pub phase: Turns,
     pub sample_rate: Hertz,
     pub sync_edge: EdgeDetector,
-    pub freq_memo: Memo<3, Hertz>,
+    pub freq_memo: Memo<(u64, u64, u64), Hertz>,
 }
 
 // A volt of fm is an octave; 5 V of fm_lin are the pitch's whole frequency.
@@ -55,14 +55,14 @@ fn frequency(voct: VoltsPerOctave, fm: VoltsPerOctave, fm_lin: f64) -> Hertz
 
 // The Rust's get_or_compute([voct, fm, fm_lin], ..); its answer is the new memo's val.
 fn tuned(
-    memo: Memo<3, Hertz>,
+    memo: Memo<(u64, u64, u64), Hertz>,
     voct: VoltsPerOctave,
     fm: VoltsPerOctave,
     fm_lin: f64,
-) -> Memo<3, Hertz>
+) -> Memo<(u64, u64, u64), Hertz>
     ensures { result ≡ recall3 frequency_of memo voct.0 fm.0 fm_lin }
 {
-    memo.get_or_compute([voct.0, fm.0, fm_lin], || frequency(voct, fm, fm_lin))
+    memo.get_or_compute(common::key3(voct.0, fm.0, fm_lin), || frequency(voct, fm, fm_lin))
 }
 
 // The pulse width, away from 0 and from 1. The clamp lets a NaN pass.
@@ -172,7 +172,7 @@ impl Vco {
             phase: Turns(0.0),
             sample_rate,
             sync_edge: EdgeDetector::new(threshold),
-            freq_memo: Memo::new(Hertz(0.0)),
+            freq_memo: Memo::new((0, 0, 0), Hertz(0.0)),
         };
         Made {
             outcome: state.refusal(),

@@ -33,7 +33,7 @@ pub struct Wavetable {
     pub prev_sync: f64,
     pub threshold: f64,
     pub sample_rate: Hertz,
-    pub freq_memo: Memo<1, Hertz>,
+    pub freq_memo: Memo<u64, Hertz>,
 }
 
 // The inputs, in port order.
@@ -240,7 +240,7 @@ impl Wavetable {
             prev_sync: 0.0,
             threshold,
             sample_rate,
-            freq_memo: Memo::new(Hertz(0.0)),
+            freq_memo: Memo::new(0, Hertz(0.0)),
         };
         Made {
             outcome: state.refusal(),
