@@ -83,7 +83,6 @@ unfit nf nw f w e h x = go (eqb (length f) nf) (eqb (length w) nw) h
     go true false k = ap Err (sym (reason_back e) ∙ ap reason k)
     go false b k = ap Err (sym (reason_back e) ∙ ap reason k)
 
--- a memo's key of one number, and of three, from its cells
 -- a bool that is read back from a whole number
 pub flag : (b : Bool) → not (eqb (cond b 1 0) 0) ≡ b
 flag true = refl
