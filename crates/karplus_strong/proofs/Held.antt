@@ -25,29 +25,29 @@ use Rattle.karplus_strong.specs.Promises.{taken}
 use Rattle.karplus_strong.specs.declared.Heard.{Heard}
 use Rattle.karplus_strong.specs.declared.KarplusStrong.{KarplusStrong}
 use Rattle.karplus_strong.specs.declared.KarplusStrongControls.{KarplusStrongControls}
-use Rattle.karplus_strong.specs.declared.KarplusStrongTicked.{KarplusStrongTicked}
+use Rattle.answer.specs.declared.Ticked.{Ticked}
 use Rattle.karplus_strong.specs.declared.Tuning.{Tuning}
 use Rattle.karplus_strong.proofs.Parts.{PartsOf, Sound, struck_fits, struck_sound, sound_line, accepted, turn_is}
 use Rattle.karplus_strong.proofs.Alike.{strike_keeps, strike_size, turned, turned_sound}
 use Rattle.karplus_strong.proofs.Ticks.{struck_step, tick_is}
 
 -- ---- a turn of the loop
-pub heard : (t : Tuning) (x : Strung) (i : ℕ) (s : KarplusStrong) (l : List Float) (r : KarplusStrongTicked) → r ≡ (turn_of s t l).out
+pub heard : (t : Tuning) (x : Strung) (i : ℕ) (s : KarplusStrong) (l : List Float) (r : Ticked KarplusStrong) → r ≡ (turn_of s t l).out
     → strung s l ≡ after_ticks (held_next t) i x → r.answer ≡ answer_at (held_answer t) (held_next t) x i
 unfolding answer_at held_answer
-heard t x i s l r e z = ap (λ (u : KarplusStrongTicked). u.answer) e ∙ ap (λ (y : Strung). (turn_of y.string t y.line).out.answer) z
+heard t x i s l r e z = ap (λ (u : Ticked KarplusStrong). u.answer) e ∙ ap (λ (y : Strung). (turn_of y.string t y.line).out.answer) z
 
-pub moved : (t : Tuning) (x : Strung) (i : ℕ) (s : KarplusStrong) (l m : List Float) (r : KarplusStrongTicked) → r ≡ (turn_of s t l).out → m
+pub moved : (t : Tuning) (x : Strung) (i : ℕ) (s : KarplusStrong) (l m : List Float) (r : Ticked KarplusStrong) → r ≡ (turn_of s t l).out → m
     ≡ (turn_of s t l).line
     → strung s l ≡ after_ticks (held_next t) i x
-    → strung r.karplus_strong m ≡ after_ticks (held_next t) (i + 1) x
+    → strung r.state m ≡ after_ticks (held_next t) (i + 1) x
 unfolding after_ticks held_next
 moved t x i s l m r e q z = rw add-one
-    ((λ j. strung (e j).karplus_strong (q j)) ∙ ap (λ (y : Strung). let u = turn_of y.string t y.line in strung u.out.karplus_strong u.line) z)
+    ((λ j. strung (e j).state (q j)) ∙ ap (λ (y : Strung). let u = turn_of y.string t y.line in strung u.out.state u.line) z)
 
 -- its place stays in the line
-pub turned_ready : (s : KarplusStrong) (t : Tuning) (l : List Float) (r : KarplusStrongTicked) → r ≡ (turn_of s t l).out → s.write_pos < s.len
-    → (r.karplus_strong.write_pos < r.karplus_strong.len) × (r.karplus_strong.len ≡ s.len)
+pub turned_ready : (s : KarplusStrong) (t : Tuning) (l : List Float) (r : Ticked KarplusStrong) → r ≡ (turn_of s t l).out → s.write_pos < s.len
+    → (r.state.write_pos < r.state.len) × (r.state.len ≡ s.len)
 turned_ready s t l r e h = let w = turned s t l in rw e (w.place h, w.len)
 
 -- ---- the whole
@@ -145,9 +145,9 @@ told : (t : Tuning) (x : Strung) (u : Ticking) → u ≡ turn_of x.string t x.li
 unfolding held_answer
 told t x u e = ap (λ (w : Ticking). w.out.answer) e
 
-gone : (t : Tuning) (x : Strung) (u : Ticking) → u ≡ turn_of x.string t x.line → strung u.out.karplus_strong u.line ≡ held_next t x
+gone : (t : Tuning) (x : Strung) (u : Ticking) → u ≡ turn_of x.string t x.line → strung u.out.state u.line ≡ held_next t x
 unfolding held_next
-gone t x u e = ap (λ (w : Ticking). strung w.out.karplus_strong w.line) e
+gone t x u e = ap (λ (w : Ticking). strung w.out.state w.line) e
 
 first_tick : (s : KarplusStrong) (c : KarplusStrongControls) (draws : List ℕ) (l : List Float) → karplus_strong_refusal_of s (length l) ≡ 0
     → trigger_refusal_of s c draws ≡ 0 → karplus_strong_tick_of s c draws l ≡ turn_of (struck_by s c draws l).string (tune_of s c) (struck_by s c draws l).line

@@ -16,18 +16,17 @@ use Rattle.numeric.specs.Basic.{clamp_of, max_of, whole_of, real_of}
 use Rattle.numeric.specs.Power.{exp2_of}
 use Rattle.common.specs.Consts.{c4, rate_low, rate_high, half, max_voct}
 use Rattle.common.specs.Edge.{reset_of, rising_of}
-use Rattle.common.specs.Memo.{hits1, filled1, recall1, voct_to_hz_at}
+use Rattle.common.specs.Memo.{filled, recall, Memo1, hits1, filled1, recall1, voct_to_hz_at}
 use Rattle.common.specs.Pitch.{voct_to_hz}
 use Rattle.common.specs.Tests.{rate_ok, threshold_ok, draws_refusal_of}
 use Rattle.common.specs.declared.EdgeDetector.{EdgeDetector}
 use Rattle.common.specs.declared.Hertz.{Hertz}
-use Rattle.common.specs.declared.Memo1.{Memo1}
 use Rattle.answer.proofs.Laws.{mark_known}
-use Rattle.answer.specs.Answer.{volts1, outcome_number}
+use Rattle.answer.specs.Answer.{volts1}
+use Rattle.answer.specs.Calls.{outcome}
 use Rattle.answer.specs.Mark.{all_finite, all_numbers, marked_of}
 use Rattle.answer.specs.declared.Volts.{Volts}
 use Rattle.answer.specs.declared.Answer.{Answer}
-use Rattle.answer.specs.declared.Outcome.TheVariants as outcome
 use Rattle.karplus_strong.specs.Consts.{twenty, loop_leak}
 use Rattle.karplus_strong.specs.Shortcuts.{Cut}
 use Rattle.karplus_strong.specs.Line.{blank_of, struck_of}
@@ -35,7 +34,7 @@ use Rattle.karplus_strong.specs.Step.{filter_coef_of, ap_coef_of, filter_delay_o
 use Rattle.karplus_strong.specs.Step.{tap_of, filtered_of, stretched_of, heard_of, rest_of, Ticking, wrote_of, cleared_of, step_of}
 use Rattle.karplus_strong.specs.Shortcuts.{tuning_of, tap_at, turn_of, hear_of, struck_at}
 use Rattle.karplus_strong.specs.KarplusStrong.{max_len_of, string_of, no_string, Strung, strung, line_ok, room_of, karplus_strong_refusal_of}
-use Rattle.karplus_strong.specs.KarplusStrong.{karplus_strong_rate_refusal_of, Making, making, made_unless, karplus_strong_new_refusal_of}
+use Rattle.karplus_strong.specs.KarplusStrong.{karplus_strong_rate_refusal_of, Making, leaving, made_unless, karplus_strong_new_refusal_of}
 use Rattle.karplus_strong.specs.KarplusStrong.{karplus_strong_new_of}
 use Rattle.karplus_strong.specs.KarplusStrong.{karplus_strong_reset_of, place_of, karplus_strong_set_sample_rate_of, finite_or, period_of}
 use Rattle.karplus_strong.specs.KarplusStrong.{struck_len, strike_of, strike_if, heard_string, refused_tick, tick_unless, karplus_strong_sound_of}
@@ -44,7 +43,7 @@ use Rattle.karplus_strong.specs.KarplusStrong.{trigger_refusal_of}
 use Rattle.karplus_strong.specs.declared.Heard.{Heard}
 use Rattle.karplus_strong.specs.declared.KarplusStrong.{KarplusStrong}
 use Rattle.karplus_strong.specs.declared.KarplusStrongControls.{KarplusStrongControls}
-use Rattle.karplus_strong.specs.declared.KarplusStrongTicked.{KarplusStrongTicked}
+use Rattle.answer.specs.declared.Ticked.{Ticked}
 use Rattle.karplus_strong.specs.declared.Tuning.{Tuning}
 use Rattle.karplus_strong.proofs.Cells.{struck_cells}
 use Rattle.karplus_strong.proofs.Periods.{rate_cut, high_period, clamped_cut}
@@ -182,7 +181,7 @@ hz_number v q =
     (le_numbers (clamp_of v (neg max_voct) max_voct) max_voct (clamp_range v (neg max_voct) max_voct (unfold le lt eq neg of_bits in tt) q).1).0))
 
 pub memo_recalled : (m : Memo1) (v : Float) → T (not (is_nan m.val.0)) → T (not (is_nan (recall1 voct_to_hz_at m (finite_or v zer)).val.0))
-unfolding recall1 filled1
+unfolding recall filled
 memo_recalled m v h = go (hits1 m (finite_or v zer))
   where
     go : (b : Bool) → T (not (is_nan (cond b m (filled1 (finite_or v zer) (voct_to_hz_at (finite_or v zer)))).val.0))
@@ -326,10 +325,10 @@ rate_accepted s r n e = go (rate_ok s.sample_rate) (rate_ok r) (line_ok s (max_l
 
 -- ---- making, reset and rate change
 abbrev pub done : KarplusStrong → List Float → Making
-done s l = making (record { outcome = outcome.Done; karplus_strong = s }) l
+done s l = leaving (outcome 0 s) l
 
 abbrev pub refused : ℕ → KarplusStrong → List Float → Making
-refused k s l = making (record { outcome = outcome.Refused k; karplus_strong = s }) l
+refused k s l = leaving (outcome k s) l
 
 pub made_done : (k : ℕ) (x y : Strung) → k ≡ 0 → done y.string y.line ≡ made_unless k x y
 unfolding made_unless
@@ -352,9 +351,8 @@ made_either P k x y h g = go (eqb k 0) (eqb-true k 0) (eqb-false k 0)
     go true e f = h (e refl)
     go false e f = g (f refl)
 
-pub made_says : (k : ℕ) (x y : Strung) → outcome_number (made_unless k x y).out.outcome ≡ k
-unfolding outcome_number
-made_says k x y = made_either (λ m. outcome_number m.out.outcome ≡ k) k x y sym (λ n. refl)
+pub made_says : (k : ℕ) (x y : Strung) → (made_unless k x y).out.refused ≡ k
+made_says k x y = made_either (λ m. m.out.refused ≡ k) k x y sym (λ n. refl)
 
 -- what new asks
 module _ (r : Hertz) (v : Float) (n : ℕ) where
@@ -517,13 +515,13 @@ module _ (s : KarplusStrong) (t : Tuning) (l : List Float) (sample : Float)
 
   pub turn_clean : is_fin leaked ≡ true → (next : ℕ) (v : Volts) (a : Answer) → next ≡ (s.write_pos + 1) % s.len → v ≡ volts1 leaked
       → a ≡ marked_of v false true true t.numbers
-      → record { out = record { answer = a; karplus_strong = turned s next filtered stretched_by }; line = set l s.write_pos leaked } ≡ turn_of s t l
+      → record { out = record { answer = a; state = turned s next filtered stretched_by }; line = set l s.write_pos leaked } ≡ turn_of s t l
   unfolding turn_of
   turn_clean h next v a en ev ea = rw (← es, h, en, ea, ev, heard_known leaked false t.numbers h)
 
   pub turn_cleared : is_fin leaked ≡ false → (v : Volts) (a : Answer) (x : List Float) (u : KarplusStrong) → v ≡ volts1 zer
       → a ≡ marked_of v true true true t.numbers → x ≡ blank_of 0 s.len l → u ≡ rest_of s s.len s.trigger_edge
-      → record { out = record { answer = a; karplus_strong = u }; line = x } ≡ turn_of s t l
+      → record { out = record { answer = a; state = u }; line = x } ≡ turn_of s t l
   unfolding turn_of
   turn_cleared h v a x u ev ea ex eu = rw (← es, h, ea, ev, ex, eu, heard_known zer true t.numbers zer_fin)
 
@@ -574,7 +572,7 @@ module _ (s : KarplusStrong) (c : KarplusStrongControls) (d : List ℕ) (l : Lis
     unfolding karplus_strong_sound_of tick_unless hear_of struck_at strike_if strike_of
     sound_step = rw (heard_taken s c h eh d, ← ek, z, eu.0, eu.1, et, eh) (turn_is _ _ _ _ _ _)
 
-    pub sound_by : (r : KarplusStrongTicked) (y : List Float) → r ≡ (turn_of u t x).out → y ≡ (turn_of u t x).line
+    pub sound_by : (r : Ticked KarplusStrong) (y : List Float) → r ≡ (turn_of u t x).out → y ≡ (turn_of u t x).line
         → (r ≡ (karplus_strong_sound_of s c d l).out) × (y ≡ (karplus_strong_sound_of s c d l).line)
     sound_by r y p q = let e = ticked_parts sound_step in (p ∙ e.0, q ∙ e.1)
 
@@ -583,7 +581,7 @@ module _ (s : KarplusStrong) (c : KarplusStrongControls) (d : List ℕ) (l : Lis
   unfolding karplus_strong_tick_of
   tick_refused h = rw (← e) (tick_no k s l (karplus_strong_sound_of s c d l) h)
 
-  pub tick_sound : k ≡ 0 → (r : KarplusStrongTicked) (y : List Float)
+  pub tick_sound : k ≡ 0 → (r : Ticked KarplusStrong) (y : List Float)
       → (r ≡ (karplus_strong_sound_of s c d l).out) × (y ≡ (karplus_strong_sound_of s c d l).line)
       → (r ≡ (karplus_strong_tick_of s c d l).out) × (y ≡ (karplus_strong_tick_of s c d l).line)
   unfolding karplus_strong_tick_of tick_unless

@@ -9,9 +9,11 @@ ghost use Rattle.laws.specs.Float.{is_fin, zer, one};
 ghost use Rattle.laws.specs.Lists.{tab};
 ghost use Rattle.numeric.specs.Basic.{clamp_of, whole_of};
 ghost use Rattle.common.specs.Consts.{half};
+ghost use Rattle.common.specs.Refusal.{refused_number};
 ghost use Rattle.common.specs.Tests.{rate_ok, draws_refusal_of};
+ghost use Rattle.answer.specs.Calls.{making, changing};
 ghost use Rattle.answer.specs.Mark.{all_numbers};
-ghost use Rattle.answer.specs.Block.{after_ticks, joined, block, mark_at, frame_at};
+ghost use Rattle.answer.specs.Block.{after_ticks, joined, block_said, mark_at, frame_at};
 ghost use Rattle.karplus_strong.specs.Consts.{n_ports};
 ghost use Rattle.karplus_strong.specs.Line.{blank_of, pulse_of, excited_of, level_of, struck_of};
 ghost use Rattle.karplus_strong.specs.Step.{filter_coef_of, ap_coef_of, target_delay_of, rest_of};
@@ -20,13 +22,13 @@ ghost use Rattle.karplus_strong.specs.KarplusStrong.{karplus_strong_cells_of, ka
 ghost use Rattle.karplus_strong.specs.KarplusStrong.{damping_of, stretch_of, period_of};
 ghost use Rattle.karplus_strong.specs.KarplusStrong.{karplus_strong_sound_of, karplus_strong_tick_of, karplus_strong_told_of};
 ghost use Rattle.karplus_strong.specs.KarplusStrong.{karplus_strong_next_of, trigger_refusal_of, first_refusal_of, karplus_strong_block_of};
-ghost use Rattle.karplus_strong.specs.KarplusStrong.{karplus_strong_reset_of, place_of, karplus_strong_set_sample_rate_of, strung};
+ghost use Rattle.karplus_strong.specs.KarplusStrong.{with_line, karplus_strong_reset_of, place_of, karplus_strong_set_sample_rate_of, strung};
 ghost use Rattle.karplus_strong.specs.Shortcuts.{Cut, tuning_of, turn_of, held_answer, held_next, hear_of, struck_at};
 
-use answer::{Answer, Outcome, Tally};
-use common::{EdgeDetector, Hertz, Memo1, VoltsPerOctave};
+use answer::{Answer, Made, Played, Tally, Ticked, Volts};
+use common::{EdgeDetector, Hertz, Memo, Refusal, VoltsPerOctave};
 
-// The number of outputs.
+// The number of outputs: p10, out.
 const PORTS: usize = 1;
 
 // The Rust's fields less `max_len`, which follows from the rate, the lent line, of which the length stays, and the noise.
@@ -39,7 +41,7 @@ pub struct KarplusStrong {
     pub ap_x1: f64,
     pub ap_y1: f64,
     pub trigger_edge: EdgeDetector,
-    pub freq_memo: Memo1,
+    pub freq_memo: Memo<u64, Hertz>,
 }
 
 // Its inputs in port order.
@@ -50,28 +52,6 @@ pub struct KarplusStrongControls {
     pub damping: f64,
     pub brightness: f64,
     pub stretch: f64,
-}
-
-// What a tick answers (p10: out), with the string after it.
-#[derive(Clone, Copy)]
-pub struct KarplusStrongTicked {
-    pub answer: Answer,
-    pub karplus_strong: KarplusStrong,
-}
-
-// What a block leaves beside line, samples and marks: `refused` is 0, or the number that refused it.
-#[derive(Clone, Copy)]
-pub struct KarplusStrongBlock {
-    pub refused: u32,
-    pub karplus_strong: KarplusStrong,
-    pub tally: Tally,
-}
-
-// A refused new hands out a string of no cells, which every call refuses; any other refused call the string as it stood.
-#[derive(Clone, Copy)]
-pub struct KarplusStrongMade {
-    pub outcome: Outcome,
-    pub karplus_strong: KarplusStrong,
 }
 
 // What period, damping and stretch make of the loop: its filters, and the delay of its line in whole samples and a fraction. Beside
@@ -258,7 +238,7 @@ fn string_of(sample_rate: Hertz, threshold: f64, len: usize) -> KarplusStrong
         ap_x1: 0.0,
         ap_y1: 0.0,
         trigger_edge: EdgeDetector::new(threshold),
-        freq_memo: Memo1::new(),
+        freq_memo: Memo::new(0, Hertz(0.0)),
     }
 }
 
@@ -267,13 +247,13 @@ impl KarplusStrongControls {
     fn are_numbers(self) -> bool
         ensures { result ≡ all_numbers (controls_of self) }
     {
-        answer::numbers5(
+        answer::numbers([
             self.voct.0,
             self.trigger,
             self.damping,
             self.brightness,
             self.stretch,
-        )
+        ])
     }
 
     // What they make of the loop at a period.
@@ -296,14 +276,14 @@ impl KarplusStrongControls {
 }
 
 impl Heard {
-    // Refusals 5 and 6 of a trigger that is taken, or 0.
-    fn refusal(self, draws: &[u64]) -> u32
-        ensures { result ≡ (if self.rising then draws_refusal_of self.struck_len draws.now else 0) }
+    // What refuses a trigger that is taken: its draws.
+    fn refusal(self, draws: &[u64]) -> Result<(), Refusal>
+        ensures { refused_number result ≡ (if self.rising then draws_refusal_of self.struck_len draws.now else 0) }
     {
         if self.rising {
             common::draws_refusal(self.struck_len, draws)
         } else {
-            0
+            Ok(())
         }
     }
 
@@ -336,15 +316,15 @@ impl KarplusStrong {
         whole(sample_rate.0 / 20.0) + 10
     }
 
-    // Refusal 3, or 0: room for the longest line and the two cells that a strike may add.
-    fn room(sample_rate: Hertz, n: usize) -> u32
+    // A line is refused that has no room for the longest one and the two cells that a strike may add.
+    fn room(sample_rate: Hertz, n: usize) -> Result<(), Refusal>
         requires { rate_ok sample_rate ≡ true }
-        ensures { result ≡ room_of sample_rate n }
+        ensures { refused_number result ≡ room_of sample_rate n }
     {
         if n < KarplusStrong::max_len_for(sample_rate) + 2 {
-            3
+            Err(Refusal::Line)
         } else {
-            0
+            Ok(())
         }
     }
 
@@ -373,55 +353,50 @@ impl KarplusStrong {
             && common::threshold_ok(self.trigger_edge.threshold)
     }
 
-    // Refusals 1 to 3 of a call with a lent line of n cells, or 0.
-    fn refusal(self, n: usize) -> u32
-        ensures { result ≡ karplus_strong_refusal_of self n }
+    // What refuses a call with a lent line of n cells: the rate, then the state, then the line.
+    fn refusal(self, n: usize) -> Result<(), Refusal>
+        ensures { refused_number result ≡ karplus_strong_refusal_of self n }
     {
-        let sample_rate = self.sample_rate;
-        if common::rate_ok(sample_rate) {
-            if self.line_ok(KarplusStrong::max_len_for(sample_rate)) {
-                KarplusStrong::room(sample_rate, n)
-            } else {
-                2
-            }
+        if !common::rate_ok(self.sample_rate) {
+            Err(Refusal::Rate)
+        } else if !self.line_ok(KarplusStrong::max_len_for(self.sample_rate)) {
+            Err(Refusal::State)
         } else {
-            1
+            KarplusStrong::room(self.sample_rate, n)
         }
     }
 
-    // Refusals 1 to 3 of making a string in a lent line of n cells, or 0.
-    fn new_refusal(sample_rate: Hertz, threshold: f64, n: usize) -> u32
-        ensures { result ≡ karplus_strong_new_refusal_of sample_rate threshold n }
+    // What refuses making a string in a lent line of n cells.
+    fn new_refusal(sample_rate: Hertz, threshold: f64, n: usize) -> Result<(), Refusal>
+        ensures { refused_number result ≡ karplus_strong_new_refusal_of sample_rate threshold n }
     {
-        if common::rate_ok(sample_rate) {
-            if common::threshold_ok(threshold) {
-                KarplusStrong::room(sample_rate, n)
-            } else {
-                2
-            }
+        if !common::rate_ok(sample_rate) {
+            Err(Refusal::Rate)
+        } else if !common::threshold_ok(threshold) {
+            Err(Refusal::State)
         } else {
-            1
+            KarplusStrong::room(sample_rate, n)
         }
     }
 
-    // Of a rate and of the threshold that its gate goes by.
-    pub fn new(sample_rate: Hertz, threshold: f64, line: &mut [f64]) -> KarplusStrongMade
-        ensures { (result ≡ (karplus_strong_new_of sample_rate threshold line.old).out)
+    // Of a rate and of the threshold that its gate goes by. A refused one hands out a string of no cells, which every call refuses.
+    pub fn new(sample_rate: Hertz, threshold: f64, line: &mut [f64]) -> Made<KarplusStrong>
+        ensures { (making result ≡ (karplus_strong_new_of sample_rate threshold line.old).out)
             × (line.new ≡ (karplus_strong_new_of sample_rate threshold line.old).line) }
     {
-        let refused = KarplusStrong::new_refusal(sample_rate, threshold, line.len());
-        if refused == 0 {
-            let max_len = KarplusStrong::max_len_for(sample_rate);
-            blank(line, 0, max_len);
-            KarplusStrongMade {
-                outcome: Outcome::Done,
-                karplus_strong: string_of(sample_rate, threshold, max_len),
+        match KarplusStrong::new_refusal(sample_rate, threshold, line.len()) {
+            Ok(()) => {
+                let max_len = KarplusStrong::max_len_for(sample_rate);
+                blank(line, 0, max_len);
+                Made {
+                    outcome: Ok(()),
+                    state: string_of(sample_rate, threshold, max_len),
+                }
             }
-        } else {
-            KarplusStrongMade {
-                outcome: Outcome::Refused(refused),
-                karplus_strong: string_of(sample_rate, threshold, 0),
-            }
+            Err(refused) => Made {
+                outcome: Err(refused),
+                state: string_of(sample_rate, threshold, 0),
+            },
         }
     }
 
@@ -441,7 +416,7 @@ impl KarplusStrong {
 
     // One sample: the loop turns once. Inlined, for with a call in its loop a block takes more than twice as long.
     #[inline(always)]
-    fn turn(self, t: Tuning, line: &mut [f64]) -> KarplusStrongTicked
+    fn turn(self, t: Tuning, line: &mut [f64]) -> Ticked<KarplusStrong>
         requires { (self.write_pos < self.len) × (self.len ≤ length line.old) }
         ensures { (result ≡ (turn_of self t line.old).out) × (line.new ≡ (turn_of self t line.old).line) }
     {
@@ -454,9 +429,9 @@ impl KarplusStrong {
         let leaked = stretched * KarplusStrong::LOOP_LEAK;
         if is_settled(leaked) {
             line[self.write_pos] = leaked;
-            KarplusStrongTicked {
-                answer: answer::marked(answer::volts1(leaked), false, true, true, t.numbers),
-                karplus_strong: KarplusStrong {
+            Ticked {
+                answer: answer::marked(Volts::of([leaked]), false, true, true, t.numbers),
+                state: KarplusStrong {
                     write_pos: after(self.write_pos, self.len),
                     lp_state: filtered,
                     ap_x1: filtered,
@@ -466,9 +441,9 @@ impl KarplusStrong {
             }
         } else {
             blank(line, 0, self.len);
-            KarplusStrongTicked {
-                answer: answer::marked(answer::volts1(0.0), true, true, true, t.numbers),
-                karplus_strong: self.at_rest(self.len),
+            Ticked {
+                answer: answer::marked(Volts::of([0.0]), true, true, true, t.numbers),
+                state: self.at_rest(self.len),
             }
         }
     }
@@ -496,22 +471,27 @@ impl KarplusStrong {
     }
 
     // The tick of a state and a line that refusals 1 to 3 let pass: edge, strike if it is taken, step.
-    fn sound(self, c: KarplusStrongControls, draws: &[u64], line: &mut [f64]) -> KarplusStrongTicked
+    fn sound(
+        self,
+        c: KarplusStrongControls,
+        draws: &[u64],
+        line: &mut [f64],
+    ) -> Ticked<KarplusStrong>
         requires { karplus_strong_refusal_of self (length line.old) ≡ 0 }
         ensures { (result ≡ (karplus_strong_sound_of self c draws.now line.old).out)
             × (line.new ≡ (karplus_strong_sound_of self c draws.now line.old).line) }
     {
         let heard = self.hear(c);
-        let refused = heard.refusal(draws);
-        if refused == 0 {
-            let tuning = c.tuning(heard.period);
-            let struck = heard.struck(c.brightness, draws, line);
-            struck.turn(tuning, line)
-        } else {
-            KarplusStrongTicked {
-                answer: Answer::Refused(refused),
-                karplus_strong: self,
+        match heard.refusal(draws) {
+            Ok(()) => {
+                let tuning = c.tuning(heard.period);
+                let struck = heard.struck(c.brightness, draws, line);
+                struck.turn(tuning, line)
             }
+            Err(refused) => Ticked {
+                answer: Answer::Refused(refused.number()),
+                state: self,
+            },
         }
     }
 
@@ -520,18 +500,16 @@ impl KarplusStrong {
         c: KarplusStrongControls,
         draws: &[u64],
         line: &mut [f64],
-    ) -> KarplusStrongTicked
+    ) -> Ticked<KarplusStrong>
         ensures { (result ≡ (karplus_strong_tick_of self c draws.now line.old).out)
             × (line.new ≡ (karplus_strong_tick_of self c draws.now line.old).line) }
     {
-        let refused = self.refusal(line.len());
-        if refused == 0 {
-            self.sound(c, draws, line)
-        } else {
-            KarplusStrongTicked {
-                answer: Answer::Refused(refused),
-                karplus_strong: self,
-            }
+        match self.refusal(line.len()) {
+            Ok(()) => self.sound(c, draws, line),
+            Err(refused) => Ticked {
+                answer: Answer::Refused(refused.number()),
+                state: self,
+            },
         }
     }
 
@@ -549,24 +527,26 @@ impl KarplusStrong {
         for i in 0..marks.len() {
             let ticked = string.turn(t, &mut *line);
             answer::put(ticked.answer, PORTS, i, &mut *samples, &mut *marks);
-            string = ticked.karplus_strong;
+            string = ticked.state;
         }
         string
     }
 
-    // What refuses the first of n ticks, or 0. Where there is none, its trigger isn't looked at.
-    fn first_refusal(self, c: KarplusStrongControls, draws: &[u64], cells: usize, n: usize) -> u32
-        ensures { result ≡ first_refusal_of self c draws.now cells n }
+    // What refuses the first of n ticks. Where there is none, its trigger isn't looked at.
+    fn first_refusal(
+        self,
+        c: KarplusStrongControls,
+        draws: &[u64],
+        cells: usize,
+        n: usize,
+    ) -> Result<(), Refusal>
+        ensures { refused_number result ≡ first_refusal_of self c draws.now cells n }
     {
-        let refused = self.refusal(cells);
-        if refused == 0 {
-            if n == 0 {
-                0
-            } else {
-                self.hear(c).refusal(draws)
-            }
+        self.refusal(cells)?;
+        if n == 0 {
+            Ok(())
         } else {
-            refused
+            self.hear(c).refusal(draws)
         }
     }
 
@@ -603,103 +583,66 @@ impl KarplusStrong {
         line: &mut [f64],
         samples: &mut [f64],
         marks: &mut [u32],
-    ) -> KarplusStrongBlock
-        ensures { block result.refused (strung result.karplus_strong line.new) result.tally samples.new marks.new
+    ) -> Result<Played<KarplusStrong>, Refusal>
+        ensures { with_line (block_said self tally result samples.new marks.new) line.new
             ≡ karplus_strong_block_of (strung self line.old) c draws.now tally samples.old marks.old }
     {
         let n = marks.len();
         let first = self.first_refusal(c, draws, line.len(), n);
-        let refused = answer::block_refusal(PORTS, samples.len(), first, tally, n);
-        if refused == 0 {
-            if n == 0 {
-                KarplusStrongBlock {
-                    refused: 0,
-                    karplus_strong: self,
-                    tally,
-                }
-            } else {
-                let karplus_strong = self.run(c, draws, line, samples, marks);
-                KarplusStrongBlock {
-                    refused: 0,
-                    karplus_strong,
-                    tally: tally.take_marks(marks).or(tally),
-                }
-            }
-        } else {
-            KarplusStrongBlock {
-                refused,
-                karplus_strong: self,
-                tally,
-            }
+        answer::block_refusal(PORTS, samples.len(), first, tally, n)?;
+        if n == 0 {
+            return Ok(Played { state: self, tally });
         }
+        let state = self.run(c, draws, line, samples, marks);
+        Ok(Played {
+            state,
+            tally: tally.take_marks(marks).unwrap_or(tally),
+        })
     }
 
     // The line is silent again; its length stays, and so does the memo.
-    pub fn reset(self, line: &mut [f64]) -> KarplusStrongMade
-        ensures { (result ≡ (karplus_strong_reset_of self line.old).out)
+    pub fn reset(self, line: &mut [f64]) -> Result<KarplusStrong, Refusal>
+        ensures { (changing self result ≡ (karplus_strong_reset_of self line.old).out)
             × (line.new ≡ (karplus_strong_reset_of self line.old).line) }
     {
-        let refused = self.refusal(line.len());
-        if refused == 0 {
-            blank(line, 0, self.len);
-            KarplusStrongMade {
-                outcome: Outcome::Done,
-                karplus_strong: KarplusStrong {
-                    trigger_edge: self.trigger_edge.reset(),
-                    ..self.at_rest(self.len)
-                },
-            }
-        } else {
-            KarplusStrongMade {
-                outcome: Outcome::Refused(refused),
-                karplus_strong: self,
-            }
-        }
+        self.refusal(line.len())?;
+        blank(line, 0, self.len);
+        Ok(KarplusStrong {
+            trigger_edge: self.trigger_edge.reset(),
+            ..self.at_rest(self.len)
+        })
     }
 
-    // Refusals 1 to 3 of a rate change, or 0.
-    fn rate_refusal(self, sample_rate: Hertz, n: usize) -> u32
-        ensures { result ≡ karplus_strong_rate_refusal_of self sample_rate n }
+    // What refuses a rate change: the new rate or the old, then the state by the old one, then the line by the new one.
+    fn rate_refusal(self, sample_rate: Hertz, n: usize) -> Result<(), Refusal>
+        ensures { refused_number result ≡ karplus_strong_rate_refusal_of self sample_rate n }
     {
-        let old = self.sample_rate;
-        if common::rate_ok(old) {
-            if common::rate_ok(sample_rate) {
-                if self.line_ok(KarplusStrong::max_len_for(old)) {
-                    KarplusStrong::room(sample_rate, n)
-                } else {
-                    2
-                }
-            } else {
-                1
-            }
+        if !common::rate_ok(self.sample_rate) || !common::rate_ok(sample_rate) {
+            Err(Refusal::Rate)
+        } else if !self.line_ok(KarplusStrong::max_len_for(self.sample_rate)) {
+            Err(Refusal::State)
         } else {
-            1
+            KarplusStrong::room(sample_rate, n)
         }
     }
 
     // Cuts the line to the new rate's longest, or fills it up with 0.0. A write position that no longer lies in it goes to 0.
-    pub fn set_sample_rate(self, sample_rate: Hertz, line: &mut [f64]) -> KarplusStrongMade
-        ensures { (result ≡ (karplus_strong_set_sample_rate_of self sample_rate line.old).out)
+    pub fn set_sample_rate(
+        self,
+        sample_rate: Hertz,
+        line: &mut [f64],
+    ) -> Result<KarplusStrong, Refusal>
+        ensures { (changing self result ≡ (karplus_strong_set_sample_rate_of self sample_rate line.old).out)
             × (line.new ≡ (karplus_strong_set_sample_rate_of self sample_rate line.old).line) }
     {
-        let refused = self.rate_refusal(sample_rate, line.len());
-        if refused == 0 {
-            let max_len = KarplusStrong::max_len_for(sample_rate);
-            blank(line, self.len.min(max_len), max_len);
-            KarplusStrongMade {
-                outcome: Outcome::Done,
-                karplus_strong: KarplusStrong {
-                    len: max_len,
-                    write_pos: placed(self.write_pos, max_len),
-                    sample_rate,
-                    ..self
-                },
-            }
-        } else {
-            KarplusStrongMade {
-                outcome: Outcome::Refused(refused),
-                karplus_strong: self,
-            }
-        }
+        self.rate_refusal(sample_rate, line.len())?;
+        let max_len = KarplusStrong::max_len_for(sample_rate);
+        blank(line, self.len.min(max_len), max_len);
+        Ok(KarplusStrong {
+            len: max_len,
+            write_pos: placed(self.write_pos, max_len),
+            sample_rate,
+            ..self
+        })
     }
 }
