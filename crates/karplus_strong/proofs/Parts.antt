@@ -18,7 +18,10 @@ use Rattle.common.specs.Consts.{c4, rate_low, rate_high, half, max_voct}
 use Rattle.common.specs.Edge.{reset_of, rising_of}
 use Rattle.common.specs.Memo.{filled, recall, Memo1, hits1, filled1, recall1, voct_to_hz_at}
 use Rattle.common.specs.Pitch.{voct_to_hz}
+use Rattle.common.specs.Refusal.{number_of, refused_number}
 use Rattle.common.specs.Tests.{rate_ok, threshold_ok, draws_refusal_of}
+use Rattle.common.proofs.RefusalLaws.{nonzero}
+use Rattle.common.specs.declared.Refusal.{Refusal}
 use Rattle.common.specs.declared.EdgeDetector.{EdgeDetector}
 use Rattle.common.specs.declared.Hertz.{Hertz}
 use Rattle.answer.proofs.Laws.{mark_known}
@@ -28,7 +31,7 @@ use Rattle.answer.specs.Mark.{all_finite, all_numbers, marked_of}
 use Rattle.answer.specs.declared.Volts.{Volts}
 use Rattle.answer.specs.declared.Answer.{Answer}
 use Rattle.karplus_strong.specs.Consts.{twenty, loop_leak}
-use Rattle.karplus_strong.specs.Shortcuts.{Cut}
+use Rattle.karplus_strong.specs.Shortcuts.{Cut, state_refusal_of}
 use Rattle.karplus_strong.specs.Line.{blank_of, struck_of}
 use Rattle.karplus_strong.specs.Step.{filter_coef_of, ap_coef_of, filter_delay_of, ap_delay_of, target_delay_of, offset_one, offset_two}
 use Rattle.karplus_strong.specs.Step.{tap_of, filtered_of, stretched_of, heard_of, rest_of, Ticking, wrote_of, cleared_of, step_of}
@@ -194,38 +197,48 @@ pub heard_cut : (s : KarplusStrong) (x v p : Float) (m : Memo1) → rate_ok s.sa
 heard_cut s x v p m e q ev em ep = rw (ep, em, ev) (period_cut _ _ e (memo_recalled s.freq_memo x q))
 
 -- ---- refusals
-module _ (s : KarplusStrong) (n : ℕ) where
-  pub refusal_rate : rate_ok s.sample_rate ≡ false → 1 ≡ karplus_strong_refusal_of s n
+module _ (s : KarplusStrong) where
+  -- the state itself lets a call pass, or refuses it
+  pub state_passed : 0 ≡ state_refusal_of s → (rate_ok s.sample_rate ≡ true) × (line_ok s (max_len_of s.sample_rate) ≡ true)
+  unfolding state_refusal_of
+  state_passed h = go (rate_ok s.sample_rate) (line_ok s (max_len_of s.sample_rate)) h
+    where
+      go : (a b : Bool) → ◌≡◌ {A = ℕ} 0 (cond a (cond b 0 2) 1) → (a ≡ true) × (b ≡ true)
+      go true true h = (refl, refl)
+      go true false h = absurd (omega arith)
+      go false b h = absurd (omega arith)
+
+  pub state_stopped : (e : Refusal) (k : ℕ) → number_of e ≡ state_refusal_of s → number_of e
+      ≡ cond (rate_ok s.sample_rate) (cond (line_ok s (max_len_of s.sample_rate)) k 2) 1
+  unfolding state_refusal_of
+  state_stopped e k h = go (rate_ok s.sample_rate) (line_ok s (max_len_of s.sample_rate)) h
+    where
+      go : (a b : Bool) → number_of e ≡ cond a (cond b 0 2) 1 → number_of e ≡ cond a (cond b k 2) 1
+      go true true h = absurd (nonzero e h)
+      go true false h = h
+      go false b h = h
+
+  -- then a call goes by its line, and a rate change by its rate and its line
+  pub refusal_room : (n k : ℕ) → 0 ≡ state_refusal_of s → k ≡ room_of s.sample_rate n → k ≡ karplus_strong_refusal_of s n
   unfolding karplus_strong_refusal_of
-  refusal_rate e = rw e
+  refusal_room n k h g = let p = state_passed h in rw (p.0, p.1) g
 
-  pub refusal_line : (m : ℕ) → rate_ok s.sample_rate ≡ true → m ≡ max_len_of s.sample_rate → line_ok s m ≡ false → 2 ≡ karplus_strong_refusal_of s n
+  pub refusal_state : (n : ℕ) (e : Refusal) → number_of e ≡ state_refusal_of s → number_of e ≡ karplus_strong_refusal_of s n
   unfolding karplus_strong_refusal_of
-  refusal_line m e q h = rw (e, ← q, h)
+  refusal_state n e h = state_stopped e _ h
 
-  pub refusal_room : (m k : ℕ) → rate_ok s.sample_rate ≡ true → m ≡ max_len_of s.sample_rate → line_ok s m ≡ true → k ≡ room_of s.sample_rate n
-      → k ≡ karplus_strong_refusal_of s n
-  unfolding karplus_strong_refusal_of
-  refusal_room m k e q h g = rw (e, ← q, h) g
+  module _ (r : Hertz) (n : ℕ) where
+    pub rate_new : rate_ok r ≡ false → 1 ≡ karplus_strong_rate_refusal_of s r n
+    unfolding karplus_strong_rate_refusal_of
+    rate_new e = simp (e, and-false)
 
-module _ (s : KarplusStrong) (r : Hertz) (n : ℕ) where
-  pub rate_old : rate_ok s.sample_rate ≡ false → 1 ≡ karplus_strong_rate_refusal_of s r n
-  unfolding karplus_strong_rate_refusal_of
-  rate_old e = rw e
+    pub rate_room : (k : ℕ) → rate_ok r ≡ true → 0 ≡ state_refusal_of s → k ≡ room_of r n → k ≡ karplus_strong_rate_refusal_of s r n
+    unfolding karplus_strong_rate_refusal_of
+    rate_room k e h g = let p = state_passed h in rw (e, p.0, p.1) g
 
-  pub rate_new : rate_ok s.sample_rate ≡ true → rate_ok r ≡ false → 1 ≡ karplus_strong_rate_refusal_of s r n
-  unfolding karplus_strong_rate_refusal_of
-  rate_new e q = rw (e, q)
-
-  pub rate_line : (m : ℕ) → rate_ok s.sample_rate ≡ true → rate_ok r ≡ true → m ≡ max_len_of s.sample_rate → line_ok s m ≡ false
-      → 2 ≡ karplus_strong_rate_refusal_of s r n
-  unfolding karplus_strong_rate_refusal_of
-  rate_line m e f q h = rw (e, f, ← q, h)
-
-  pub rate_room : (m k : ℕ) → rate_ok s.sample_rate ≡ true → rate_ok r ≡ true → m ≡ max_len_of s.sample_rate → line_ok s m ≡ true → k ≡ room_of r n
-      → k ≡ karplus_strong_rate_refusal_of s r n
-  unfolding karplus_strong_rate_refusal_of
-  rate_room m k e f q h g = rw (e, f, ← q, h) g
+    pub rate_state : (e : Refusal) → rate_ok r ≡ true → number_of e ≡ state_refusal_of s → number_of e ≡ karplus_strong_rate_refusal_of s r n
+    unfolding karplus_strong_rate_refusal_of
+    rate_state e f h = simp (f, and-true) (state_stopped e _ h)
 
 -- what a state has that refusals 1 and 2 let pass
 pub record Sound (s : KarplusStrong) : Type 0 where

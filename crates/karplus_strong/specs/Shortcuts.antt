@@ -11,7 +11,8 @@ use Rattle.karplus_strong.specs.Consts.{loop_leak}
 use Rattle.karplus_strong.specs.Step.{filter_coef_of, ap_coef_of, target_delay_of, offset_one, offset_two, filtered_of, stretched_of, Ticking, wrote_of}
 use Rattle.karplus_strong.specs.Line.{struck_of}
 use Rattle.karplus_strong.specs.Step.{cleared_of, rest_of}
-use Rattle.karplus_strong.specs.KarplusStrong.{Strung, strung, struck_len, heard_string, memo_at, period_at}
+use Rattle.common.specs.Tests.{rate_ok}
+use Rattle.karplus_strong.specs.KarplusStrong.{Strung, strung, max_len_of, line_ok, struck_len, heard_string, memo_at, period_at}
 use Rattle.karplus_strong.specs.declared.Heard.{Heard}
 use Rattle.karplus_strong.specs.declared.KarplusStrong.{KarplusStrong}
 use Rattle.karplus_strong.specs.declared.KarplusStrongControls.{KarplusStrongControls}
@@ -20,6 +21,10 @@ use Rattle.karplus_strong.specs.declared.Tuning.{Tuning}
 -- ---- the range in which a cast drops the digits of a fraction and nothing else: from 1 to below 2 ^ 52
 abbrev pub Cut : Float → Type 0
 Cut x = T (le one x) × T (lt x (from_bits binary64 0x4330000000000000))
+
+-- ---- refusals 1 and 2, of the state itself
+unfoldable pub state_refusal_of : KarplusStrong → ℕ
+state_refusal_of s = cond (rate_ok s.sample_rate) (cond (line_ok s (max_len_of s.sample_rate)) 0 2) 1
 
 -- ---- a step whose controls stand still: what they make of the loop is worked out once, and then only the loop turns
 -- the filters, the delay in whole samples and a fraction, and whether no control is NaN
@@ -50,7 +55,7 @@ unfoldable pub held_answer : Tuning → Strung → Answer
 held_answer t x = (turn_of x.string t x.line).out.answer
 
 unfoldable pub held_next : Tuning → Strung → Strung
-held_next t x = let u = turn_of x.string t x.line in strung u.out.karplus_strong u.line
+held_next t x = let u = turn_of x.string t x.line in strung u.out.state u.line
 
 -- ---- what a tick hears, and the string that it strikes
 unfoldable pub hear_of : KarplusStrong → KarplusStrongControls → Heard

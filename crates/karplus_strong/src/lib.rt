@@ -23,7 +23,7 @@ ghost use Rattle.karplus_strong.specs.KarplusStrong.{damping_of, stretch_of, per
 ghost use Rattle.karplus_strong.specs.KarplusStrong.{karplus_strong_sound_of, karplus_strong_tick_of, karplus_strong_told_of};
 ghost use Rattle.karplus_strong.specs.KarplusStrong.{karplus_strong_next_of, trigger_refusal_of, first_refusal_of, karplus_strong_block_of};
 ghost use Rattle.karplus_strong.specs.KarplusStrong.{with_line, karplus_strong_reset_of, place_of, karplus_strong_set_sample_rate_of, strung};
-ghost use Rattle.karplus_strong.specs.Shortcuts.{Cut, tuning_of, turn_of, held_answer, held_next, hear_of, struck_at};
+ghost use Rattle.karplus_strong.specs.Shortcuts.{Cut, state_refusal_of, tuning_of, turn_of, held_answer, held_next, hear_of, struck_at};
 
 use answer::{Answer, Made, Played, Tally, Ticked, Volts};
 use common::{EdgeDetector, Hertz, Memo, Refusal, VoltsPerOctave};
@@ -353,17 +353,25 @@ impl KarplusStrong {
             && common::threshold_ok(self.trigger_edge.threshold)
     }
 
-    // What refuses a call with a lent line of n cells: the rate, then the state, then the line.
-    fn refusal(self, n: usize) -> Result<(), Refusal>
-        ensures { refused_number result ≡ karplus_strong_refusal_of self n }
+    // What refuses the state itself: its rate, then the rest of it.
+    fn state_refusal(self) -> Result<(), Refusal>
+        ensures { refused_number result ≡ state_refusal_of self }
     {
         if !common::rate_ok(self.sample_rate) {
             Err(Refusal::Rate)
         } else if !self.line_ok(KarplusStrong::max_len_for(self.sample_rate)) {
             Err(Refusal::State)
         } else {
-            KarplusStrong::room(self.sample_rate, n)
+            Ok(())
         }
+    }
+
+    // And what refuses a call with a lent line of n cells.
+    fn refusal(self, n: usize) -> Result<(), Refusal>
+        ensures { refused_number result ≡ karplus_strong_refusal_of self n }
+    {
+        self.state_refusal()?;
+        KarplusStrong::room(self.sample_rate, n)
     }
 
     // What refuses making a string in a lent line of n cells.
@@ -613,17 +621,15 @@ impl KarplusStrong {
         })
     }
 
-    // What refuses a rate change: the new rate or the old, then the state by the old one, then the line by the new one.
+    // What refuses a rate change: the new rate, then the state by the old one, then the line by the new one.
     fn rate_refusal(self, sample_rate: Hertz, n: usize) -> Result<(), Refusal>
         ensures { refused_number result ≡ karplus_strong_rate_refusal_of self sample_rate n }
     {
-        if !common::rate_ok(self.sample_rate) || !common::rate_ok(sample_rate) {
-            Err(Refusal::Rate)
-        } else if !self.line_ok(KarplusStrong::max_len_for(self.sample_rate)) {
-            Err(Refusal::State)
-        } else {
-            KarplusStrong::room(sample_rate, n)
+        if !common::rate_ok(sample_rate) {
+            return Err(Refusal::Rate);
         }
+        self.state_refusal()?;
+        KarplusStrong::room(sample_rate, n)
     }
 
     // Cuts the line to the new rate's longest, or fills it up with 0.0. A write position that no longer lies in it goes to 0.
