@@ -1,13 +1,14 @@
 -- How the parts of a call make up the whole, over plain values, and what an accepted call has.
 use Rattle.std.proofs.Common.{◌≡◌, ℕ, zero, suc, ◌+◌, ◌-◌, ◌%◌, ◌<◌, ◌≤◌, min, Bool, true, false, cond, not, ◌&&◌, T, eqb, ltb, leb, List, ◌++◌, length, length-take, get_or, set, take, drop}
 use Rattle.std.proofs.Common.{pos, sym, refl, ap, ◌∙◌, subst, true≢false, le_trans, arith, lit≤, le→leb, ltb-true, lt-ltb, ne_eqb, eqb-true, le-leb, leb-true}
+use mathlib.Core.Bool.{and-false}
 use lib.Ieee.{Float, nan, inf, fin, binary64, add, sub, mul, div, neg, in_float, lt, le, eq, fits, is_nan, of_bits}
 use lib.Ieee.Fits.{cond-fits, div-fits, sub-fits}
 use lib.Ieee.Bits.{is_false}
 use borrow.Author.Tests.{eqb-false}
 use Rattle.laws.proofs.Number.{mul_number, le_numbers}
 use Rattle.laws.proofs.Order.{lt_of_not_ge, lt_false, float_le_trans}
-use Rattle.laws.proofs.Tests.{both_true, of_true, of_false}
+use Rattle.laws.proofs.Tests.{and_true, both_true, of_true, of_false}
 use Rattle.laws.proofs.Values.{float_mul_comm}
 use Rattle.laws.specs.Float.{zer, one, two, is_fin, F64}
 use Rattle.numeric.proofs.PowerRange.{exp2_number}
@@ -238,7 +239,7 @@ module _ (s : KarplusStrong) where
 
     pub rate_state : (e : Refusal) → rate_ok r ≡ true → number_of e ≡ state_refusal_of s → number_of e ≡ karplus_strong_rate_refusal_of s r n
     unfolding karplus_strong_rate_refusal_of
-    rate_state e f h = simp (f, and-true) (state_stopped e _ h)
+    rate_state e f h = simp (f, and_true) (state_stopped e _ h)
 
 -- what a state has that refusals 1 and 2 let pass
 pub record Sound (s : KarplusStrong) : Type 0 where
@@ -391,25 +392,27 @@ module _ (r : Hertz) (v : Float) (n : ℕ) where
       go true false p q h = absurd (omega arith)
       go false b p q h = absurd (omega arith)
 
-module _ (r : Hertz) (v : Float) (l : List Float) (t : KarplusStrong) (n k : ℕ) (et : t ≡ string_of r v n)
-    (q : k ≡ karplus_strong_new_refusal_of r v (length l)) where
-  pub new_no : (k ≡ 0 → ⊥) → n ≡ 0 → refused k t l ≡ karplus_strong_new_of r v l
+module _ (r : Hertz) (v : Float) (l : List Float) (t : KarplusStrong) (n : ℕ) (et : t ≡ string_of r v n) where
+  pub new_no : (e : Refusal) → number_of e ≡ karplus_strong_new_refusal_of r v (length l) → n ≡ 0
+      → refused (number_of e) t l ≡ karplus_strong_new_of r v l
   unfolding karplus_strong_new_of
-  new_no h en = rw (← q, et, en) (made_no k (strung (no_string r v) l) _ h)
+  new_no e q en = rw (← q, et, en) (made_no _ (strung (no_string r v) l) _ (nonzero e))
 
-  pub new_made : k ≡ 0 → n ≡ max_len_of r → (x : List Float) → x ≡ blank_of 0 n l → done t x ≡ karplus_strong_new_of r v l
+  pub new_made : 0 ≡ karplus_strong_new_refusal_of r v (length l) → n ≡ max_len_of r → (x : List Float) → x ≡ blank_of 0 n l
+      → done t x ≡ karplus_strong_new_of r v l
   unfolding karplus_strong_new_of made_unless
-  new_made h en x ex = rw (← q, h, et, ex, en)
+  new_made q en x ex = rw (← q, et, ex, en)
 
-module _ (s : KarplusStrong) (l : List Float) (k : ℕ) (e : k ≡ karplus_strong_refusal_of s (length l)) where
-  pub reset_no : (k ≡ 0 → ⊥) → refused k s l ≡ karplus_strong_reset_of s l
+module _ (s : KarplusStrong) (l : List Float) where
+  pub reset_no : (e : Refusal) → number_of e ≡ karplus_strong_refusal_of s (length l) → refused (number_of e) s l ≡ karplus_strong_reset_of s l
   unfolding karplus_strong_reset_of
-  reset_no h = rw (← e) (made_no k (strung s l) _ h)
+  reset_no e q = rw (← q) (made_no _ (strung s l) _ (nonzero e))
 
-  pub reset_made : k ≡ 0 → (u : KarplusStrong) (edge : EdgeDetector) (x : List Float) → u ≡ rest_of s s.len s.trigger_edge → edge ≡ reset_of s.trigger_edge
+  pub reset_made : 0 ≡ karplus_strong_refusal_of s (length l) → (u : KarplusStrong) (edge : EdgeDetector) (x : List Float)
+      → u ≡ rest_of s s.len s.trigger_edge → edge ≡ reset_of s.trigger_edge
       → x ≡ blank_of 0 s.len l → done (heard_string u edge u.freq_memo) x ≡ karplus_strong_reset_of s l
   unfolding karplus_strong_reset_of made_unless
-  reset_made h u edge x eu ee ex = rw (← e, h, eu, ee, ex)
+  reset_made q u edge x eu ee ex = rw (← q, eu, ee, ex)
 
 -- a string of n cells and this place
 abbrev resized : KarplusStrong → Hertz → ℕ → ℕ → KarplusStrong
@@ -425,15 +428,16 @@ resized s r n place =
       freq_memo = s.freq_memo;
     }
 
-module _ (s : KarplusStrong) (r : Hertz) (l : List Float) (k : ℕ) (e : k ≡ karplus_strong_rate_refusal_of s r (length l)) where
-  pub rate_no : (k ≡ 0 → ⊥) → refused k s l ≡ karplus_strong_set_sample_rate_of s r l
+module _ (s : KarplusStrong) (r : Hertz) (l : List Float) where
+  pub rate_no : (e : Refusal) → number_of e ≡ karplus_strong_rate_refusal_of s r (length l)
+      → refused (number_of e) s l ≡ karplus_strong_set_sample_rate_of s r l
   unfolding karplus_strong_set_sample_rate_of
-  rate_no h = rw (← e) (made_no k (strung s l) _ h)
+  rate_no e q = rw (← q) (made_no _ (strung s l) _ (nonzero e))
 
-  pub rate_made : k ≡ 0 → (n a place : ℕ) (x : List Float) → n ≡ max_len_of r → a ≡ min s.len n → place ≡ place_of s.write_pos n
-      → x ≡ blank_of a n l → done (resized s r n place) x ≡ karplus_strong_set_sample_rate_of s r l
+  pub rate_made : 0 ≡ karplus_strong_rate_refusal_of s r (length l) → (n a place : ℕ) (x : List Float) → n ≡ max_len_of r → a ≡ min s.len n
+      → place ≡ place_of s.write_pos n → x ≡ blank_of a n l → done (resized s r n place) x ≡ karplus_strong_set_sample_rate_of s r l
   unfolding karplus_strong_set_sample_rate_of made_unless
-  rate_made h n a place x en ea ep ex = rw (← e, h, ep, ex, ea, en)
+  rate_made q n a place x en ea ep ex = rw (← q, ep, ex, ea, en)
 
 -- ---- the strike
 -- x is a string s with the line l
@@ -573,29 +577,31 @@ unfolding tick_unless
 tick_no zero s l t h = absurd (h refl)
 tick_no (suc k) s l t h = refl
 
-module _ (s : KarplusStrong) (c : KarplusStrongControls) (d : List ℕ) (l : List Float) (h : Heard) (k : ℕ) (eh : h ≡ hear_of s c)
-    (ek : k ≡ cond h.rising (draws_refusal_of h.struck_len d) 0) where
-  pub sound_no : (k ≡ 0 → ⊥) → record { out = refused_tick s k; line = l } ≡ karplus_strong_sound_of s c d l
+-- k is what is told of a reason
+module _ (s : KarplusStrong) (c : KarplusStrongControls) (d : List ℕ) (l : List Float) (h : Heard) (eh : h ≡ hear_of s c) where
+  pub sound_no : (e : Refusal) (k : ℕ) → number_of e ≡ cond h.rising (draws_refusal_of h.struck_len d) 0 → k ≡ number_of e
+      → record { out = refused_tick s k; line = l } ≡ karplus_strong_sound_of s c d l
   unfolding karplus_strong_sound_of
-  sound_no z = rw (heard_taken s c h eh d, ← ek) (tick_no k s l _ z)
+  sound_no e k q p = rw (heard_taken s c h eh d, ← q, p) (tick_no _ s l _ (nonzero e))
 
-  module _ (z : k ≡ 0) (t : Tuning) (u : KarplusStrong) (x : List Float)
+  module _ (z : 0 ≡ cond h.rising (draws_refusal_of h.struck_len d) 0) (t : Tuning) (u : KarplusStrong) (x : List Float)
       (et : t ≡ tuning_of h.period (damping_of c) (stretch_of c) (all_numbers (controls_of c))) (eu : PartsOf (struck_at h (brightness_of c) d l) u x) where
     sound_step : turn_of u t x ≡ karplus_strong_sound_of s c d l
     unfolding karplus_strong_sound_of tick_unless hear_of struck_at strike_if strike_of
-    sound_step = rw (heard_taken s c h eh d, ← ek, z, eu.0, eu.1, et, eh) (turn_is _ _ _ _ _ _)
+    sound_step = rw (heard_taken s c h eh d, ← z, eu.0, eu.1, et, eh) (turn_is _ _ _ _ _ _)
 
     pub sound_by : (r : Ticked KarplusStrong) (y : List Float) → r ≡ (turn_of u t x).out → y ≡ (turn_of u t x).line
         → (r ≡ (karplus_strong_sound_of s c d l).out) × (y ≡ (karplus_strong_sound_of s c d l).line)
     sound_by r y p q = let e = ticked_parts sound_step in (p ∙ e.0, q ∙ e.1)
 
-module _ (s : KarplusStrong) (c : KarplusStrongControls) (d : List ℕ) (l : List Float) (k : ℕ) (e : k ≡ karplus_strong_refusal_of s (length l)) where
-  pub tick_refused : (k ≡ 0 → ⊥) → record { out = refused_tick s k; line = l } ≡ karplus_strong_tick_of s c d l
+module _ (s : KarplusStrong) (c : KarplusStrongControls) (d : List ℕ) (l : List Float) where
+  pub tick_refused : (e : Refusal) (k : ℕ) → number_of e ≡ karplus_strong_refusal_of s (length l) → k ≡ number_of e
+      → record { out = refused_tick s k; line = l } ≡ karplus_strong_tick_of s c d l
   unfolding karplus_strong_tick_of
-  tick_refused h = rw (← e) (tick_no k s l (karplus_strong_sound_of s c d l) h)
+  tick_refused e k q p = rw (← q, p) (tick_no _ s l (karplus_strong_sound_of s c d l) (nonzero e))
 
-  pub tick_sound : k ≡ 0 → (r : Ticked KarplusStrong) (y : List Float)
+  pub tick_sound : 0 ≡ karplus_strong_refusal_of s (length l) → (r : Ticked KarplusStrong) (y : List Float)
       → (r ≡ (karplus_strong_sound_of s c d l).out) × (y ≡ (karplus_strong_sound_of s c d l).line)
       → (r ≡ (karplus_strong_tick_of s c d l).out) × (y ≡ (karplus_strong_tick_of s c d l).line)
   unfolding karplus_strong_tick_of tick_unless
-  tick_sound z r y h = rw (← e, z) h
+  tick_sound q r y h = rw (← q) h
