@@ -2,6 +2,8 @@
 use Rattle.std.proofs.Common.{◌≡◌, ℕ, zero, suc, ◌+◌, ◌-◌, ◌%◌, ◌<◌, ◌≤◌, min, Bool, true, false, cond, not, ◌&&◌, T, eqb, ltb, leb, List, ◌++◌, length, length-take, get_or, set, take, drop}
 use Rattle.std.proofs.Common.{pos, sym, refl, ap, ◌∙◌, subst, true≢false, le_trans, arith, lit≤, le→leb, ltb-true, lt-ltb, ne_eqb, eqb-true, le-leb, leb-true}
 use mathlib.Core.Bool.{and-false}
+use Rattle.std.specs.Prelude.{Option, Some, None, Result, Ok, Err}
+use Rattle.laws.proofs.Over.{over_none}
 use lib.Ieee.{Float, nan, inf, fin, binary64, add, sub, mul, div, neg, in_float, lt, le, eq, fits, is_nan, of_bits}
 use lib.Ieee.Fits.{cond-fits, div-fits, sub-fits}
 use lib.Ieee.Bits.{is_false}
@@ -33,10 +35,10 @@ use Rattle.answer.specs.declared.Volts.{Volts}
 use Rattle.answer.specs.declared.Answer.{Answer}
 use Rattle.karplus_strong.specs.Consts.{twenty, loop_leak}
 use Rattle.karplus_strong.specs.Shortcuts.{Cut, state_refusal_of}
-use Rattle.karplus_strong.specs.Line.{blank_of, struck_of}
+use Rattle.karplus_strong.specs.Line.{blank_at, blank_of, struck_of}
 use Rattle.karplus_strong.specs.Step.{filter_coef_of, ap_coef_of, filter_delay_of, ap_delay_of, target_delay_of, offset_one, offset_two}
 use Rattle.karplus_strong.specs.Step.{tap_of, filtered_of, stretched_of, heard_of, rest_of, Ticking, wrote_of, cleared_of, step_of}
-use Rattle.karplus_strong.specs.Shortcuts.{tuning_of, tap_at, turn_of, hear_of, struck_at}
+use Rattle.karplus_strong.specs.Shortcuts.{tuning_of, tap_at, turn_of, hear_of, strike_refusal_of, strike_len, strike_at}
 use Rattle.karplus_strong.specs.KarplusStrong.{max_len_of, string_of, no_string, Strung, strung, line_ok, room_of, karplus_strong_refusal_of}
 use Rattle.karplus_strong.specs.KarplusStrong.{karplus_strong_rate_refusal_of, Making, leaving, made_unless, karplus_strong_new_refusal_of}
 use Rattle.karplus_strong.specs.KarplusStrong.{karplus_strong_new_of}
@@ -220,9 +222,9 @@ module _ (s : KarplusStrong) where
       go false b h = h
 
   -- then a call goes by its line, and a rate change by its rate and its line
-  pub refusal_room : (n k : ℕ) → 0 ≡ state_refusal_of s → k ≡ room_of s.sample_rate n → k ≡ karplus_strong_refusal_of s n
-  unfolding karplus_strong_refusal_of
-  refusal_room n k h g = let p = state_passed h in rw (p.0, p.1) g
+  pub refusal_room : (n k m : ℕ) → 0 ≡ state_refusal_of s → m ≡ max_len_of s.sample_rate → k ≡ cond (leb (m + 2) n) 0 3 → k ≡ karplus_strong_refusal_of s n
+  unfolding karplus_strong_refusal_of room_of
+  refusal_room n k m h e g = let p = state_passed h in rw (p.0, p.1, ← e) g
 
   pub refusal_state : (n : ℕ) (e : Refusal) → number_of e ≡ state_refusal_of s → number_of e ≡ karplus_strong_refusal_of s n
   unfolding karplus_strong_refusal_of
@@ -233,9 +235,10 @@ module _ (s : KarplusStrong) where
     unfolding karplus_strong_rate_refusal_of
     rate_new e = simp (e, and-false)
 
-    pub rate_room : (k : ℕ) → rate_ok r ≡ true → 0 ≡ state_refusal_of s → k ≡ room_of r n → k ≡ karplus_strong_rate_refusal_of s r n
-    unfolding karplus_strong_rate_refusal_of
-    rate_room k e h g = let p = state_passed h in rw (e, p.0, p.1) g
+    pub rate_room : (k m : ℕ) → rate_ok r ≡ true → 0 ≡ state_refusal_of s → m ≡ max_len_of r → k ≡ cond (leb (m + 2) n) 0 3
+        → k ≡ karplus_strong_rate_refusal_of s r n
+    unfolding karplus_strong_rate_refusal_of room_of
+    rate_room k m e h f g = let p = state_passed h in rw (e, p.0, p.1, ← f) g
 
     pub rate_state : (e : Refusal) → rate_ok r ≡ true → number_of e ≡ state_refusal_of s → number_of e ≡ karplus_strong_rate_refusal_of s r n
     unfolding karplus_strong_rate_refusal_of
@@ -378,9 +381,10 @@ module _ (r : Hertz) (v : Float) (n : ℕ) where
   unfolding karplus_strong_new_refusal_of
   new_threshold e f = rw (e, f)
 
-  pub new_room : (k : ℕ) → rate_ok r ≡ true → threshold_ok v ≡ true → k ≡ room_of r n → k ≡ karplus_strong_new_refusal_of r v n
-  unfolding karplus_strong_new_refusal_of
-  new_room k e f q = rw (e, f) q
+  pub new_room : (k m : ℕ) → rate_ok r ≡ true → threshold_ok v ≡ true → m ≡ max_len_of r → k ≡ cond (leb (m + 2) n) 0 3
+      → k ≡ karplus_strong_new_refusal_of r v n
+  unfolding karplus_strong_new_refusal_of room_of
+  new_room k m e f q g = rw (e, f, ← q) g
 
   pub new_taken : karplus_strong_new_refusal_of r v n ≡ 0 → (rate_ok r ≡ true) × (threshold_ok v ≡ true) × (max_len_of r + 2 ≤ n)
   unfolding karplus_strong_new_refusal_of
@@ -392,16 +396,19 @@ module _ (r : Hertz) (v : Float) (n : ℕ) where
       go true false p q h = absurd (omega arith)
       go false b p q h = absurd (omega arith)
 
-module _ (r : Hertz) (v : Float) (l : List Float) (t : KarplusStrong) (n : ℕ) (et : t ≡ string_of r v n) where
-  pub new_no : (e : Refusal) → number_of e ≡ karplus_strong_new_refusal_of r v (length l) → n ≡ 0
-      → refused (number_of e) t l ≡ karplus_strong_new_of r v l
-  unfolding karplus_strong_new_of
-  new_no e q en = rw (← q, et, en) (made_no _ (strung (no_string r v) l) _ (nonzero e))
+-- a string of so many cells, and what a call says that is refused by r or let pass
+module _ (r : Hertz) (v : Float) (l x : List Float) (o : Result (Unit {0}) Refusal) (n : ℕ) (q : refused_number o ≡ karplus_strong_new_refusal_of r v (length l))
+    (ex : x ≡ blank_of 0 n l) where
+  abbrev says : Making
+  says = leaving (outcome (refused_number o) (string_of r v n)) x
 
-  pub new_made : 0 ≡ karplus_strong_new_refusal_of r v (length l) → n ≡ max_len_of r → (x : List Float) → x ≡ blank_of 0 n l
-      → done t x ≡ karplus_strong_new_of r v l
-  unfolding karplus_strong_new_of made_unless
-  new_made q en x ex = rw (← q, et, ex, en)
+  pub new_no : (e : Refusal) → o ≡ Err e → n ≡ 0 → says ≡ karplus_strong_new_of r v l
+  unfolding karplus_strong_new_of refused_number blank_of
+  new_no e eo en = rw (← q, eo, ex, en, ← over_none (blank_at 0 l) l) (made_no _ (strung (no_string r v) l) _ (nonzero e))
+
+  pub new_made : (u : Unit {0}) → o ≡ Ok u → n ≡ max_len_of r → says ≡ karplus_strong_new_of r v l
+  unfolding karplus_strong_new_of refused_number made_unless
+  new_made u eo en = rw (← q, eo, ex, en)
 
 module _ (s : KarplusStrong) (l : List Float) where
   pub reset_no : (e : Refusal) → number_of e ≡ karplus_strong_refusal_of s (length l) → refused (number_of e) s l ≡ karplus_strong_reset_of s l
@@ -444,39 +451,57 @@ module _ (s : KarplusStrong) (r : Hertz) (l : List Float) where
 abbrev pub PartsOf : Strung → KarplusStrong → List Float → Type 0
 PartsOf x s l = (s ≡ x.string) × (l ≡ x.line)
 
-pub struck_taken : (h : Heard) (b bright : Float) (d : List ℕ) (l x : List Float) (u : KarplusStrong) → h.rising ≡ true → h.struck_len ≤ length l
-    → bright ≡ clamp_of (finite_or b half) zer one → u ≡ rest_of h.string h.struck_len h.string.trigger_edge
-    → x ≡ struck_of (length (take h.struck_len l)) bright d (take h.struck_len l)
-    → PartsOf (struck_at h (clamp_of (finite_or b half) zer one) d l) u (x ++ drop h.struck_len l)
-unfolding struck_at
-struck_taken h b bright d l x u e k eb eu ex =
-    let size : length (take h.struck_len l) ≡ h.struck_len = simp length-take (omega arith) in
-    rw (e, ← eb) (eu, rw (ex, size) (struck_cells h.struck_len bright d l k))
+pub struck_taken : (s : KarplusStrong) (n : ℕ) (b bright : Float) (d : List ℕ) (l x : List Float) (u : KarplusStrong) → n ≤ length l
+    → bright ≡ clamp_of (finite_or b half) zer one → u ≡ rest_of s n s.trigger_edge → x ≡ struck_of (length (take n l)) bright d (take n l)
+    → PartsOf (strike_at s (Some n) (clamp_of (finite_or b half) zer one) d l) u (x ++ drop n l)
+unfolding strike_at
+struck_taken s n b bright d l x u k eb eu ex =
+    let size : length (take n l) ≡ n = simp length-take (omega arith) in
+    rw (← eb) (eu, rw (ex, size) (struck_cells n bright d l k))
 
-pub struck_none : (h : Heard) (b : Float) (d : List ℕ) (l : List Float) → h.rising ≡ false → PartsOf (struck_at h b d l) h.string l
-unfolding struck_at
-struck_none h b d l e = rw e (refl, refl)
+-- what is said of a strike by its rising is said of it by its cells
+strike_told : (b : Bool) (n : ℕ) (d : List ℕ) → cond b (draws_refusal_of n d) 0 ≡ strike_refusal_of (cond b (Some n) None) d
+unfolding strike_refusal_of
+strike_told true n d = refl
+strike_told false n d = refl
+
+strike_most : (b : Bool) (m n : ℕ) → m ≤ n → strike_len (cond b (Some m) None) ≤ n
+unfolding strike_len
+strike_most true m n h = h
+strike_most false m n h = omega arith
+
+strike_is : (r : Bool) (s : KarplusStrong) (p b : Float) (d : List ℕ) (l : List Float)
+    → strike_at s (cond r (Some (struck_len p)) None) b d l ≡ strike_if r s p b d l
+unfolding strike_at strike_if strike_of
+strike_is true s p b d l = refl
+strike_is false s p b d l = refl
 
 -- what was heard of an accepted tick
 module _ (s : KarplusStrong) (c : KarplusStrongControls) (h : Heard) (eh : h ≡ hear_of s c) where
-  pub heard_taken : (d : List ℕ) → trigger_refusal_of s c d ≡ cond h.rising (draws_refusal_of h.struck_len d) 0
+  pub heard_taken : (d : List ℕ) → trigger_refusal_of s c d ≡ strike_refusal_of h.strike d
   unfolding trigger_refusal_of hear_of
-  heard_taken d = rw eh refl
+  heard_taken d = rw eh (strike_told _ _ d)
+
+  pub heard_struck : (b : Float) (d : List ℕ) (l : List Float)
+      → strike_at h.string h.strike b d l
+      ≡ strike_if (rising_of s.trigger_edge c.trigger).rising (heard_string s (rising_of s.trigger_edge c.trigger).edge (memo_at s c)) (period_at s c) b d l
+  unfolding hear_of
+  heard_struck b d l = rw eh (strike_is _ _ _ b d l)
 
   module _ (n : ℕ) (a : Sound s) (room : max_len_of s.sample_rate + 2 ≤ n) where
-    pub heard_fits : h.struck_len ≤ n
+    pub heard_fits : strike_len h.strike ≤ n
     unfolding hear_of
-    heard_fits = rw eh (struck_fits s c a n room)
+    heard_fits = rw eh (strike_most _ _ n (struck_fits s c a n room))
 
     pub heard_delay : whole_of (target_delay_of h.period (filter_coef_of (damping_of c)) (ap_coef_of (stretch_of c))) ≤ 9610
     unfolding hear_of
     heard_delay = rw eh (delay_range s.sample_rate (memo_at s c).val c.damping c.stretch a.rate (heard_number s c a))
 
     -- the string, struck or not: its place and its length
-    pub struck_ready : (b : Float) (d : List ℕ) (l : List Float) (u : KarplusStrong) → u ≡ (struck_at h b d l).string
+    pub struck_ready : (b : Float) (d : List ℕ) (l : List Float) (u : KarplusStrong) → u ≡ (strike_at h.string h.strike b d l).string
         → (u.write_pos < u.len) × (u.len ≤ n)
-    unfolding hear_of struck_at
-    struck_ready b d l u eu = rw (eu, eh) (go (rising_of s.trigger_edge c.trigger).rising)
+    unfolding strike_if strike_of
+    struck_ready b d l u eu = rw (eu, heard_struck b d l) (go (rising_of s.trigger_edge c.trigger).rising)
       where
         heard : KarplusStrong
         heard = heard_string s (rising_of s.trigger_edge c.trigger).edge (memo_at s c)
@@ -577,31 +602,25 @@ unfolding tick_unless
 tick_no zero s l t h = absurd (h refl)
 tick_no (suc k) s l t h = refl
 
--- k is what is told of a reason
-module _ (s : KarplusStrong) (c : KarplusStrongControls) (d : List ℕ) (l : List Float) (h : Heard) (eh : h ≡ hear_of s c) where
-  pub sound_no : (e : Refusal) (k : ℕ) → number_of e ≡ cond h.rising (draws_refusal_of h.struck_len d) 0 → k ≡ number_of e
-      → record { out = refused_tick s k; line = l } ≡ karplus_strong_sound_of s c d l
-  unfolding karplus_strong_sound_of
-  sound_no e k q p = rw (heard_taken s c h eh d, ← q, p) (tick_no _ s l _ (nonzero e))
-
-  module _ (z : 0 ≡ cond h.rising (draws_refusal_of h.struck_len d) 0) (t : Tuning) (u : KarplusStrong) (x : List Float)
-      (et : t ≡ tuning_of h.period (damping_of c) (stretch_of c) (all_numbers (controls_of c))) (eu : PartsOf (struck_at h (brightness_of c) d l) u x) where
-    sound_step : turn_of u t x ≡ karplus_strong_sound_of s c d l
-    unfolding karplus_strong_sound_of tick_unless hear_of struck_at strike_if strike_of
-    sound_step = rw (heard_taken s c h eh d, ← z, eu.0, eu.1, et, eh) (turn_is _ _ _ _ _ _)
-
-    pub sound_by : (r : Ticked KarplusStrong) (y : List Float) → r ≡ (turn_of u t x).out → y ≡ (turn_of u t x).line
-        → (r ≡ (karplus_strong_sound_of s c d l).out) × (y ≡ (karplus_strong_sound_of s c d l).line)
-    sound_by r y p q = let e = ticked_parts sound_step in (p ∙ e.0, q ∙ e.1)
-
 module _ (s : KarplusStrong) (c : KarplusStrongControls) (d : List ℕ) (l : List Float) where
-  pub tick_refused : (e : Refusal) (k : ℕ) → number_of e ≡ karplus_strong_refusal_of s (length l) → k ≡ number_of e
-      → record { out = refused_tick s k; line = l } ≡ karplus_strong_tick_of s c d l
+  pub tick_refused : (e : Refusal) → number_of e ≡ karplus_strong_refusal_of s (length l)
+      → record { out = refused_tick s (number_of e); line = l } ≡ karplus_strong_tick_of s c d l
   unfolding karplus_strong_tick_of
-  tick_refused e k q p = rw (← q, p) (tick_no _ s l (karplus_strong_sound_of s c d l) (nonzero e))
+  tick_refused e q = rw (← q) (tick_no _ s l (karplus_strong_sound_of s c d l) (nonzero e))
 
-  pub tick_sound : 0 ≡ karplus_strong_refusal_of s (length l) → (r : Ticked KarplusStrong) (y : List Float)
-      → (r ≡ (karplus_strong_sound_of s c d l).out) × (y ≡ (karplus_strong_sound_of s c d l).line)
-      → (r ≡ (karplus_strong_tick_of s c d l).out) × (y ≡ (karplus_strong_tick_of s c d l).line)
-  unfolding karplus_strong_tick_of tick_unless
-  tick_sound q r y h = rw (← q) h
+  module _ (z : 0 ≡ karplus_strong_refusal_of s (length l)) (h : Heard) (eh : h ≡ hear_of s c) where
+    pub sound_refused : (e : Refusal) → number_of e ≡ strike_refusal_of h.strike d
+        → record { out = refused_tick s (number_of e); line = l } ≡ karplus_strong_tick_of s c d l
+    unfolding karplus_strong_tick_of karplus_strong_sound_of tick_unless
+    sound_refused e q = rw (← z, heard_taken s c h eh d, ← q) (tick_no _ s l _ (nonzero e))
+
+    module _ (k : 0 ≡ strike_refusal_of h.strike d) (t : Tuning) (u : KarplusStrong) (x : List Float)
+        (et : t ≡ tuning_of h.period (damping_of c) (stretch_of c) (all_numbers (controls_of c)))
+        (eu : PartsOf (strike_at h.string h.strike (brightness_of c) d l) u x) where
+      sound_step : turn_of u t x ≡ karplus_strong_tick_of s c d l
+      unfolding karplus_strong_tick_of karplus_strong_sound_of tick_unless hear_of
+      sound_step = rw (← z, heard_taken s c h eh d, ← k, eu.0, eu.1, heard_struck s c h eh (brightness_of c) d l, et, eh) (turn_is _ _ _ _ _ _)
+
+      pub sound_by : (r : Ticked KarplusStrong) (y : List Float) → r ≡ (turn_of u t x).out → y ≡ (turn_of u t x).line
+          → (r ≡ (karplus_strong_tick_of s c d l).out) × (y ≡ (karplus_strong_tick_of s c d l).line)
+      sound_by r y p q = let e = ticked_parts sound_step in (p ∙ e.0, q ∙ e.1)

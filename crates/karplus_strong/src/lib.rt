@@ -1,7 +1,7 @@
 // KarplusStrong of oscillators.rs: a plucked string. Its delay line is lent to each call, and so are the draws of its noise.
 #![tactic(auto)]
 
-ghost use Rattle.std.specs.Prelude.{◌≡◌, ◌+◌, ◌-◌, ◌*◌, ◌%◌, ◌<◌, ◌≤◌, true, not, length, is_nan, T, if◌then◌else◌};
+ghost use Rattle.std.specs.Prelude.{◌≡◌, ◌+◌, ◌-◌, ◌*◌, ◌%◌, ◌<◌, ◌≤◌, true, not, length, nat_le, is_nan, T, if◌then◌else◌};
 ghost use Rattle.std.specs.List.{fold};
 ghost use Rattle.std.specs.Float.{binary64};
 ghost use Rattle.std.specs.Float.Ieee.{add, neg};
@@ -10,20 +10,20 @@ ghost use Rattle.laws.specs.Lists.{tab};
 ghost use Rattle.numeric.specs.Basic.{clamp_of, whole_of};
 ghost use Rattle.common.specs.Consts.{half};
 ghost use Rattle.common.specs.Refusal.{refused_number};
-ghost use Rattle.common.specs.Tests.{rate_ok, draws_refusal_of};
+ghost use Rattle.common.specs.Tests.{rate_ok};
 ghost use Rattle.answer.specs.Calls.{making, changing};
 ghost use Rattle.answer.specs.Mark.{all_numbers};
 ghost use Rattle.answer.specs.Block.{after_ticks, joined, block_said, mark_at, frame_at};
 ghost use Rattle.karplus_strong.specs.Consts.{n_ports};
 ghost use Rattle.karplus_strong.specs.Line.{blank_of, pulse_of, excited_of, level_of, struck_of};
 ghost use Rattle.karplus_strong.specs.Step.{filter_coef_of, ap_coef_of, target_delay_of, rest_of};
-ghost use Rattle.karplus_strong.specs.KarplusStrong.{max_len_of, string_of, line_ok, room_of, karplus_strong_refusal_of, karplus_strong_rate_refusal_of};
+ghost use Rattle.karplus_strong.specs.KarplusStrong.{max_len_of, line_ok, karplus_strong_refusal_of, karplus_strong_rate_refusal_of};
 ghost use Rattle.karplus_strong.specs.KarplusStrong.{karplus_strong_cells_of, karplus_strong_new_refusal_of, karplus_strong_new_of, finite_or, controls_of};
 ghost use Rattle.karplus_strong.specs.KarplusStrong.{damping_of, stretch_of, period_of};
-ghost use Rattle.karplus_strong.specs.KarplusStrong.{karplus_strong_sound_of, karplus_strong_tick_of, karplus_strong_told_of};
-ghost use Rattle.karplus_strong.specs.KarplusStrong.{karplus_strong_next_of, trigger_refusal_of, first_refusal_of, karplus_strong_block_of};
+ghost use Rattle.karplus_strong.specs.KarplusStrong.{karplus_strong_tick_of, first_refusal_of, karplus_strong_block_of};
 ghost use Rattle.karplus_strong.specs.KarplusStrong.{with_line, karplus_strong_reset_of, place_of, karplus_strong_set_sample_rate_of, strung};
-ghost use Rattle.karplus_strong.specs.Shortcuts.{Cut, state_refusal_of, tuning_of, turn_of, held_answer, held_next, hear_of, struck_at};
+ghost use Rattle.karplus_strong.specs.Shortcuts.{Cut, state_refusal_of, strike_refusal_of, strike_len, strike_at, hear_of, ticking};
+ghost use Rattle.karplus_strong.specs.Shortcuts.{tuning_of, turn_of, held_answer, held_next};
 
 use answer::{Answer, Made, Played, Tally, Ticked, Volts};
 use common::{EdgeDetector, Hertz, Memo, Refusal, VoltsPerOctave};
@@ -65,14 +65,13 @@ struct Tuning {
     numbers: bool,
 }
 
-// What a string hears of a tick: its pitch, of which it keeps the memo, as a period and as the length of a line that is struck at it;
-// and its trigger, of which it keeps the edge, and which may strike it.
+// What a string hears of a tick: its pitch, of which it keeps the memo, as a period; and its trigger, of which it keeps the edge. A trigger
+// that is taken strikes it: then its line has so many cells.
 #[derive(Clone, Copy)]
 struct Heard {
     string: KarplusStrong,
     period: f64,
-    struck_len: usize,
-    rising: bool,
+    strike: Option<usize>,
 }
 
 // ---- numbers
@@ -174,33 +173,11 @@ fn excite(cells: &mut [f64], brightness: f64, draws: &[u64])
 
 // ---- the loop
 
-// (pos + 1) % len
-fn after(pos: usize, len: usize) -> usize
-    requires { pos < len }
-    ensures { result ≡ (pos + 1) % len }
-{
-    if pos + 1 < len { pos + 1 } else { 0 }
-}
-
 // 0 where a cut line has no such place.
 fn placed(pos: usize, len: usize) -> usize
     ensures { result ≡ place_of pos len }
 {
     if pos < len { pos } else { 0 }
-}
-
-// The cell that was written `delay` ticks ago, or the oldest one: (pos + len.saturating_sub(delay)) % len without a division.
-fn behind(pos: usize, len: usize, delay: usize) -> usize
-    requires { pos < len }
-    ensures { result ≡ (pos + (len - delay)) % len }
-{
-    if delay <= pos {
-        pos - delay
-    } else if delay < len {
-        pos + (len - delay)
-    } else {
-        pos
-    }
 }
 
 // The delay that is left for the line once the filters have theirs.
@@ -223,22 +200,6 @@ fn period_of(sample_rate: Hertz, freq: Hertz) -> f64
     } else {
         let max_len = KarplusStrong::max_len_for(sample_rate);
         numeric::clamp(period, 2.0, (max_len as f64) - 1.0)
-    }
-}
-
-// A string at rest, of this threshold and of so many cells.
-fn string_of(sample_rate: Hertz, threshold: f64, len: usize) -> KarplusStrong
-    ensures { result ≡ string_of sample_rate threshold len }
-{
-    KarplusStrong {
-        len,
-        write_pos: 0,
-        sample_rate,
-        lp_state: 0.0,
-        ap_x1: 0.0,
-        ap_y1: 0.0,
-        trigger_edge: EdgeDetector::new(threshold),
-        freq_memo: Memo::new(0, Hertz(0.0)),
     }
 }
 
@@ -278,28 +239,28 @@ impl KarplusStrongControls {
 impl Heard {
     // What refuses a trigger that is taken: its draws.
     fn refusal(self, draws: &[u64]) -> Result<(), Refusal>
-        ensures { refused_number result ≡ (if self.rising then draws_refusal_of self.struck_len draws.now else 0) }
+        ensures { refused_number result ≡ strike_refusal_of self.strike draws.now }
     {
-        if self.rising {
-            common::draws_refusal(self.struck_len, draws)
-        } else {
-            Ok(())
+        match self.strike {
+            Some(len) => common::draws_refusal(len, draws),
+            None => Ok(()),
         }
     }
 
     // The string, struck where its trigger is taken. Inlined, so that a tick which doesn't strike it keeps it out of memory.
     #[inline(always)]
     fn struck(self, brightness: f64, draws: &[u64], line: &mut [f64]) -> KarplusStrong
-        requires { ((if self.rising then draws_refusal_of self.struck_len draws.now else 0) ≡ 0) × (self.struck_len ≤ length line.old) }
-        ensures { let x = struck_at self (clamp_of (finite_or brightness half) zer one) draws.now line.old in
+        requires { (strike_refusal_of self.strike draws.now ≡ 0) × (strike_len self.strike ≤ length line.old) }
+        ensures { let x = strike_at self.string self.strike (clamp_of (finite_or brightness half) zer one) draws.now line.old in
             (result ≡ x.string) × (line.new ≡ x.line) }
     {
-        if self.rising {
-            let bright = within(brightness, 0.5, 0.0, 1.0);
-            excite(&mut line[..self.struck_len], bright, draws);
-            self.string.at_rest(self.struck_len)
-        } else {
-            self.string
+        match self.strike {
+            Some(len) => {
+                let bright = within(brightness, 0.5, 0.0, 1.0);
+                excite(&mut line[..len], bright, draws);
+                self.string.at_rest(len)
+            }
+            None => self.string,
         }
     }
 }
@@ -316,12 +277,13 @@ impl KarplusStrong {
         whole(sample_rate.0 / 20.0) + 10
     }
 
-    // A line is refused that has no room for the longest one and the two cells that a strike may add.
-    fn room(sample_rate: Hertz, n: usize) -> Result<(), Refusal>
-        requires { rate_ok sample_rate ≡ true }
-        ensures { refused_number result ≡ room_of sample_rate n }
+    // What refuses a line of n cells: it has no room for the longest one and the two cells that a strike may add.
+    #[tactic(auto, unfolding(common::specs::Refusal::refused_number, common::specs::Refusal::number_of))]
+    fn room(max_len: usize, n: usize) -> Result<(), Refusal>
+        requires { max_len ≤ 9610 }
+        ensures { refused_number result ≡ (if nat_le (max_len + 2) n then 0 else 3) }
     {
-        if n < KarplusStrong::max_len_for(sample_rate) + 2 {
+        if n < max_len + 2 {
             Err(Refusal::Line)
         } else {
             Ok(())
@@ -371,7 +333,7 @@ impl KarplusStrong {
         ensures { refused_number result ≡ karplus_strong_refusal_of self n }
     {
         self.state_refusal()?;
-        KarplusStrong::room(self.sample_rate, n)
+        KarplusStrong::room(KarplusStrong::max_len_for(self.sample_rate), n)
     }
 
     // What refuses making a string in a lent line of n cells.
@@ -383,7 +345,7 @@ impl KarplusStrong {
         } else if !common::threshold_ok(threshold) {
             Err(Refusal::State)
         } else {
-            KarplusStrong::room(sample_rate, n)
+            KarplusStrong::room(KarplusStrong::max_len_for(sample_rate), n)
         }
     }
 
@@ -392,18 +354,23 @@ impl KarplusStrong {
         ensures { (making result ≡ (karplus_strong_new_of sample_rate threshold line.old).out)
             × (line.new ≡ (karplus_strong_new_of sample_rate threshold line.old).line) }
     {
-        match KarplusStrong::new_refusal(sample_rate, threshold, line.len()) {
-            Ok(()) => {
-                let max_len = KarplusStrong::max_len_for(sample_rate);
-                blank(line, 0, max_len);
-                Made {
-                    outcome: Ok(()),
-                    state: string_of(sample_rate, threshold, max_len),
-                }
-            }
-            Err(refused) => Made {
-                outcome: Err(refused),
-                state: string_of(sample_rate, threshold, 0),
+        let outcome = KarplusStrong::new_refusal(sample_rate, threshold, line.len());
+        let len = match outcome {
+            Ok(()) => KarplusStrong::max_len_for(sample_rate),
+            Err(_) => 0,
+        };
+        blank(line, 0, len);
+        Made {
+            outcome,
+            state: KarplusStrong {
+                len,
+                write_pos: 0,
+                sample_rate,
+                lp_state: 0.0,
+                ap_x1: 0.0,
+                ap_y1: 0.0,
+                trigger_edge: EdgeDetector::new(threshold),
+                freq_memo: Memo::new(0, Hertz(0.0)),
             },
         }
     }
@@ -422,6 +389,29 @@ impl KarplusStrong {
         }
     }
 
+    // The place after the one that is written, around the line.
+    fn after(self) -> usize
+        requires { self.write_pos < self.len }
+        ensures { result ≡ (self.write_pos + 1) % self.len }
+    {
+        let next = self.write_pos + 1;
+        if next < self.len { next } else { 0 }
+    }
+
+    // The cell that was written `delay` ticks ago, or the oldest one: (write_pos + len.saturating_sub(delay)) % len without a division.
+    fn behind(self, delay: usize) -> usize
+        requires { self.write_pos < self.len }
+        ensures { result ≡ (self.write_pos + (self.len - delay)) % self.len }
+    {
+        if delay <= self.write_pos {
+            self.write_pos - delay
+        } else if delay < self.len {
+            self.write_pos + (self.len - delay)
+        } else {
+            self.write_pos
+        }
+    }
+
     // One sample: the loop turns once. Inlined, for with a call in its loop a block takes more than twice as long.
     #[inline(always)]
     fn turn(self, t: Tuning, line: &mut [f64]) -> Ticked<KarplusStrong>
@@ -429,8 +419,8 @@ impl KarplusStrong {
         ensures { (result ≡ (turn_of self t line.old).out) × (line.new ≡ (turn_of self t line.old).line) }
     {
         let delay = t.delay as usize;
-        let read = line[behind(self.write_pos, self.len, delay)];
-        let read2 = line[behind(self.write_pos, self.len, delay + 1)];
+        let read = line[self.behind(delay)];
+        let read2 = line[self.behind(delay + 1)];
         let sample = read * (1.0 - t.fraction) + read2 * t.fraction;
         let filtered = sample * t.filter_coef + self.lp_state * (1.0 - t.filter_coef);
         let stretched = t.ap_coef * filtered + self.ap_x1 - t.ap_coef * self.ap_y1;
@@ -440,7 +430,7 @@ impl KarplusStrong {
             Ticked {
                 answer: answer::marked(Volts::of([leaked]), false, true, true, t.numbers),
                 state: KarplusStrong {
-                    write_pos: after(self.write_pos, self.len),
+                    write_pos: self.after(),
                     lp_state: filtered,
                     ap_x1: filtered,
                     ap_y1: stretched,
@@ -473,36 +463,33 @@ impl KarplusStrong {
                 ..self
             },
             period,
-            struck_len: whole(period) + 2,
-            rising: risen.rising,
+            strike: if risen.rising {
+                Some(whole(period) + 2)
+            } else {
+                None
+            },
         }
     }
 
-    // The tick of a state and a line that refusals 1 to 3 let pass: edge, strike if it is taken, step.
+    // A tick that nothing refuses: edge, strike if it is taken, turn.
     fn sound(
         self,
         c: KarplusStrongControls,
         draws: &[u64],
         line: &mut [f64],
-    ) -> Ticked<KarplusStrong>
-        requires { karplus_strong_refusal_of self (length line.old) ≡ 0 }
-        ensures { (result ≡ (karplus_strong_sound_of self c draws.now line.old).out)
-            × (line.new ≡ (karplus_strong_sound_of self c draws.now line.old).line) }
+    ) -> Result<Ticked<KarplusStrong>, Refusal>
+        ensures { (ticking self result ≡ (karplus_strong_tick_of self c draws.now line.old).out)
+            × (line.new ≡ (karplus_strong_tick_of self c draws.now line.old).line) }
     {
+        self.refusal(line.len())?;
         let heard = self.hear(c);
-        match heard.refusal(draws) {
-            Ok(()) => {
-                let tuning = c.tuning(heard.period);
-                let struck = heard.struck(c.brightness, draws, line);
-                struck.turn(tuning, line)
-            }
-            Err(refused) => Ticked {
-                answer: Answer::Refused(refused.number()),
-                state: self,
-            },
-        }
+        heard.refusal(draws)?;
+        let tuning = c.tuning(heard.period);
+        let struck = heard.struck(c.brightness, draws, line);
+        Ok(struck.turn(tuning, line))
     }
 
+    #[tactic(auto, unfolding(crate::specs::Shortcuts::ticking))]
     pub fn tick(
         self,
         c: KarplusStrongControls,
@@ -512,8 +499,8 @@ impl KarplusStrong {
         ensures { (result ≡ (karplus_strong_tick_of self c draws.now line.old).out)
             × (line.new ≡ (karplus_strong_tick_of self c draws.now line.old).line) }
     {
-        match self.refusal(line.len()) {
-            Ok(()) => self.sound(c, draws, line),
+        match self.sound(c, draws, line) {
+            Ok(ticked) => ticked,
             Err(refused) => Ticked {
                 answer: Answer::Refused(refused.number()),
                 state: self,
@@ -558,31 +545,7 @@ impl KarplusStrong {
         }
     }
 
-    // The ticks of a block. Only the first can take the trigger, and the memo holds from then on.
-    fn run(
-        self,
-        c: KarplusStrongControls,
-        draws: &[u64],
-        line: &mut [f64],
-        samples: &mut [f64],
-        marks: &mut [u32],
-    ) -> Self
-        requires { (karplus_strong_refusal_of self (length line.old) ≡ 0) × (trigger_refusal_of self c draws.now ≡ 0)
-            × (0 < length marks.old) × (length samples.old ≡ n_ports * length marks.old) }
-        ensures line_after { strung result line.new
-            ≡ after_ticks (karplus_strong_next_of c draws.now) (length marks.old) (strung self line.old) }
-        ensures samples_after { let d = draws.now in samples.new
-            ≡ joined (frame_at n_ports (karplus_strong_told_of c d) (karplus_strong_next_of c d) (strung self line.old)) (length marks.old) }
-        ensures marks_after { let d = draws.now in marks.new
-            ≡ tab (mark_at (karplus_strong_told_of c d) (karplus_strong_next_of c d) (strung self line.old)) (length marks.old) }
-    {
-        let heard = self.hear(c);
-        let tuning = c.tuning(heard.period);
-        let struck = heard.struck(c.brightness, draws, line);
-        struck.ring(tuning, line, samples, marks)
-    }
-
-    // As many ticks with these controls as there are marks.
+    // As many ticks with these controls as there are marks. Only the first can take the trigger, and the memo holds from then on.
     pub fn block(
         self,
         c: KarplusStrongControls,
@@ -601,7 +564,10 @@ impl KarplusStrong {
         if n == 0 {
             return Ok(Played { state: self, tally });
         }
-        let state = self.run(c, draws, line, samples, marks);
+        let heard = self.hear(c);
+        let tuning = c.tuning(heard.period);
+        let struck = heard.struck(c.brightness, draws, line);
+        let state = struck.ring(tuning, line, samples, marks);
         Ok(Played {
             state,
             tally: tally.take_marks(marks).unwrap_or(tally),
@@ -629,7 +595,7 @@ impl KarplusStrong {
             return Err(Refusal::Rate);
         }
         self.state_refusal()?;
-        KarplusStrong::room(sample_rate, n)
+        KarplusStrong::room(KarplusStrong::max_len_for(sample_rate), n)
     }
 
     // Cuts the line to the new rate's longest, or fills it up with 0.0. A write position that no longer lies in it goes to 0.
