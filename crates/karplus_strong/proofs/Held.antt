@@ -21,7 +21,7 @@ use Rattle.answer.proofs.Blocks.{Holds, held_after, held_marks, held_frames}
 use Rattle.karplus_strong.specs.Consts.{n_ports}
 use Rattle.karplus_strong.specs.Step.{Ticking}
 use Rattle.karplus_strong.specs.KarplusStrong.{max_len_of, room_of, karplus_strong_refusal_of, finite_or, period_of, Strung, strike_if}
-use Rattle.karplus_strong.specs.KarplusStrong.{strike_of, heard_string, tick_unless, karplus_strong_tick_of, strung, trigger_refusal_of, first_refusal_of}
+use Rattle.karplus_strong.specs.KarplusStrong.{heard_string, tick_unless, karplus_strong_tick_of, strung, trigger_refusal_of, first_refusal_of}
 use Rattle.karplus_strong.specs.KarplusStrong.{karplus_strong_told_of, karplus_strong_next_of, damping_of, brightness_of, stretch_of, controls_of, memo_at}
 use Rattle.karplus_strong.specs.KarplusStrong.{period_at}
 use Rattle.answer.specs.Mark.{all_numbers}

@@ -2,7 +2,7 @@
 use Rattle.std.proofs.Common.{◌≡◌, ℕ, zero, suc, ◌+◌, ◌-◌, ◌%◌, ◌<◌, ◌≤◌, min, Bool, true, false, cond, not, ◌&&◌, T, eqb, ltb, leb, List, ◌++◌, length, length-take, get_or, set, take, drop}
 use Rattle.std.proofs.Common.{pos, sym, refl, ap, ◌∙◌, subst, true≢false, le_trans, arith, lit≤, le→leb, ltb-true, lt-ltb, ne_eqb, eqb-true, le-leb, leb-true}
 use mathlib.Core.Bool.{and-false}
-use Rattle.std.specs.Prelude.{Option, Some, None, Result, Ok, Err}
+use Rattle.std.specs.Prelude.{Some, None, Result, Ok, Err}
 use Rattle.laws.proofs.Over.{over_none}
 use lib.Ieee.{Float, nan, inf, fin, binary64, add, sub, mul, div, neg, in_float, lt, le, eq, fits, is_nan, of_bits}
 use lib.Ieee.Fits.{cond-fits, div-fits, sub-fits}

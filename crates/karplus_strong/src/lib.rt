@@ -15,7 +15,7 @@ ghost use Rattle.answer.specs.Calls.{making, changing};
 ghost use Rattle.answer.specs.Mark.{all_numbers};
 ghost use Rattle.answer.specs.Block.{after_ticks, joined, block_said, mark_at, frame_at};
 ghost use Rattle.karplus_strong.specs.Consts.{n_ports};
-ghost use Rattle.karplus_strong.specs.Line.{blank_of, pulse_of, excited_of, level_of, struck_of};
+ghost use Rattle.karplus_strong.specs.Line.{blank_of, pulse_of, struck_of};
 ghost use Rattle.karplus_strong.specs.Step.{filter_coef_of, ap_coef_of, target_delay_of, rest_of};
 ghost use Rattle.karplus_strong.specs.KarplusStrong.{max_len_of, line_ok, karplus_strong_refusal_of, karplus_strong_rate_refusal_of};
 ghost use Rattle.karplus_strong.specs.KarplusStrong.{karplus_strong_cells_of, karplus_strong_new_refusal_of, karplus_strong_new_of, finite_or, controls_of};
@@ -72,6 +72,14 @@ struct Heard {
     string: KarplusStrong,
     period: f64,
     strike: Option<usize>,
+}
+
+// The place that a tick writes, among so many cells.
+#[derive(Clone, Copy)]
+struct Place {
+    pos: usize,
+    len: usize,
+    ghost in_line: { pos < len },
 }
 
 // ---- numbers
@@ -136,16 +144,6 @@ fn pulse(n: usize, brightness: f64, draw: u64, i: usize) -> f64
     }
 }
 
-fn fill(cells: &mut [f64], brightness: f64, draws: &[u64])
-    requires { length cells.old ≤ length draws.now }
-    ensures { cells.new ≡ excited_of (length cells.old) brightness draws.now cells.old }
-{
-    let n = cells.len();
-    for (i, cell) in cells.iter_mut().enumerate() {
-        *cell = pulse(n, brightness, draws[i], i);
-    }
-}
-
 // Rust's sum of floats starts at -0.0.
 fn sum(cells: &[f64]) -> f64
     ensures { result ≡ fold (add binary64) (neg zer) cells.now }
@@ -153,22 +151,19 @@ fn sum(cells: &[f64]) -> f64
     cells.iter().fold(-0.0, |sum, cell| sum + *cell)
 }
 
-fn level(cells: &mut [f64], mean: f64)
-    ensures { cells.new ≡ level_of (length cells.old) mean cells.old }
-{
-    for cell in cells.iter_mut() {
-        *cell -= mean;
-    }
-}
-
 // The Rust's excite: noise and impulse, less their mean.
 fn excite(cells: &mut [f64], brightness: f64, draws: &[u64])
     requires { length cells.old ≤ length draws.now }
     ensures { cells.new ≡ struck_of (length cells.old) brightness draws.now cells.old }
 {
-    fill(cells, brightness, draws);
-    let mean = sum(cells) / numeric::of_u64(cells.len() as u64);
-    level(cells, mean);
+    let n = cells.len();
+    for (i, cell) in cells.iter_mut().enumerate() {
+        *cell = pulse(n, brightness, draws[i], i);
+    }
+    let mean = sum(cells) / numeric::of_u64(n as u64);
+    for cell in cells.iter_mut() {
+        *cell -= mean;
+    }
 }
 
 // ---- the loop
@@ -178,6 +173,29 @@ fn placed(pos: usize, len: usize) -> usize
     ensures { result ≡ place_of pos len }
 {
     if pos < len { pos } else { 0 }
+}
+
+impl Place {
+    // (pos + 1) % len
+    fn after(self) -> usize
+        ensures { result ≡ (self.pos + 1) % self.len }
+    {
+        let next = self.pos + 1;
+        if next < self.len { next } else { 0 }
+    }
+
+    // The cell that was written `delay` ticks ago, or the oldest one: (pos + len.saturating_sub(delay)) % len without a division.
+    fn behind(self, delay: usize) -> usize
+        ensures { result ≡ (self.pos + (self.len - delay)) % self.len }
+    {
+        if delay <= self.pos {
+            self.pos - delay
+        } else if delay < self.len {
+            self.pos + (self.len - delay)
+        } else {
+            self.pos
+        }
+    }
 }
 
 // The delay that is left for the line once the filters have theirs.
@@ -389,48 +407,29 @@ impl KarplusStrong {
         }
     }
 
-    // The place after the one that is written, around the line.
-    fn after(self) -> usize
-        requires { self.write_pos < self.len }
-        ensures { result ≡ (self.write_pos + 1) % self.len }
-    {
-        let next = self.write_pos + 1;
-        if next < self.len { next } else { 0 }
-    }
-
-    // The cell that was written `delay` ticks ago, or the oldest one: (write_pos + len.saturating_sub(delay)) % len without a division.
-    fn behind(self, delay: usize) -> usize
-        requires { self.write_pos < self.len }
-        ensures { result ≡ (self.write_pos + (self.len - delay)) % self.len }
-    {
-        if delay <= self.write_pos {
-            self.write_pos - delay
-        } else if delay < self.len {
-            self.write_pos + (self.len - delay)
-        } else {
-            self.write_pos
-        }
-    }
-
     // One sample: the loop turns once. Inlined, for with a call in its loop a block takes more than twice as long.
     #[inline(always)]
     fn turn(self, t: Tuning, line: &mut [f64]) -> Ticked<KarplusStrong>
         requires { (self.write_pos < self.len) × (self.len ≤ length line.old) }
         ensures { (result ≡ (turn_of self t line.old).out) × (line.new ≡ (turn_of self t line.old).line) }
     {
+        let place = Place {
+            pos: self.write_pos,
+            len: self.len,
+        };
         let delay = t.delay as usize;
-        let read = line[self.behind(delay)];
-        let read2 = line[self.behind(delay + 1)];
+        let read = line[place.behind(delay)];
+        let read2 = line[place.behind(delay + 1)];
         let sample = read * (1.0 - t.fraction) + read2 * t.fraction;
         let filtered = sample * t.filter_coef + self.lp_state * (1.0 - t.filter_coef);
         let stretched = t.ap_coef * filtered + self.ap_x1 - t.ap_coef * self.ap_y1;
         let leaked = stretched * KarplusStrong::LOOP_LEAK;
         if is_settled(leaked) {
-            line[self.write_pos] = leaked;
+            line[place.pos] = leaked;
             Ticked {
                 answer: answer::marked(Volts::of([leaked]), false, true, true, t.numbers),
                 state: KarplusStrong {
-                    write_pos: self.after(),
+                    write_pos: place.after(),
                     lp_state: filtered,
                     ap_x1: filtered,
                     ap_y1: stretched,

@@ -1,4 +1,3 @@
-use Rattle.std.proofs.Common.{sym, ap, ◌∙◌}
 use Rattle.common.specs.Refusal.{refused_number}
 use Rattle.karplus_strong.specs.Shortcuts.{strike_refusal_of}
 use Rattle.karplus_strong.proofs.Heard.refusal.Goals as goal

@@ -1,4 +1,4 @@
-use Rattle.std.proofs.Common.{sym, refl, ◌∙◌, arith}
+use Rattle.std.proofs.Common.{sym, ◌∙◌, arith}
 use Rattle.common.specs.Refusal.{refused_number}
 use Rattle.karplus_strong.proofs.Parts.{made_parts, new_taken, new_made, new_no}
 use Rattle.karplus_strong.proofs.KarplusStrong.new.Goals as goal
@@ -12,10 +12,10 @@ pub blank-requires : goal.blank-requires
 unfolding refused_number
 blank-requires c =
     elim c.match-outcome.branch [
-      in-Ok w ↦ let m = (new_taken _ _ _ (sym (rw w.in-Ok.is at c.new_refusal-outcome.ensures))).2 in
-      let e = w.len-is in
-      let l = w.max_len_for-len.ensures in
-      (omega arith, omega arith)
+      | in-Ok w ↦ let m = (new_taken _ _ _ (sym (rw w.in-Ok.is at c.new_refusal-outcome.ensures))).2 in
+          let e = w.len-is in
+          let l = w.max_len_for-len.ensures in
+          (omega arith, omega arith)
       | in-Err w ↦ let e = w.len-is in (omega arith, omega arith)
     ]
 
@@ -23,6 +23,6 @@ pub returns : goal.returns
 returns c =
     rw (c.new.ensures, c.new-2.ensures)
     (elim c.match-outcome.branch [
-      in-Ok w ↦ made_parts (new_made _ _ _ _ _ _ c.new_refusal-outcome.ensures c.blank.ensures _ w.in-Ok.is (w.len-is ∙ w.max_len_for-len.ensures))
+      | in-Ok w ↦ made_parts (new_made _ _ _ _ _ _ c.new_refusal-outcome.ensures c.blank.ensures _ w.in-Ok.is (w.len-is ∙ w.max_len_for-len.ensures))
       | in-Err w ↦ made_parts (new_no _ _ _ _ _ _ c.new_refusal-outcome.ensures c.blank.ensures _ w.in-Err.is w.len-is)
     ])

@@ -1,4 +1,3 @@
-use Rattle.std.proofs.Common.{sym, ◌∙◌}
 use Rattle.std.proofs.lemmas.Result.{err_from_is_err_and}
 use Rattle.common.specs.Refusal.{refused_number}
 use Rattle.karplus_strong.proofs.Parts.{max_len_range, state_passed, refusal_state, refusal_room}
