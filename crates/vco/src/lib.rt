@@ -62,7 +62,10 @@ fn tuned(
 ) -> Memo<(u64, u64, u64), Hertz>
     ensures { result ≡ recall3 frequency_of memo voct.0 fm.0 fm_lin }
 {
-    memo.get_or_compute(common::key3(voct.0, fm.0, fm_lin), || frequency(voct, fm, fm_lin))
+    memo.get_or_compute(
+        common::key3(voct.0, fm.0, fm_lin),
+        || frequency(voct, fm, fm_lin),
+    )
 }
 
 // The pulse width, away from 0 and from 1. The clamp lets a NaN pass.
