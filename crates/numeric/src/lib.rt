@@ -76,7 +76,7 @@ pub fn max(a: f64, b: f64) -> f64
 pub fn least(a: usize, b: usize) -> usize
     ensures { result ≡ min a b }
 {
-    if a < b { a } else { b }
+    a.min(b)
 }
 
 // Rust's `as u64`: toward zero, a NaN to 0, saturating.
