@@ -73,6 +73,7 @@ pub fn max(a: f64, b: f64) -> f64
 }
 
 // The smaller of two whole numbers.
+// Kept: a public function, of which Settled speaks; its body is the library's.
 pub fn least(a: usize, b: usize) -> usize
     ensures { result ≡ min a b }
 {

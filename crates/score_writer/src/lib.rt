@@ -55,6 +55,7 @@ fn check_controls(controls: &[Control]) -> Result<(), Refusal>
     Ok(())
 }
 
+// Kept: four kinds, all known here, so a match and no `dyn`, here and in `put_inputs`.
 fn check_inputs(inputs: Inputs) -> Result<(), Refusal>
     ensures { result ≡ controls_refusal (controls_of inputs) }
 {

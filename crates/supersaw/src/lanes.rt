@@ -47,6 +47,7 @@ pub fn voices(t: [f64; 8]) -> [f64; 7]
     std::array::from_fn(|i| t[i])
 }
 
+// Kept: `saws`, `sums` and `all_steady` take the phases, which move, beside the increments, which stand still in a Setting.
 fn saws(t: [f64; 8], dt: [f64; 8]) -> [f64; 8]
     ensures { result ≡ saws_of t dt }
 {
@@ -116,6 +117,7 @@ fn blend(s: [f64; 8], mix: f64) -> f64
 }
 
 // What each phase grows by in a tick.
+// Kept: a frequency and a rate, here and in `new`, as common::increment takes them.
 #[tactic(auto, unfolding(crate::specs::Shortcuts::incs_of, crate::specs::Voices::dt_of, laws::specs::Lists::tab))]
 fn increments(detune: f64, base_freq: Hertz, sample_rate: Hertz) -> [f64; 8]
     ensures { result ≡ incs_of detune base_freq sample_rate }
@@ -208,6 +210,7 @@ impl Setting {
     }
 
     // Ticks in which the memo holds: only the phases move.
+    // Kept: samples and marks are the two slices that a host lends (the C interface).
     pub fn glide(&self, first: [f64; 8], samples: &mut [f64], marks: &mut [u32]) -> [f64; 8]
         requires { length samples.old ≡ n_ports * length marks.old }
         ensures value { result ≡ after_ticks (held_next self.now.dt self.now.mix self.now.numbers) (length marks.old) first }
@@ -215,7 +218,8 @@ impl Setting {
             ≡ joined (frame_at n_ports (held_told self.now.dt self.now.mix self.now.numbers) (held_next self.now.dt self.now.mix self.now.numbers) first)
             (length marks.old) }
         ensures marks_after { marks.new
-            ≡ tab (mark_at (held_told self.now.dt self.now.mix self.now.numbers) (held_next self.now.dt self.now.mix self.now.numbers) first) (length marks.old) }
+            ≡ tab (mark_at (held_told self.now.dt self.now.mix self.now.numbers) (held_next self.now.dt self.now.mix self.now.numbers) first)
+            (length marks.old) }
     {
         let mut t = first;
         for i in 0..marks.len() {

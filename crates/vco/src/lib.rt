@@ -157,6 +157,8 @@ impl VcoControls {
     }
 }
 
+// Kept: `sound`, `tick`, `run` and `block` take controls and mask apart, as the Rust's tick_wanted does, and `run` and `block` samples and marks as the two
+// slices that a host lends (the C interface).
 impl Vco {
     // The bits of `wanted`, in port order.
     const WANT_SIN: u32 = 1 << 0;
