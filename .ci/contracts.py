@@ -294,9 +294,13 @@ def kind_of(said, function):
     return whole([name, *(kind_of(part, function) for part in parts(named[2] or "") if not part.startswith("'"))])
 
 
+STD = {"PartialEq": {"eq": ["→", "Self", "Self", "Bool"]}}
+
+
 def members(files, defined):
-    """What the traits of the crates have for their clauses, as {trait: {name: type}}, with a type of the implementor's as `Self::Name`."""
-    found = {}
+    """What the traits of the crates, and those named above of std, have for their clauses, as {trait: {name: type}}, with a type of the implementor's as
+    `Self::Name`."""
+    found = dict(STD)
     for path, text in files.items():
         if re.match(r"crates/\w+/src/.*\.rt$", path):
             text = blanked(path, text)
@@ -416,9 +420,10 @@ class Promise(typing.NamedTuple):
         """The type of a part of the answer, or None."""
         kind = self.kind
         for step in part:
-            if not isinstance(kind, list) or kind[0] != "×" or step not in (".0", ".1"):
+            place = int(step[1:]) + 1 if re.fullmatch(r"\.\d", step) else 0
+            if not isinstance(kind, list) or kind[0] != "×" or not 0 < place < len(kind):
                 return None
-            kind = kind[1] if step == ".0" else whole(["×", *kind[2:]] if len(kind) > 3 else kind[2:])
+            kind = kind[place]
         return kind
 
     def apart(self, terms):
@@ -501,7 +506,8 @@ class Contracts:
                 found[name] = "ℕ"
             for trait in re.split(r"\s*\+\s*", bound):
                 for member, kind in self.members.get(bare(trait), {}).items():
-                    found[str([name, f".{member}"])] = replaced(kind, {word: word.replace("Self::", f"{name}::") for word in leaves(kind)})
+                    own = {word: name if word == "Self" else word.replace("Self::", f"{name}::") for word in leaves(kind)}
+                    found[str([name, f".{member}"])] = replaced(kind, own)
         return {**found, **{name: plain(kind, self.defined) for name, kind in values.items()}}
 
     def repeats(self, said, function, sides, values):

@@ -1,7 +1,12 @@
 #!/usr/bin/env python3
-"""Counts the places that docs/DESIGN-PASS.md speaks of, in crates/*/src as they stand at a commit, or in the work tree without one.
+"""Counts the places that docs/DESIGN-PASS.md speaks of, in crates/*/src as they stand at a commit, or in the work tree without one: how many there are,
+and how many of them are kept with a reason.
 
-usage: tools/places.py [COMMIT] [--list]      with --list each place is printed after its count, as file:line: what stands there
+A place is kept where a comment that says `Kept:` stands right above the item or inside it, or where such a comment of the file names its function in
+backticks.
+
+usage: tools/places.py [COMMIT] [--list | --left]      with --list each place is printed after its count, as file:line: what stands there; with --left those
+                                                       without a reason
 """
 import re, subprocess, sys
 from collections import Counter, defaultdict
@@ -32,6 +37,8 @@ def enums():
     for where, head in lines(r"^((?:pub )?enum \w+ \{\n(?:.*\n)*?\})$"):
         cases = re.findall(r"^    (\w+)(\(|,| =| \{)", head, re.M)
         bare = [c for c, rest in cases if rest == ","]
+        if cases and all(rest == " =" for _, rest in cases):
+            continue  # an error enum, each case with its number
         if len(cases) == 2 and len(bare) < 2 or re.search(r"\bRefused\(u32\)|\bMalformed\b|\bFailed\b", head):
             yield where, head.split(" {")[0]
 
@@ -61,6 +68,44 @@ def together():
     return sorted({(where, fn) for found in pairs.values() if len(found) > 2 for where, fn in found})
 
 
+ITEM = re.compile(r"^( *)(?:pub(?:\([^)]*\))? )?(?:extern \"C\" )?(?:const )?(?:fn|struct|enum|trait|impl)\b[^\n]*", re.M)
+
+
+def reasons(text):
+    """The comments of a file that give a reason, as (place, text)."""
+    for m in re.finditer(r"(?:^ *//[^\n]*\n)*^ *//[^\n]*$|//[^\n]*$", text, re.M):
+        if "Kept:" in m[0]:
+            yield m.start(), m[0]
+
+
+def item_of(text, at):
+    """The item that a line stands in, as (start of the comments above it, end, its name)."""
+    found = 0, len(text), ""
+    for m in ITEM.finditer(text):
+        if m.start() > at:
+            break
+        end = re.compile(rf"^{m[1]}\}}|^{m[1]}[^\n]*;$", re.M).search(text, m.start())
+        if end and at <= end.end():
+            above = re.compile(r"(?:^ *(?://|#\[)[^\n]*\n)*\Z", re.M).search(text, 0, m.start())
+            name = re.search(r"\b(?:fn|struct|enum|trait) (\w+)", m[0])
+            found = above.start(), end.end(), name[1] if name else found[2]
+    return found
+
+
+def kept(where):
+    """Whether a reason stands beside a place."""
+    name, line = where.rsplit(":", 1)
+    text = dict(SOURCES)[name]
+    at = sum(len(part) + 1 for part in text.split("\n")[: int(line) - 1])
+    start, end, item = item_of(text, at)
+    return any(start <= place < end and not is_whole(text, start, end) or item and f"`{item}`" in said for place, said in reasons(text))
+
+
+def is_whole(text, start, end):
+    """Whether that is the file and no item of it."""
+    return (start, end) == (0, len(text))
+
+
 POINTS = {
     "1 own enums of the shape of Option or Result": list(enums()),
     "1 a flag or a refusal's number beside a value": lines(r"^(    (?:pub )?(?:outcome: Outcome|refused: u32|valid: bool|asked: bool),)"),
@@ -83,8 +128,24 @@ POINTS = {
     "6 buffers with a length beside, fields by number": lines(r"(\[(?:0|0\.0); 62\])") + lines(r"^( *(?:pub )?p[0-4]: Control,)") + lines(r"^( *(?:pub )?key[0-2]: u64,)"),
     "7 switches on which oscillator's step to run": lines(r"^( *match (?:osc|inputs|controls|k) \{)"),
 }
+# ---- found by a name that stayed, where the library's method or the one generic function does the work now
+LIBRARY = re.compile(r"\.get\(|\.ok_or\(|\.min\(|\ba == b\b|get_or_compute|\bkey: K\b")
+
+
+def by_the_library(where, what):
+    """Whether the function at a place is such a one."""
+    name, line = where.rsplit(":", 1)
+    text = dict(SOURCES)[name]
+    at = sum(len(part) + 1 for part in text.split("\n")[: int(line) - 1])
+    start, end, item = item_of(text, at)
+    return " fn " in f" {what}" and bool(item) and bool(LIBRARY.search(text[at:end]))
+
+
+for point in "2 functions that differ in a type, a size or a constant", "4 equality, order, copies and conversions by hand":
+    POINTS[point] = [place for place in POINTS[point] if not by_the_library(*place)]
+
 for point, places in POINTS.items():
-    print(f"{len(places):4}  {point}")
-    if "--list" in sys.argv:
-        for where, what in places:
-            print(f"      {where}: {what}")
+    left = [(where, what) for where, what in places if not kept(where)]
+    print(f"{len(places):4} {len(places) - len(left):4} kept  {point}")
+    for where, what in places if "--list" in sys.argv else left if "--left" in sys.argv else []:
+        print(f"           {where}: {what}")

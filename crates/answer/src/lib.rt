@@ -73,6 +73,7 @@ const TOLD_STEERED: u32 = 10 + STEERED;
 
 // What a tick answers: its mark with its samples, or the number that refused it. The marks stand in the order of their numbers, so
 // that a number is computed, and not looked up.
+// Kept: a refused tick's number may be any that a host was told, also one of no Refusal: ToldNumbers speaks of each.
 #[derive(Clone, Copy)]
 pub enum Answer {
     Cleared(Volts),
@@ -166,6 +167,7 @@ pub fn samples(a: Answer) -> Volts
 }
 
 // And back: the answer that a host was told by this number, with its volts. A number that is no mark's refuses.
+// Kept: no TryFrom, for each number has its answer.
 pub fn answer_of(number: u32, v: Volts) -> Answer
     ensures { result ≡ answer_of number v }
 {

@@ -17,6 +17,9 @@ use common::{EdgeDetector, Refusal};
 
 // ---- lengths
 
+// Kept: here and in `keep`, `hear`, `store`, `block_state`, `keep_block`, `tick_state`, `state`, `sizes`, `tick_sizes` and `block_tally` floats, wholes,
+// samples and counts stand beside one another: the C interface lends them so.
+
 // What a host lends for a state of nf floats and nw whole numbers: refused where floats or wholes have another length.
 pub fn sizes(nf: usize, nw: usize, floats: &[f64], wholes: &[u64]) -> Result<(), Refusal>
     ensures { refused_number result ≡ sizes_of nf nw (length floats.now) (length wholes.now) }

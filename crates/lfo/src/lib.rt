@@ -53,6 +53,7 @@ fn recall(memo: Memo<u64, Hertz>, rate: f64) -> Memo<u64, Hertz>
     memo.get_or_compute(numeric::bits(rate), || rate_to_hz(rate))
 }
 
+// Kept: `tri`, `saw` and `sqr` take a phase and a scale, as their definitions do: a struct of the two would be made for each.
 fn sin(want: bool, sine: f64, scale: f64) -> f64
     ensures { result ≡ sin_wave want sine scale }
 {
@@ -138,6 +139,8 @@ impl LfoControls {
     }
 }
 
+// Kept: `sound`, `tick`, `run` and `block` take controls and mask apart, as the Rust's tick_wanted does, and `glide`, `run` and `block` samples and marks as
+// the two slices that a host lends (the C interface).
 impl Lfo {
     // Of a rate and of the threshold that its gate goes by.
     pub fn new(sample_rate: Hertz, threshold: f64) -> Made<Lfo>

@@ -9,6 +9,9 @@ ghost use Rattle.line.specs.Number.{digits_of, negative_of, signed_of, number_of
 
 // ---- parts of a text, uncopied
 
+// Kept: `place_of`, `count_until`, `has`, `until` and `past` take a text and a byte, as the library's `position` does: a struct of the two would be made
+// for each call.
+
 // The text from `at` on; nothing past its end.
 fn from(t: &[u8], at: usize) -> &[u8]
     ensures { result.now ≡ drop at t.now }
@@ -57,6 +60,8 @@ pub fn same(a: &[u8], b: &[u8]) -> bool
 }
 
 // ---- the line at a place
+
+// Kept: `is_line`, `line_value` and `line_end` are the functions of a text and a place that the scope wants below the reader.
 
 // Whether a line of this key stands at `at`.
 fn is_line(text: &[u8], at: usize, key: &[u8]) -> bool

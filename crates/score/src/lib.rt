@@ -169,6 +169,7 @@ pub fn number_in(c: Control) -> Number
 }
 
 // The oscillator whose inputs they are.
+// Kept: four kinds, all known here, so a match and no `dyn`; `take_inputs` too.
 pub fn owner_of(inputs: Inputs) -> Osc
     ensures { result ≡ owner_of inputs }
 {
@@ -255,6 +256,7 @@ fn take_osc(lines: &mut Reader) -> Result<Osc, Refusal>
     osc_of(value)
 }
 
+// Kept: `take_whole`, `take_gate` and `take_control` share `take_value`; what differs is a line, and a closure for it would be longer.
 fn take_whole(lines: &mut Reader, key: &[u8], range: Range) -> Result<u32, Refusal>
     ensures { Takes (whole key.now range.least range.most) lines.old result lines.new }
 {

@@ -55,6 +55,7 @@ fn check_controls(controls: &[Control]) -> Result<(), Refusal>
     Ok(())
 }
 
+// Kept: four kinds, all known here, so a match and no `dyn`, here and in `put_inputs`.
 fn check_inputs(inputs: Inputs) -> Result<(), Refusal>
     ensures { result ≡ controls_refusal (controls_of inputs) }
 {
@@ -141,6 +142,9 @@ fn put_head(page: &mut Page, head: Head)
 }
 
 // ---- the inputs, in the Rust's port order and names
+
+// Kept: `put_vco`, `put_lfo`, `put_supersaw` and `put_formant` differ in their keys alone, which stand here in any case: one function over a list of pairs
+// holds the same lines and a loop.
 
 #[tactic(auto, using(text::proofs::PageLaws::page_then, crate::proofs::Ended::ended))]
 fn put_vco(page: &mut Page, i: VcoInputs)

@@ -35,8 +35,8 @@ use Rattle.supersaw.specs.declared.SupersawControls.{SupersawControls}
 use Rattle.answer.specs.declared.Ticked.{Ticked}
 
 -- ---- a turn of the loop
-module _ (dt : List Float) (mix : Float) (numbers : Bool) (first : List Float) (i : ℕ) (t : List Float) (u : Ticked (List Float)) (e : u ≡ stepped_of t dt mix numbers)
-    (z : t ≡ after_ticks (held_next dt mix numbers) i first) where
+module _ (dt : List Float) (mix : Float) (numbers : Bool) (first : List Float) (i : ℕ) (t : List Float) (u : Ticked (List Float))
+    (e : u ≡ stepped_of t dt mix numbers) (z : t ≡ after_ticks (held_next dt mix numbers) i first) where
   pub heard : u.answer ≡ answer_at (held_told dt mix numbers) (held_next dt mix numbers) first i
   unfolding answer_at
   heard = simp (e, z)

@@ -36,7 +36,6 @@ use Rattle.supersaw.specs.Voices.{at, freq_of, dt_of, saw_of, sub_dt_of, Voices,
 use Rattle.supersaw.specs.declared.Supersaw.{Supersaw}
 use Rattle.supersaw.specs.declared.SupersawControls.{SupersawControls}
 use Rattle.answer.specs.declared.Ticked.{Ticked}
-use Rattle.supersaw.specs.declared.lanes.Moved.{Moved}
 
 -- ---- the loop
 abbrev total_to : ℕ → Float
@@ -82,8 +81,8 @@ abbrev pub advanced_of : Supersaw → List Float → Memo1 → Supersaw
 advanced_of s t memo = record { phases = tab (at t) 7; sub_phase = turns (at t 7); sample_rate = s.sample_rate; freq_memo = memo }
 
 -- a tick of the lanes, put back into the state
-abbrev pub ticked_of : Supersaw → Moved → Memo1 → Ticked Supersaw
-ticked_of s r memo = record { answer = r.answer; state = advanced_of s r.phases memo }
+abbrev pub ticked_of : Supersaw → Ticked (List Float) → Memo1 → Ticked Supersaw
+ticked_of s r memo = record { answer = r.answer; state = advanced_of s r.state memo }
 
 pub sound_is : (s : Supersaw) (c : SupersawControls) → length s.phases ≡ 7
     → ticked_of s (stepped_of (lanes_of s.phases s.sub_phase)

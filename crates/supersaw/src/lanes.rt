@@ -15,15 +15,8 @@ ghost use Rattle.supersaw.specs.Shortcuts.{lanes_of, incs_of, saws_of, ramps_of,
 ghost use Rattle.supersaw.specs.Shortcuts.{mix_to, blend_of, moved_of, stepped_of, ramped_of, quiet_of, held_told, held_next};
 
 use super::{PORTS, Supersaw, SupersawControls, saw};
-use answer::{Answer, Volts};
+use answer::{Ticked, Volts};
 use common::{Hertz, Turns};
-
-// A tick of the eight oscillators: what it answers, and the phases after it.
-#[derive(Clone, Copy)]
-pub struct Moved {
-    pub answer: Answer,
-    pub phases: [f64; 8],
-}
 
 // What stands still while the controls do: the frequency, what each phase grows by in a tick, the mix and whether no control is NaN. Of a
 // frequency above 0 no phase goes back.
@@ -54,6 +47,7 @@ pub fn voices(t: [f64; 8]) -> [f64; 7]
     std::array::from_fn(|i| t[i])
 }
 
+// Kept: `saws`, `sums` and `all_steady` take the phases, which move, beside the increments, which stand still in a Setting.
 fn saws(t: [f64; 8], dt: [f64; 8]) -> [f64; 8]
     ensures { result ≡ saws_of t dt }
 {
@@ -123,6 +117,7 @@ fn blend(s: [f64; 8], mix: f64) -> f64
 }
 
 // What each phase grows by in a tick.
+// Kept: a frequency and a rate, here and in `new`, as common::increment takes them.
 #[tactic(auto, unfolding(crate::specs::Shortcuts::incs_of, crate::specs::Voices::dt_of, laws::specs::Lists::tab))]
 fn increments(detune: f64, base_freq: Hertz, sample_rate: Hertz) -> [f64; 8]
     ensures { result ≡ incs_of detune base_freq sample_rate }
@@ -139,12 +134,12 @@ fn increments(detune: f64, base_freq: Hertz, sample_rate: Hertz) -> [f64; 8]
 
 // A tick from its outputs, whether each phase plus its increment was finite, whether no control is NaN, and the phases after it.
 #[tactic(auto, unfolding(crate::specs::Shortcuts::moved_of))]
-fn answered(out: f64, sub: f64, finite: bool, numbers: bool, phases: [f64; 8]) -> Moved
+fn answered(out: f64, sub: f64, finite: bool, numbers: bool, phases: [f64; 8]) -> Ticked<[f64; 8]>
     ensures { result ≡ moved_of out sub finite numbers phases }
 {
-    Moved {
+    Ticked {
         answer: answer::mark(Volts::of([out, sub]), false, true, finite, numbers),
-        phases,
+        state: phases,
     }
 }
 
@@ -174,7 +169,7 @@ impl Setting {
 
     // A quiet tick: no residual, and no wrap.
     #[tactic(auto, unfolding(crate::specs::Shortcuts::ramped_of))]
-    fn ramped(&self, t: [f64; 8]) -> Moved
+    fn ramped(&self, t: [f64; 8]) -> Ticked<[f64; 8]>
         ensures { result ≡ ramped_of t self.now.dt self.now.mix self.now.numbers }
     {
         let s = ramps(t);
@@ -189,7 +184,7 @@ impl Setting {
 
     // Any accepted tick.
     #[tactic(auto, unfolding(crate::specs::Shortcuts::stepped_of))]
-    fn stepped(&self, t: [f64; 8]) -> Moved
+    fn stepped(&self, t: [f64; 8]) -> Ticked<[f64; 8]>
         ensures { result ≡ stepped_of t self.now.dt self.now.mix self.now.numbers }
     {
         let s = saws(t, self.dt);
@@ -204,7 +199,7 @@ impl Setting {
     }
 
     // The same tick, by the shorter way where it is quiet.
-    fn turn(&self, t: [f64; 8]) -> Moved
+    fn turn(&self, t: [f64; 8]) -> Ticked<[f64; 8]>
         ensures { result ≡ stepped_of t self.now.dt self.now.mix self.now.numbers }
     {
         if self.quiet(t) {
@@ -215,6 +210,7 @@ impl Setting {
     }
 
     // Ticks in which the memo holds: only the phases move.
+    // Kept: samples and marks are the two slices that a host lends (the C interface).
     pub fn glide(&self, first: [f64; 8], samples: &mut [f64], marks: &mut [u32]) -> [f64; 8]
         requires { length samples.old ≡ n_ports * length marks.old }
         ensures value { result ≡ after_ticks (held_next self.now.dt self.now.mix self.now.numbers) (length marks.old) first }
@@ -222,13 +218,14 @@ impl Setting {
             ≡ joined (frame_at n_ports (held_told self.now.dt self.now.mix self.now.numbers) (held_next self.now.dt self.now.mix self.now.numbers) first)
             (length marks.old) }
         ensures marks_after { marks.new
-            ≡ tab (mark_at (held_told self.now.dt self.now.mix self.now.numbers) (held_next self.now.dt self.now.mix self.now.numbers) first) (length marks.old) }
+            ≡ tab (mark_at (held_told self.now.dt self.now.mix self.now.numbers) (held_next self.now.dt self.now.mix self.now.numbers) first)
+            (length marks.old) }
     {
         let mut t = first;
         for i in 0..marks.len() {
             let moved = self.turn(t);
             answer::put(moved.answer, PORTS, i, &mut *samples, &mut *marks);
-            t = moved.phases;
+            t = moved.state;
         }
         t
     }

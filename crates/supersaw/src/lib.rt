@@ -134,6 +134,7 @@ impl Supersaw {
     }
 
     // What the sub oscillator's phase grows by in a tick: half of the center's, as the Rust rounds it.
+    // Kept: a frequency and a rate, as common::increment takes them.
     #[tactic(auto, unfolding(crate::specs::Voices::sub_dt_of))]
     fn sub_increment(base_freq: Hertz, sample_rate: Hertz) -> Turns
         ensures { result ≡ sub_dt_of base_freq sample_rate }
@@ -202,6 +203,8 @@ impl Supersaw {
             },
         }
     }
+
+    // Kept: `run` and `block` take samples and marks as the two slices that a host lends (the C interface).
 
     // The ticks of a block: the memo holds from the first on. The controls are asked once.
     fn run(self, c: SupersawControls, samples: &mut [f64], marks: &mut [u32]) -> Self

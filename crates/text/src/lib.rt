@@ -10,6 +10,7 @@ ghost use Rattle.text.specs.Lines.{word_line, count_line};
 
 // ---- a digit
 
+// Kept: `digit` and `nibble` know capitals alone; the library's digits are small letters too.
 #[tactic(auto, unfolding(crate::specs::Hex::glyph))]
 fn digit(d: u64) -> u8
     requires { d < 16 }

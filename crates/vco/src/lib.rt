@@ -62,7 +62,10 @@ fn tuned(
 ) -> Memo<(u64, u64, u64), Hertz>
     ensures { result ≡ recall3 frequency_of memo voct.0 fm.0 fm_lin }
 {
-    memo.get_or_compute(common::key3(voct.0, fm.0, fm_lin), || frequency(voct, fm, fm_lin))
+    memo.get_or_compute(
+        common::key3(voct.0, fm.0, fm_lin),
+        || frequency(voct, fm, fm_lin),
+    )
 }
 
 // The pulse width, away from 0 and from 1. The clamp lets a NaN pass.
@@ -154,6 +157,8 @@ impl VcoControls {
     }
 }
 
+// Kept: `sound`, `tick`, `run` and `block` take controls and mask apart, as the Rust's tick_wanted does, and `run` and `block` samples and marks as the two
+// slices that a host lends (the C interface).
 impl Vco {
     // The bits of `wanted`, in port order.
     const WANT_SIN: u32 = 1 << 0;

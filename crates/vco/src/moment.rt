@@ -178,6 +178,7 @@ impl Setting {
     }
 
     // Ticks whose memo holds. Only the first may take the edge: after it the sync stands still.
+    // Kept: samples and marks are the two slices that a host lends (the C interface).
     pub fn glide(self, first: Moment, samples: &mut [f64], marks: &mut [u32]) -> Turns
         requires { length samples.old ≡ n_ports * length marks.old }
         ensures value { result ≡ (after_ticks (held_next self.dt) (length marks.old) (held first.p_old first.at)).phase }

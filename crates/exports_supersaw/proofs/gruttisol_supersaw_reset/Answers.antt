@@ -9,11 +9,13 @@ use Rattle.exports_supersaw.proofs.gruttisol_supersaw_reset.Goals as goal
 
 pub returns-in-Ok : goal.returns-in-Ok
 unfolding supersaw_reset_at
-returns-in-Ok c = let f = c.args.floats.now in
+returns-in-Ok c =
+    let f = c.args.floats.now in
     let w = c.args.wholes.now in
+    let held = lent n_floats n_wholes state_of f w _ c.in-Ok.ensures in
     c.keep.ensures
     ∙ ap (λ k. kept_sized n_floats n_wholes k f w)
-    (kept_changing floats_of wholes_of f w c.in-Ok.supersaw _ _ (c.reset.ensures ∙ ap supersaw_reset_of (lent n_floats n_wholes state_of f w _ c.in-Ok.ensures)))
+    (kept_changing floats_of wholes_of f w c.in-Ok.supersaw _ _ (c.reset.ensures ∙ ap supersaw_reset_of held))
 
 pub returns-in-Err : goal.returns-in-Err
 unfolding supersaw_reset_at

@@ -9,11 +9,12 @@ use Rattle.exports_supersaw.proofs.gruttisol_supersaw_set_sample_rate.Goals as g
 
 pub returns-in-Ok : goal.returns-in-Ok
 unfolding supersaw_set_sample_rate_at
-returns-in-Ok c = let f = c.args.floats.now in
+returns-in-Ok c =
+    let f = c.args.floats.now in
     let w = c.args.wholes.now in
-    c.keep.ensures
-    ∙ ap (λ k. kept_sized n_floats n_wholes k f w)
-    (kept_changing floats_of wholes_of f w c.in-Ok.supersaw _ _ (c.set_sample_rate.ensures ∙ ap (λ s. supersaw_set_sample_rate_of s (record { 0 = c.args.sample_rate })) (lent n_floats n_wholes state_of f w _ c.in-Ok.ensures)))
+    let held = lent n_floats n_wholes state_of f w _ c.in-Ok.ensures in
+    let rated = c.set_sample_rate.ensures ∙ ap (λ s. supersaw_set_sample_rate_of s (record { 0 = c.args.sample_rate })) held in
+    c.keep.ensures ∙ ap (λ k. kept_sized n_floats n_wholes k f w) (kept_changing floats_of wholes_of f w c.in-Ok.supersaw _ _ rated)
 
 pub returns-in-Err : goal.returns-in-Err
 unfolding supersaw_set_sample_rate_at

@@ -24,18 +24,18 @@ pub returns-in_err-inputs : goal.returns-in_err-inputs
 unfolding score_of lines_of inputs_of
 returns-in_err-inputs c = let p = err_from_is_err_and c.from_residual-in_err-inputs.result c.from_residual-in_err-inputs.ensures.1 in
     rw (p.1, p.2) (simp (le-ltb _ _ c.if-text-gt1024.false) (sym (c.in_ok-osc.ensures _ ∙ c.in_ok-head.ensures _
-        ∙ c.in_err-inputs.ensures (ended c.in_ok-head.head))))
+    ∙ c.in_err-inputs.ensures (ended c.in_ok-head.head))))
 
 pub returns-then-lines : goal.returns-then-lines
 unfolding score_of lines_of inputs_of
 returns-then-lines c =
     simp (le-ltb _ _ c.if-text-gt1024.false)
     (sym (c.in_ok-osc.ensures _ ∙ c.in_ok-head.ensures _ ∙ c.in_ok-inputs.ensures (ended c.in_ok-head.head)
-        ∙ more_left c.take_inputs.new.lines _ c.if-lines.true))
+    ∙ more_left c.take_inputs.new.lines _ c.if-lines.true))
 
 pub returns : goal.returns
 unfolding score_of lines_of inputs_of
 returns c =
     simp (le-ltb _ _ c.if-text-gt1024.false)
     (sym (c.in_ok-osc.ensures _ ∙ c.in_ok-head.ensures _ ∙ c.in_ok-inputs.ensures (ended c.in_ok-head.head)
-        ∙ nothing_left c.take_inputs.new.lines _ c.if-lines.false))
+    ∙ nothing_left c.take_inputs.new.lines _ c.if-lines.false))

@@ -10,7 +10,7 @@ returns-in_err-take_control-3 c = let p = err_from_is_err_and c.from_residual-in
 pub returns-in_err-take_control-4 : goal.returns-in_err-take_control-4
 returns-in_err-take_control-4 c = let p = err_from_is_err_and c.from_residual-in_err-take_control-4.result c.from_residual-in_err-take_control-4.ensures.1 in
     rw (p.1, p.2) (λ k. c.in_ok-take_control.ensures _ ∙ c.in_ok-take_control-2.ensures _ ∙ c.in_ok-take_control-3.ensures _
-        ∙ c.in_err-take_control-4.ensures _)
+    ∙ c.in_err-take_control-4.ensures _)
 
 pub returns : goal.returns
 returns c = λ k. c.in_ok-take_control.ensures _ ∙ c.in_ok-take_control-2.ensures _ ∙ c.in_ok-take_control-3.ensures _ ∙ c.in_ok-take_control-4.ensures _

@@ -9,7 +9,7 @@ pub returns-then-shared : goal.returns-then-shared
 unfolding shared_sine sine_of
 returns-then-shared c =
     elim c.if-wanted-ne0.branch [
-      then-wanted-ne0 w ↦ simp (c.sin.ensures, ne_eqb _ _ w.if-wanted-ne0.true)
+      | then-wanted-ne0 w ↦ simp (c.sin.ensures, ne_eqb _ _ w.if-wanted-ne0.true)
       | else-wanted-ne0 w ↦ simp (c.sin.ensures, eq-eqb _ _ w.if-wanted-ne0.false, sym w.shared-is ∙ c.if-shared.true)
     ]
 
@@ -17,6 +17,6 @@ pub returns-else-shared : goal.returns-else-shared
 unfolding shared_sine
 returns-else-shared c =
     elim c.if-wanted-ne0.branch [
-      then-wanted-ne0 w ↦ absurd (true≢false (simp (ne_eqb _ _ w.if-wanted-ne0.true) at (sym w.shared-is ∙ c.if-shared.false)))
+      | then-wanted-ne0 w ↦ absurd (true≢false (simp (ne_eqb _ _ w.if-wanted-ne0.true) at (sym w.shared-is ∙ c.if-shared.false)))
       | else-wanted-ne0 w ↦ simp (eq-eqb _ _ w.if-wanted-ne0.false, sym w.shared-is ∙ c.if-shared.false)
     ]

@@ -10,4 +10,5 @@ use Rattle.supersaw.proofs.lanes.ramps.Goals as goal
 pub returns : goal.returns
 unfolding ramps_of
 returns c =
-    from_fn_tab _ (λ (i : ℕ). sub binary64 (sub binary64 (mul binary64 two (at c.args.t i)) one) zer) _ (λ i y q k. search rules) _ nan 8 c.from_fn.ensures.items
+    from_fn_tab _ (λ (i : ℕ). sub binary64 (sub binary64 (mul binary64 two (at c.args.t i)) one) zer) _ (λ i y q k. search rules) _ nan 8
+    c.from_fn.ensures.items

@@ -18,7 +18,7 @@ returns-then-edge-dt_abs c e =
             let low = simp (c.fabs-dt_abs.ensures, c.pw_edge-edge.ensures) at (sym w.value-is ∙ c.if-edge-dt_abs.true) in
             let high = simp (c.fabs-dt_abs.ensures, c.pw_edge-edge.ensures) at e in
             quiet_of _ _ _ _ p (of_true _ (simp c.fabs-dt_abs.ensures at c.fabs-dt_abs.type_inv)) c.args.now.in_turn (fabs_twice c.args.self.dt.0)
-                c.in-None.is near far low high
+            c.in-None.is near far low high
         | else-half-dt_abs v ↦ absurd (cc)
       ]
       | else-half-dt_abs-2 w ↦ absurd (cc)
