@@ -5,10 +5,10 @@ use lib.Ieee.{nan}
 use lib.ListN.{get_or}
 use Rattle.laws.proofs.Over.{get_or_tab}
 use Rattle.wavetable.specs.Bank.{sum_of}
-use Rattle.wavetable.proofs.bank.extend.Goals as goal
+use Rattle.wavetable.proofs.bank.Series.extend.Goals as goal
 
 pub term-sum-requires : goal.term-sum-requires
-term-sum-requires c = (omega arith, c.requires.4, ap (λ l. get_or l c.loop-j.j nan) c.requires.3 ∙ get_or_tab nan _ 64 _ (omega arith))
+term-sum-requires c = (omega arith, ap (λ l. get_or l c.loop-j.j nan) c.requires.3 ∙ get_or_tab nan _ 64 _ (omega arith))
 
 pub loop-j-preserved : goal.loop-j-preserved
 unfolding sum_of

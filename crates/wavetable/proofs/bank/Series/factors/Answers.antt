@@ -6,7 +6,7 @@ use lib.Ieee.{nan, neg}
 use lib.ListN.{length-set}
 use Rattle.laws.proofs.Over.{cells_more, by_cells}
 use Rattle.wavetable.specs.Bank.{turned}
-use Rattle.wavetable.proofs.bank.factors.Goals as goal
+use Rattle.wavetable.proofs.bank.Series.factors.Goals as goal
 
 pub loop-k-init : goal.loop-k-init
 unfolding turned
