@@ -1,9 +1,9 @@
 -- What an accepted state has, and what follows for its tick.
 use mathlib.Core.Bool.{Bool, true, false, cond, false≢true}
-use mathlib.Core.Path.{◌≡◌, refl, sym, ap, ◌∙◌}
+use mathlib.Core.Path.{◌≡◌, refl, ap, ◌∙◌}
 use Prim.Native.Nat.{ℕ}
 use lib.Dec.{eqb}
-use lib.Ieee.{Float, binary64, div}
+use lib.Ieee.{binary64, div}
 use borrow.Author.Tests.{eqb-true}
 use Rattle.common.proofs.PhaseLaws.{accepted_gate, restart_in}
 use Rattle.answer.proofs.Laws.{mark_says}
@@ -14,12 +14,10 @@ use Rattle.common.specs.Phase.{restart_of}
 use Rattle.common.specs.Tests.{rate_ok, phase_ok, threshold_ok}
 use Rattle.lfo.proofs.Small.{outputs_finite}
 use Rattle.lfo.specs.Consts.{ten}
-use Rattle.lfo.specs.Lfo.{lfo_refusal_of, lfo_outputs_of, lfo_sound_of, lfo_tick_of}
+use Rattle.lfo.specs.Lfo.{lfo_refusal_of, lfo_sound_of, lfo_tick_of}
 use Rattle.lfo.specs.Promises.{SmallFinite}
 use Rattle.lfo.specs.Small.{is_small}
-use Rattle.common.specs.declared.Turns.{Turns}
 use Rattle.answer.specs.declared.Answer.TheVariants as answer
-use Rattle.answer.specs.declared.Volts.{Volts}
 use Rattle.lfo.specs.declared.Lfo.{Lfo}
 use Rattle.lfo.specs.declared.LfoControls.{LfoControls}
 
@@ -33,12 +31,6 @@ accepts s h = accepted_gate (rate_ok s.sample_rate) (phase_ok s.phase) (threshol
 pub sounds : (s : Lfo) (c : LfoControls) (wanted : ℕ) → lfo_refusal_of s ≡ 0 → lfo_tick_of s c wanted ≡ lfo_sound_of s c wanted
 unfolding lfo_tick_of
 sounds s c wanted h = simp h
-
--- a small depth in an accepted tick: every output is finite
-pub sound_finite : (s : Lfo) (edge small : Bool) (p : Turns) (wanted : ℕ) (depth : Float) (turned : Bool) (v : Volts) → lfo_refusal_of s ≡ 0
-    → p ≡ restart_of s.phase edge → v ≡ lfo_outputs_of wanted p.0 depth turned → small ≡ is_small depth → small ≡ true → all_finite v ≡ true
-sound_finite s edge small p wanted depth turned v h e q b t =
-    rw (q, e) (outputs_finite wanted (restart_of s.phase edge).0 depth turned (restart_in s.phase edge (accepts s h).1) (sym b ∙ t))
 
 -- ---- the promise
 sound_small : (s : Lfo) (c : LfoControls) (wanted : ℕ) → is_small (div binary64 c.depth ten) ≡ true → lfo_refusal_of s ≡ 0

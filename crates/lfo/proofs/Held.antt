@@ -13,7 +13,6 @@ use Rattle.answer.proofs.Laws.{mark_says, refused_by, mark_steers, tick_steers, 
 use Rattle.answer.specs.Mark.{all_numbers, mark_of}
 use Rattle.answer.specs.Promises.{SoundsAs}
 use Rattle.answer.specs.declared.Answer.{Answer}
-use Rattle.answer.specs.declared.Volts.{Volts}
 use Rattle.common.specs.Phase.{turns, wrap_phase_of, increment_of, restart_of}
 use Rattle.common.specs.Edge.{rising_of}
 use Rattle.common.specs.Memo.{recall1}
@@ -36,12 +35,12 @@ use Rattle.answer.specs.declared.Ticked.{Ticked}
 use Rattle.common.specs.Memo.{Memo1}
 
 -- ---- a turn of the loop
-pub heard : (wanted : ℕ) (depth : Float) (numbers : Bool) (step start : Turns) (i : ℕ) (p : Turns) (w : Wrapped) (v : Volts) (f : Bool) (a : Answer)
-    → a ≡ mark_of v false true f numbers → v ≡ lfo_outputs_of wanted p.0 depth w.turned → w ≡ wrap_phase_of (turns (add binary64 p.0 step.0))
-    → f ≡ is_fin (add binary64 p.0 step.0) → p ≡ after_ticks (held_next step) i start
+pub heard : (wanted : ℕ) (depth : Float) (numbers : Bool) (step start : Turns) (i : ℕ) (p : Turns) (w : Wrapped) (a : Answer)
+    → a ≡ mark_of (lfo_outputs_of wanted p.0 depth w.turned) false true (is_fin (add binary64 p.0 step.0)) numbers
+    → w ≡ wrap_phase_of (turns (add binary64 p.0 step.0)) → p ≡ after_ticks (held_next step) i start
     → a ≡ answer_at (held_told wanted depth numbers step) (held_next step) start i
 unfolding answer_at held_told
-heard wanted depth numbers step start i p w v f a e q u k z = simp (e, q, u, k, z)
+heard wanted depth numbers step start i p w a e u z = simp (e, u, z)
 
 pub moved : (step start : Turns) (i : ℕ) (p : Turns) (w : Wrapped) → w ≡ wrap_phase_of (turns (add binary64 p.0 step.0))
     → p ≡ after_ticks (held_next step) i start → w.phase ≡ after_ticks (held_next step) (i + 1) start

@@ -26,7 +26,6 @@ use Rattle.lfo.specs.Small.{is_small}
 use Rattle.lfo.specs.Waves.{rate_to_hz}
 use Rattle.answer.specs.declared.Made.{Made}
 use Rattle.answer.specs.declared.Ticked.{Ticked}
-use Rattle.answer.specs.declared.Played.{Played}
 use Rattle.answer.specs.declared.Tally.{Tally}
 use Rattle.common.specs.declared.Hertz.{Hertz}
 use Rattle.lfo.specs.declared.Lfo.{Lfo}

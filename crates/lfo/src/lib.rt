@@ -3,14 +3,17 @@
 #![tactic(auto)]
 
 ghost use Rattle.std.specs.Prelude.{◌≡◌, true, false, ◌<◌, ◌*◌, length};
+ghost use Rattle.std.specs.Float.{binary64};
+ghost use Rattle.std.specs.Float.Ieee.{div};
+ghost use Rattle.laws.specs.Float.{is_fin};
 ghost use Rattle.laws.specs.Lists.{tab};
 ghost use Rattle.common.specs.Memo.{recall1};
 ghost use Rattle.common.specs.Tests.{phase_ok};
-ghost use Rattle.answer.specs.Mark.{all_finite, all_numbers, mark_of};
+ghost use Rattle.answer.specs.Mark.{all_numbers, mark_of};
 ghost use Rattle.common.specs.Refusal.{refused_number};
 ghost use Rattle.answer.specs.Block.{after_ticks, joined, block_said, mark_at, frame_at};
 ghost use Rattle.answer.specs.Calls.{making, changing};
-ghost use Rattle.lfo.specs.Consts.{n_ports};
+ghost use Rattle.lfo.specs.Consts.{n_ports, ten};
 ghost use Rattle.lfo.specs.Waves.{rate_to_hz, shared_sine, sin_wave, tri_wave, saw_wave, sqr_wave, sin_uni_wave, eoc_wave};
 ghost use Rattle.lfo.specs.Small.{is_small};
 ghost use Rattle.lfo.specs.Shortcuts.{held_told, held_next};
@@ -34,6 +37,17 @@ pub struct LfoControls {
     pub rate: f64,
     pub depth: f64,
     pub reset: f64,
+}
+
+// What stands still while the controls do: the outputs that are wanted, the depth, of 10 V the whole one, and whether it is small, and whether no control
+// is NaN.
+#[derive(Clone, Copy)]
+struct Setting {
+    wanted: u32,
+    depth: f64,
+    small: bool,
+    numbers: bool,
+    ghost told: { small ≡ is_small depth },
 }
 
 // How many outputs there are.
@@ -118,18 +132,6 @@ fn is_small(depth: f64) -> bool
     depth <= 1073741824.0 && depth >= -1073741824.0
 }
 
-// The mark. A small depth makes no output that isn't finite, which spares the test of each.
-fn mark(v: Volts, small: bool, phases: bool, numbers: bool) -> Answer
-    requires { small ≡ true → all_finite v ≡ true }
-    ensures { result ≡ mark_of v false true phases numbers }
-{
-    if small {
-        answer::marked(v, false, true, phases, numbers)
-    } else {
-        answer::mark(v, false, true, phases, numbers)
-    }
-}
-
 impl LfoControls {
     // Whether no control is NaN.
     fn are_numbers(self) -> bool
@@ -139,8 +141,87 @@ impl LfoControls {
     }
 }
 
-// Kept: `sound`, `tick`, `run` and `block` take controls and mask apart, as the Rust's tick_wanted does, and `glide`, `run` and `block` samples and marks as
-// the two slices that a host lends (the C interface).
+impl Setting {
+    fn new(c: LfoControls, wanted: u32) -> Self
+        ensures mask { result.wanted ≡ wanted }
+        ensures depth { result.depth ≡ div binary64 c.depth ten }
+        ensures numbers { result.numbers ≡ all_numbers (controls_of c) }
+    {
+        let depth = c.depth / 10.0;
+        Setting {
+            wanted,
+            depth,
+            small: is_small(depth),
+            numbers: c.are_numbers(),
+        }
+    }
+
+    // The sine that sin and sin_uni share: the Rust computes it for each of them.
+    fn shared_sine(self, phase: Turns) -> f64
+        ensures { result ≡ shared_sine self.wanted phase.0 }
+    {
+        let shared = self.wanted & Lfo::WANT_SIN != 0 || self.wanted & Lfo::WANT_SIN_UNI != 0;
+        if shared {
+            numeric::sin(phase.0 * numeric::TAU)
+        } else {
+            0.0
+        }
+    }
+
+    // The outputs, each where it is wanted. `turned`: the tick passes a whole turn.
+    fn outputs(self, phase: Turns, turned: bool) -> Volts
+        ensures { result ≡ lfo_outputs_of self.wanted phase.0 self.depth turned }
+    {
+        let sine = self.shared_sine(phase);
+        let scale = 5.0 * self.depth;
+        Volts::of([
+            sin(self.wanted & Lfo::WANT_SIN != 0, sine, scale),
+            tri(self.wanted & Lfo::WANT_TRI != 0, phase, scale),
+            saw(self.wanted & Lfo::WANT_SAW != 0, phase, scale),
+            sqr(self.wanted & Lfo::WANT_SQR != 0, phase, scale),
+            sin_uni(self.wanted & Lfo::WANT_SIN_UNI != 0, sine, self.depth),
+            eoc(self.wanted & Lfo::WANT_EOC != 0, turned),
+        ])
+    }
+
+    // They with their mark; `next` is the phase before its wrap. A small depth makes no output that isn't finite, which spares the test of each.
+    fn heard(self, phase: Turns, next: Turns, turned: bool) -> Answer
+        requires { phase_ok phase ≡ true }
+        ensures { result ≡ mark_of (lfo_outputs_of self.wanted phase.0 self.depth turned) false true (is_fin next.0) self.numbers }
+    {
+        let volts = self.outputs(phase, turned);
+        let phases = numeric::is_finite(next.0);
+        if self.small {
+            answer::marked(volts, false, true, phases, self.numbers)
+        } else {
+            answer::mark(volts, false, true, phases, self.numbers)
+        }
+    }
+
+    // Ticks in which no edge is taken and the memo holds: only the phase moves.
+    // Kept: samples and marks are the two slices that a host lends (the C interface).
+    fn glide(self, start: Turns, step: Turns, samples: &mut [f64], marks: &mut [u32]) -> Turns
+        requires { (phase_ok start ≡ true) × (length samples.old ≡ n_ports * length marks.old) }
+        ensures value { result ≡ after_ticks (held_next step) (length marks.old) start }
+        ensures samples_after { samples.new
+            ≡ joined (frame_at n_ports (held_told self.wanted self.depth self.numbers step) (held_next step) start) (length marks.old) }
+        ensures marks_after { marks.new
+            ≡ tab (mark_at (held_told self.wanted self.depth self.numbers step) (held_next step) start) (length marks.old) }
+    {
+        let mut phase = start;
+        for i in 0..marks.len() {
+            let next = Turns(phase.0 + step.0);
+            let wrapped = common::wrap_phase(next);
+            let heard = self.heard(phase, next, wrapped.turned);
+            answer::put(heard, PORTS, i, &mut *samples, &mut *marks);
+            phase = wrapped.phase;
+        }
+        phase
+    }
+}
+
+// Kept: `sound`, `tick`, `run` and `block` take controls and mask apart, as the Rust's tick_wanted does, and `run` and `block` samples and marks as the two
+// slices that a host lends (the C interface).
 impl Lfo {
     // Of a rate and of the threshold that its gate goes by.
     pub fn new(sample_rate: Hertz, threshold: f64) -> Made<Lfo>
@@ -171,34 +252,6 @@ impl Lfo {
 
     const WANT_EOC: u32 = 1 << 5;
 
-    // The sine that sin and sin_uni share: the Rust computes it for each of them.
-    fn shared_sine(wanted: u32, phase: Turns) -> f64
-        ensures { result ≡ shared_sine wanted phase.0 }
-    {
-        let shared = wanted & Self::WANT_SIN != 0 || wanted & Self::WANT_SIN_UNI != 0;
-        if shared {
-            numeric::sin(phase.0 * numeric::TAU)
-        } else {
-            0.0
-        }
-    }
-
-    // The outputs, each where it is wanted, over the sine that two of them share. `turned`: the tick passes a whole turn.
-    fn outputs(wanted: u32, phase: Turns, sine: f64, depth: f64, turned: bool) -> Volts
-        requires { sine ≡ shared_sine wanted phase.0 }
-        ensures { result ≡ lfo_outputs_of wanted phase.0 depth turned }
-    {
-        let scale = 5.0 * depth;
-        Volts::of([
-            sin(wanted & Self::WANT_SIN != 0, sine, scale),
-            tri(wanted & Self::WANT_TRI != 0, phase, scale),
-            saw(wanted & Self::WANT_SAW != 0, phase, scale),
-            sqr(wanted & Self::WANT_SQR != 0, phase, scale),
-            sin_uni(wanted & Self::WANT_SIN_UNI != 0, sine, depth),
-            eoc(wanted & Self::WANT_EOC != 0, turned),
-        ])
-    }
-
     // What refuses this state: its rate, then its phase or its gate's threshold.
     fn refusal(self) -> Result<(), Refusal>
         ensures { refused_number result ≡ lfo_refusal_of self }
@@ -211,8 +264,6 @@ impl Lfo {
         requires { lfo_refusal_of self ≡ 0 }
         ensures { result ≡ lfo_sound_of self c wanted }
     {
-        let numbers = c.are_numbers();
-        let depth = c.depth / 10.0;
         let freq_memo = recall(self.freq_memo, c.rate);
         let risen = self.reset_edge.rising(c.reset);
         let phase = common::restart(self.phase, risen.rising);
@@ -220,10 +271,8 @@ impl Lfo {
         let next = Turns(phase.0 + by.0);
         let wrapped = common::wrap_phase(next);
         let turned = wrapped.turned;
-        let sine = Self::shared_sine(wanted, phase);
-        let volts = Self::outputs(wanted, phase, sine, depth, turned);
         Ticked {
-            answer: mark(volts, is_small(depth), numeric::is_finite(next.0), numbers),
+            answer: Setting::new(c, wanted).heard(phase, next, turned),
             state: Lfo {
                 phase: wrapped.phase,
                 reset_edge: risen.edge,
@@ -245,37 +294,6 @@ impl Lfo {
         }
     }
 
-    // Ticks in which no edge is taken and the memo holds: only the phase moves.
-    fn glide(
-        start: Turns,
-        step: Turns,
-        depth: f64,
-        numbers: bool,
-        wanted: u32,
-        samples: &mut [f64],
-        marks: &mut [u32],
-    ) -> Turns
-        requires { (phase_ok start ≡ true) × (length samples.old ≡ n_ports * length marks.old) }
-        ensures value { result ≡ after_ticks (held_next step) (length marks.old) start }
-        ensures samples_after { samples.new
-            ≡ joined (frame_at n_ports (held_told wanted depth numbers step) (held_next step) start) (length marks.old) }
-        ensures marks_after { marks.new
-            ≡ tab (mark_at (held_told wanted depth numbers step) (held_next step) start) (length marks.old) }
-    {
-        let small = is_small(depth);
-        let mut phase = start;
-        for i in 0..marks.len() {
-            let next = Turns(phase.0 + step.0);
-            let wrapped = common::wrap_phase(next);
-            let sine = Self::shared_sine(wanted, phase);
-            let volts = Self::outputs(wanted, phase, sine, depth, wrapped.turned);
-            let heard = mark(volts, small, numeric::is_finite(next.0), numbers);
-            answer::put(heard, PORTS, i, &mut *samples, &mut *marks);
-            phase = wrapped.phase;
-        }
-        phase
-    }
-
     // The ticks of a block. Only the first can take the edge, and the memo holds from then on. The controls are asked once.
     fn run(self, c: LfoControls, wanted: u32, samples: &mut [f64], marks: &mut [u32]) -> Self
         requires { (lfo_refusal_of self ≡ 0) × (0 < length marks.old) × (length samples.old ≡ n_ports * length marks.old) }
@@ -284,13 +302,12 @@ impl Lfo {
             ≡ joined (frame_at n_ports (lfo_told_of c wanted) (lfo_next_of c wanted) self) (length marks.old) }
         ensures marks_after { marks.new ≡ tab (mark_at (lfo_told_of c wanted) (lfo_next_of c wanted) self) (length marks.old) }
     {
-        let numbers = c.are_numbers();
         let freq_memo = recall(self.freq_memo, c.rate);
         let risen = self.reset_edge.rising(c.reset);
         let start = common::restart(self.phase, risen.rising);
         let step = common::increment(freq_memo.val, self.sample_rate);
         Lfo {
-            phase: Self::glide(start, step, c.depth / 10.0, numbers, wanted, samples, marks),
+            phase: Setting::new(c, wanted).glide(start, step, samples, marks),
             reset_edge: risen.edge,
             freq_memo,
             ..self

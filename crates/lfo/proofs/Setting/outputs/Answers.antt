@@ -1,7 +1,7 @@
 use Rattle.lfo.proofs.Shared.{sin_shared, uni_shared}
 use Rattle.lfo.specs.Lfo.{lfo_outputs_of}
 use Rattle.lfo.specs.Waves.{shared_sine}
-use Rattle.lfo.proofs.Lfo.outputs.Goals as goal
+use Rattle.lfo.proofs.Setting.outputs.Goals as goal
 
 pub returns : goal.returns
 unfolding lfo_outputs_of shared_sine
@@ -13,7 +13,7 @@ returns c = simp (
   c.saw.ensures,
   c.tri.ensures,
   c.sin.ensures,
-  c.requires,
+  c.shared_sine-sine.ensures,
   sin_shared,
   uni_shared,
 )
