@@ -1,82 +1,112 @@
--- An exported call with a line, as its code has it: boundary's laws, and the line beside them. n is what the lengths refuse.
+-- An exported call with a line, as its code has it: boundary's laws, and the line beside them.
+use mathlib.Core.Bool.{Bool, true, false, cond}
 use mathlib.Core.List.{List}
 use mathlib.Core.Path.{◌≡◌, refl, sym, ap, ◌∙◌}
 use Prim.Native.Nat.{ℕ}
-use lib.Ieee.{Float, nan}
-use lib.ListN.{length, get_or}
-use borrow.Author.Tests.{ne_eqb}
-use Rattle.answer.specs.Block.{Block}
+use lib.Dec.{eqb}
+use lib.Ieee.{Float}
+use lib.ListN.{length}
+use Rattle.std.specs.Prelude.{Result, Ok, Err}
+use Rattle.answer.specs.Block.{Block, block_said}
+use Rattle.answer.specs.Calls.{changing}
+use Rattle.answer.specs.declared.Played as answers
 use Rattle.answer.specs.declared.Tally.{Tally}
-use Rattle.answer.specs.declared.Tallied.{Tallied}
-use Rattle.answer.specs.declared.Tallied.TheVariants as tallied
-use Rattle.boundary.proofs.Flat.{kept_done, kept_refused, heard_done, heard_refused, played_done, played_refused}
-use Rattle.boundary.specs.Flat.{sizes_of, tick_sizes_of, Kept, kept, Heard, heard, heard_of, Played, played, played_of, tally_sized}
-use Rattle.common.specs.declared.Hertz.{Hertz}
-use Rattle.karplus_strong.proofs.Promised.{keeps_rate}
+use Rattle.boundary.proofs.Flat.{kept_stop, heard_stop}
+use Rattle.boundary.proofs.Lent.{kept_changing, lent_zero, played_left, played_pass, played_stop}
+use Rattle.boundary.specs.Flat.{after_state, sizes_of, tick_sizes_of, state_sized, state_heard, Kept, kept, kept_result, kept_sized}
+use Rattle.boundary.specs.Flat.{Heard, heard, heard_of, heard_sized, Played, played, played_of, tally_sized, left_by, left_sized}
+use Rattle.boundary.specs.Flat as flat
+use Rattle.common.proofs.RefusalLaws.{nonzero, passed, stopped}
+use Rattle.common.specs.Refusal.{number_of, refused_number}
+use Rattle.common.specs.declared.Refusal.{Refusal}
+use Rattle.common.specs.declared.Refusal.TheVariants as refusal
 use Rattle.karplus_strong.specs.Step.{Ticking}
-use Rattle.karplus_strong.specs.KarplusStrong.{Making, karplus_strong_tick_of, Strung}
+use Rattle.karplus_strong.specs.KarplusStrong.{Making, Strung, with_line}
 use Rattle.karplus_strong.specs.declared.KarplusStrong.{KarplusStrong}
-use Rattle.karplus_strong.specs.declared.KarplusStrongControls.{KarplusStrongControls}
-use Rattle.karplus_strong.specs.declared.KarplusStrongTicked.{KarplusStrongTicked}
 use Rattle.exports_karplus_strong.specs.State.{n_floats, n_wholes, n_samples, state_of, floats_of, wholes_of, samples_of}
-use Rattle.exports_karplus_strong.specs.Calls.{line_sized, kept_of, left, left_sized, sounded, sounded_sized}
-use Rattle.exports_karplus_strong.specs.Calls.{rung, strung_floats, strung_wholes, line_from, rung_sized}
+use Rattle.exports_karplus_strong.specs.Calls.{line_sized, kept_of, left, sounded, sounded_sized, rung, strung_floats, strung_wholes, line_from, rung_sized}
+use Rattle.exports_karplus_strong.specs.Calls as calls
 
-module _ (n k : ℕ) (e : n ≡ k) (y l : List Float) where
-  line_done : n ≡ 0 → (x : List Float) → x ≡ y → x ≡ line_sized k y l
-  unfolding line_sized
-  line_done z x h = simp (← e, z) h
+-- n is what the lengths refuse: 0, or the number of e
+line_pass : (n : ℕ) → 0 ≡ n → (x y l : List Float) → x ≡ y → x ≡ line_sized n y l
+unfolding line_sized
+line_pass n z x y l h = h ∙ passed n z y l
 
-  line_refused : (n ≡ 0 → ⊥) → l ≡ line_sized k y l
-  unfolding line_sized
-  line_refused z = simp (← e, ne_eqb n 0 z)
+line_stop : (e : Refusal) (n : ℕ) → number_of e ≡ n → (y l : List Float) → l ≡ line_sized n y l
+unfolding line_sized
+line_stop e n h y l = stopped e n (number_of e) h refl y (λ k. l)
 
-module _ (f : List Float) (w : List ℕ) (l : List Float) (n : ℕ) (e : n ≡ sizes_of n_floats n_wholes (length f) (length w)) where
-  -- ---- without samples
-  pub left_done : n ≡ 0 → (m : Making) (k : Kept) (x : List Float) → k ≡ kept_of m.out f w → x ≡ m.line → left k x ≡ left_sized m f w l
-  unfolding left_sized
-  left_done z m k x ek ex = (λ i. left (kept_done n_floats n_wholes f w n e z k _ ek i) (line_done n _ e m.line l z x ex i))
+-- ---- without samples: a change of the string s
+module _ (f : List Float) (w : List ℕ) (l : List Float) (m : Making) where
+  pub left_pass : 0 ≡ sizes_of n_floats n_wholes (length f) (length w) → (s : KarplusStrong) (r : Result KarplusStrong Refusal) (k : Kept) (x : List Float)
+      → k ≡ kept_sized n_floats n_wholes (kept_result floats_of wholes_of r f w) f w → changing s r ≡ m.out → x ≡ m.line
+      → left k x ≡ calls.left_sized m f w l
+  unfolding calls.left_sized
+  left_pass z s r k x ek er ex =
+      let e = ek ∙ ap (λ y. kept_sized n_floats n_wholes y f w) (kept_changing floats_of wholes_of f w s r m.out er) in
+      let q = line_pass _ z x m.line l ex in
+      (λ i. left (e i) (q i))
 
-  pub left_refused : (n ≡ 0 → ⊥) → (m : Making) → left (kept n f w) l ≡ left_sized m f w l
-  unfolding left_sized
-  left_refused z m = (λ i. left (kept_refused n_floats n_wholes f w n e z (kept_of m.out f w) i) (line_refused n _ e m.line l z i))
+  pub left_stop : (e : Refusal) (j : ℕ) → number_of e ≡ sizes_of n_floats n_wholes (length f) (length w) → j ≡ number_of e
+      → left (kept j f w) l ≡ calls.left_sized m f w l
+  unfolding calls.left_sized
+  left_stop e j h g =
+      let k = kept_stop n_floats n_wholes f w e j h g (kept_of m.out f w) in
+      let q = line_stop e _ h m.line l in
+      (λ i. left (k i) (q i))
 
--- ---- a block: x is the tally of its counts, or what refuses
-module _ (b : Tally → Block Strung) (f : List Float) (w : List ℕ) (l : List Float) (k : List ℕ) (o : List Float) (m : List ℕ) (x : Tallied)
-    (e : x ≡ tally_sized n_floats n_wholes f w k) where
+-- ---- a tick: lengths that give a state refuse nothing
+pub heard_zero : (f : List Float) (w : List ℕ) (o : List Float) (s : KarplusStrong) → Ok s ≡ state_heard n_floats n_wholes n_samples state_of f w o
+    → 0 ≡ tick_sizes_of n_floats n_wholes n_samples (length f) (length w) (length o)
+unfolding state_heard after_state tick_sizes_of refused_number
+heard_zero f w o s h = go (state_sized n_floats n_wholes state_of f w) refl (eqb (length o) n_samples) h
+  where
+    n : ℕ
+    n = sizes_of n_floats n_wholes (length f) (length w)
+
+    go : (x : Result KarplusStrong Refusal) → state_sized n_floats n_wholes state_of f w ≡ x → (b : Bool)
+        → Ok s ≡ after_state x (λ t. cond b (Ok t) (Err refusal.Samples)) → 0 ≡ cond (eqb n 0) (cond b 0 52) n
+    go (Ok t) e true k = passed n (lent_zero n_floats n_wholes state_of f w t (sym e)) 0 n
+    go (Ok t) e false k = absurd (nonzero refusal.Samples (sym (ap refused_number k)))
+    go (Err y) e b k = absurd (nonzero y (sym (ap refused_number k)))
+
+module _ (f : List Float) (w : List ℕ) (o l : List Float) where
+  pub sounded_pass : 0 ≡ tick_sizes_of n_floats n_wholes n_samples (length f) (length w) (length o) → (t : Ticking) (h : Heard) (x : List Float)
+      → h ≡ heard_sized n_floats n_wholes n_samples (heard_of floats_of wholes_of samples_of t.out.answer t.out.state f w o) f w o → x ≡ t.line
+      → sounded h x ≡ sounded_sized t f w o l
+  unfolding sounded_sized
+  sounded_pass z t h x eh ex = let q = line_pass _ z x t.line l ex in (λ i. sounded (eh i) (q i))
+
+  pub sounded_stop : (t : Ticking) (e : Refusal) (j : ℕ) → number_of e ≡ tick_sizes_of n_floats n_wholes n_samples (length f) (length w) (length o)
+      → j ≡ number_of e → sounded (heard j f w o) l ≡ sounded_sized t f w o l
+  unfolding sounded_sized
+  sounded_stop t e j h g =
+      let k = heard_stop n_floats n_wholes n_samples f w o e j h g (heard_of floats_of wholes_of samples_of t.out.answer t.out.state f w o) in
+      let q = line_stop e _ h t.line l in
+      (λ i. sounded (k i) (q i))
+
+-- ---- a block: its tally is the counts', unless lengths or counts refuse
+module _ (b : Tally → Block Strung) (f : List Float) (w : List ℕ) (l : List Float) (k : List ℕ) (o : List Float) (m : List ℕ) where
   abbrev ps : Tally → Played
   ps t = played_of strung_floats strung_wholes (b t) f w k
 
-  pub rung_done : (t : Tally) (d : Block Strung) (p : Played) → x ≡ tallied.Taken t → d ≡ b t → p ≡ played_of strung_floats strung_wholes d f w k
-      → rung p d.state.line ≡ rung_sized b f w l k o m
+  -- of the string s, over p, q and x: the samples, the marks and the line that it leaves
+  pub rung_pass : (s : KarplusStrong) (t : Tally) → tally_sized n_floats n_wholes f w k ≡ Ok t → (r : Result (answers.Played KarplusStrong) Refusal) (u : flat.Left)
+      (p : List Float) (q : List ℕ) (x : List Float) → u ≡ left_sized n_floats n_wholes (left_by floats_of wholes_of r f w k) f w k
+      → with_line (block_said s t r p q) x ≡ b t
+      → rung (played u.code u.floats u.wholes u.counts p q) x ≡ rung_sized b f w l k o m
+  unfolding rung_sized line_from played_of
+  rung_pass s t z r u p q x eu eb =
+      let own = played_left floats_of wholes_of f w n_floats n_wholes k s t r u p q _ z eu refl in
+      let all = own ∙ ap (λ (y : Block Strung). played_of strung_floats strung_wholes y f w k) eb in
+      let e = played_pass n_floats n_wholes ps f w k o m t _ z all in
+      let y : x ≡ line_from (tally_sized n_floats n_wholes f w k) b l = ap (λ (y : Block Strung). y.state.line) eb ∙ sym (ap (λ v. line_from v b l) z) in
+      (λ i. rung (e i) (y i))
+
+  pub rung_stop : (e : Refusal) (j : ℕ) → tally_sized n_floats n_wholes f w k ≡ Err e → j ≡ number_of e
+      → rung (played j f w k o m) l ≡ rung_sized b f w l k o m
   unfolding rung_sized line_from
-  rung_done t d p et ed ep =
-      let q : p ≡ ps t = rw (← ed) ep in
-      let y : d.state.line ≡ line_from (tally_sized n_floats n_wholes f w k) b l = rw (← e, et, ed) refl in
-      (λ i. rung (played_done n_floats n_wholes ps f w k o m x e t p et q i) (y i))
-
-  pub rung_refused : (j : ℕ) → x ≡ tallied.Refused j → rung (played j f w k o m) l ≡ rung_sized b f w l k o m
-  unfolding rung_sized line_from
-  rung_refused j ej =
-      let y : l ≡ line_from (tally_sized n_floats n_wholes f w k) b l = rw (← e, ej) refl in
-      (λ i. rung (played_refused n_floats n_wholes ps f w k o m x e j ej i) (y i))
-
--- ---- a tick
--- its state's rate still stands in floats
-pub rate_stands : (f : List Float) (w : List ℕ) (l : List Float) (draws : List ℕ) (c : KarplusStrongControls) (s : KarplusStrong) (t : KarplusStrongTicked)
-    → s ≡ state_of f w → t ≡ (karplus_strong_tick_of s c draws l).out → get_or f 0 nan ≡ t.karplus_strong.sample_rate.0
-unfolding state_of
-rate_stands f w l draws c s t es et =
-    rw et (sym (ap (λ (r : Hertz). r.0) (keeps_rate s c draws l ∙ ap (λ (s : KarplusStrong). s.sample_rate) es)))
-
-module _ (f : List Float) (w : List ℕ) (o l : List Float) (n : ℕ) (e : n ≡ tick_sizes_of n_floats n_wholes n_samples (length f) (length w) (length o)) where
-  pub sounded_done : n ≡ 0 → (t : Ticking) (h : Heard) (x : List Float)
-      → h ≡ heard_of floats_of wholes_of samples_of t.out.answer t.out.karplus_strong f w o → x ≡ t.line → sounded h x ≡ sounded_sized t f w o l
-  unfolding sounded_sized
-  sounded_done z t h x eh ex = (λ i. sounded (heard_done n_floats n_wholes n_samples f w o n e z h _ eh i) (line_done n _ e t.line l z x ex i))
-
-  pub sounded_refused : (n ≡ 0 → ⊥) → (t : Ticking) → sounded (heard n f w o) l ≡ sounded_sized t f w o l
-  unfolding sounded_sized
-  sounded_refused z t =
-      let h = heard_of floats_of wholes_of samples_of t.out.answer t.out.karplus_strong f w o in
-      (λ i. sounded (heard_refused n_floats n_wholes n_samples f w o n e z h i) (line_refused n _ e t.line l z i))
+  rung_stop e j h g =
+      let p = played_stop n_floats n_wholes ps f w k o m e j h g in
+      let y : l ≡ line_from (tally_sized n_floats n_wholes f w k) b l = sym (ap (λ v. line_from v b l) h) in
+      (λ i. rung (p i) (y i))

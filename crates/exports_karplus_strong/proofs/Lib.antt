@@ -1,3 +1,2 @@
-pub mod Slices
 pub mod CallLaws
 pub mod Settled

@@ -1,17 +1,17 @@
 -- What each exported call answers, and what it leaves in the lent slices. f, w, k, o, m and l are floats, wholes, counts, samples,
 -- marks and line as they stood.
-use Rattle.std.specs.Prelude.{cond, List, ℕ, eqb, Float, length}
+use Rattle.std.specs.Prelude.{cond, List, ℕ, eqb, Float, length, Result, Ok, Err}
 use Rattle.answer.specs.Block.{Block}
+use Rattle.answer.specs.Calls.{Outcome}
 use Rattle.answer.specs.declared.Tally.{Tally}
-use Rattle.answer.specs.declared.Tallied.{Tallied}
-use Rattle.answer.specs.declared.Tallied.TheVariants as tallied
+use Rattle.common.specs.declared.Refusal.{Refusal}
 use Rattle.boundary.specs.Flat.{sizes_of, tick_sizes_of, Kept, kept_by, kept_sized, Heard, heard_of, heard_sized, Played, played_of, tally_sized, played_sized}
 use Rattle.karplus_strong.specs.Step.{Ticking}
 use Rattle.karplus_strong.specs.KarplusStrong.{Making, karplus_strong_cells_of, karplus_strong_new_of, karplus_strong_tick_of, karplus_strong_block_of}
 use Rattle.karplus_strong.specs.KarplusStrong.{karplus_strong_reset_of, karplus_strong_set_sample_rate_of, Strung, strung}
 use Rattle.exports_karplus_strong.specs.State.{n_floats, n_wholes, n_samples, state_of, floats_of, wholes_of, samples_of}
 use Rattle.karplus_strong.specs.declared.KarplusStrongControls.{KarplusStrongControls}
-use Rattle.karplus_strong.specs.declared.KarplusStrongMade.{KarplusStrongMade}
+use Rattle.karplus_strong.specs.declared.KarplusStrong.{KarplusStrong}
 
 -- the cells that a line needs at a rate
 unfoldable pub karplus_strong_cells_at : Float → ℕ
@@ -22,8 +22,8 @@ unfoldable pub line_sized : ℕ → List Float → List Float → List Float
 line_sized n x l = cond (eqb n 0) x l
 
 -- 0 and the new state, or what refused it
-abbrev pub kept_of : KarplusStrongMade → List Float → List ℕ → Kept
-kept_of m f w = kept_by floats_of wholes_of m.outcome m.karplus_strong f w
+abbrev pub kept_of : Outcome KarplusStrong → List Float → List ℕ → Kept
+kept_of = kept_by floats_of wholes_of
 
 -- with the line
 pub record Left : Type 0 where
@@ -56,7 +56,7 @@ sounded h l = record { heard = h; line = l }
 
 unfoldable pub sounded_sized : Ticking → List Float → List ℕ → List Float → List Float → Sounded
 sounded_sized t f w o l =
-    sounded (heard_sized n_floats n_wholes n_samples (heard_of floats_of wholes_of samples_of t.out.answer t.out.karplus_strong f w o) f w o)
+    sounded (heard_sized n_floats n_wholes n_samples (heard_of floats_of wholes_of samples_of t.out.answer t.out.state f w o) f w o)
     (line_sized (tick_sizes_of n_floats n_wholes n_samples (length f) (length w) (length o)) t.line l)
 
 abbrev pub controls : Float → Float → Float → Float → Float → KarplusStrongControls
@@ -82,9 +82,9 @@ abbrev pub strung_wholes : Strung → List ℕ
 strung_wholes x = wholes_of x.string
 
 -- its line, of the tally that the counts are, unless lengths or counts refuse
-unfoldable pub line_from : Tallied → (Tally → Block Strung) → List Float → List Float
-line_from (tallied.Taken t) b l = (b t).state.line
-line_from (tallied.Refused n) b l = l
+unfoldable pub line_from : Result Tally Refusal → (Tally → Block Strung) → List Float → List Float
+line_from (Ok t) b l = (b t).state.line
+line_from (Err e) b l = l
 
 unfoldable pub rung_sized : (Tally → Block Strung) → List Float → List ℕ → List Float → List ℕ → List Float → List ℕ → Rung
 rung_sized b f w l k o m =

@@ -5,100 +5,81 @@
 // block answers 0, with the ticks' samples one after another, their marks by the same numbers, and the tally's counts.
 #![tactic(auto)]
 
-ghost use Rattle.std.specs.Prelude.{◌≡◌, List, ℕ, Float, length, get_or};
-ghost use Rattle.std.specs.Float.{nan};
-ghost use Rattle.answer.specs.Block.{block};
-ghost use Rattle.boundary.specs.Flat.{n_counts, kept, heard, heard_of, played, played_of};
-ghost use Rattle.karplus_strong.specs.KarplusStrong.{strung};
+ghost use Rattle.std.specs.Prelude.{◌≡◌};
+ghost use Rattle.boundary.specs.Flat.{kept, heard, played};
 ghost use Rattle.exports_karplus_strong.specs.State.{n_floats, n_wholes, n_samples, state_of, floats_of, wholes_of, samples_of};
-ghost use Rattle.exports_karplus_strong.specs.Calls.{kept_of, left, sounded, rung, strung_floats, strung_wholes, karplus_strong_cells_at};
+ghost use Rattle.exports_karplus_strong.specs.Calls.{left, sounded, rung, karplus_strong_cells_at};
 ghost use Rattle.exports_karplus_strong.specs.Calls.{karplus_strong_new_at, karplus_strong_tick_at, karplus_strong_block_at};
 ghost use Rattle.exports_karplus_strong.specs.Calls.{karplus_strong_reset_at, karplus_strong_set_sample_rate_at};
 
-use answer::{Outcome, Tallied};
-use common::{Hertz, Memo1, VoltsPerOctave};
-use karplus_strong::{
-    KarplusStrong, KarplusStrongBlock, KarplusStrongControls, KarplusStrongMade,
-    KarplusStrongTicked,
-};
+use answer::Volts;
+use boundary::Layout;
+use common::{Hertz, Memo, VoltsPerOctave};
+use karplus_strong::{KarplusStrong, KarplusStrongControls};
 
 // Where the edge record's floats begin, and what stands after them.
 const EDGE: usize = 4;
 
 const VAL: usize = EDGE + boundary::EDGE_FLOATS;
 
-// How many floats, wholes and samples there are.
-const FLOATS: usize = VAL + 1;
+// How a KarplusStrong lies in the slices.
+struct Cells;
 
-const WHOLES: usize = 4;
+impl Layout for Cells {
+    type State = KarplusStrong;
 
-const SAMPLES: usize = 1;
+    const FLOATS: usize = VAL + 1;
 
-fn state(floats: &[f64], wholes: &[u64]) -> KarplusStrong
-    requires { (length floats.now ≡ n_floats) × (length wholes.now ≡ n_wholes) }
-    ensures { result ≡ state_of floats.now wholes.now }
-{
-    let sample_rate = Hertz(floats[0]);
-    let trigger_edge = boundary::edge_of(&floats[EDGE..VAL]);
-    let freq_memo = Memo1 {
-        key: wholes[2],
-        val: Hertz(floats[VAL]),
-        valid: wholes[3] != 0,
-    };
-    KarplusStrong {
-        len: wholes[0] as usize,
-        write_pos: wholes[1] as usize,
-        sample_rate,
-        lp_state: floats[1],
-        ap_x1: floats[2],
-        ap_y1: floats[3],
-        trigger_edge,
-        freq_memo,
-    }
-}
+    const WHOLES: usize = 4;
 
-// A state whose rate stands in floats already. A tick keeps the rate, and one that isn't stored again can be read at once by
-// the next tick, before the filters beside it are worked out.
-fn store_kept(s: KarplusStrong, floats: &mut [f64], wholes: &mut [u64])
-    requires { (length floats.old ≡ n_floats) × (length wholes.old ≡ n_wholes) × (get_or floats.old 0 nan ≡ s.sample_rate.0) }
-    ensures { (floats.new ≡ floats_of s) × (wholes.new ≡ wholes_of s) }
-{
-    let trigger_edge = s.trigger_edge;
-    let memo = s.freq_memo;
-    let val = memo.val;
-    floats[1] = s.lp_state;
-    floats[2] = s.ap_x1;
-    floats[3] = s.ap_y1;
-    boundary::put_edge(trigger_edge, &mut floats[EDGE..VAL]);
-    floats[VAL] = val.0;
-    wholes[0] = s.len as u64;
-    wholes[1] = s.write_pos as u64;
-    wholes[2] = memo.key;
-    wholes[3] = memo.valid as u64;
-}
+    const SAMPLES: usize = 1;
 
-fn store(s: KarplusStrong, floats: &mut [f64], wholes: &mut [u64])
-    requires { (length floats.old ≡ n_floats) × (length wholes.old ≡ n_wholes) }
-    ensures { (floats.new ≡ floats_of s) × (wholes.new ≡ wholes_of s) }
-{
-    let sample_rate = s.sample_rate;
-    floats[0] = sample_rate.0;
-    store_kept(s, floats, wholes);
-}
+    ghost FLOATS = { n_floats };
 
-// What a call without samples made.
-fn put_made(m: KarplusStrongMade, floats: &mut [f64], wholes: &mut [u64]) -> u32
-    requires { (length floats.old ≡ n_floats) × (length wholes.old ≡ n_wholes) }
-    ensures { kept result floats.new wholes.new ≡ kept_of m floats.old wholes.old }
-{
-    let outcome = m.outcome;
-    let s = m.karplus_strong;
-    match outcome {
-        Outcome::Done => {
-            store(s, floats, wholes);
-            0
+    ghost WHOLES = { n_wholes };
+
+    ghost SAMPLES = { n_samples };
+
+    ghost state_of = { state_of };
+
+    ghost floats_of = { floats_of };
+
+    ghost wholes_of = { wholes_of };
+
+    ghost samples_of = { samples_of };
+
+    fn state(floats: &[f64], wholes: &[u64]) -> KarplusStrong {
+        KarplusStrong {
+            len: wholes[0] as usize,
+            write_pos: wholes[1] as usize,
+            sample_rate: Hertz(floats[0]),
+            lp_state: floats[1],
+            ap_x1: floats[2],
+            ap_y1: floats[3],
+            trigger_edge: boundary::edge_of(&floats[EDGE..VAL]),
+            freq_memo: Memo {
+                key: wholes[2],
+                val: Hertz(floats[VAL]),
+                valid: wholes[3] != 0,
+            },
         }
-        Outcome::Refused(n) => n,
+    }
+
+    fn store(s: KarplusStrong, floats: &mut [f64], wholes: &mut [u64]) {
+        floats[0] = s.sample_rate.0;
+        floats[1] = s.lp_state;
+        floats[2] = s.ap_x1;
+        floats[3] = s.ap_y1;
+        boundary::put_edge(s.trigger_edge, &mut floats[EDGE..VAL]);
+        floats[VAL] = s.freq_memo.val.0;
+        wholes[0] = s.len as u64;
+        wholes[1] = s.write_pos as u64;
+        wholes[2] = s.freq_memo.key;
+        wholes[3] = s.freq_memo.valid as u64;
+    }
+
+    fn put(v: Volts, samples: &mut [f64]) {
+        samples[0] = v.p10;
     }
 }
 
@@ -110,6 +91,7 @@ pub extern "C" fn gruttisol_karplus_strong_cells(sample_rate: f64) -> u64
     KarplusStrong::cells(Hertz(sample_rate)) as u64
 }
 
+// The lengths are asked before the line is written.
 #[unsafe(no_mangle)]
 pub extern "C" fn gruttisol_karplus_strong_new(
     sample_rate: f64,
@@ -121,39 +103,13 @@ pub extern "C" fn gruttisol_karplus_strong_new(
     ensures { left (kept result floats.new wholes.new) line.new
         ≡ karplus_strong_new_at sample_rate threshold floats.old wholes.old line.old }
 {
-    let n = boundary::sizes(FLOATS, WHOLES, floats, wholes);
-    if n == 0 {
-        put_made(
-            KarplusStrong::new(Hertz(sample_rate), threshold, line),
-            floats,
-            wholes,
-        )
-    } else {
-        n
+    match boundary::sizes(Cells::FLOATS, Cells::WHOLES, floats, wholes) {
+        Ok(()) => {
+            let made = KarplusStrong::new(Hertz(sample_rate), threshold, line);
+            boundary::keep::<Cells>(made.accepted(), floats, wholes)
+        }
+        Err(refused) => refused.number(),
     }
-}
-
-// The sample and the state after an accepted tick; a refused one leaves them.
-fn put_ticked(
-    t: KarplusStrongTicked,
-    floats: &mut [f64],
-    wholes: &mut [u64],
-    samples: &mut [f64],
-) -> u32
-    requires { (length floats.old ≡ n_floats) × (length wholes.old ≡ n_wholes) × (length samples.old ≡ n_samples)
-        × (get_or floats.old 0 nan ≡ t.karplus_strong.sample_rate.0) }
-    ensures { heard result floats.new wholes.new samples.new
-        ≡ heard_of floats_of wholes_of samples_of t.answer t.karplus_strong floats.old wholes.old samples.old }
-{
-    let answer = t.answer;
-    let code = answer::host_number(answer);
-    if answer::is_accepted(answer) {
-        let s = t.karplus_strong;
-        let v = answer::samples(answer);
-        store_kept(s, &mut *floats, &mut *wholes);
-        samples[0] = v.p10;
-    }
-    code
 }
 
 #[unsafe(no_mangle)]
@@ -173,48 +129,18 @@ pub extern "C" fn gruttisol_karplus_strong_tick(
         ≡ karplus_strong_tick_at voct trigger damping brightness stretch floats.old wholes.old line.old
         draws.now samples.old }
 {
-    let n = boundary::tick_sizes(FLOATS, WHOLES, SAMPLES, floats, wholes, samples);
-    if n == 0 {
-        let c = KarplusStrongControls {
-            voct: VoltsPerOctave(voct),
-            trigger,
-            damping,
-            brightness,
-            stretch,
-        };
-        put_ticked(
-            state(floats, wholes).tick(c, draws, line),
-            floats,
-            wholes,
-            samples,
-        )
-    } else {
-        n
-    }
-}
-
-// The state and the counts after a block; a refused one leaves them.
-fn put_block(
-    b: KarplusStrongBlock,
-    floats: &mut [f64],
-    wholes: &mut [u64],
-    counts: &mut [u32],
-) -> u32
-    requires { (length floats.old ≡ n_floats) × (length wholes.old ≡ n_wholes) × (length counts.old ≡ n_counts) }
-    ensures { (l o : List Float) → (m : List ℕ)
-        → played result floats.new wholes.new counts.new o m
-        ≡ played_of strung_floats strung_wholes (block b.refused (strung b.karplus_strong l) b.tally o m)
-        floats.old wholes.old counts.old }
-{
-    let refused = b.refused;
-    if refused == 0 {
-        let s = b.karplus_strong;
-        let tally = b.tally;
-        store(s, &mut *floats, &mut *wholes);
-        boundary::put_counts(tally, counts);
-        0
-    } else {
-        refused
+    match boundary::tick_state::<Cells>(floats, wholes, samples) {
+        Ok(string) => {
+            let c = KarplusStrongControls {
+                voct: VoltsPerOctave(voct),
+                trigger,
+                damping,
+                brightness,
+                stretch,
+            };
+            boundary::hear::<Cells>(string.tick(c, draws, line), floats, wholes, samples)
+        }
+        Err(refused) => refused.number(),
     }
 }
 
@@ -237,8 +163,8 @@ pub extern "C" fn gruttisol_karplus_strong_block(
         ≡ karplus_strong_block_at voct trigger damping brightness stretch floats.old wholes.old line.old draws.now
         counts.old samples.old marks.old }
 {
-    match boundary::block_tally(FLOATS, WHOLES, floats, wholes, counts) {
-        Tallied::Taken(tally) => {
+    match boundary::block_state::<Cells>(floats, wholes, counts) {
+        Ok(begun) => {
             let c = KarplusStrongControls {
                 voct: VoltsPerOctave(voct),
                 trigger,
@@ -246,14 +172,10 @@ pub extern "C" fn gruttisol_karplus_strong_block(
                 brightness,
                 stretch,
             };
-            put_block(
-                state(floats, wholes).block(c, draws, tally, line, samples, marks),
-                floats,
-                wholes,
-                counts,
-            )
+            let played = begun.state.block(c, draws, begun.tally, line, samples, marks);
+            boundary::keep_block::<Cells>(played, floats, wholes, counts)
         }
-        Tallied::Refused(refused) => refused,
+        Err(refused) => refused.number(), // of lengths or counts
     }
 }
 
@@ -266,11 +188,9 @@ pub extern "C" fn gruttisol_karplus_strong_reset(
     ensures { left (kept result floats.new wholes.new) line.new
         ≡ karplus_strong_reset_at floats.old wholes.old line.old }
 {
-    let n = boundary::sizes(FLOATS, WHOLES, floats, wholes);
-    if n == 0 {
-        put_made(state(floats, wholes).reset(line), floats, wholes)
-    } else {
-        n
+    match boundary::state::<Cells>(floats, wholes) {
+        Ok(string) => boundary::keep::<Cells>(string.reset(line), floats, wholes),
+        Err(refused) => refused.number(),
     }
 }
 
@@ -284,14 +204,11 @@ pub extern "C" fn gruttisol_karplus_strong_set_sample_rate(
     ensures { left (kept result floats.new wholes.new) line.new
         ≡ karplus_strong_set_sample_rate_at sample_rate floats.old wholes.old line.old }
 {
-    let n = boundary::sizes(FLOATS, WHOLES, floats, wholes);
-    if n == 0 {
-        put_made(
-            state(floats, wholes).set_sample_rate(Hertz(sample_rate), line),
-            floats,
-            wholes,
-        )
-    } else {
-        n
+    match boundary::state::<Cells>(floats, wholes) {
+        Ok(string) => {
+            let rated = string.set_sample_rate(Hertz(sample_rate), line);
+            boundary::keep::<Cells>(rated, floats, wholes)
+        }
+        Err(refused) => refused.number(),
     }
 }

@@ -52,9 +52,9 @@ module _ (s : KarplusStrong) (p b : Float) (d : List ℕ) (l : List Float) where
   strike_size false h = refl
 
 pub record Turned (s : KarplusStrong) (l : List Float) (u : Ticking) : Type 0 where
-  pub keeps : Keeps s u.out.karplus_strong
-  pub len : u.out.karplus_strong.len ≡ s.len
-  pub place : s.write_pos < s.len → u.out.karplus_strong.write_pos < u.out.karplus_strong.len
+  pub keeps : Keeps s u.out.state
+  pub len : u.out.state.len ≡ s.len
+  pub place : s.write_pos < s.len → u.out.state.write_pos < u.out.state.len
   pub size : s.len ≤ length l → length u.line ≡ length l
 
 pub turned : (s : KarplusStrong) (t : Tuning) (l : List Float) → Turned s l (turn_of s t l)
@@ -76,7 +76,7 @@ turned s t l =
 pub stepped : (s : KarplusStrong) (p d t : Float) (numbers : Bool) (l : List Float) → Turned s l (step_of s p d t numbers l)
 stepped s p d t numbers l = subst (Turned s l) (turn_is s p d t numbers l) (turned s (tuning_of p d t numbers) l)
 
-pub turned_sound : (s : KarplusStrong) (l : List Float) (u : Ticking) → Turned s l u → Sound s → Sound u.out.karplus_strong
+pub turned_sound : (s : KarplusStrong) (l : List Float) (u : Ticking) → Turned s l u → Sound s → Sound u.out.state
 turned_sound s l u w a = record {
   rate = rw w.keeps.rate a.rate;
   least = rw w.len a.least;

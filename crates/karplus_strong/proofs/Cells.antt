@@ -54,7 +54,7 @@ summed l (suc i) h = rw (summed l i (omega arith)) at (ap (λ k. fold (add binar
 
 -- each pass over all of a list's cells
 pub struck_by : (n : ℕ) (b : Float) (d : List ℕ) (l x y : List Float) (t r : Float) → length x ≡ n → x ≡ excited_of n b d l
-    → t ≡ fold (add binary64) (neg zer) x → r ≡ real_of (length x) → y ≡ level_of (length x) (div binary64 t r) x → y ≡ struck_of n b d l
+    → t ≡ fold (add binary64) (neg zer) x → r ≡ real_of n → y ≡ level_of (length x) (div binary64 t r) x → y ≡ struck_of n b d l
 unfolding struck_of mean_of
 struck_by n b d l x y t r z ex et er ey =
     let all : fold (add binary64) (neg zer) x ≡ sum_to x (length x) =

@@ -2,6 +2,7 @@
 use Rattle.std.proofs.Common.{◌≡◌, ℕ, ◌+◌, ◌<◌, ◌≤◌, Bool, true, false, cond, eqb, List, length, sym, refl, ap, ◌∙◌, subst, add-one, arith, ne_eqb, eqb-true}
 use Rattle.std.proofs.Common.{le-leb}
 use lib.Ieee.{Float}
+use Rattle.std.specs.Prelude.{◌*◌, Result, Ok}
 use borrow.Author.Tests.{eqb-false}
 use Rattle.laws.specs.Float.{zer}
 use Rattle.laws.specs.Lists.{tab}
@@ -10,44 +11,48 @@ use Rattle.common.specs.Memo.{voct_to_hz_at}
 use Rattle.common.proofs.EdgeLaws.{threshold_kept, same_gate, rising_once}
 use Rattle.common.proofs.MemoLaws.{recall1_again}
 use Rattle.common.specs.declared.Risen.{Risen}
-use Rattle.answer.specs.Block.{after_ticks, answer_at, joined, mark_at, frame_at}
+use Rattle.answer.specs.Block.{after_ticks, answer_at, joined, mark_at, frame_at, block_refusal_of}
+use Rattle.answer.proofs.Said.{said_fits}
 use Rattle.answer.specs.declared.Answer.{Answer}
+use Rattle.answer.specs.declared.Tally.{Tally}
+use Rattle.common.specs.Refusal.{refused_number}
+use Rattle.common.specs.declared.Refusal.{Refusal}
 use Rattle.answer.proofs.Blocks.{Holds, held_after, held_marks, held_frames}
 use Rattle.karplus_strong.specs.Consts.{n_ports}
 use Rattle.karplus_strong.specs.Step.{Ticking}
 use Rattle.karplus_strong.specs.KarplusStrong.{max_len_of, room_of, karplus_strong_refusal_of, finite_or, period_of, Strung, strike_if}
-use Rattle.karplus_strong.specs.KarplusStrong.{strike_of, heard_string, tick_unless, karplus_strong_tick_of, strung, trigger_refusal_of, first_refusal_of}
+use Rattle.karplus_strong.specs.KarplusStrong.{heard_string, tick_unless, karplus_strong_tick_of, strung, trigger_refusal_of, first_refusal_of}
 use Rattle.karplus_strong.specs.KarplusStrong.{karplus_strong_told_of, karplus_strong_next_of, damping_of, brightness_of, stretch_of, controls_of, memo_at}
 use Rattle.karplus_strong.specs.KarplusStrong.{period_at}
 use Rattle.answer.specs.Mark.{all_numbers}
-use Rattle.karplus_strong.specs.Shortcuts.{tuning_of, turn_of, held_answer, held_next, hear_of, struck_at}
+use Rattle.karplus_strong.specs.Shortcuts.{tuning_of, turn_of, held_answer, held_next, hear_of, strike_at}
 use Rattle.karplus_strong.specs.Promises.{taken}
 use Rattle.karplus_strong.specs.declared.Heard.{Heard}
 use Rattle.karplus_strong.specs.declared.KarplusStrong.{KarplusStrong}
 use Rattle.karplus_strong.specs.declared.KarplusStrongControls.{KarplusStrongControls}
-use Rattle.karplus_strong.specs.declared.KarplusStrongTicked.{KarplusStrongTicked}
+use Rattle.answer.specs.declared.Ticked.{Ticked}
 use Rattle.karplus_strong.specs.declared.Tuning.{Tuning}
-use Rattle.karplus_strong.proofs.Parts.{PartsOf, Sound, struck_fits, struck_sound, sound_line, accepted, turn_is}
+use Rattle.karplus_strong.proofs.Parts.{PartsOf, heard_struck, Sound, struck_fits, struck_sound, sound_line, accepted, turn_is}
 use Rattle.karplus_strong.proofs.Alike.{strike_keeps, strike_size, turned, turned_sound}
 use Rattle.karplus_strong.proofs.Ticks.{struck_step, tick_is}
 
 -- ---- a turn of the loop
-pub heard : (t : Tuning) (x : Strung) (i : ℕ) (s : KarplusStrong) (l : List Float) (r : KarplusStrongTicked) → r ≡ (turn_of s t l).out
+pub heard : (t : Tuning) (x : Strung) (i : ℕ) (s : KarplusStrong) (l : List Float) (r : Ticked KarplusStrong) → r ≡ (turn_of s t l).out
     → strung s l ≡ after_ticks (held_next t) i x → r.answer ≡ answer_at (held_answer t) (held_next t) x i
 unfolding answer_at held_answer
-heard t x i s l r e z = ap (λ (u : KarplusStrongTicked). u.answer) e ∙ ap (λ (y : Strung). (turn_of y.string t y.line).out.answer) z
+heard t x i s l r e z = ap (λ (u : Ticked KarplusStrong). u.answer) e ∙ ap (λ (y : Strung). (turn_of y.string t y.line).out.answer) z
 
-pub moved : (t : Tuning) (x : Strung) (i : ℕ) (s : KarplusStrong) (l m : List Float) (r : KarplusStrongTicked) → r ≡ (turn_of s t l).out → m
+pub moved : (t : Tuning) (x : Strung) (i : ℕ) (s : KarplusStrong) (l m : List Float) (r : Ticked KarplusStrong) → r ≡ (turn_of s t l).out → m
     ≡ (turn_of s t l).line
     → strung s l ≡ after_ticks (held_next t) i x
-    → strung r.karplus_strong m ≡ after_ticks (held_next t) (i + 1) x
+    → strung r.state m ≡ after_ticks (held_next t) (i + 1) x
 unfolding after_ticks held_next
 moved t x i s l m r e q z = rw add-one
-    ((λ j. strung (e j).karplus_strong (q j)) ∙ ap (λ (y : Strung). let u = turn_of y.string t y.line in strung u.out.karplus_strong u.line) z)
+    ((λ j. strung (e j).state (q j)) ∙ ap (λ (y : Strung). let u = turn_of y.string t y.line in strung u.out.state u.line) z)
 
 -- its place stays in the line
-pub turned_ready : (s : KarplusStrong) (t : Tuning) (l : List Float) (r : KarplusStrongTicked) → r ≡ (turn_of s t l).out → s.write_pos < s.len
-    → (r.karplus_strong.write_pos < r.karplus_strong.len) × (r.karplus_strong.len ≡ s.len)
+pub turned_ready : (s : KarplusStrong) (t : Tuning) (l : List Float) (r : Ticked KarplusStrong) → r ≡ (turn_of s t l).out → s.write_pos < s.len
+    → (r.state.write_pos < r.state.len) × (r.state.len ≡ s.len)
 turned_ready s t l r e h = let w = turned s t l in rw e (w.place h, w.len)
 
 -- ---- the whole
@@ -145,9 +150,9 @@ told : (t : Tuning) (x : Strung) (u : Ticking) → u ≡ turn_of x.string t x.li
 unfolding held_answer
 told t x u e = ap (λ (w : Ticking). w.out.answer) e
 
-gone : (t : Tuning) (x : Strung) (u : Ticking) → u ≡ turn_of x.string t x.line → strung u.out.karplus_strong u.line ≡ held_next t x
+gone : (t : Tuning) (x : Strung) (u : Ticking) → u ≡ turn_of x.string t x.line → strung u.out.state u.line ≡ held_next t x
 unfolding held_next
-gone t x u e = ap (λ (w : Ticking). strung w.out.karplus_strong w.line) e
+gone t x u e = ap (λ (w : Ticking). strung w.out.state w.line) e
 
 first_tick : (s : KarplusStrong) (c : KarplusStrongControls) (draws : List ℕ) (l : List Float) → karplus_strong_refusal_of s (length l) ≡ 0
     → trigger_refusal_of s c draws ≡ 0 → karplus_strong_tick_of s c draws l ≡ turn_of (struck_by s c draws l).string (tune_of s c) (struck_by s c draws l).line
@@ -178,13 +183,13 @@ Rings answer next x n y o m =
 pub run_by : (s : KarplusStrong) (c : KarplusStrongControls) (d : List ℕ) (l : List Float) (h : Heard) → h ≡ hear_of s c
     → karplus_strong_refusal_of s (length l) ≡ 0 → trigger_refusal_of s c d ≡ 0
     → (t : Tuning) (u : KarplusStrong) (x : List Float) → t ≡ tuning_of h.period (damping_of c) (stretch_of c) (all_numbers (controls_of c))
-    → PartsOf (struck_at h (brightness_of c) d l) u x
+    → PartsOf (strike_at h.string h.strike (brightness_of c) d l) u x
     → (n : ℕ) → 0 < n → (y : Strung) (o : List Float) (m : List ℕ) → Rings (held_answer t) (held_next t) (strung u x) n y o m
     → Rings (karplus_strong_told_of c d) (karplus_strong_next_of c d) (strung s l) n y o m
-unfolding hear_of struck_at strike_if strike_of
+unfolding hear_of
 run_by s c d l h eh p k t u x et eu n z y o m r =
     let w = holds s c d l p k in
-    let a : strung u x ≡ struck_by s c d l = (λ i. strung (eu.0 i) (eu.1 i)) ∙ ap (λ (v : Heard). struck_at v (brightness_of c) d l) eh in
+    let a : strung u x ≡ struck_by s c d l = (λ i. strung (eu.0 i) (eu.1 i)) ∙ heard_struck s c h eh (brightness_of c) d l in
     let b : t ≡ tune_of s c = et ∙ ap (λ (v : Heard). tuning_of v.period (damping_of c) (stretch_of c) (all_numbers (controls_of c))) eh in
     let q : Rings (held_answer (tune_of s c)) (held_next (tune_of s c)) (struck_by s c d l) n y o m =
     subst (λ (v : Tuning). Rings (held_answer v) (held_next v) (struck_by s c d l) n y o m) b
@@ -202,3 +207,22 @@ first_none s c d cells n e z = go (eqb k 0) (eqb-true k 0) (eqb-false k 0) (rw (
     go : (b : Bool) → (b ≡ true → k ≡ 0) → (b ≡ false → k ≡ 0 → ⊥) → cond b (trigger_refusal_of s c d) k ≡ 0 → (k ≡ 0) × (trigger_refusal_of s c d ≡ 0)
     go true p q h = (p refl, h)
     go false p q h = absurd (q refl h)
+
+-- what a block knows that isn't refused and has a tick
+pub record Ready (s : KarplusStrong) (c : KarplusStrongControls) (d : List ℕ) (l o : List Float) (n : ℕ) : Type 0 where
+  pub none : karplus_strong_refusal_of s (length l) ≡ 0
+  pub untriggered : trigger_refusal_of s c d ≡ 0
+  pub sound : Sound s
+  pub room : max_len_of s.sample_rate + 2 ≤ length l
+  pub some : 0 < n
+  pub fits : length o ≡ n_ports * n
+
+pub block_ready : {U V : Type 0} (s : KarplusStrong) (c : KarplusStrongControls) (d : List ℕ) (l o : List Float) (m : List ℕ) (t : Tally)
+    (first : Result U Refusal) (b : Result V Refusal) → refused_number first ≡ first_refusal_of s c d (length l) (length m)
+    → refused_number b ≡ block_refusal_of (eqb (length o) (n_ports * length m)) (refused_number first) t (length m) → (v : V) → b ≡ Ok v
+    → (length m ≡ 0 → ⊥) → Ready s c d l o (length m)
+block_ready s c d l o m t first b f q v w z =
+    let fits = said_fits n_ports _ t o m first b f q v w in
+    let none = first_none s c d (length l) (length m) fits.1 z in
+    let good = accepted s (length l) none.0 in
+    record { none = none.0; untriggered = none.1; sound = good.0; room = good.1; some = omega arith; fits = fits.0 }

@@ -4,7 +4,6 @@ use lib.Ieee.{Float, nan}
 use lib.ListN.{get_or-append}
 use Rattle.laws.proofs.Over.{over_same}
 use Rattle.laws.specs.Machine.{more}
-use Rattle.answer.specs.Answer.{outcome_number}
 use Rattle.common.specs.Tests.{rate_ok}
 use Rattle.common.specs.declared.Hertz.{Hertz}
 use Rattle.karplus_strong.specs.KarplusStrong.{max_len_of, room_of, karplus_strong_rate_refusal_of, made_unless}
@@ -36,7 +35,7 @@ rate_done s n r l g e h = simp (g.sound.rate, e, sound_line s g.sound, h)
 pub rate_line : RateLine
 rate_line x h r e l room k =
     rw (rate_done s (length x.line) r l g e room)
-    (unfold outcome_number in (refl, subst ReachedKarplusStrong back (more changed (Lend (rated_line s r l)) tt)))
+    (refl, subst ReachedKarplusStrong back (more changed (Lend (rated_line s r l)) tt))
   where
     s : KarplusStrong
     s = x.string

@@ -1,13 +1,16 @@
 -- How the parts of a call make up the whole, over plain values, and what an accepted call has.
 use Rattle.std.proofs.Common.{◌≡◌, ℕ, zero, suc, ◌+◌, ◌-◌, ◌%◌, ◌<◌, ◌≤◌, min, Bool, true, false, cond, not, ◌&&◌, T, eqb, ltb, leb, List, ◌++◌, length, length-take, get_or, set, take, drop}
 use Rattle.std.proofs.Common.{pos, sym, refl, ap, ◌∙◌, subst, true≢false, le_trans, arith, lit≤, le→leb, ltb-true, lt-ltb, ne_eqb, eqb-true, le-leb, leb-true}
+use mathlib.Core.Bool.{and-false}
+use Rattle.std.specs.Prelude.{Some, None, Result, Ok, Err}
+use Rattle.laws.proofs.Over.{over_none}
 use lib.Ieee.{Float, nan, inf, fin, binary64, add, sub, mul, div, neg, in_float, lt, le, eq, fits, is_nan, of_bits}
 use lib.Ieee.Fits.{cond-fits, div-fits, sub-fits}
 use lib.Ieee.Bits.{is_false}
 use borrow.Author.Tests.{eqb-false}
 use Rattle.laws.proofs.Number.{mul_number, le_numbers}
 use Rattle.laws.proofs.Order.{lt_of_not_ge, lt_false, float_le_trans}
-use Rattle.laws.proofs.Tests.{both_true, of_true, of_false}
+use Rattle.laws.proofs.Tests.{and_true, both_true, of_true, of_false}
 use Rattle.laws.proofs.Values.{float_mul_comm}
 use Rattle.laws.specs.Float.{zer, one, two, is_fin, F64}
 use Rattle.numeric.proofs.PowerRange.{exp2_number}
@@ -16,26 +19,28 @@ use Rattle.numeric.specs.Basic.{clamp_of, max_of, whole_of, real_of}
 use Rattle.numeric.specs.Power.{exp2_of}
 use Rattle.common.specs.Consts.{c4, rate_low, rate_high, half, max_voct}
 use Rattle.common.specs.Edge.{reset_of, rising_of}
-use Rattle.common.specs.Memo.{hits1, filled1, recall1, voct_to_hz_at}
+use Rattle.common.specs.Memo.{filled, recall, Memo1, hits1, filled1, recall1, voct_to_hz_at}
 use Rattle.common.specs.Pitch.{voct_to_hz}
+use Rattle.common.specs.Refusal.{number_of, refused_number}
 use Rattle.common.specs.Tests.{rate_ok, threshold_ok, draws_refusal_of}
+use Rattle.common.proofs.RefusalLaws.{nonzero}
+use Rattle.common.specs.declared.Refusal.{Refusal}
 use Rattle.common.specs.declared.EdgeDetector.{EdgeDetector}
 use Rattle.common.specs.declared.Hertz.{Hertz}
-use Rattle.common.specs.declared.Memo1.{Memo1}
 use Rattle.answer.proofs.Laws.{mark_known}
-use Rattle.answer.specs.Answer.{volts1, outcome_number}
+use Rattle.answer.specs.Answer.{volts1}
+use Rattle.answer.specs.Calls.{outcome}
 use Rattle.answer.specs.Mark.{all_finite, all_numbers, marked_of}
 use Rattle.answer.specs.declared.Volts.{Volts}
 use Rattle.answer.specs.declared.Answer.{Answer}
-use Rattle.answer.specs.declared.Outcome.TheVariants as outcome
 use Rattle.karplus_strong.specs.Consts.{twenty, loop_leak}
-use Rattle.karplus_strong.specs.Shortcuts.{Cut}
-use Rattle.karplus_strong.specs.Line.{blank_of, struck_of}
+use Rattle.karplus_strong.specs.Shortcuts.{Cut, state_refusal_of}
+use Rattle.karplus_strong.specs.Line.{blank_at, blank_of, struck_of}
 use Rattle.karplus_strong.specs.Step.{filter_coef_of, ap_coef_of, filter_delay_of, ap_delay_of, target_delay_of, offset_one, offset_two}
 use Rattle.karplus_strong.specs.Step.{tap_of, filtered_of, stretched_of, heard_of, rest_of, Ticking, wrote_of, cleared_of, step_of}
-use Rattle.karplus_strong.specs.Shortcuts.{tuning_of, tap_at, turn_of, hear_of, struck_at}
+use Rattle.karplus_strong.specs.Shortcuts.{tuning_of, tap_at, turn_of, hear_of, strike_refusal_of, strike_len, strike_at}
 use Rattle.karplus_strong.specs.KarplusStrong.{max_len_of, string_of, no_string, Strung, strung, line_ok, room_of, karplus_strong_refusal_of}
-use Rattle.karplus_strong.specs.KarplusStrong.{karplus_strong_rate_refusal_of, Making, making, made_unless, karplus_strong_new_refusal_of}
+use Rattle.karplus_strong.specs.KarplusStrong.{karplus_strong_rate_refusal_of, Making, leaving, made_unless, karplus_strong_new_refusal_of}
 use Rattle.karplus_strong.specs.KarplusStrong.{karplus_strong_new_of}
 use Rattle.karplus_strong.specs.KarplusStrong.{karplus_strong_reset_of, place_of, karplus_strong_set_sample_rate_of, finite_or, period_of}
 use Rattle.karplus_strong.specs.KarplusStrong.{struck_len, strike_of, strike_if, heard_string, refused_tick, tick_unless, karplus_strong_sound_of}
@@ -44,7 +49,7 @@ use Rattle.karplus_strong.specs.KarplusStrong.{trigger_refusal_of}
 use Rattle.karplus_strong.specs.declared.Heard.{Heard}
 use Rattle.karplus_strong.specs.declared.KarplusStrong.{KarplusStrong}
 use Rattle.karplus_strong.specs.declared.KarplusStrongControls.{KarplusStrongControls}
-use Rattle.karplus_strong.specs.declared.KarplusStrongTicked.{KarplusStrongTicked}
+use Rattle.answer.specs.declared.Ticked.{Ticked}
 use Rattle.karplus_strong.specs.declared.Tuning.{Tuning}
 use Rattle.karplus_strong.proofs.Cells.{struck_cells}
 use Rattle.karplus_strong.proofs.Periods.{rate_cut, high_period, clamped_cut}
@@ -182,7 +187,7 @@ hz_number v q =
     (le_numbers (clamp_of v (neg max_voct) max_voct) max_voct (clamp_range v (neg max_voct) max_voct (unfold le lt eq neg of_bits in tt) q).1).0))
 
 pub memo_recalled : (m : Memo1) (v : Float) → T (not (is_nan m.val.0)) → T (not (is_nan (recall1 voct_to_hz_at m (finite_or v zer)).val.0))
-unfolding recall1 filled1
+unfolding recall filled
 memo_recalled m v h = go (hits1 m (finite_or v zer))
   where
     go : (b : Bool) → T (not (is_nan (cond b m (filled1 (finite_or v zer) (voct_to_hz_at (finite_or v zer)))).val.0))
@@ -195,38 +200,49 @@ pub heard_cut : (s : KarplusStrong) (x v p : Float) (m : Memo1) → rate_ok s.sa
 heard_cut s x v p m e q ev em ep = rw (ep, em, ev) (period_cut _ _ e (memo_recalled s.freq_memo x q))
 
 -- ---- refusals
-module _ (s : KarplusStrong) (n : ℕ) where
-  pub refusal_rate : rate_ok s.sample_rate ≡ false → 1 ≡ karplus_strong_refusal_of s n
+module _ (s : KarplusStrong) where
+  -- the state itself lets a call pass, or refuses it
+  pub state_passed : 0 ≡ state_refusal_of s → (rate_ok s.sample_rate ≡ true) × (line_ok s (max_len_of s.sample_rate) ≡ true)
+  unfolding state_refusal_of
+  state_passed h = go (rate_ok s.sample_rate) (line_ok s (max_len_of s.sample_rate)) h
+    where
+      go : (a b : Bool) → ◌≡◌ {A = ℕ} 0 (cond a (cond b 0 2) 1) → (a ≡ true) × (b ≡ true)
+      go true true h = (refl, refl)
+      go true false h = absurd (omega arith)
+      go false b h = absurd (omega arith)
+
+  pub state_stopped : (e : Refusal) (k : ℕ) → number_of e ≡ state_refusal_of s → number_of e
+      ≡ cond (rate_ok s.sample_rate) (cond (line_ok s (max_len_of s.sample_rate)) k 2) 1
+  unfolding state_refusal_of
+  state_stopped e k h = go (rate_ok s.sample_rate) (line_ok s (max_len_of s.sample_rate)) h
+    where
+      go : (a b : Bool) → number_of e ≡ cond a (cond b 0 2) 1 → number_of e ≡ cond a (cond b k 2) 1
+      go true true h = absurd (nonzero e h)
+      go true false h = h
+      go false b h = h
+
+  -- then a call goes by its line, and a rate change by its rate and its line
+  pub refusal_room : (n k m : ℕ) → 0 ≡ state_refusal_of s → m ≡ max_len_of s.sample_rate → k ≡ cond (leb (m + 2) n) 0 3 → k ≡ karplus_strong_refusal_of s n
+  unfolding karplus_strong_refusal_of room_of
+  refusal_room n k m h e g = let p = state_passed h in rw (p.0, p.1, ← e) g
+
+  pub refusal_state : (n : ℕ) (e : Refusal) → number_of e ≡ state_refusal_of s → number_of e ≡ karplus_strong_refusal_of s n
   unfolding karplus_strong_refusal_of
-  refusal_rate e = rw e
+  refusal_state n e h = state_stopped e _ h
 
-  pub refusal_line : (m : ℕ) → rate_ok s.sample_rate ≡ true → m ≡ max_len_of s.sample_rate → line_ok s m ≡ false → 2 ≡ karplus_strong_refusal_of s n
-  unfolding karplus_strong_refusal_of
-  refusal_line m e q h = rw (e, ← q, h)
+  module _ (r : Hertz) (n : ℕ) where
+    pub rate_new : rate_ok r ≡ false → 1 ≡ karplus_strong_rate_refusal_of s r n
+    unfolding karplus_strong_rate_refusal_of
+    rate_new e = simp (e, and-false)
 
-  pub refusal_room : (m k : ℕ) → rate_ok s.sample_rate ≡ true → m ≡ max_len_of s.sample_rate → line_ok s m ≡ true → k ≡ room_of s.sample_rate n
-      → k ≡ karplus_strong_refusal_of s n
-  unfolding karplus_strong_refusal_of
-  refusal_room m k e q h g = rw (e, ← q, h) g
+    pub rate_room : (k m : ℕ) → rate_ok r ≡ true → 0 ≡ state_refusal_of s → m ≡ max_len_of r → k ≡ cond (leb (m + 2) n) 0 3
+        → k ≡ karplus_strong_rate_refusal_of s r n
+    unfolding karplus_strong_rate_refusal_of room_of
+    rate_room k m e h f g = let p = state_passed h in rw (e, p.0, p.1, ← f) g
 
-module _ (s : KarplusStrong) (r : Hertz) (n : ℕ) where
-  pub rate_old : rate_ok s.sample_rate ≡ false → 1 ≡ karplus_strong_rate_refusal_of s r n
-  unfolding karplus_strong_rate_refusal_of
-  rate_old e = rw e
-
-  pub rate_new : rate_ok s.sample_rate ≡ true → rate_ok r ≡ false → 1 ≡ karplus_strong_rate_refusal_of s r n
-  unfolding karplus_strong_rate_refusal_of
-  rate_new e q = rw (e, q)
-
-  pub rate_line : (m : ℕ) → rate_ok s.sample_rate ≡ true → rate_ok r ≡ true → m ≡ max_len_of s.sample_rate → line_ok s m ≡ false
-      → 2 ≡ karplus_strong_rate_refusal_of s r n
-  unfolding karplus_strong_rate_refusal_of
-  rate_line m e f q h = rw (e, f, ← q, h)
-
-  pub rate_room : (m k : ℕ) → rate_ok s.sample_rate ≡ true → rate_ok r ≡ true → m ≡ max_len_of s.sample_rate → line_ok s m ≡ true → k ≡ room_of r n
-      → k ≡ karplus_strong_rate_refusal_of s r n
-  unfolding karplus_strong_rate_refusal_of
-  rate_room m k e f q h g = rw (e, f, ← q, h) g
+    pub rate_state : (e : Refusal) → rate_ok r ≡ true → number_of e ≡ state_refusal_of s → number_of e ≡ karplus_strong_rate_refusal_of s r n
+    unfolding karplus_strong_rate_refusal_of
+    rate_state e f h = simp (f, and_true) (state_stopped e _ h)
 
 -- what a state has that refusals 1 and 2 let pass
 pub record Sound (s : KarplusStrong) : Type 0 where
@@ -326,10 +342,10 @@ rate_accepted s r n e = go (rate_ok s.sample_rate) (rate_ok r) (line_ok s (max_l
 
 -- ---- making, reset and rate change
 abbrev pub done : KarplusStrong → List Float → Making
-done s l = making (record { outcome = outcome.Done; karplus_strong = s }) l
+done s l = leaving (outcome 0 s) l
 
 abbrev pub refused : ℕ → KarplusStrong → List Float → Making
-refused k s l = making (record { outcome = outcome.Refused k; karplus_strong = s }) l
+refused k s l = leaving (outcome k s) l
 
 pub made_done : (k : ℕ) (x y : Strung) → k ≡ 0 → done y.string y.line ≡ made_unless k x y
 unfolding made_unless
@@ -352,9 +368,8 @@ made_either P k x y h g = go (eqb k 0) (eqb-true k 0) (eqb-false k 0)
     go true e f = h (e refl)
     go false e f = g (f refl)
 
-pub made_says : (k : ℕ) (x y : Strung) → outcome_number (made_unless k x y).out.outcome ≡ k
-unfolding outcome_number
-made_says k x y = made_either (λ m. outcome_number m.out.outcome ≡ k) k x y sym (λ n. refl)
+pub made_says : (k : ℕ) (x y : Strung) → (made_unless k x y).out.refused ≡ k
+made_says k x y = made_either (λ m. m.out.refused ≡ k) k x y sym (λ n. refl)
 
 -- what new asks
 module _ (r : Hertz) (v : Float) (n : ℕ) where
@@ -366,9 +381,10 @@ module _ (r : Hertz) (v : Float) (n : ℕ) where
   unfolding karplus_strong_new_refusal_of
   new_threshold e f = rw (e, f)
 
-  pub new_room : (k : ℕ) → rate_ok r ≡ true → threshold_ok v ≡ true → k ≡ room_of r n → k ≡ karplus_strong_new_refusal_of r v n
-  unfolding karplus_strong_new_refusal_of
-  new_room k e f q = rw (e, f) q
+  pub new_room : (k m : ℕ) → rate_ok r ≡ true → threshold_ok v ≡ true → m ≡ max_len_of r → k ≡ cond (leb (m + 2) n) 0 3
+      → k ≡ karplus_strong_new_refusal_of r v n
+  unfolding karplus_strong_new_refusal_of room_of
+  new_room k m e f q g = rw (e, f, ← q) g
 
   pub new_taken : karplus_strong_new_refusal_of r v n ≡ 0 → (rate_ok r ≡ true) × (threshold_ok v ≡ true) × (max_len_of r + 2 ≤ n)
   unfolding karplus_strong_new_refusal_of
@@ -380,25 +396,30 @@ module _ (r : Hertz) (v : Float) (n : ℕ) where
       go true false p q h = absurd (omega arith)
       go false b p q h = absurd (omega arith)
 
-module _ (r : Hertz) (v : Float) (l : List Float) (t : KarplusStrong) (n k : ℕ) (et : t ≡ string_of r v n)
-    (q : k ≡ karplus_strong_new_refusal_of r v (length l)) where
-  pub new_no : (k ≡ 0 → ⊥) → n ≡ 0 → refused k t l ≡ karplus_strong_new_of r v l
-  unfolding karplus_strong_new_of
-  new_no h en = rw (← q, et, en) (made_no k (strung (no_string r v) l) _ h)
+-- a string of so many cells, and what a call says that is refused by r or let pass
+module _ (r : Hertz) (v : Float) (l x : List Float) (o : Result (Unit {0}) Refusal) (n : ℕ) (q : refused_number o ≡ karplus_strong_new_refusal_of r v (length l))
+    (ex : x ≡ blank_of 0 n l) where
+  abbrev says : Making
+  says = leaving (outcome (refused_number o) (string_of r v n)) x
 
-  pub new_made : k ≡ 0 → n ≡ max_len_of r → (x : List Float) → x ≡ blank_of 0 n l → done t x ≡ karplus_strong_new_of r v l
-  unfolding karplus_strong_new_of made_unless
-  new_made h en x ex = rw (← q, h, et, ex, en)
+  pub new_no : (e : Refusal) → o ≡ Err e → n ≡ 0 → says ≡ karplus_strong_new_of r v l
+  unfolding karplus_strong_new_of refused_number blank_of
+  new_no e eo en = rw (← q, eo, ex, en, ← over_none (blank_at 0 l) l) (made_no _ (strung (no_string r v) l) _ (nonzero e))
 
-module _ (s : KarplusStrong) (l : List Float) (k : ℕ) (e : k ≡ karplus_strong_refusal_of s (length l)) where
-  pub reset_no : (k ≡ 0 → ⊥) → refused k s l ≡ karplus_strong_reset_of s l
+  pub new_made : (u : Unit {0}) → o ≡ Ok u → n ≡ max_len_of r → says ≡ karplus_strong_new_of r v l
+  unfolding karplus_strong_new_of refused_number made_unless
+  new_made u eo en = rw (← q, eo, ex, en)
+
+module _ (s : KarplusStrong) (l : List Float) where
+  pub reset_no : (e : Refusal) → number_of e ≡ karplus_strong_refusal_of s (length l) → refused (number_of e) s l ≡ karplus_strong_reset_of s l
   unfolding karplus_strong_reset_of
-  reset_no h = rw (← e) (made_no k (strung s l) _ h)
+  reset_no e q = rw (← q) (made_no _ (strung s l) _ (nonzero e))
 
-  pub reset_made : k ≡ 0 → (u : KarplusStrong) (edge : EdgeDetector) (x : List Float) → u ≡ rest_of s s.len s.trigger_edge → edge ≡ reset_of s.trigger_edge
+  pub reset_made : 0 ≡ karplus_strong_refusal_of s (length l) → (u : KarplusStrong) (edge : EdgeDetector) (x : List Float)
+      → u ≡ rest_of s s.len s.trigger_edge → edge ≡ reset_of s.trigger_edge
       → x ≡ blank_of 0 s.len l → done (heard_string u edge u.freq_memo) x ≡ karplus_strong_reset_of s l
   unfolding karplus_strong_reset_of made_unless
-  reset_made h u edge x eu ee ex = rw (← e, h, eu, ee, ex)
+  reset_made q u edge x eu ee ex = rw (← q, eu, ee, ex)
 
 -- a string of n cells and this place
 abbrev resized : KarplusStrong → Hertz → ℕ → ℕ → KarplusStrong
@@ -414,54 +435,73 @@ resized s r n place =
       freq_memo = s.freq_memo;
     }
 
-module _ (s : KarplusStrong) (r : Hertz) (l : List Float) (k : ℕ) (e : k ≡ karplus_strong_rate_refusal_of s r (length l)) where
-  pub rate_no : (k ≡ 0 → ⊥) → refused k s l ≡ karplus_strong_set_sample_rate_of s r l
+module _ (s : KarplusStrong) (r : Hertz) (l : List Float) where
+  pub rate_no : (e : Refusal) → number_of e ≡ karplus_strong_rate_refusal_of s r (length l)
+      → refused (number_of e) s l ≡ karplus_strong_set_sample_rate_of s r l
   unfolding karplus_strong_set_sample_rate_of
-  rate_no h = rw (← e) (made_no k (strung s l) _ h)
+  rate_no e q = rw (← q) (made_no _ (strung s l) _ (nonzero e))
 
-  pub rate_made : k ≡ 0 → (n a place : ℕ) (x : List Float) → n ≡ max_len_of r → a ≡ min s.len n → place ≡ place_of s.write_pos n
-      → x ≡ blank_of a n l → done (resized s r n place) x ≡ karplus_strong_set_sample_rate_of s r l
+  pub rate_made : 0 ≡ karplus_strong_rate_refusal_of s r (length l) → (n a place : ℕ) (x : List Float) → n ≡ max_len_of r → a ≡ min s.len n
+      → place ≡ place_of s.write_pos n → x ≡ blank_of a n l → done (resized s r n place) x ≡ karplus_strong_set_sample_rate_of s r l
   unfolding karplus_strong_set_sample_rate_of made_unless
-  rate_made h n a place x en ea ep ex = rw (← e, h, ep, ex, ea, en)
+  rate_made q n a place x en ea ep ex = rw (← q, ep, ex, ea, en)
 
 -- ---- the strike
 -- x is a string s with the line l
 abbrev pub PartsOf : Strung → KarplusStrong → List Float → Type 0
 PartsOf x s l = (s ≡ x.string) × (l ≡ x.line)
 
-pub struck_taken : (h : Heard) (b bright : Float) (d : List ℕ) (l x : List Float) (u : KarplusStrong) → h.rising ≡ true → h.struck_len ≤ length l
-    → bright ≡ clamp_of (finite_or b half) zer one → u ≡ rest_of h.string h.struck_len h.string.trigger_edge
-    → x ≡ struck_of (length (take h.struck_len l)) bright d (take h.struck_len l)
-    → PartsOf (struck_at h (clamp_of (finite_or b half) zer one) d l) u (x ++ drop h.struck_len l)
-unfolding struck_at
-struck_taken h b bright d l x u e k eb eu ex =
-    let size : length (take h.struck_len l) ≡ h.struck_len = simp length-take (omega arith) in
-    rw (e, ← eb) (eu, rw (ex, size) (struck_cells h.struck_len bright d l k))
+pub struck_taken : (s : KarplusStrong) (n : ℕ) (b bright : Float) (d : List ℕ) (l x : List Float) (u : KarplusStrong) → n ≤ length l
+    → bright ≡ clamp_of (finite_or b half) zer one → u ≡ rest_of s n s.trigger_edge → x ≡ struck_of (length (take n l)) bright d (take n l)
+    → PartsOf (strike_at s (Some n) (clamp_of (finite_or b half) zer one) d l) u (x ++ drop n l)
+unfolding strike_at
+struck_taken s n b bright d l x u k eb eu ex =
+    let size : length (take n l) ≡ n = simp length-take (omega arith) in
+    rw (← eb) (eu, rw (ex, size) (struck_cells n bright d l k))
 
-pub struck_none : (h : Heard) (b : Float) (d : List ℕ) (l : List Float) → h.rising ≡ false → PartsOf (struck_at h b d l) h.string l
-unfolding struck_at
-struck_none h b d l e = rw e (refl, refl)
+-- what is said of a strike by its rising is said of it by its cells
+strike_told : (b : Bool) (n : ℕ) (d : List ℕ) → cond b (draws_refusal_of n d) 0 ≡ strike_refusal_of (cond b (Some n) None) d
+unfolding strike_refusal_of
+strike_told true n d = refl
+strike_told false n d = refl
+
+strike_most : (b : Bool) (m n : ℕ) → m ≤ n → strike_len (cond b (Some m) None) ≤ n
+unfolding strike_len
+strike_most true m n h = h
+strike_most false m n h = omega arith
+
+strike_is : (r : Bool) (s : KarplusStrong) (p b : Float) (d : List ℕ) (l : List Float)
+    → strike_at s (cond r (Some (struck_len p)) None) b d l ≡ strike_if r s p b d l
+unfolding strike_at strike_if strike_of
+strike_is true s p b d l = refl
+strike_is false s p b d l = refl
 
 -- what was heard of an accepted tick
 module _ (s : KarplusStrong) (c : KarplusStrongControls) (h : Heard) (eh : h ≡ hear_of s c) where
-  pub heard_taken : (d : List ℕ) → trigger_refusal_of s c d ≡ cond h.rising (draws_refusal_of h.struck_len d) 0
+  pub heard_taken : (d : List ℕ) → trigger_refusal_of s c d ≡ strike_refusal_of h.strike d
   unfolding trigger_refusal_of hear_of
-  heard_taken d = rw eh refl
+  heard_taken d = rw eh (strike_told _ _ d)
+
+  pub heard_struck : (b : Float) (d : List ℕ) (l : List Float)
+      → strike_at h.string h.strike b d l
+      ≡ strike_if (rising_of s.trigger_edge c.trigger).rising (heard_string s (rising_of s.trigger_edge c.trigger).edge (memo_at s c)) (period_at s c) b d l
+  unfolding hear_of
+  heard_struck b d l = rw eh (strike_is _ _ _ b d l)
 
   module _ (n : ℕ) (a : Sound s) (room : max_len_of s.sample_rate + 2 ≤ n) where
-    pub heard_fits : h.struck_len ≤ n
+    pub heard_fits : strike_len h.strike ≤ n
     unfolding hear_of
-    heard_fits = rw eh (struck_fits s c a n room)
+    heard_fits = rw eh (strike_most _ _ n (struck_fits s c a n room))
 
     pub heard_delay : whole_of (target_delay_of h.period (filter_coef_of (damping_of c)) (ap_coef_of (stretch_of c))) ≤ 9610
     unfolding hear_of
     heard_delay = rw eh (delay_range s.sample_rate (memo_at s c).val c.damping c.stretch a.rate (heard_number s c a))
 
     -- the string, struck or not: its place and its length
-    pub struck_ready : (b : Float) (d : List ℕ) (l : List Float) (u : KarplusStrong) → u ≡ (struck_at h b d l).string
+    pub struck_ready : (b : Float) (d : List ℕ) (l : List Float) (u : KarplusStrong) → u ≡ (strike_at h.string h.strike b d l).string
         → (u.write_pos < u.len) × (u.len ≤ n)
-    unfolding hear_of struck_at
-    struck_ready b d l u eu = rw (eu, eh) (go (rising_of s.trigger_edge c.trigger).rising)
+    unfolding strike_if strike_of
+    struck_ready b d l u eu = rw (eu, heard_struck b d l) (go (rising_of s.trigger_edge c.trigger).rising)
       where
         heard : KarplusStrong
         heard = heard_string s (rising_of s.trigger_edge c.trigger).edge (memo_at s c)
@@ -517,13 +557,13 @@ module _ (s : KarplusStrong) (t : Tuning) (l : List Float) (sample : Float)
 
   pub turn_clean : is_fin leaked ≡ true → (next : ℕ) (v : Volts) (a : Answer) → next ≡ (s.write_pos + 1) % s.len → v ≡ volts1 leaked
       → a ≡ marked_of v false true true t.numbers
-      → record { out = record { answer = a; karplus_strong = turned s next filtered stretched_by }; line = set l s.write_pos leaked } ≡ turn_of s t l
+      → record { out = record { answer = a; state = turned s next filtered stretched_by }; line = set l s.write_pos leaked } ≡ turn_of s t l
   unfolding turn_of
   turn_clean h next v a en ev ea = rw (← es, h, en, ea, ev, heard_known leaked false t.numbers h)
 
   pub turn_cleared : is_fin leaked ≡ false → (v : Volts) (a : Answer) (x : List Float) (u : KarplusStrong) → v ≡ volts1 zer
       → a ≡ marked_of v true true true t.numbers → x ≡ blank_of 0 s.len l → u ≡ rest_of s s.len s.trigger_edge
-      → record { out = record { answer = a; karplus_strong = u }; line = x } ≡ turn_of s t l
+      → record { out = record { answer = a; state = u }; line = x } ≡ turn_of s t l
   unfolding turn_of
   turn_cleared h v a x u ev ea ex eu = rw (← es, h, ea, ev, ex, eu, heard_known zer true t.numbers zer_fin)
 
@@ -562,29 +602,25 @@ unfolding tick_unless
 tick_no zero s l t h = absurd (h refl)
 tick_no (suc k) s l t h = refl
 
-module _ (s : KarplusStrong) (c : KarplusStrongControls) (d : List ℕ) (l : List Float) (h : Heard) (k : ℕ) (eh : h ≡ hear_of s c)
-    (ek : k ≡ cond h.rising (draws_refusal_of h.struck_len d) 0) where
-  pub sound_no : (k ≡ 0 → ⊥) → record { out = refused_tick s k; line = l } ≡ karplus_strong_sound_of s c d l
-  unfolding karplus_strong_sound_of
-  sound_no z = rw (heard_taken s c h eh d, ← ek) (tick_no k s l _ z)
-
-  module _ (z : k ≡ 0) (t : Tuning) (u : KarplusStrong) (x : List Float)
-      (et : t ≡ tuning_of h.period (damping_of c) (stretch_of c) (all_numbers (controls_of c))) (eu : PartsOf (struck_at h (brightness_of c) d l) u x) where
-    sound_step : turn_of u t x ≡ karplus_strong_sound_of s c d l
-    unfolding karplus_strong_sound_of tick_unless hear_of struck_at strike_if strike_of
-    sound_step = rw (heard_taken s c h eh d, ← ek, z, eu.0, eu.1, et, eh) (turn_is _ _ _ _ _ _)
-
-    pub sound_by : (r : KarplusStrongTicked) (y : List Float) → r ≡ (turn_of u t x).out → y ≡ (turn_of u t x).line
-        → (r ≡ (karplus_strong_sound_of s c d l).out) × (y ≡ (karplus_strong_sound_of s c d l).line)
-    sound_by r y p q = let e = ticked_parts sound_step in (p ∙ e.0, q ∙ e.1)
-
-module _ (s : KarplusStrong) (c : KarplusStrongControls) (d : List ℕ) (l : List Float) (k : ℕ) (e : k ≡ karplus_strong_refusal_of s (length l)) where
-  pub tick_refused : (k ≡ 0 → ⊥) → record { out = refused_tick s k; line = l } ≡ karplus_strong_tick_of s c d l
+module _ (s : KarplusStrong) (c : KarplusStrongControls) (d : List ℕ) (l : List Float) where
+  pub tick_refused : (e : Refusal) → number_of e ≡ karplus_strong_refusal_of s (length l)
+      → record { out = refused_tick s (number_of e); line = l } ≡ karplus_strong_tick_of s c d l
   unfolding karplus_strong_tick_of
-  tick_refused h = rw (← e) (tick_no k s l (karplus_strong_sound_of s c d l) h)
+  tick_refused e q = rw (← q) (tick_no _ s l (karplus_strong_sound_of s c d l) (nonzero e))
 
-  pub tick_sound : k ≡ 0 → (r : KarplusStrongTicked) (y : List Float)
-      → (r ≡ (karplus_strong_sound_of s c d l).out) × (y ≡ (karplus_strong_sound_of s c d l).line)
-      → (r ≡ (karplus_strong_tick_of s c d l).out) × (y ≡ (karplus_strong_tick_of s c d l).line)
-  unfolding karplus_strong_tick_of tick_unless
-  tick_sound z r y h = rw (← e, z) h
+  module _ (z : 0 ≡ karplus_strong_refusal_of s (length l)) (h : Heard) (eh : h ≡ hear_of s c) where
+    pub sound_refused : (e : Refusal) → number_of e ≡ strike_refusal_of h.strike d
+        → record { out = refused_tick s (number_of e); line = l } ≡ karplus_strong_tick_of s c d l
+    unfolding karplus_strong_tick_of karplus_strong_sound_of tick_unless
+    sound_refused e q = rw (← z, heard_taken s c h eh d, ← q) (tick_no _ s l _ (nonzero e))
+
+    module _ (k : 0 ≡ strike_refusal_of h.strike d) (t : Tuning) (u : KarplusStrong) (x : List Float)
+        (et : t ≡ tuning_of h.period (damping_of c) (stretch_of c) (all_numbers (controls_of c)))
+        (eu : PartsOf (strike_at h.string h.strike (brightness_of c) d l) u x) where
+      sound_step : turn_of u t x ≡ karplus_strong_tick_of s c d l
+      unfolding karplus_strong_tick_of karplus_strong_sound_of tick_unless hear_of
+      sound_step = rw (← z, heard_taken s c h eh d, ← k, eu.0, eu.1, heard_struck s c h eh (brightness_of c) d l, et, eh) (turn_is _ _ _ _ _ _)
+
+      pub sound_by : (r : Ticked KarplusStrong) (y : List Float) → r ≡ (turn_of u t x).out → y ≡ (turn_of u t x).line
+          → (r ≡ (karplus_strong_tick_of s c d l).out) × (y ≡ (karplus_strong_tick_of s c d l).line)
+      sound_by r y p q = let e = ticked_parts sound_step in (p ∙ e.0, q ∙ e.1)

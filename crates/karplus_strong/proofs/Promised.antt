@@ -134,7 +134,7 @@ good_accepted s c draws l g e = ap (λ (t : Ticking). accepted t.out.answer)
 
 -- the step leaves the rate, and the edge record of the tick's trigger
 struck_step_keeps : (s : KarplusStrong) (c : KarplusStrongControls) (draws : List ℕ) (l : List Float)
-    → Keeps (heard_string s (rising_of s.trigger_edge c.trigger).edge (memo_at s c)) (struck_step s c draws l).out.karplus_strong
+    → Keeps (heard_string s (rising_of s.trigger_edge c.trigger).edge (memo_at s c)) (struck_step s c draws l).out.state
 unfolding struck_step
 struck_step_keeps s c draws l =
     let a = (stepped _ _ _ _ _ _).keeps in
@@ -142,15 +142,15 @@ struck_step_keeps s c draws l =
     record { rate = a.rate ∙ b.rate; edge = a.edge ∙ b.edge; memo = a.memo ∙ b.memo }
 
 -- and what it keeps the tick keeps, be it refused
-twice_kept : {A : Type 0} (part : KarplusStrong → A) (k j : ℕ) (s : KarplusStrong) (l : List Float) (t : Ticking) → part t.out.karplus_strong ≡ part s
-    → part (tick_unless k s l (tick_unless j s l t)).out.karplus_strong ≡ part s
+twice_kept : {A : Type 0} (part : KarplusStrong → A) (k j : ℕ) (s : KarplusStrong) (l : List Float) (t : Ticking) → part t.out.state ≡ part s
+    → part (tick_unless k s l (tick_unless j s l t)).out.state ≡ part s
 unfolding tick_unless
 twice_kept part zero zero s l t h = h
 twice_kept part zero (suc j) s l t h = refl
 twice_kept part (suc k) j s l t h = refl
 
 tick_kept : {A : Type 0} (part : KarplusStrong → A) (s : KarplusStrong) (c : KarplusStrongControls) (draws : List ℕ) (l : List Float)
-    → part (struck_step s c draws l).out.karplus_strong ≡ part s → part (karplus_strong_tick_of s c draws l).out.karplus_strong ≡ part s
+    → part (struck_step s c draws l).out.state ≡ part s → part (karplus_strong_tick_of s c draws l).out.state ≡ part s
 tick_kept part s c draws l h =
     rw (tick_is s c draws l) (twice_kept part (karplus_strong_refusal_of s (length l)) (trigger_refusal_of s c draws) s l (struck_step s c draws l) h)
 
@@ -183,7 +183,7 @@ tick_gate c draws x =
     tick_kept gate_of s c draws x.line (law.same_gate edge)
 
 made_gate : (k : ℕ) (x y : Strung) → gate_of y.string ≡ gate_of x.string → gate_of (strung_after (made_unless k x y)).string ≡ gate_of x.string
-made_gate k x y h = made_either (λ m. gate_of m.out.karplus_strong ≡ gate_of x.string) k x y (λ e. h) (λ n. refl)
+made_gate k x y h = made_either (λ m. gate_of m.out.state ≡ gate_of x.string) k x y (λ e. h) (λ n. refl)
 
 pub threshold_kept : ThresholdKept
 unfolding after karplus_strong_block_of karplus_strong_reset_of karplus_strong_set_sample_rate_of
@@ -195,10 +195,10 @@ threshold_kept x (SetSampleRate r) = made_gate _ x _ refl
 threshold_kept x (Lend l) = refl
 
 good_edge : (s : KarplusStrong) (c : KarplusStrongControls) (draws : List ℕ) (l : List Float) → Good s (length l) → trigger_refusal_of s c draws ≡ 0
-    → (karplus_strong_tick_of s c draws l).out.karplus_strong.trigger_edge ≡ (rising_of s.trigger_edge c.trigger).edge
+    → (karplus_strong_tick_of s c draws l).out.state.trigger_edge ≡ (rising_of s.trigger_edge c.trigger).edge
 unfolding tick_unless
 good_edge s c draws l g e =
-    ap (λ (t : Ticking). t.out.karplus_strong.trigger_edge) (good_tick s c draws l g ∙ ap (λ (k : ℕ). tick_unless k s l (struck_step s c draws l)) e)
+    ap (λ (t : Ticking). t.out.state.trigger_edge) (good_tick s c draws l g ∙ ap (λ (k : ℕ). tick_unless k s l (struck_step s c draws l)) e)
     ∙ (struck_step_keeps s c draws l).edge
 
 low_sounds : (s : KarplusStrong) (c : KarplusStrongControls) (draws : List ℕ) → le c.trigger s.trigger_edge.threshold ≡ true

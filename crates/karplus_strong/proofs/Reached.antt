@@ -7,7 +7,6 @@ use Rattle.laws.proofs.Over.{length_over}
 use Rattle.laws.specs.Float.{zer, F64}
 use Rattle.answer.specs.Mark.{all_numbers}
 use Rattle.answer.proofs.Blocks.{block_keeps}
-use Rattle.answer.specs.Answer.{outcome_number}
 use Rattle.common.proofs.EdgeLaws.{threshold_kept, same_gate}
 use Rattle.common.proofs.MemoLaws.{recalled1}
 use Rattle.common.specs.Edge.{rising_of}
@@ -38,7 +37,7 @@ pub record Good (s : KarplusStrong) (n : ℕ) : Type 0 where
 
 -- ---- the tick keeps it
 pub record GoodTick (t : Ticking) (n : ℕ) : Type 0 where
-  pub state : Good t.out.karplus_strong n
+  pub state : Good t.out.state n
   pub line : length t.line ≡ n
 
 step_good : (s : KarplusStrong) (p d t : Float) (numbers : Bool) (l : List Float) → Good s (length l) → GoodTick (step_of s p d t numbers l) (length l)
@@ -101,7 +100,7 @@ tick_good s c draws l g f = go (karplus_strong_refusal_of s (length l))
 -- ---- and so do the other calls
 made_good : (k : ℕ) (x y : Strung) → Good x.string (length x.line) → (k ≡ 0 → Good y.string (length y.line))
     → let z = strung_after (made_unless k x y) in Good z.string (length z.line)
-made_good k x y g h = made_either (λ m. Good m.out.karplus_strong (length m.line)) k x y h (λ n. g)
+made_good k x y g h = made_either (λ m. Good m.out.state (length m.line)) k x y h (λ n. g)
 
 pub new_good : (r : Hertz) (v : Float) (l : List Float) → rate_ok r ≡ true → threshold_ok v ≡ true → max_len_of r + 2 ≤ length l
     → Good (new_karplus_strong r v) (length (blank_of 0 (max_len_of r) l))
@@ -177,11 +176,10 @@ lent_good x l g = go (eqb (room_of x.string.sample_rate (length l)) 0) (eqb-true
 
 -- what new made is the new string
 made_new : (k : ℕ) (x y : Strung) (s : KarplusStrong) (l : List Float) → made_unless k x y ≡ done s l → (k ≡ 0) × (s ≡ y.string) × (l ≡ y.line)
-unfolding outcome_number
 made_new k x y s l =
     made_either (λ m. m ≡ done s l → (k ≡ 0) × (s ≡ y.string) × (l ≡ y.line)) k x y
-    (λ z e. (z, sym (ap (λ (m : Making). m.out.karplus_strong) e), sym (ap (λ (m : Making). m.line) e)))
-    (λ n e. absurd (n (ap (λ (m : Making). outcome_number m.out.outcome) e)))
+    (λ z e. (z, sym (ap (λ (m : Making). m.out.state) e), sym (ap (λ (m : Making). m.line) e)))
+    (λ n e. absurd (n (ap (λ (m : Making). m.out.refused) e)))
 
 pub record Made (x : Strung) (f : First x) : Type 0 where
   pub rate : rate_ok f.rate ≡ true

@@ -6,7 +6,7 @@ use Rattle.laws.proofs.Over.{tab_ext}
 use Rattle.laws.specs.Lists.{tab, over}
 use Rattle.laws.specs.Machine.{replies}
 use Rattle.common.specs.declared.Hertz.{Hertz}
-use Rattle.answer.specs.Answer.{outcome_number, host_number, volts_of}
+use Rattle.answer.specs.Answer.{host_number, volts_of}
 use Rattle.answer.specs.Block.{Block, block, block_refusal_of, block_of, ticks_of, after_ticks, answer_at, counted_to, joined, ports_of}
 use Rattle.answer.specs.declared.Answer.{Answer}
 use Rattle.answer.specs.declared.Tally.{Tally}
@@ -20,7 +20,7 @@ use Rattle.karplus_strong.specs.Calls.{Call, Tick, Play, Reset, SetSampleRate, L
 use Rattle.karplus_strong.specs.Promises.{Alike, SameTick, Same, SameReplies}
 use Rattle.karplus_strong.specs.declared.KarplusStrong.{KarplusStrong}
 use Rattle.karplus_strong.specs.declared.KarplusStrongControls.{KarplusStrongControls}
-use Rattle.karplus_strong.specs.declared.KarplusStrongTicked.{KarplusStrongTicked}
+use Rattle.answer.specs.declared.Ticked as leaves
 use Rattle.karplus_strong.proofs.Parts.{accepted, rate_accepted, made_done, made_no, made_either}
 use Rattle.karplus_strong.proofs.Alike.{alike_blank, only_its_cells}
 
@@ -37,8 +37,8 @@ pub record SameNext (c : KarplusStrongControls) (draws : List ℕ) (x y : Strung
 pub same_next : (c : KarplusStrongControls) (draws : List ℕ) (x y : Strung)
     → SameTick (karplus_strong_tick_of x.string c draws x.line) (karplus_strong_tick_of y.string c draws y.line) → SameNext c draws x y
 same_next c draws x y t = record {
-  told = ap (λ (o : KarplusStrongTicked). o.answer) t.out;
-  state = record { string = ap (λ (o : KarplusStrongTicked). o.karplus_strong) t.out; line = t.line };
+  told = ap (λ (o : leaves.Ticked KarplusStrong). o.answer) t.out;
+  state = record { string = ap (λ (o : leaves.Ticked KarplusStrong). o.state) t.out; line = t.line };
 }
 
 same_tick : (c : KarplusStrongControls) (draws : List ℕ) (x y : Strung) → Same x y → SameNext c draws x y
@@ -119,7 +119,7 @@ block_call x y c draws t o m b = record { said = ap Played b.told; state = b.sta
 
 -- a call that makes t, over either line
 abbrev SameMade : Making → Making → Type 0
-SameMade u v = (outcome_number u.out.outcome ≡ outcome_number v.out.outcome) × Same (strung_after u) (strung_after v)
+SameMade u v = (u.out.refused ≡ v.out.refused) × Same (strung_after u) (strung_after v)
 
 same_made : (k j : ℕ) → k ≡ j → (s t : KarplusStrong) (l m a b : List Float) → Alike s.len l m → (k ≡ 0 → Alike t.len a b)
     → SameMade (made_unless k (strung s l) (strung t a)) (made_unless j (strung s m) (strung t b))

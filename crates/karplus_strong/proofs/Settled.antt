@@ -1,25 +1,27 @@
 -- Each contract names the answer and the line, so two that it allows are equal.
-use Rattle.std.proofs.Common.{◌≡◌, sym, ◌∙◌}
+use Rattle.std.proofs.Common.{◌≡◌, List, sym, ◌∙◌}
+use lib.Ieee.{Float}
 use Rattle.laws.specs.Machine.{Settles}
+use Rattle.answer.proofs.Calls.{making_settled, changing_settled}
 use Rattle.karplus_strong.specs.Step.{Ticking}
-use Rattle.karplus_strong.specs.KarplusStrong.{Making, karplus_strong_cells_of, karplus_strong_new_of, karplus_strong_tick_of}
-use Rattle.karplus_strong.specs.KarplusStrong.{karplus_strong_reset_of, karplus_strong_set_sample_rate_of, karplus_strong_block_of}
+use Rattle.karplus_strong.specs.KarplusStrong.{karplus_strong_cells_of, karplus_strong_tick_of, karplus_strong_block_of}
 use Rattle.karplus_strong.specs.Promises.{Settled}
 use Rattle.laws.proofs.Settled as laws
 
 ticking : (t : Ticking) → Settles (λ (r : Ticking). (r.out ≡ t.out) × (r.line ≡ t.line))
 ticking t x y p q = (λ i. record { out = (p.0 ∙ sym q.0) i; line = (p.1 ∙ sym q.1) i })
 
-making : (t : Making) → Settles (λ (r : Making). (r.out ≡ t.out) × (r.line ≡ t.line))
-making t x y p q = (λ i. record { out = (p.0 ∙ sym q.0) i; line = (p.1 ∙ sym q.1) i })
+-- an answer that a contract settles, and the line
+lent : {A : Type 0} (P : A → Type 0) → Settles P → (l : List Float) → Settles (λ (r : A × List Float). P r.0 × (r.1 ≡ l))
+lent P w l x y p q = (λ i. (w x.0 y.0 p.0 q.0 i, (p.1 ∙ sym q.1) i))
 
 pub settled : Settled
 settled =
     record {
       cells = λ rate. laws.settled (karplus_strong_cells_of rate);
-      new = λ rate threshold l. making (karplus_strong_new_of rate threshold l);
+      new = λ rate threshold l. lent _ (making_settled _) _;
       tick = λ s c draws l. ticking (karplus_strong_tick_of s c draws l);
       block = λ x c draws t o m. laws.settled (karplus_strong_block_of x c draws t o m);
-      reset = λ s l. making (karplus_strong_reset_of s l);
-      set_sample_rate = λ s rate l. making (karplus_strong_set_sample_rate_of s rate l);
+      reset = λ s l. lent _ (changing_settled s _) _;
+      set_sample_rate = λ s rate l. lent _ (changing_settled s _) _;
     }

@@ -98,7 +98,7 @@ twice_heard numbers (suc k) j s l t h e = absurd (true≢false (sym e))
 
 pub twice_left : (numbers : Bool) (k j : ℕ) (s : KarplusStrong) (l : List Float) (t : Ticking) → Heard numbers t.out.answer
     → accepted (tick_unless k s l (tick_unless j s l t)).out.answer ≡ false
-    → ((tick_unless k s l (tick_unless j s l t)).out.karplus_strong ≡ s) × ((tick_unless k s l (tick_unless j s l t)).line ≡ l)
+    → ((tick_unless k s l (tick_unless j s l t)).out.state ≡ s) × ((tick_unless k s l (tick_unless j s l t)).line ≡ l)
 unfolding tick_unless
 twice_left numbers zero zero s l t h e = absurd (true≢false (sym (heard_accepted numbers t.out.answer h) ∙ e))
 twice_left numbers zero (suc j) s l t h e = (refl, refl)

@@ -141,7 +141,7 @@ record Calm (s : KarplusStrong) (l : List Float) : Type 0 where
   y1 : Within 3 s.ap_y1
 
 record CalmTick (numbers : Bool) (t : Ticking) : Type 0 where
-  calm : Calm t.out.karplus_strong t.line
+  calm : Calm t.out.state t.line
   mark : accepted t.out.answer ≡ true → mark_number t.out.answer ≡ cond numbers clean steered
 
 -- a delay that both taps can be read at
@@ -342,7 +342,7 @@ blank_within a n l h i q = subst (Within 3) (sym (get_d_over (blank_at a l) n l 
 
 made_calm : (k : ℕ) (x y : Strung) → Calm x.string x.line → Calm y.string y.line
     → let z = strung_after (made_unless k x y) in Calm z.string z.line
-made_calm k x y c d = made_either (λ m. Calm m.out.karplus_strong m.line) k x y (λ z. d) (λ n. c)
+made_calm k x y c d = made_either (λ m. Calm m.out.state m.line) k x y (λ z. d) (λ n. c)
 
 lent_calm : (s : KarplusStrong) (l m : List Float) → Calm s l → Calm s (lent_of (strung s l) m)
 unfolding lent_of

@@ -57,7 +57,7 @@ past_struck n b d l h =
 
 -- ---- the tick
 abbrev PastTick : List Float → Ticking → Type 0
-PastTick l t = SamePast t.out.karplus_strong.len l t.line
+PastTick l t = SamePast t.out.state.len l t.line
 
 past_step : (s : KarplusStrong) (p d t : Float) (numbers : Bool) (l : List Float) → s.write_pos < s.len → s.len ≤ length l
     → PastTick l (step_of s p d t numbers l)
@@ -81,8 +81,8 @@ past_struck_step t p b d c numbers draws l h =
     let e = a.size in
     let z : 0 < struck_len p = unfold struck_len in omega arith in
     let w : PastTick m (step_of u p d c numbers m) = past_step u p d c numbers m z (omega arith) in
-    past_both (step_of u p d c numbers m).out.karplus_strong.len l m (step_of u p d c numbers m).line
-    (wider (step_of u p d c numbers m).out.karplus_strong.len (stepped u p d c numbers m).len a) w
+    past_both (step_of u p d c numbers m).out.state.len l m (step_of u p d c numbers m).line
+    (wider (step_of u p d c numbers m).out.state.len (stepped u p d c numbers m).len a) w
   where
     wider : {l m : List Float} {n : ℕ} (k : ℕ) → k ≡ n → SamePast n l m → SamePast k l m
     wider k e a = rw e a
@@ -155,7 +155,7 @@ module _ (s : KarplusStrong) (c : KarplusStrongControls) (draws : List ℕ) (l :
       t : Ticking
       t = turn_of y.string (tune_of s c) y.line
 
-      same : t.out.karplus_strong.len ≡ y.string.len
+      same : t.out.state.len ≡ y.string.len
       same = (turned_ready y.string (tune_of s c) y.line _ refl r.held.sound.place).1
 
       turned : PastTick y.line t

@@ -6,12 +6,11 @@ use Rattle.laws.specs.Float.{F64}
 use Rattle.laws.specs.Lists.{over}
 use Rattle.laws.specs.Machine.{Reached}
 use Rattle.common.specs.declared.Hertz.{Hertz}
-use Rattle.answer.specs.Answer.{outcome_number}
 use Rattle.answer.specs.Block.{Block, block}
+use Rattle.answer.specs.Calls.{outcome}
 use Rattle.answer.specs.declared.Answer.{Answer}
-use Rattle.answer.specs.declared.Outcome.TheVariants as outcome
 use Rattle.answer.specs.declared.Tally.{Tally}
-use Rattle.karplus_strong.specs.KarplusStrong.{Making, making, room_of, karplus_strong_new_of, karplus_strong_told_of, karplus_strong_next_of}
+use Rattle.karplus_strong.specs.KarplusStrong.{Making, leaving, room_of, karplus_strong_new_of, karplus_strong_told_of, karplus_strong_next_of}
 use Rattle.karplus_strong.specs.KarplusStrong.{karplus_strong_block_of, karplus_strong_reset_of, karplus_strong_set_sample_rate_of, Strung, strung}
 use Rattle.karplus_strong.specs.declared.KarplusStrong.{KarplusStrong}
 use Rattle.karplus_strong.specs.declared.KarplusStrongControls.{KarplusStrongControls}
@@ -32,7 +31,7 @@ pub data Reply : Type 0 where
 
 -- a refused call hands out the string as it stood
 abbrev pub strung_after : Making → Strung
-strung_after m = strung m.out.karplus_strong m.line
+strung_after m = strung m.out.state m.line
 
 -- a line with the string's cells; the cells past them are its own
 unfoldable pub lent_of : Strung → List Float → List Float
@@ -56,8 +55,8 @@ unstrung b = block b.refused b.state.string b.tally b.samples b.marks
 unfoldable pub reply : Strung → Call → Reply
 reply x (Tick c draws) = Ticked (karplus_strong_told_of c draws x)
 reply x (Play c draws t o m) = Played (unstrung (karplus_strong_block_of x c draws t o m))
-reply x Reset = Told (outcome_number (karplus_strong_reset_of x.string x.line).out.outcome)
-reply x (SetSampleRate rate) = Told (outcome_number (karplus_strong_set_sample_rate_of x.string rate x.line).out.outcome)
+reply x Reset = Told ((karplus_strong_reset_of x.string x.line).out.refused)
+reply x (SetSampleRate rate) = Told ((karplus_strong_set_sample_rate_of x.string rate x.line).out.refused)
 reply x (Lend l) = Told (room_of x.string.sample_rate (length l))
 
 -- the pitch, which the memo keeps, is an f64
@@ -76,7 +75,7 @@ pub record First (x : Strung) : Type 0 where
   pub rate : Hertz
   pub threshold : Float
   pub lent : List Float
-  pub is_new : karplus_strong_new_of rate threshold lent ≡ making (record { outcome = outcome.Done; karplus_strong = x.string }) x.line
+  pub is_new : karplus_strong_new_of rate threshold lent ≡ leaving (outcome 0 x.string) x.line
 
 abbrev pub ReachedKarplusStrong : Strung → Type 0
 ReachedKarplusStrong = Reached First FitCall after

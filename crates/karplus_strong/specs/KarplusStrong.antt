@@ -6,24 +6,22 @@ use Rattle.laws.specs.Float.{zer, one, two, is_fin}
 use Rattle.numeric.specs.Basic.{clamp_of, whole_of, real_of}
 use Rattle.common.specs.Consts.{half}
 use Rattle.common.specs.Edge.{new_edge, reset_of, rising_of}
-use Rattle.common.specs.Memo.{new_memo1, recall1, voct_to_hz_at}
+use Rattle.common.specs.Memo.{Memo1, new_memo1, recall1, voct_to_hz_at}
 use Rattle.common.specs.Tests.{rate_ok, threshold_ok, draws_refusal_of}
 use Rattle.common.specs.declared.EdgeDetector.{EdgeDetector}
 use Rattle.common.specs.declared.Hertz.{Hertz}
-use Rattle.common.specs.declared.Memo1.{Memo1}
-use Rattle.answer.specs.Block.{Block, block_of}
+use Rattle.answer.specs.Block.{Block, block, block_of}
+use Rattle.answer.specs.Calls.{Outcome, outcome}
 use Rattle.answer.specs.Mark.{all_numbers}
 use Rattle.answer.specs.declared.Answer.{Answer}
 use Rattle.answer.specs.declared.Answer.TheVariants as answer
-use Rattle.answer.specs.declared.Outcome.TheVariants as outcome
 use Rattle.answer.specs.declared.Tally.{Tally}
+use Rattle.answer.specs.declared.Ticked.{Ticked}
 use Rattle.karplus_strong.specs.Consts.{n_ports, twenty}
 use Rattle.karplus_strong.specs.Line.{blank_of, struck_of}
 use Rattle.karplus_strong.specs.Step.{Ticking, rest_of, step_of}
 use Rattle.karplus_strong.specs.declared.KarplusStrong.{KarplusStrong}
 use Rattle.karplus_strong.specs.declared.KarplusStrongControls.{KarplusStrongControls}
-use Rattle.karplus_strong.specs.declared.KarplusStrongTicked.{KarplusStrongTicked}
-use Rattle.karplus_strong.specs.declared.KarplusStrongMade.{KarplusStrongMade}
 
 -- max_len_for: (sample_rate / 20.0) as usize + 10
 unfoldable pub max_len_of : Hertz → ℕ
@@ -95,18 +93,18 @@ karplus_strong_cells_of rate = cond (rate_ok rate) (max_len_of rate + 2) 0
 -- ---- new
 -- what new, reset and a rate change answer, and what they leave in the line
 pub record Making : Type 0 where
-  pub out : KarplusStrongMade
+  pub out : Outcome KarplusStrong
   pub line : List Float
 
-abbrev pub making : KarplusStrongMade → List Float → Making
-making m l = record { out = m; line = l }
+abbrev pub leaving : Outcome KarplusStrong → List Float → Making
+leaving m l = record { out = m; line = l }
 
 -- new and done where n is 0; else old, and refused by n
 unfoldable pub made_unless : ℕ → Strung → Strung → Making
 made_unless n old new =
     cond (n == 0)
-    (making (record { outcome = outcome.Done; karplus_strong = new.string }) new.line)
-    (making (record { outcome = outcome.Refused n; karplus_strong = old.string }) old.line)
+    (leaving (outcome 0 new.string) new.line)
+    (leaving (outcome n old.string) old.line)
 
 -- 1 on the rate, 2 on the threshold, 3 on the lent line
 unfoldable pub karplus_strong_new_refusal_of : Hertz → Float → ℕ → ℕ
@@ -149,8 +147,8 @@ heard_string s edge memo =
       freq_memo = memo;
     }
 
-abbrev pub refused_tick : KarplusStrong → ℕ → KarplusStrongTicked
-refused_tick s n = record { answer = answer.Refused n; karplus_strong = s }
+abbrev pub refused_tick : KarplusStrong → ℕ → Ticked KarplusStrong
+refused_tick s n = record { answer = answer.Refused n; state = s }
 
 -- a tick goes on, unless a refusal's number isn't 0
 unfoldable pub tick_unless : ℕ → KarplusStrong → List Float → Ticking → Ticking
@@ -199,7 +197,7 @@ abbrev pub karplus_strong_told_of : KarplusStrongControls → List ℕ → Strun
 karplus_strong_told_of c draws x = (karplus_strong_tick_of x.string c draws x.line).out.answer
 
 abbrev pub karplus_strong_next_of : KarplusStrongControls → List ℕ → Strung → Strung
-karplus_strong_next_of c draws x = let t = karplus_strong_tick_of x.string c draws x.line in strung t.out.karplus_strong t.line
+karplus_strong_next_of c draws x = let t = karplus_strong_tick_of x.string c draws x.line in strung t.out.state t.line
 
 -- what refuses the first of n ticks over a line of so many cells; of none only the state's own numbers, 1, 2 and 3
 unfoldable pub first_refusal_of : KarplusStrong → KarplusStrongControls → List ℕ → ℕ → ℕ → ℕ
@@ -212,6 +210,10 @@ unfoldable pub karplus_strong_block_of : Strung → KarplusStrongControls → Li
 karplus_strong_block_of x c draws t o m =
     block_of n_ports (first_refusal_of x.string c draws (length x.line) (length m)) (karplus_strong_told_of c draws)
     (karplus_strong_next_of c draws) x t o m
+
+-- what its call says beside the line, with the line that it leaves
+abbrev pub with_line : Block KarplusStrong → List Float → Block Strung
+with_line b l = block b.refused (strung b.state l) b.tally b.samples b.marks
 
 -- ---- reset and rate change
 -- clear_loop_state, and the edge's own reset: the length stays, and so does the memo

@@ -1,5 +1,5 @@
 -- What the string promises: the statements. The proofs of the same names in small letters stand in proofs/.
-use Rattle.std.specs.Prelude.{◌≡◌, ℕ, ◌*◌, ◌<◌, ◌≤◌, min, Bool, true, false, cond, ◌⊎◌, List, [], ◌∷◌, length, ◌==◌, nat_le, slice_index, slice_index_or, Float}
+use Rattle.std.specs.Prelude.{◌≡◌, ℕ, ◌*◌, ◌<◌, ◌≤◌, min, Bool, true, false, cond, ◌⊎◌, Result, List, [], ◌∷◌, length, ◌==◌, nat_le, slice_index, slice_index_or, Float}
 use Rattle.std.specs.Float.{nan}
 use Rattle.std.specs.Float.Ieee.{eq, lt, le}
 use Rattle.laws.specs.Float.{zer, is_fin}
@@ -8,15 +8,18 @@ use Rattle.common.specs.Consts.{five}
 use Rattle.common.specs.Edge.{new_edge, rising_of}
 use Rattle.common.specs.Tests.{rate_ok, threshold_ok, draws_ok}
 use Rattle.common.specs.declared.Hertz.{Hertz}
-use Rattle.answer.specs.Answer.{volts1, cleared, steered, clean, mark_number, volts_of, refusal_of, accepted, outcome_number}
+use Rattle.common.specs.declared.Refusal.{Refusal}
+use Rattle.answer.specs.Answer.{volts1, cleared, steered, clean, mark_number, volts_of, refusal_of, accepted}
 use Rattle.answer.specs.Block.{Block, block_refusal_of, answer_at}
 use Rattle.answer.specs.Promises.{Steers, AllAccepted, AllTaken}
+use Rattle.answer.specs.Calls.{making, changing}
 use Rattle.answer.specs.Mark.{all_numbers}
+use Rattle.answer.specs.declared.Made.{Made}
 use Rattle.answer.specs.declared.Tally.{Tally}
 use Rattle.karplus_strong.specs.Consts.{n_ports}
 use Rattle.karplus_strong.specs.Step.{Ticking}
 use Rattle.karplus_strong.specs.KarplusStrong.{max_len_of, Strung, strung, new_strung, new_like, room_of, karplus_strong_refusal_of, karplus_strong_cells_of}
-use Rattle.karplus_strong.specs.KarplusStrong.{Making, karplus_strong_new_of, struck_len, stretch_of, controls_of, period_at, karplus_strong_tick_of}
+use Rattle.karplus_strong.specs.KarplusStrong.{karplus_strong_new_of, struck_len, stretch_of, controls_of, period_at, karplus_strong_tick_of}
 use Rattle.karplus_strong.specs.KarplusStrong.{karplus_strong_next_of, trigger_refusal_of, first_refusal_of, karplus_strong_block_of, karplus_strong_reset_of}
 use Rattle.karplus_strong.specs.KarplusStrong.{karplus_strong_told_of, karplus_strong_set_sample_rate_of, new_karplus_strong, restarted, rated}
 use Rattle.karplus_strong.specs.Calls.{Call, Tick, Play, Reset, SetSampleRate, Lend, Told, strung_after, after, reply, Fit, First, ReachedKarplusStrong}
@@ -27,7 +30,7 @@ use Rattle.karplus_strong.specs.declared.KarplusStrongControls.{KarplusStrongCon
 -- first string
 abbrev pub NewAccepts : Type 0
 NewAccepts = (rate : Hertz) (threshold : Float) (l : List Float)
-    → (outcome_number (karplus_strong_new_of rate threshold l).out.outcome ≡ cond (rate_ok rate) (cond (threshold_ok threshold) (room_of rate (length l)) 2) 1)
+    → ((karplus_strong_new_of rate threshold l).out.refused ≡ cond (rate_ok rate) (cond (threshold_ok threshold) (room_of rate (length l)) 2) 1)
     × (rate_ok rate ≡ true → threshold_ok threshold ≡ true → room_of rate (length l) ≡ 0 → First (new_strung rate threshold l))
 
 -- ---- no call refuses but for its own input
@@ -108,7 +111,7 @@ EdgeComes = (x : Strung) → ReachedKarplusStrong x → (low high : KarplusStron
 -- a tick says and does the same over two lines that are alike there, and leaves them so
 pub record SameTick (t u : Ticking) : Type 0 where
   pub out : t.out ≡ u.out
-  pub line : Alike t.out.karplus_strong.len t.line u.line
+  pub line : Alike t.out.state.len t.line u.line
 
 abbrev pub OnlyItsCells : Type 0
 OnlyItsCells = (s : KarplusStrong) (c : KarplusStrongControls) (draws : List ℕ) (l m : List Float) → Alike s.len l m
@@ -127,7 +130,7 @@ AnyLine = (x : Strung) → ReachedKarplusStrong x → (l : List Float) → room_
 abbrev pub RateLine : Type 0
 RateLine = (x : Strung) → ReachedKarplusStrong x → (r : Hertz) → rate_ok r ≡ true → (l : List Float) → room_of r (length l) ≡ 0
     → ((i : ℕ) → i < min x.string.len (max_len_of r) → slice_index_or x.line i nan ≡ slice_index_or l i nan)
-    → let m = karplus_strong_set_sample_rate_of x.string r l in (outcome_number m.out.outcome ≡ 0) × ReachedKarplusStrong (strung_after m)
+    → let m = karplus_strong_set_sample_rate_of x.string r l in (m.out.refused ≡ 0) × ReachedKarplusStrong (strung_after m)
 
 -- and nothing is written from cell n on
 pub record SamePast (n : ℕ) (l m : List Float) : Type 0 where
@@ -138,7 +141,7 @@ pub record SamePast (n : ℕ) (l m : List Float) : Type 0 where
 pub record PastUntouched : Type 0 where
   pub new : (rate : Hertz) (threshold : Float) (l : List Float) → SamePast (max_len_of rate) l (karplus_strong_new_of rate threshold l).line
   pub tick : (s : KarplusStrong) (c : KarplusStrongControls) (draws : List ℕ) (l : List Float)
-      → SamePast (karplus_strong_tick_of s c draws l).out.karplus_strong.len l (karplus_strong_tick_of s c draws l).line
+      → SamePast (karplus_strong_tick_of s c draws l).out.state.len l (karplus_strong_tick_of s c draws l).line
   pub block : (x : Strung) (c : KarplusStrongControls) (draws : List ℕ) (t : Tally) (o : List Float) (m : List ℕ)
       → let y = (karplus_strong_block_of x c draws t o m).state in SamePast y.string.len x.line y.line
   pub reset : (s : KarplusStrong) (l : List Float) → SamePast s.len l (karplus_strong_reset_of s l).line
@@ -193,12 +196,12 @@ BlockNeverCleared = (x : Strung) → Reached First Unstretched after x → (c : 
 abbrev pub RefusedLeaves : Type 0
 RefusedLeaves =
     (s : KarplusStrong) (c : KarplusStrongControls) (draws : List ℕ) (l : List Float) → accepted (karplus_strong_tick_of s c draws l).out.answer ≡ false
-    → ((karplus_strong_tick_of s c draws l).out.karplus_strong ≡ s) × ((karplus_strong_tick_of s c draws l).line ≡ l)
+    → ((karplus_strong_tick_of s c draws l).out.state ≡ s) × ((karplus_strong_tick_of s c draws l).line ≡ l)
 
 -- and every tick the rate
 abbrev pub KeepsRate : Type 0
 KeepsRate = (s : KarplusStrong) (c : KarplusStrongControls) (draws : List ℕ) (l : List Float)
-    → (karplus_strong_tick_of s c draws l).out.karplus_strong.sample_rate ≡ s.sample_rate
+    → (karplus_strong_tick_of s c draws l).out.state.sample_rate ≡ s.sample_rate
 
 -- ---- the gate
 pub record GateSays : Type 0 where
@@ -226,19 +229,22 @@ BlockTallies = (x : Strung) (c : KarplusStrongControls) (draws : List ℕ) (n : 
 
 -- ---- a line of so many cells is enough, and a shorter one isn't
 abbrev pub CellsEnough : Type 0
-CellsEnough = (rate : Hertz) (threshold : Float) (l : List Float) → outcome_number (karplus_strong_new_of rate threshold l).out.outcome
+CellsEnough = (rate : Hertz) (threshold : Float) (l : List Float) → (karplus_strong_new_of rate threshold l).out.refused
     ≡ cond (rate_ok rate) (cond (threshold_ok threshold) (cond (nat_le (karplus_strong_cells_of rate) (length l)) 0 3) 2) 1
 
 -- ---- each contract settles the answer and the line, and a block's its samples and marks
 pub record Settled : Type 0 where
   pub cells : (rate : Hertz) → Settles (λ (n : ℕ). n ≡ karplus_strong_cells_of rate)
   pub new : (rate : Hertz) (threshold : Float) (l : List Float)
-      → Settles (λ (r : Making). (r.out ≡ (karplus_strong_new_of rate threshold l).out) × (r.line ≡ (karplus_strong_new_of rate threshold l).line))
+      → Settles (λ (r : Made KarplusStrong × List Float).
+      (making r.0 ≡ (karplus_strong_new_of rate threshold l).out) × (r.1 ≡ (karplus_strong_new_of rate threshold l).line))
   pub tick : (s : KarplusStrong) (c : KarplusStrongControls) (draws : List ℕ) (l : List Float)
       → Settles (λ (r : Ticking). (r.out ≡ (karplus_strong_tick_of s c draws l).out) × (r.line ≡ (karplus_strong_tick_of s c draws l).line))
   pub block : (x : Strung) (c : KarplusStrongControls) (draws : List ℕ) (t : Tally) (o : List Float) (m : List ℕ)
       → Settles (λ (b : Block Strung). b ≡ karplus_strong_block_of x c draws t o m)
   pub reset : (s : KarplusStrong) (l : List Float)
-      → Settles (λ (r : Making). (r.out ≡ (karplus_strong_reset_of s l).out) × (r.line ≡ (karplus_strong_reset_of s l).line))
+      → Settles (λ (r : Result KarplusStrong Refusal × List Float).
+      (changing s r.0 ≡ (karplus_strong_reset_of s l).out) × (r.1 ≡ (karplus_strong_reset_of s l).line))
   pub set_sample_rate : (s : KarplusStrong) (rate : Hertz) (l : List Float)
-      → Settles (λ (r : Making). (r.out ≡ (karplus_strong_set_sample_rate_of s rate l).out) × (r.line ≡ (karplus_strong_set_sample_rate_of s rate l).line))
+      → Settles (λ (r : Result KarplusStrong Refusal × List Float).
+      (changing s r.0 ≡ (karplus_strong_set_sample_rate_of s rate l).out) × (r.1 ≡ (karplus_strong_set_sample_rate_of s rate l).line))

@@ -9,10 +9,10 @@ use Rattle.common.specs.declared.EdgeDetector.{EdgeDetector}
 use Rattle.answer.specs.Answer.{volts1}
 use Rattle.answer.specs.Mark.{mark_of}
 use Rattle.answer.specs.declared.Answer.{Answer}
+use Rattle.answer.specs.declared.Ticked.{Ticked}
 use Rattle.karplus_strong.specs.Consts.{spread, loop_leak}
 use Rattle.karplus_strong.specs.Line.{blank_of}
 use Rattle.karplus_strong.specs.declared.KarplusStrong.{KarplusStrong}
-use Rattle.karplus_strong.specs.declared.KarplusStrongTicked.{KarplusStrongTicked}
 
 -- 0.5 + damping * 0.49
 unfoldable pub filter_coef_of : Float → Float
@@ -60,7 +60,7 @@ stretched_of s filtered a = sub binary64 (add binary64 (mul binary64 a filtered)
 
 -- what a tick answers, and what it leaves in the line
 pub record Ticking : Type 0 where
-  pub out : KarplusStrongTicked
+  pub out : Ticked KarplusStrong
   pub line : List Float
 
 -- the one output, port 10. The string is cleared, steered or clean: nothing stands before a clamp, and it has no phase
@@ -86,7 +86,7 @@ abbrev pub wrote_of : KarplusStrong → Float → Float → Float → Bool → L
 wrote_of s filtered stretched leaked numbers l = record {
   out = record {
     answer = heard_of leaked false numbers;
-    karplus_strong = record {
+    state = record {
       len = s.len;
       write_pos = (s.write_pos + 1) % s.len;
       sample_rate = s.sample_rate;
@@ -103,7 +103,7 @@ wrote_of s filtered stretched leaked numbers l = record {
 -- another one clears the loop: clear_loop_state, and 0.0
 abbrev pub cleared_of : KarplusStrong → Bool → List Float → Ticking
 cleared_of s numbers l = record {
-  out = record { answer = heard_of zer true numbers; karplus_strong = rest_of s s.len s.trigger_edge };
+  out = record { answer = heard_of zer true numbers; state = rest_of s s.len s.trigger_edge };
   line = blank_of 0 s.len l;
 }
 

@@ -1,7 +1,7 @@
 // KarplusStrong of oscillators.rs: a plucked string. Its delay line is lent to each call, and so are the draws of its noise.
 #![tactic(auto)]
 
-ghost use Rattle.std.specs.Prelude.{◌≡◌, ◌+◌, ◌-◌, ◌*◌, ◌%◌, ◌<◌, ◌≤◌, true, not, length, is_nan, T, if◌then◌else◌};
+ghost use Rattle.std.specs.Prelude.{◌≡◌, ◌+◌, ◌-◌, ◌*◌, ◌%◌, ◌<◌, ◌≤◌, true, not, length, nat_le, is_nan, T, if◌then◌else◌};
 ghost use Rattle.std.specs.List.{fold};
 ghost use Rattle.std.specs.Float.{binary64};
 ghost use Rattle.std.specs.Float.Ieee.{add, neg};
@@ -9,24 +9,26 @@ ghost use Rattle.laws.specs.Float.{is_fin, zer, one};
 ghost use Rattle.laws.specs.Lists.{tab};
 ghost use Rattle.numeric.specs.Basic.{clamp_of, whole_of};
 ghost use Rattle.common.specs.Consts.{half};
-ghost use Rattle.common.specs.Tests.{rate_ok, draws_refusal_of};
+ghost use Rattle.common.specs.Refusal.{refused_number};
+ghost use Rattle.common.specs.Tests.{rate_ok};
+ghost use Rattle.answer.specs.Calls.{making, changing};
 ghost use Rattle.answer.specs.Mark.{all_numbers};
-ghost use Rattle.answer.specs.Block.{after_ticks, joined, block, mark_at, frame_at};
+ghost use Rattle.answer.specs.Block.{after_ticks, joined, block_said, mark_at, frame_at};
 ghost use Rattle.karplus_strong.specs.Consts.{n_ports};
-ghost use Rattle.karplus_strong.specs.Line.{blank_of, pulse_of, excited_of, level_of, struck_of};
+ghost use Rattle.karplus_strong.specs.Line.{blank_of, pulse_of, struck_of};
 ghost use Rattle.karplus_strong.specs.Step.{filter_coef_of, ap_coef_of, target_delay_of, rest_of};
-ghost use Rattle.karplus_strong.specs.KarplusStrong.{max_len_of, string_of, line_ok, room_of, karplus_strong_refusal_of, karplus_strong_rate_refusal_of};
+ghost use Rattle.karplus_strong.specs.KarplusStrong.{max_len_of, line_ok, karplus_strong_refusal_of, karplus_strong_rate_refusal_of};
 ghost use Rattle.karplus_strong.specs.KarplusStrong.{karplus_strong_cells_of, karplus_strong_new_refusal_of, karplus_strong_new_of, finite_or, controls_of};
 ghost use Rattle.karplus_strong.specs.KarplusStrong.{damping_of, stretch_of, period_of};
-ghost use Rattle.karplus_strong.specs.KarplusStrong.{karplus_strong_sound_of, karplus_strong_tick_of, karplus_strong_told_of};
-ghost use Rattle.karplus_strong.specs.KarplusStrong.{karplus_strong_next_of, trigger_refusal_of, first_refusal_of, karplus_strong_block_of};
-ghost use Rattle.karplus_strong.specs.KarplusStrong.{karplus_strong_reset_of, place_of, karplus_strong_set_sample_rate_of, strung};
-ghost use Rattle.karplus_strong.specs.Shortcuts.{Cut, tuning_of, turn_of, held_answer, held_next, hear_of, struck_at};
+ghost use Rattle.karplus_strong.specs.KarplusStrong.{karplus_strong_tick_of, first_refusal_of, karplus_strong_block_of};
+ghost use Rattle.karplus_strong.specs.KarplusStrong.{with_line, karplus_strong_reset_of, place_of, karplus_strong_set_sample_rate_of, strung};
+ghost use Rattle.karplus_strong.specs.Shortcuts.{Cut, state_refusal_of, strike_refusal_of, strike_len, strike_at, hear_of, ticking};
+ghost use Rattle.karplus_strong.specs.Shortcuts.{tuning_of, turn_of, held_answer, held_next};
 
-use answer::{Answer, Outcome, Tally};
-use common::{EdgeDetector, Hertz, Memo1, VoltsPerOctave};
+use answer::{Answer, Made, Played, Tally, Ticked, Volts};
+use common::{EdgeDetector, Hertz, Memo, Refusal, VoltsPerOctave};
 
-// The number of outputs.
+// The number of outputs: p10, out.
 const PORTS: usize = 1;
 
 // The Rust's fields less `max_len`, which follows from the rate, the lent line, of which the length stays, and the noise.
@@ -39,7 +41,7 @@ pub struct KarplusStrong {
     pub ap_x1: f64,
     pub ap_y1: f64,
     pub trigger_edge: EdgeDetector,
-    pub freq_memo: Memo1,
+    pub freq_memo: Memo<u64, Hertz>,
 }
 
 // Its inputs in port order.
@@ -50,28 +52,6 @@ pub struct KarplusStrongControls {
     pub damping: f64,
     pub brightness: f64,
     pub stretch: f64,
-}
-
-// What a tick answers (p10: out), with the string after it.
-#[derive(Clone, Copy)]
-pub struct KarplusStrongTicked {
-    pub answer: Answer,
-    pub karplus_strong: KarplusStrong,
-}
-
-// What a block leaves beside line, samples and marks: `refused` is 0, or the number that refused it.
-#[derive(Clone, Copy)]
-pub struct KarplusStrongBlock {
-    pub refused: u32,
-    pub karplus_strong: KarplusStrong,
-    pub tally: Tally,
-}
-
-// A refused new hands out a string of no cells, which every call refuses; any other refused call the string as it stood.
-#[derive(Clone, Copy)]
-pub struct KarplusStrongMade {
-    pub outcome: Outcome,
-    pub karplus_strong: KarplusStrong,
 }
 
 // What period, damping and stretch make of the loop: its filters, and the delay of its line in whole samples and a fraction. Beside
@@ -85,14 +65,21 @@ struct Tuning {
     numbers: bool,
 }
 
-// What a string hears of a tick: its pitch, of which it keeps the memo, as a period and as the length of a line that is struck at it;
-// and its trigger, of which it keeps the edge, and which may strike it.
+// What a string hears of a tick: its pitch, of which it keeps the memo, as a period; and its trigger, of which it keeps the edge. A trigger
+// that is taken strikes it: then its line has so many cells.
 #[derive(Clone, Copy)]
 struct Heard {
     string: KarplusStrong,
     period: f64,
-    struck_len: usize,
-    rising: bool,
+    strike: Option<usize>,
+}
+
+// The place that a tick writes, among so many cells.
+#[derive(Clone, Copy)]
+struct Place {
+    pos: usize,
+    len: usize,
+    ghost in_line: { pos < len },
 }
 
 // ---- numbers
@@ -157,16 +144,6 @@ fn pulse(n: usize, brightness: f64, draw: u64, i: usize) -> f64
     }
 }
 
-fn fill(cells: &mut [f64], brightness: f64, draws: &[u64])
-    requires { length cells.old ≤ length draws.now }
-    ensures { cells.new ≡ excited_of (length cells.old) brightness draws.now cells.old }
-{
-    let n = cells.len();
-    for (i, cell) in cells.iter_mut().enumerate() {
-        *cell = pulse(n, brightness, draws[i], i);
-    }
-}
-
 // Rust's sum of floats starts at -0.0.
 fn sum(cells: &[f64]) -> f64
     ensures { result ≡ fold (add binary64) (neg zer) cells.now }
@@ -174,33 +151,22 @@ fn sum(cells: &[f64]) -> f64
     cells.iter().fold(-0.0, |sum, cell| sum + *cell)
 }
 
-fn level(cells: &mut [f64], mean: f64)
-    ensures { cells.new ≡ level_of (length cells.old) mean cells.old }
-{
-    for cell in cells.iter_mut() {
-        *cell -= mean;
-    }
-}
-
 // The Rust's excite: noise and impulse, less their mean.
 fn excite(cells: &mut [f64], brightness: f64, draws: &[u64])
     requires { length cells.old ≤ length draws.now }
     ensures { cells.new ≡ struck_of (length cells.old) brightness draws.now cells.old }
 {
-    fill(cells, brightness, draws);
-    let mean = sum(cells) / numeric::of_u64(cells.len() as u64);
-    level(cells, mean);
+    let n = cells.len();
+    for (i, cell) in cells.iter_mut().enumerate() {
+        *cell = pulse(n, brightness, draws[i], i);
+    }
+    let mean = sum(cells) / numeric::of_u64(n as u64);
+    for cell in cells.iter_mut() {
+        *cell -= mean;
+    }
 }
 
 // ---- the loop
-
-// (pos + 1) % len
-fn after(pos: usize, len: usize) -> usize
-    requires { pos < len }
-    ensures { result ≡ (pos + 1) % len }
-{
-    if pos + 1 < len { pos + 1 } else { 0 }
-}
 
 // 0 where a cut line has no such place.
 fn placed(pos: usize, len: usize) -> usize
@@ -209,17 +175,26 @@ fn placed(pos: usize, len: usize) -> usize
     if pos < len { pos } else { 0 }
 }
 
-// The cell that was written `delay` ticks ago, or the oldest one: (pos + len.saturating_sub(delay)) % len without a division.
-fn behind(pos: usize, len: usize, delay: usize) -> usize
-    requires { pos < len }
-    ensures { result ≡ (pos + (len - delay)) % len }
-{
-    if delay <= pos {
-        pos - delay
-    } else if delay < len {
-        pos + (len - delay)
-    } else {
-        pos
+impl Place {
+    // (pos + 1) % len
+    fn after(self) -> usize
+        ensures { result ≡ (self.pos + 1) % self.len }
+    {
+        let next = self.pos + 1;
+        if next < self.len { next } else { 0 }
+    }
+
+    // The cell that was written `delay` ticks ago, or the oldest one: (pos + len.saturating_sub(delay)) % len without a division.
+    fn behind(self, delay: usize) -> usize
+        ensures { result ≡ (self.pos + (self.len - delay)) % self.len }
+    {
+        if delay <= self.pos {
+            self.pos - delay
+        } else if delay < self.len {
+            self.pos + (self.len - delay)
+        } else {
+            self.pos
+        }
     }
 }
 
@@ -246,34 +221,18 @@ fn period_of(sample_rate: Hertz, freq: Hertz) -> f64
     }
 }
 
-// A string at rest, of this threshold and of so many cells.
-fn string_of(sample_rate: Hertz, threshold: f64, len: usize) -> KarplusStrong
-    ensures { result ≡ string_of sample_rate threshold len }
-{
-    KarplusStrong {
-        len,
-        write_pos: 0,
-        sample_rate,
-        lp_state: 0.0,
-        ap_x1: 0.0,
-        ap_y1: 0.0,
-        trigger_edge: EdgeDetector::new(threshold),
-        freq_memo: Memo1::new(),
-    }
-}
-
 impl KarplusStrongControls {
     // Whether no control is NaN.
     fn are_numbers(self) -> bool
         ensures { result ≡ all_numbers (controls_of self) }
     {
-        answer::numbers5(
+        answer::numbers([
             self.voct.0,
             self.trigger,
             self.damping,
             self.brightness,
             self.stretch,
-        )
+        ])
     }
 
     // What they make of the loop at a period.
@@ -296,30 +255,30 @@ impl KarplusStrongControls {
 }
 
 impl Heard {
-    // Refusals 5 and 6 of a trigger that is taken, or 0.
-    fn refusal(self, draws: &[u64]) -> u32
-        ensures { result ≡ (if self.rising then draws_refusal_of self.struck_len draws.now else 0) }
+    // What refuses a trigger that is taken: its draws.
+    fn refusal(self, draws: &[u64]) -> Result<(), Refusal>
+        ensures { refused_number result ≡ strike_refusal_of self.strike draws.now }
     {
-        if self.rising {
-            common::draws_refusal(self.struck_len, draws)
-        } else {
-            0
+        match self.strike {
+            Some(len) => common::draws_refusal(len, draws),
+            None => Ok(()),
         }
     }
 
     // The string, struck where its trigger is taken. Inlined, so that a tick which doesn't strike it keeps it out of memory.
     #[inline(always)]
     fn struck(self, brightness: f64, draws: &[u64], line: &mut [f64]) -> KarplusStrong
-        requires { ((if self.rising then draws_refusal_of self.struck_len draws.now else 0) ≡ 0) × (self.struck_len ≤ length line.old) }
-        ensures { let x = struck_at self (clamp_of (finite_or brightness half) zer one) draws.now line.old in
+        requires { (strike_refusal_of self.strike draws.now ≡ 0) × (strike_len self.strike ≤ length line.old) }
+        ensures { let x = strike_at self.string self.strike (clamp_of (finite_or brightness half) zer one) draws.now line.old in
             (result ≡ x.string) × (line.new ≡ x.line) }
     {
-        if self.rising {
-            let bright = within(brightness, 0.5, 0.0, 1.0);
-            excite(&mut line[..self.struck_len], bright, draws);
-            self.string.at_rest(self.struck_len)
-        } else {
-            self.string
+        match self.strike {
+            Some(len) => {
+                let bright = within(brightness, 0.5, 0.0, 1.0);
+                excite(&mut line[..len], bright, draws);
+                self.string.at_rest(len)
+            }
+            None => self.string,
         }
     }
 }
@@ -336,15 +295,16 @@ impl KarplusStrong {
         whole(sample_rate.0 / 20.0) + 10
     }
 
-    // Refusal 3, or 0: room for the longest line and the two cells that a strike may add.
-    fn room(sample_rate: Hertz, n: usize) -> u32
-        requires { rate_ok sample_rate ≡ true }
-        ensures { result ≡ room_of sample_rate n }
+    // What refuses a line of n cells: it has no room for the longest one and the two cells that a strike may add.
+    #[tactic(auto, unfolding(common::specs::Refusal::refused_number, common::specs::Refusal::number_of))]
+    fn room(max_len: usize, n: usize) -> Result<(), Refusal>
+        requires { max_len ≤ 9610 }
+        ensures { refused_number result ≡ (if nat_le (max_len + 2) n then 0 else 3) }
     {
-        if n < KarplusStrong::max_len_for(sample_rate) + 2 {
-            3
+        if n < max_len + 2 {
+            Err(Refusal::Line)
         } else {
-            0
+            Ok(())
         }
     }
 
@@ -373,55 +333,63 @@ impl KarplusStrong {
             && common::threshold_ok(self.trigger_edge.threshold)
     }
 
-    // Refusals 1 to 3 of a call with a lent line of n cells, or 0.
-    fn refusal(self, n: usize) -> u32
-        ensures { result ≡ karplus_strong_refusal_of self n }
+    // What refuses the state itself: its rate, then the rest of it.
+    fn state_refusal(self) -> Result<(), Refusal>
+        ensures { refused_number result ≡ state_refusal_of self }
     {
-        let sample_rate = self.sample_rate;
-        if common::rate_ok(sample_rate) {
-            if self.line_ok(KarplusStrong::max_len_for(sample_rate)) {
-                KarplusStrong::room(sample_rate, n)
-            } else {
-                2
-            }
+        if !common::rate_ok(self.sample_rate) {
+            Err(Refusal::Rate)
+        } else if !self.line_ok(KarplusStrong::max_len_for(self.sample_rate)) {
+            Err(Refusal::State)
         } else {
-            1
+            Ok(())
         }
     }
 
-    // Refusals 1 to 3 of making a string in a lent line of n cells, or 0.
-    fn new_refusal(sample_rate: Hertz, threshold: f64, n: usize) -> u32
-        ensures { result ≡ karplus_strong_new_refusal_of sample_rate threshold n }
+    // And what refuses a call with a lent line of n cells.
+    fn refusal(self, n: usize) -> Result<(), Refusal>
+        ensures { refused_number result ≡ karplus_strong_refusal_of self n }
     {
-        if common::rate_ok(sample_rate) {
-            if common::threshold_ok(threshold) {
-                KarplusStrong::room(sample_rate, n)
-            } else {
-                2
-            }
+        self.state_refusal()?;
+        KarplusStrong::room(KarplusStrong::max_len_for(self.sample_rate), n)
+    }
+
+    // What refuses making a string in a lent line of n cells.
+    fn new_refusal(sample_rate: Hertz, threshold: f64, n: usize) -> Result<(), Refusal>
+        ensures { refused_number result ≡ karplus_strong_new_refusal_of sample_rate threshold n }
+    {
+        if !common::rate_ok(sample_rate) {
+            Err(Refusal::Rate)
+        } else if !common::threshold_ok(threshold) {
+            Err(Refusal::State)
         } else {
-            1
+            KarplusStrong::room(KarplusStrong::max_len_for(sample_rate), n)
         }
     }
 
-    // Of a rate and of the threshold that its gate goes by.
-    pub fn new(sample_rate: Hertz, threshold: f64, line: &mut [f64]) -> KarplusStrongMade
-        ensures { (result ≡ (karplus_strong_new_of sample_rate threshold line.old).out)
+    // Of a rate and of the threshold that its gate goes by. A refused one hands out a string of no cells, which every call refuses.
+    pub fn new(sample_rate: Hertz, threshold: f64, line: &mut [f64]) -> Made<KarplusStrong>
+        ensures { (making result ≡ (karplus_strong_new_of sample_rate threshold line.old).out)
             × (line.new ≡ (karplus_strong_new_of sample_rate threshold line.old).line) }
     {
-        let refused = KarplusStrong::new_refusal(sample_rate, threshold, line.len());
-        if refused == 0 {
-            let max_len = KarplusStrong::max_len_for(sample_rate);
-            blank(line, 0, max_len);
-            KarplusStrongMade {
-                outcome: Outcome::Done,
-                karplus_strong: string_of(sample_rate, threshold, max_len),
-            }
-        } else {
-            KarplusStrongMade {
-                outcome: Outcome::Refused(refused),
-                karplus_strong: string_of(sample_rate, threshold, 0),
-            }
+        let outcome = KarplusStrong::new_refusal(sample_rate, threshold, line.len());
+        let len = match outcome {
+            Ok(()) => KarplusStrong::max_len_for(sample_rate),
+            Err(_) => 0,
+        };
+        blank(line, 0, len);
+        Made {
+            outcome,
+            state: KarplusStrong {
+                len,
+                write_pos: 0,
+                sample_rate,
+                lp_state: 0.0,
+                ap_x1: 0.0,
+                ap_y1: 0.0,
+                trigger_edge: EdgeDetector::new(threshold),
+                freq_memo: Memo::new(0, Hertz(0.0)),
+            },
         }
     }
 
@@ -441,23 +409,27 @@ impl KarplusStrong {
 
     // One sample: the loop turns once. Inlined, for with a call in its loop a block takes more than twice as long.
     #[inline(always)]
-    fn turn(self, t: Tuning, line: &mut [f64]) -> KarplusStrongTicked
+    fn turn(self, t: Tuning, line: &mut [f64]) -> Ticked<KarplusStrong>
         requires { (self.write_pos < self.len) × (self.len ≤ length line.old) }
         ensures { (result ≡ (turn_of self t line.old).out) × (line.new ≡ (turn_of self t line.old).line) }
     {
+        let place = Place {
+            pos: self.write_pos,
+            len: self.len,
+        };
         let delay = t.delay as usize;
-        let read = line[behind(self.write_pos, self.len, delay)];
-        let read2 = line[behind(self.write_pos, self.len, delay + 1)];
+        let read = line[place.behind(delay)];
+        let read2 = line[place.behind(delay + 1)];
         let sample = read * (1.0 - t.fraction) + read2 * t.fraction;
         let filtered = sample * t.filter_coef + self.lp_state * (1.0 - t.filter_coef);
         let stretched = t.ap_coef * filtered + self.ap_x1 - t.ap_coef * self.ap_y1;
         let leaked = stretched * KarplusStrong::LOOP_LEAK;
         if is_settled(leaked) {
-            line[self.write_pos] = leaked;
-            KarplusStrongTicked {
-                answer: answer::marked(answer::volts1(leaked), false, true, true, t.numbers),
-                karplus_strong: KarplusStrong {
-                    write_pos: after(self.write_pos, self.len),
+            line[place.pos] = leaked;
+            Ticked {
+                answer: answer::marked(Volts::of([leaked]), false, true, true, t.numbers),
+                state: KarplusStrong {
+                    write_pos: place.after(),
                     lp_state: filtered,
                     ap_x1: filtered,
                     ap_y1: stretched,
@@ -466,9 +438,9 @@ impl KarplusStrong {
             }
         } else {
             blank(line, 0, self.len);
-            KarplusStrongTicked {
-                answer: answer::marked(answer::volts1(0.0), true, true, true, t.numbers),
-                karplus_strong: self.at_rest(self.len),
+            Ticked {
+                answer: answer::marked(Volts::of([0.0]), true, true, true, t.numbers),
+                state: self.at_rest(self.len),
             }
         }
     }
@@ -490,48 +462,48 @@ impl KarplusStrong {
                 ..self
             },
             period,
-            struck_len: whole(period) + 2,
-            rising: risen.rising,
+            strike: if risen.rising {
+                Some(whole(period) + 2)
+            } else {
+                None
+            },
         }
     }
 
-    // The tick of a state and a line that refusals 1 to 3 let pass: edge, strike if it is taken, step.
-    fn sound(self, c: KarplusStrongControls, draws: &[u64], line: &mut [f64]) -> KarplusStrongTicked
-        requires { karplus_strong_refusal_of self (length line.old) ≡ 0 }
-        ensures { (result ≡ (karplus_strong_sound_of self c draws.now line.old).out)
-            × (line.new ≡ (karplus_strong_sound_of self c draws.now line.old).line) }
+    // A tick that nothing refuses: edge, strike if it is taken, turn.
+    fn sound(
+        self,
+        c: KarplusStrongControls,
+        draws: &[u64],
+        line: &mut [f64],
+    ) -> Result<Ticked<KarplusStrong>, Refusal>
+        ensures { (ticking self result ≡ (karplus_strong_tick_of self c draws.now line.old).out)
+            × (line.new ≡ (karplus_strong_tick_of self c draws.now line.old).line) }
     {
+        self.refusal(line.len())?;
         let heard = self.hear(c);
-        let refused = heard.refusal(draws);
-        if refused == 0 {
-            let tuning = c.tuning(heard.period);
-            let struck = heard.struck(c.brightness, draws, line);
-            struck.turn(tuning, line)
-        } else {
-            KarplusStrongTicked {
-                answer: Answer::Refused(refused),
-                karplus_strong: self,
-            }
-        }
+        heard.refusal(draws)?;
+        let tuning = c.tuning(heard.period);
+        let struck = heard.struck(c.brightness, draws, line);
+        Ok(struck.turn(tuning, line))
     }
 
+    #[tactic(auto, unfolding(crate::specs::Shortcuts::ticking))]
     pub fn tick(
         self,
         c: KarplusStrongControls,
         draws: &[u64],
         line: &mut [f64],
-    ) -> KarplusStrongTicked
+    ) -> Ticked<KarplusStrong>
         ensures { (result ≡ (karplus_strong_tick_of self c draws.now line.old).out)
             × (line.new ≡ (karplus_strong_tick_of self c draws.now line.old).line) }
     {
-        let refused = self.refusal(line.len());
-        if refused == 0 {
-            self.sound(c, draws, line)
-        } else {
-            KarplusStrongTicked {
-                answer: Answer::Refused(refused),
-                karplus_strong: self,
-            }
+        match self.sound(c, draws, line) {
+            Ok(ticked) => ticked,
+            Err(refused) => Ticked {
+                answer: Answer::Refused(refused.number()),
+                state: self,
+            },
         }
     }
 
@@ -549,52 +521,30 @@ impl KarplusStrong {
         for i in 0..marks.len() {
             let ticked = string.turn(t, &mut *line);
             answer::put(ticked.answer, PORTS, i, &mut *samples, &mut *marks);
-            string = ticked.karplus_strong;
+            string = ticked.state;
         }
         string
     }
 
-    // What refuses the first of n ticks, or 0. Where there is none, its trigger isn't looked at.
-    fn first_refusal(self, c: KarplusStrongControls, draws: &[u64], cells: usize, n: usize) -> u32
-        ensures { result ≡ first_refusal_of self c draws.now cells n }
-    {
-        let refused = self.refusal(cells);
-        if refused == 0 {
-            if n == 0 {
-                0
-            } else {
-                self.hear(c).refusal(draws)
-            }
-        } else {
-            refused
-        }
-    }
-
-    // The ticks of a block. Only the first can take the trigger, and the memo holds from then on.
-    fn run(
+    // What refuses the first of n ticks. Where there is none, its trigger isn't looked at.
+    fn first_refusal(
         self,
         c: KarplusStrongControls,
         draws: &[u64],
-        line: &mut [f64],
-        samples: &mut [f64],
-        marks: &mut [u32],
-    ) -> Self
-        requires { (karplus_strong_refusal_of self (length line.old) ≡ 0) × (trigger_refusal_of self c draws.now ≡ 0)
-            × (0 < length marks.old) × (length samples.old ≡ n_ports * length marks.old) }
-        ensures line_after { strung result line.new
-            ≡ after_ticks (karplus_strong_next_of c draws.now) (length marks.old) (strung self line.old) }
-        ensures samples_after { let d = draws.now in samples.new
-            ≡ joined (frame_at n_ports (karplus_strong_told_of c d) (karplus_strong_next_of c d) (strung self line.old)) (length marks.old) }
-        ensures marks_after { let d = draws.now in marks.new
-            ≡ tab (mark_at (karplus_strong_told_of c d) (karplus_strong_next_of c d) (strung self line.old)) (length marks.old) }
+        cells: usize,
+        n: usize,
+    ) -> Result<(), Refusal>
+        ensures { refused_number result ≡ first_refusal_of self c draws.now cells n }
     {
-        let heard = self.hear(c);
-        let tuning = c.tuning(heard.period);
-        let struck = heard.struck(c.brightness, draws, line);
-        struck.ring(tuning, line, samples, marks)
+        self.refusal(cells)?;
+        if n == 0 {
+            Ok(())
+        } else {
+            self.hear(c).refusal(draws)
+        }
     }
 
-    // As many ticks with these controls as there are marks.
+    // As many ticks with these controls as there are marks. Only the first can take the trigger, and the memo holds from then on.
     pub fn block(
         self,
         c: KarplusStrongControls,
@@ -603,103 +553,67 @@ impl KarplusStrong {
         line: &mut [f64],
         samples: &mut [f64],
         marks: &mut [u32],
-    ) -> KarplusStrongBlock
-        ensures { block result.refused (strung result.karplus_strong line.new) result.tally samples.new marks.new
+    ) -> Result<Played<KarplusStrong>, Refusal>
+        ensures { with_line (block_said self tally result samples.new marks.new) line.new
             ≡ karplus_strong_block_of (strung self line.old) c draws.now tally samples.old marks.old }
     {
         let n = marks.len();
         let first = self.first_refusal(c, draws, line.len(), n);
-        let refused = answer::block_refusal(PORTS, samples.len(), first, tally, n);
-        if refused == 0 {
-            if n == 0 {
-                KarplusStrongBlock {
-                    refused: 0,
-                    karplus_strong: self,
-                    tally,
-                }
-            } else {
-                let karplus_strong = self.run(c, draws, line, samples, marks);
-                KarplusStrongBlock {
-                    refused: 0,
-                    karplus_strong,
-                    tally: tally.take_marks(marks).or(tally),
-                }
-            }
-        } else {
-            KarplusStrongBlock {
-                refused,
-                karplus_strong: self,
-                tally,
-            }
+        answer::block_refusal(PORTS, samples.len(), first, tally, n)?;
+        if n == 0 {
+            return Ok(Played { state: self, tally });
         }
+        let heard = self.hear(c);
+        let tuning = c.tuning(heard.period);
+        let struck = heard.struck(c.brightness, draws, line);
+        let state = struck.ring(tuning, line, samples, marks);
+        Ok(Played {
+            state,
+            tally: tally.take_marks(marks).unwrap_or(tally),
+        })
     }
 
     // The line is silent again; its length stays, and so does the memo.
-    pub fn reset(self, line: &mut [f64]) -> KarplusStrongMade
-        ensures { (result ≡ (karplus_strong_reset_of self line.old).out)
+    pub fn reset(self, line: &mut [f64]) -> Result<KarplusStrong, Refusal>
+        ensures { (changing self result ≡ (karplus_strong_reset_of self line.old).out)
             × (line.new ≡ (karplus_strong_reset_of self line.old).line) }
     {
-        let refused = self.refusal(line.len());
-        if refused == 0 {
-            blank(line, 0, self.len);
-            KarplusStrongMade {
-                outcome: Outcome::Done,
-                karplus_strong: KarplusStrong {
-                    trigger_edge: self.trigger_edge.reset(),
-                    ..self.at_rest(self.len)
-                },
-            }
-        } else {
-            KarplusStrongMade {
-                outcome: Outcome::Refused(refused),
-                karplus_strong: self,
-            }
-        }
+        self.refusal(line.len())?;
+        blank(line, 0, self.len);
+        Ok(KarplusStrong {
+            trigger_edge: self.trigger_edge.reset(),
+            ..self.at_rest(self.len)
+        })
     }
 
-    // Refusals 1 to 3 of a rate change, or 0.
-    fn rate_refusal(self, sample_rate: Hertz, n: usize) -> u32
-        ensures { result ≡ karplus_strong_rate_refusal_of self sample_rate n }
+    // What refuses a rate change: the new rate, then the state by the old one, then the line by the new one.
+    fn rate_refusal(self, sample_rate: Hertz, n: usize) -> Result<(), Refusal>
+        ensures { refused_number result ≡ karplus_strong_rate_refusal_of self sample_rate n }
     {
-        let old = self.sample_rate;
-        if common::rate_ok(old) {
-            if common::rate_ok(sample_rate) {
-                if self.line_ok(KarplusStrong::max_len_for(old)) {
-                    KarplusStrong::room(sample_rate, n)
-                } else {
-                    2
-                }
-            } else {
-                1
-            }
-        } else {
-            1
+        if !common::rate_ok(sample_rate) {
+            return Err(Refusal::Rate);
         }
+        self.state_refusal()?;
+        KarplusStrong::room(KarplusStrong::max_len_for(sample_rate), n)
     }
 
     // Cuts the line to the new rate's longest, or fills it up with 0.0. A write position that no longer lies in it goes to 0.
-    pub fn set_sample_rate(self, sample_rate: Hertz, line: &mut [f64]) -> KarplusStrongMade
-        ensures { (result ≡ (karplus_strong_set_sample_rate_of self sample_rate line.old).out)
+    pub fn set_sample_rate(
+        self,
+        sample_rate: Hertz,
+        line: &mut [f64],
+    ) -> Result<KarplusStrong, Refusal>
+        ensures { (changing self result ≡ (karplus_strong_set_sample_rate_of self sample_rate line.old).out)
             × (line.new ≡ (karplus_strong_set_sample_rate_of self sample_rate line.old).line) }
     {
-        let refused = self.rate_refusal(sample_rate, line.len());
-        if refused == 0 {
-            let max_len = KarplusStrong::max_len_for(sample_rate);
-            blank(line, self.len.min(max_len), max_len);
-            KarplusStrongMade {
-                outcome: Outcome::Done,
-                karplus_strong: KarplusStrong {
-                    len: max_len,
-                    write_pos: placed(self.write_pos, max_len),
-                    sample_rate,
-                    ..self
-                },
-            }
-        } else {
-            KarplusStrongMade {
-                outcome: Outcome::Refused(refused),
-                karplus_strong: self,
-            }
-        }
+        self.rate_refusal(sample_rate, line.len())?;
+        let max_len = KarplusStrong::max_len_for(sample_rate);
+        blank(line, self.len.min(max_len), max_len);
+        Ok(KarplusStrong {
+            len: max_len,
+            write_pos: placed(self.write_pos, max_len),
+            sample_rate,
+            ..self
+        })
     }
 }

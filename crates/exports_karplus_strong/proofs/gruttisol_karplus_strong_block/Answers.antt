@@ -1,20 +1,14 @@
-use Rattle.boundary.proofs.Flat.{block_sized}
+use Rattle.boundary.proofs.Lent.{lent_block, unlent_block}
+use Rattle.exports_karplus_strong.proofs.CallLaws.{rung_pass, rung_stop}
 use Rattle.exports_karplus_strong.specs.Calls.{karplus_strong_block_at}
-use Rattle.exports_karplus_strong.proofs.CallLaws.{rung_done, rung_refused}
+use Rattle.exports_karplus_strong.specs.State.{n_floats, n_wholes, state_of}
 use Rattle.exports_karplus_strong.proofs.gruttisol_karplus_strong_block.Goals as goal
 
-pub state-requires : goal.state-requires
-state-requires c = let z = block_sized _ _ _ _ _ _ _ c.block_tally.ensures c.in-Taken.is in
-    (z.0, z.1)
-
-pub put_block-requires : goal.put_block-requires
-put_block-requires c = block_sized _ _ _ _ _ _ _ c.block_tally.ensures c.in-Taken.is
-
-pub returns-in-Taken : goal.returns-in-Taken
+pub returns-in-Ok : goal.returns-in-Ok
 unfolding karplus_strong_block_at
-returns-in-Taken c = rung_done _ _ _ _ _ _ _ _ c.block_tally.ensures _ _ _ c.in-Taken.is
-    (rw c.state.ensures at c.block.ensures) (c.put_block.ensures _ _ _)
+returns-in-Ok c = let s = lent_block n_floats n_wholes state_of _ _ _ _ _ c.in-Ok.ensures in
+    rung_pass _ _ _ _ _ _ _ _ _ s.1 _ _ _ _ _ c.keep_block.ensures (rw s.0 at c.block-played.ensures)
 
-pub returns-in-Refused : goal.returns-in-Refused
+pub returns-in-Err : goal.returns-in-Err
 unfolding karplus_strong_block_at
-returns-in-Refused c = rung_refused _ _ _ _ _ _ _ _ c.block_tally.ensures _ c.in-Refused.is
+returns-in-Err c = rung_stop _ _ _ _ _ _ _ c.in-Err.refused _ (unlent_block n_floats n_wholes state_of _ _ _ _ c.in-Err.ensures) c.number.ensures

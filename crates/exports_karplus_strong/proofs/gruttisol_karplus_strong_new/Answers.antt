@@ -1,17 +1,13 @@
 use mathlib.Core.Path.{◌∙◌}
-use Rattle.boundary.proofs.Flat.{sized}
-use Rattle.exports_karplus_strong.proofs.CallLaws.{left_done, left_refused}
+use Rattle.common.specs.Refusal.{refused_number}
+use Rattle.exports_karplus_strong.proofs.CallLaws.{left_pass, left_stop}
 use Rattle.exports_karplus_strong.specs.Calls.{karplus_strong_new_at}
 use Rattle.exports_karplus_strong.proofs.gruttisol_karplus_strong_new.Goals as goal
 
-pub put_made-requires : goal.put_made-requires
-put_made-requires c = sized _ _ _ _ _ c.sizes-n.ensures c.if-n-eq0.true
+pub returns-in-Ok : goal.returns-in-Ok
+unfolding karplus_strong_new_at refused_number
+returns-in-Ok c = left_pass _ _ _ _ c.in-Ok.ensures _ _ _ _ c.keep.ensures (c.accepted.ensures ∙ c.new-made.ensures.0) c.new-made.ensures.1
 
-pub returns-then-n-eq0 : goal.returns-then-n-eq0
-unfolding karplus_strong_new_at
-returns-then-n-eq0 c = left_done _ _ _ _ c.sizes-n.ensures c.if-n-eq0.true _ _ _
-    (c.put_made.ensures ∙ simp c.new.ensures.0) c.new.ensures.1
-
-pub returns-else-n-eq0 : goal.returns-else-n-eq0
-unfolding karplus_strong_new_at
-returns-else-n-eq0 c = left_refused _ _ _ _ c.sizes-n.ensures c.if-n-eq0.false _
+pub returns-in-Err : goal.returns-in-Err
+unfolding karplus_strong_new_at refused_number
+returns-in-Err c = left_stop _ _ _ _ c.in-Err.refused _ c.in-Err.ensures c.number.ensures

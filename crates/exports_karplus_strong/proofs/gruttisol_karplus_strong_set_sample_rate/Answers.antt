@@ -1,21 +1,15 @@
-use mathlib.Core.Path.{◌∙◌}
-use Rattle.boundary.proofs.Flat.{sized}
-use Rattle.exports_karplus_strong.proofs.CallLaws.{left_done, left_refused}
+use Rattle.boundary.proofs.Lent.{lent, lent_zero, unlent}
+use Rattle.exports_karplus_strong.proofs.CallLaws.{left_pass, left_stop}
 use Rattle.exports_karplus_strong.specs.Calls.{karplus_strong_set_sample_rate_at}
+use Rattle.exports_karplus_strong.specs.State.{n_floats, n_wholes, state_of}
 use Rattle.exports_karplus_strong.proofs.gruttisol_karplus_strong_set_sample_rate.Goals as goal
 
-pub state-requires : goal.state-requires
-state-requires c = sized _ _ _ _ _ c.sizes-n.ensures c.if-n-eq0.true
-
-pub put_made-requires : goal.put_made-requires
-put_made-requires c = sized _ _ _ _ _ c.sizes-n.ensures c.if-n-eq0.true
-
-pub returns-then-n-eq0 : goal.returns-then-n-eq0
+pub returns-in-Ok : goal.returns-in-Ok
 unfolding karplus_strong_set_sample_rate_at
-returns-then-n-eq0 c = left_done _ _ _ _ c.sizes-n.ensures c.if-n-eq0.true _ _ _
-    (c.put_made.ensures ∙ simp (c.set_sample_rate.ensures.0, c.state.ensures))
-    (rw c.state.ensures at c.set_sample_rate.ensures.1)
+returns-in-Ok c = let s = lent n_floats n_wholes state_of _ _ _ c.in-Ok.ensures in
+    let r = rw s at c.set_sample_rate-rated.ensures in
+    left_pass _ _ _ _ (lent_zero n_floats n_wholes state_of _ _ _ c.in-Ok.ensures) _ _ _ _ c.keep.ensures r.0 r.1
 
-pub returns-else-n-eq0 : goal.returns-else-n-eq0
+pub returns-in-Err : goal.returns-in-Err
 unfolding karplus_strong_set_sample_rate_at
-returns-else-n-eq0 c = left_refused _ _ _ _ c.sizes-n.ensures c.if-n-eq0.false _
+returns-in-Err c = left_stop _ _ _ _ c.in-Err.refused _ (unlent n_floats n_wholes state_of _ _ _ c.in-Err.ensures) c.number.ensures

@@ -1,23 +1,16 @@
 use mathlib.Core.Path.{◌∙◌}
-use Rattle.boundary.proofs.Flat.{tick_sized}
-use Rattle.exports_karplus_strong.proofs.CallLaws.{rate_stands, sounded_done, sounded_refused}
+use Rattle.boundary.proofs.Lent.{lent_tick, unlent_tick}
+use Rattle.exports_karplus_strong.proofs.CallLaws.{heard_zero, sounded_pass, sounded_stop}
 use Rattle.exports_karplus_strong.specs.Calls.{karplus_strong_tick_at}
+use Rattle.exports_karplus_strong.specs.State.{n_floats, n_wholes, n_samples, state_of}
 use Rattle.exports_karplus_strong.proofs.gruttisol_karplus_strong_tick.Goals as goal
 
-pub state-requires : goal.state-requires
-state-requires c = let z = tick_sized _ _ _ _ _ _ _ c.tick_sizes-n.ensures c.if-n-eq0.true in
-    (z.0, z.1)
-
-pub put_ticked-requires : goal.put_ticked-requires
-put_ticked-requires c = let z = tick_sized _ _ _ _ _ _ _ c.tick_sizes-n.ensures c.if-n-eq0.true in
-    (z.0, z.1, z.2, rate_stands _ _ _ _ _ _ _ c.state.ensures c.tick.ensures.0)
-
-pub returns-then-n-eq0 : goal.returns-then-n-eq0
+pub returns-in-Ok : goal.returns-in-Ok
 unfolding karplus_strong_tick_at
-returns-then-n-eq0 c = sounded_done _ _ _ _ _ c.tick_sizes-n.ensures c.if-n-eq0.true _ _ _
-    (c.put_ticked.ensures ∙ simp (c.tick.ensures.0, c.state.ensures))
-    (rw c.state.ensures at c.tick.ensures.1)
+returns-in-Ok c = let s = lent_tick n_floats n_wholes n_samples state_of _ _ _ _ c.in-Ok.ensures in
+    let t = rw s at c.tick.ensures in
+    sounded_pass _ _ _ _ (heard_zero _ _ _ _ c.in-Ok.ensures) _ _ _ (c.hear.ensures ∙ simp t.0) t.1
 
-pub returns-else-n-eq0 : goal.returns-else-n-eq0
+pub returns-in-Err : goal.returns-in-Err
 unfolding karplus_strong_tick_at
-returns-else-n-eq0 c = sounded_refused _ _ _ _ _ c.tick_sizes-n.ensures c.if-n-eq0.false _
+returns-in-Err c = sounded_stop _ _ _ _ _ c.in-Err.refused _ (unlent_tick n_floats n_wholes n_samples state_of _ _ _ _ c.in-Err.ensures) c.number.ensures

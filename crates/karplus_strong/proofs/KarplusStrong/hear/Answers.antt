@@ -16,6 +16,12 @@ overflow_add-result c = let r = c.requires in
     let w = c.whole.ensures in
     omega arith
 
-pub returns : goal.returns
+pub returns-then-risen : goal.returns-then-risen
 unfolding hear_of struck_len
-returns c = simp (c.whole.ensures, c.period_of-period.ensures, c.rising-risen.ensures, c.voct_to_hz-freq_memo.ensures, c.finite_or.ensures)
+returns-then-risen c = let taken = rw c.rising-risen.ensures at c.if-risen.true in
+    simp (c.whole.ensures, c.period_of-period.ensures, c.rising-risen.ensures, c.voct_to_hz-freq_memo.ensures, c.finite_or.ensures, taken)
+
+pub returns-else-risen : goal.returns-else-risen
+unfolding hear_of
+returns-else-risen c = let taken = rw c.rising-risen.ensures at c.if-risen.false in
+    simp (c.period_of-period.ensures, c.rising-risen.ensures, c.voct_to_hz-freq_memo.ensures, c.finite_or.ensures, taken)

@@ -1,23 +1,21 @@
-use Rattle.std.proofs.Common.{sym, ◌∙◌}
-use Rattle.karplus_strong.proofs.Parts.{max_len_range, refusal_rate, refusal_line, refusal_room}
+use Rattle.std.proofs.lemmas.Result.{err_from_is_err_and}
+use Rattle.common.specs.Refusal.{refused_number}
+use Rattle.karplus_strong.proofs.Parts.{max_len_range, state_passed, refusal_state, refusal_room}
 use Rattle.karplus_strong.proofs.KarplusStrong.refusal.Goals as goal
 
-pub max_len_for-requires : goal.max_len_for-requires
-max_len_for-requires c = sym c.rate_ok.ensures ∙ c.if-rate_ok.true
+pub returns-in_err-state_refusal : goal.returns-in_err-state_refusal
+unfolding refused_number
+returns-in_err-state_refusal c = let p = err_from_is_err_and c.from_residual.result c.from_residual.ensures.1 in
+    rw (p.1, p.2) (refusal_state _ _ _ c.in_err-state_refusal.ensures)
 
-pub line_ok-requires : goal.line_ok-requires
-line_ok-requires c = rw c.max_len_for.ensures (max_len_range _ (sym c.rate_ok.ensures ∙ c.if-rate_ok.true)).1
+pub max_len_for-requires : goal.max_len_for-requires
+unfolding refused_number
+max_len_for-requires c = (state_passed _ c.in_ok-state_refusal.ensures).0
 
 pub room-requires : goal.room-requires
-room-requires c = sym c.rate_ok.ensures ∙ c.if-rate_ok.true
+unfolding refused_number
+room-requires c = rw c.max_len_for.ensures (max_len_range _ (state_passed _ c.in_ok-state_refusal.ensures).0).1
 
-pub returns-then-line_ok : goal.returns-then-line_ok
-returns-then-line_ok c = refusal_room _ _ _ _ (sym c.rate_ok.ensures ∙ c.if-rate_ok.true) c.max_len_for.ensures
-    (sym c.line_ok.ensures ∙ c.if-line_ok.true) c.room.ensures
-
-pub returns-else-line_ok : goal.returns-else-line_ok
-returns-else-line_ok c = refusal_line _ _ _ (sym c.rate_ok.ensures ∙ c.if-rate_ok.true)
-    c.max_len_for.ensures (sym c.line_ok.ensures ∙ c.if-line_ok.false)
-
-pub returns-else-rate_ok : goal.returns-else-rate_ok
-returns-else-rate_ok c = refusal_rate _ _ (sym c.rate_ok.ensures ∙ c.if-rate_ok.false)
+pub returns : goal.returns
+unfolding refused_number
+returns c = refusal_room _ _ _ _ c.in_ok-state_refusal.ensures c.max_len_for.ensures c.room.ensures

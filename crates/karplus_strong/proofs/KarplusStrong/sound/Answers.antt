@@ -1,24 +1,39 @@
-use Rattle.std.proofs.Common.{sym, ◌∙◌}
-use Rattle.karplus_strong.proofs.Parts.{accepted, heard_fits, heard_delay, struck_ready, ticked_parts, sound_by, sound_no}
+use Rattle.std.proofs.Common.{sym}
+use Rattle.std.proofs.lemmas.Result.{err_from_is_err_and}
+use Rattle.common.specs.Refusal.{refused_number}
+use Rattle.karplus_strong.specs.Shortcuts.{ticking}
+use Rattle.karplus_strong.proofs.Parts.{accepted, heard_fits, heard_delay, struck_ready, ticked_parts, tick_refused, sound_by, sound_refused}
 use Rattle.karplus_strong.proofs.KarplusStrong.sound.Goals as goal
 
+pub returns-in_err-refusal : goal.returns-in_err-refusal
+unfolding refused_number ticking
+returns-in_err-refusal c = let p = err_from_is_err_and c.from_residual.result c.from_residual.ensures.1 in
+    rw (p.1, p.2) (ticked_parts (tick_refused _ _ _ _ _ c.in_err-refusal.ensures))
+
 pub hear-heard-requires : goal.hear-heard-requires
-hear-heard-requires c = let good = (accepted _ _ c.requires).0 in (good.rate, good.value)
+unfolding refused_number
+hear-heard-requires c = let good = (accepted _ _ (sym c.in_ok-refusal.ensures)).0 in (good.rate, good.value)
+
+pub returns-in_err-refusal-2 : goal.returns-in_err-refusal-2
+unfolding refused_number ticking
+returns-in_err-refusal-2 c = let p = err_from_is_err_and c.from_residual-in_err-refusal-2.result c.from_residual-in_err-refusal-2.ensures.1 in
+    rw (p.1, p.2) (ticked_parts (sound_refused _ _ _ _ c.in_ok-refusal.ensures _ c.hear-heard.ensures _ c.in_err-refusal-2.ensures))
 
 pub tuning-tuning-requires : goal.tuning-tuning-requires
-tuning-tuning-requires c = let good = accepted _ _ c.requires in heard_delay _ _ _ c.hear-heard.ensures _ good.0 good.1
+unfolding refused_number
+tuning-tuning-requires c = let good = accepted _ _ (sym c.in_ok-refusal.ensures) in heard_delay _ _ _ c.hear-heard.ensures _ good.0 good.1
 
 pub struck-struck-requires : goal.struck-struck-requires
-struck-struck-requires c = let good = accepted _ _ c.requires in
-    (sym c.refusal-refused.ensures ∙ c.if-refused-eq0.true, heard_fits _ _ _ c.hear-heard.ensures _ good.0 good.1)
+unfolding refused_number
+struck-struck-requires c = let good = accepted _ _ (sym c.in_ok-refusal.ensures) in
+    (sym c.in_ok-refusal-2.ensures, heard_fits _ _ _ c.hear-heard.ensures _ good.0 good.1)
 
 pub turn-requires : goal.turn-requires
-turn-requires c = let good = accepted _ _ c.requires in
+unfolding refused_number
+turn-requires c = let good = accepted _ _ (sym c.in_ok-refusal.ensures) in
     rw c.struck-struck.auto.line (struck_ready _ _ _ c.hear-heard.ensures _ good.0 good.1 _ _ _ _ c.struck-struck.ensures.0)
 
-pub returns-then-refused-eq0 : goal.returns-then-refused-eq0
-returns-then-refused-eq0 c = sound_by _ _ _ _ _ _ c.hear-heard.ensures c.refusal-refused.ensures c.if-refused-eq0.true _ _ _
+pub returns : goal.returns
+unfolding refused_number ticking
+returns c = sound_by _ _ _ _ c.in_ok-refusal.ensures _ c.hear-heard.ensures c.in_ok-refusal-2.ensures _ _ _
     c.tuning-tuning.ensures c.struck-struck.ensures _ _ c.turn.ensures.0 c.turn.ensures.1
-
-pub returns-else-refused-eq0 : goal.returns-else-refused-eq0
-returns-else-refused-eq0 c = ticked_parts (sound_no _ _ _ _ _ _ c.hear-heard.ensures c.refusal-refused.ensures c.if-refused-eq0.false)

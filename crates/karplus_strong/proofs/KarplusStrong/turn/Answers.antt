@@ -7,10 +7,10 @@ pub returns-then-is_settled : goal.returns-then-is_settled
 unfolding filtered_of stretched_of
 returns-then-is_settled c = ticked_parts
     (turn_clean c.args.self c.args.t _ _ (tap_by _ _ _ _ _ _ _ c.behind.ensures c.behind-2.ensures) (sym c.is_settled.ensures ∙ c.if-is_settled.true)
-    _ _ _ c.after.ensures c.volts1.ensures c.marked.ensures)
+    _ _ _ c.after.ensures c.of.ensures c.marked.ensures)
 
 pub returns-else-is_settled : goal.returns-else-is_settled
 unfolding filtered_of stretched_of
 returns-else-is_settled c = ticked_parts
     (turn_cleared c.args.self c.args.t _ _ (tap_by _ _ _ _ _ _ _ c.behind.ensures c.behind-2.ensures) (sym c.is_settled.ensures ∙ c.if-is_settled.false)
-    _ _ _ _ c.volts1-else-is_settled.ensures c.marked-else-is_settled.ensures c.blank.ensures c.at_rest.ensures)
+    _ _ _ _ c.of-else-is_settled.ensures c.marked-else-is_settled.ensures c.blank.ensures c.at_rest.ensures)
