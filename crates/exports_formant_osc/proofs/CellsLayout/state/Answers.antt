@@ -1,5 +1,5 @@
 use Rattle.exports_formant_osc.specs.State.{state_of}
-use Rattle.exports_formant_osc.proofs.state.Goals as goal
+use Rattle.exports_formant_osc.proofs.CellsLayout.state.Goals as goal
 
 pub returns : goal.returns
 unfolding state_of
