@@ -3,8 +3,7 @@ use Rattle.laws.proofs.Over.{over_none}
 use Rattle.answer.proofs.Blocks.{four_ports, joined_none, frames_more, frames_done, marks_more, marks_done}
 use Rattle.answer.specs.Block.{after_ticks}
 use Rattle.noise_generator.specs.Consts.{n_ports}
-use Rattle.noise_generator.specs.NoiseGenerator.{generator, needed_of, changed_by, needed_by, correlation_of}
-use Rattle.noise_generator.specs.Shortcuts.{pink_at, needed_at}
+use Rattle.noise_generator.specs.NoiseGenerator.{changed_by, needed_by, correlation_of}
 use Rattle.noise_generator.proofs.CalmLaws.{ahead_taken, ahead_finite}
 use Rattle.noise_generator.proofs.TickLaws.{numbers_of, drawing_at, heard, moved, advanced, reaches}
 use Rattle.noise_generator.proofs.TurnLaws.{turn_there}
@@ -17,53 +16,49 @@ loop-i-init c = record {
   marks_size = refl;
   samples = joined_none _ _;
   marks = over_none _ _;
-  state = λ i. generator (c.rowless-pink.ensures i) (c.rowless-pink2.ensures i) c.args.self.correlation c.args.self.last_white;
+  state = refl;
   taken = refl;
   fits = omega arith;
 }
 
 pub turn-turned-requires : goal.turn-turned-requires
-unfolding needed_at needed_of
 turn-turned-requires c = let a = c.args in
     let good = c.well_formed.0.1.1 in
     let l = c.loop-i in
-    let x = generator (pink_at l.rows l.pink) (pink_at l.rows2 l.pink2) a.self.correlation l.last_white in record {
-      draws_value = ahead_taken a.self a.c a.wanted a.draws.now _ c.requires.0 l.i c.loop-i-test.true x l.at l.invariant.state l.invariant.taken;
+    let s = l.invariant in record {
+      draws_value = ahead_taken a.self a.c a.wanted a.draws.now _ c.requires.0 l.i c.loop-i-test.true l.noise l.at s.state s.taken;
       calm_value = λ e.
           ahead_finite a.self a.c a.wanted a.draws.now _ c.requires.0 (search (rules, good.0)) (search (rules, good.1.0))
-          (c.calm.ensures e) l.i c.loop-i-test.true _ x l.at c.clamped.ensures l.invariant.state l.invariant.taken;
+          (c.calm.ensures e) l.i c.loop-i-test.true _ l.noise l.at c.clamped.ensures s.state s.taken;
     }
 
 pub overflow_add-at : goal.overflow_add-at
-unfolding needed_at needed_of
 overflow_add-at c = let l = c.loop-i in
     let a = c.args in
-    let x = generator (pink_at l.rows l.pink) (pink_at l.rows2 l.pink2) a.self.correlation l.last_white in
-    let h = reaches a.self a.c a.wanted a.draws.now _ c.requires.0 l.i c.loop-i-test.true x l.at _ l.invariant.state l.invariant.taken refl in
+    let s = l.invariant in
+    let h = reaches a.self a.c a.wanted a.draws.now _ c.requires.0 l.i c.loop-i-test.true l.noise l.at _ s.state s.taken refl in
     let e = c.turn-turned.ensures.taken in
     let g = c.well_formed in
     omega arith
 
 pub loop-i-preserved : goal.loop-i-preserved
-unfolding needed_at needed_of
 loop-i-preserved c = let l = c.loop-i in
     let a = c.args in
     let h = c.requires.0 in
     let t = c.loop-i-test.true in
     let s = l.invariant in
-    let x = generator (pink_at l.rows l.pink) (pink_at l.rows2 l.pink2) a.self.correlation l.last_white in
     let e =
-    turn_there _ (correlation_of a.self a.c) _ (numbers_of a.c) x a.wanted l.at a.draws.now _ c.clamped.ensures
-    c.are_numbers.ensures (c.turn-turned.ensures.state a.self.correlation l.last_white) in
-    let told = heard a.self a.c a.wanted a.draws.now _ h l.i t x l.at _ s.state s.taken e in
-    let place = advanced a.self a.c a.wanted a.draws.now _ h l.i t x l.at _ s.state s.taken e in
-    let reach = reaches a.self a.c a.wanted a.draws.now _ h l.i t x l.at _ s.state s.taken e in record {
+    turn_there _ (correlation_of a.self a.c) _ (numbers_of a.c) l.noise a.wanted l.at a.draws.now _ c.clamped.ensures
+    c.are_numbers.ensures c.turn-turned.ensures.state in
+    let told = heard a.self a.c a.wanted a.draws.now _ h l.i t l.noise l.at _ s.state s.taken e in
+    let place = advanced a.self a.c a.wanted a.draws.now _ h l.i t l.noise l.at _ s.state s.taken e in
+    let reach = reaches a.self a.c a.wanted a.draws.now _ h l.i t l.noise l.at _ s.state s.taken e in record {
       samples_size = c.put.auto.samples ∙ s.samples_size;
       marks_size = c.put.auto.marks ∙ s.marks_size;
       samples = rw c.put.ensures.samples_after
           (frames_more n_ports four_ports _ _ _ _ (length a.marks.now) _ _ _ _ s.marks_size t s.samples_size s.samples told);
       marks = rw c.put.ensures.marks_after (marks_more n_ports four_ports _ _ _ _ _ _ _ t s.marks told);
-      state = moved a.self a.c a.wanted a.draws.now _ h l.i t x l.at _ s.state s.taken e;
+      state = moved a.self a.c a.wanted a.draws.now _ h l.i t l.noise l.at _ s.state s.taken e;
       taken = ap (λ k. l.at + k) c.turn-turned.ensures.taken ∙ place;
       fits = subst (λ k. l.at + k ≤ length a.draws.now) (sym c.turn-turned.ensures.taken) reach;
     }
@@ -72,8 +67,9 @@ pub returns : goal.returns
 returns c = let l = c.loop-i in
     let a = c.args in
     let s = l.invariant in
-    let n = le_antisymm l.auto.i-end c.loop-i-test.false in record {
-      value = simp (c.with_rows.ensures, c.with_rows-2.ensures) s.state ∙ ap (λ k. (drawing_at a.self a.c a.wanted a.draws.now k).noise) n;
+    let n = le_antisymm l.auto.i-end c.loop-i-test.false in
+    record {
+      value = s.state ∙ ap (λ k. (drawing_at a.self a.c a.wanted a.draws.now k).noise) n;
       samples_after = frames_done n_ports four_ports _ _ _ _ _ _ _ n c.requires.1 s.samples;
       marks_after = marks_done n_ports four_ports _ _ _ _ _ _ _ n refl s.marks;
     }
