@@ -6,19 +6,15 @@
 ghost use Rattle.std.specs.Prelude.{◌≡◌, ℕ, ◌+◌, ◌*◌, ◌<◌, ◌≤◌, true, false, length, slice_index, slice_index_or, Float};
 ghost use Rattle.std.specs.Float.{nan};
 ghost use Rattle.laws.specs.Float.{InUnit};
-ghost use Rattle.laws.specs.Lists.{tab};
 ghost use Rattle.numeric.specs.Draw.{bipolar_of};
 ghost use Rattle.common.specs.Refusal.{refused_number};
 ghost use Rattle.common.specs.Tests.{draws_refusal_of};
-ghost use Rattle.answer.specs.Block.{after_ticks, joined, block_said, mark_at, frame_at};
+ghost use Rattle.answer.specs.Block.{block_said};
 ghost use Rattle.answer.specs.Mark.{all_finite, all_numbers, mark_of};
-ghost use Rattle.noise_generator.specs.Consts.{n_ports};
 ghost use Rattle.noise_generator.specs.Pink.{new_pink, next_index, changed_of, sampled_of};
 ghost use Rattle.noise_generator.specs.NoiseGenerator.{new_noise_generator, with_correlation, needed_of, changed_by, needed_by};
-ghost use Rattle.noise_generator.specs.NoiseGenerator.{mix_of, noise_generator_volts_of, turn_of, correlation_of, noise_generator_sound_of};
-ghost use Rattle.noise_generator.specs.NoiseGenerator.{noise_generator_tick_of};
-ghost use Rattle.noise_generator.specs.NoiseGenerator.{noise_generator_told_of, noise_generator_next_of, noise_generator_block_of};
-ghost use Rattle.noise_generator.specs.NoiseGenerator.{drawing, controls_of, restarted, rated};
+ghost use Rattle.noise_generator.specs.NoiseGenerator.{mix_of, noise_generator_volts_of, turn_of, correlation_of};
+ghost use Rattle.noise_generator.specs.NoiseGenerator.{noise_generator_tick_of, noise_generator_block_of, controls_of, restarted, rated};
 ghost use Rattle.noise_generator.specs.Shortcuts.{ticked, turn_volts, Calm, climbed_of};
 ghost use Rattle.noise_generator.specs.Promises.{Bounded};
 
@@ -320,25 +316,6 @@ impl NoiseGenerator {
         }
     }
 
-    // An accepted tick. One alone would pay more for the question whether its state is calm than the answer saves it.
-    fn sound(self, c: NoiseGeneratorControls, wanted: u32, draws: &[u64]) -> Ticked<NoiseGenerator>
-        requires { draws_refusal_of (needed_of self) draws.now ≡ 0 }
-        ensures { result ≡ noise_generator_sound_of self c wanted draws.now }
-    {
-        let asked = Asked {
-            correlation: self.clamped(c),
-            wanted,
-            calm: false,
-            numbers: c.are_numbers(),
-        };
-        let mut state = self;
-        let turned = state.turn(asked, draws);
-        Ticked {
-            answer: turned.answer,
-            state,
-        }
-    }
-
     #[tactic(auto, unfolding(crate::specs::NoiseGenerator::noise_generator_tick_of, common::specs::Refusal::refused_number))]
     pub fn tick(
         self,
@@ -349,7 +326,21 @@ impl NoiseGenerator {
         ensures { result ≡ noise_generator_tick_of self c wanted draws.now }
     {
         match common::draws_refusal(self.needed(), draws) {
-            Ok(()) => self.sound(c, wanted, draws),
+            Ok(()) => {
+                // One tick alone would pay more for the question whether its state is calm than the answer saves it.
+                let asked = Asked {
+                    correlation: self.clamped(c),
+                    wanted,
+                    calm: false,
+                    numbers: c.are_numbers(),
+                };
+                let mut state = self;
+                let turned = state.turn(asked, draws);
+                Ticked {
+                    answer: turned.answer,
+                    state,
+                }
+            }
             Err(refused) => Ticked {
                 answer: Answer::Refused(refused.number()),
                 state: self,
@@ -368,42 +359,8 @@ impl NoiseGenerator {
         }
     }
 
-    // The ticks of a block, each with the draws that those before it left. Whether the state is calm, which each tick leaves so, and
-    // whether a NaN is given are asked once.
-    fn run(
-        self,
-        c: NoiseGeneratorControls,
-        wanted: u32,
-        draws: &[u64],
-        samples: &mut [f64],
-        marks: &mut [u32],
-    ) -> Self
-        requires { (draws_refusal_of (needed_by self (length marks.old)) draws.now ≡ 0) × (length samples.old ≡ n_ports * length marks.old) }
-        ensures value { result ≡ (after_ticks (noise_generator_next_of c wanted) (length marks.old) (drawing self draws.now)).noise }
-        ensures samples_after { samples.new
-            ≡ joined (frame_at n_ports (noise_generator_told_of c wanted) (noise_generator_next_of c wanted) (drawing self draws.now))
-            (length marks.old) }
-        ensures marks_after { marks.new
-            ≡ tab (mark_at (noise_generator_told_of c wanted) (noise_generator_next_of c wanted) (drawing self draws.now))
-            (length marks.old) }
-    {
-        let asked = Asked {
-            correlation: self.clamped(c),
-            wanted,
-            calm: self.calm(c),
-            numbers: c.are_numbers(),
-        };
-        let mut noise = self;
-        let mut at = 0;
-        for i in 0..marks.len() {
-            let turned = noise.turn(asked, &draws[at..]);
-            answer::put(turned.answer, PORTS, i, samples, marks);
-            at += turned.taken;
-        }
-        noise
-    }
-
-    // As many ticks with these controls as there are marks. Their draws are taken and their samples come one tick after another.
+    // As many ticks with these controls as there are marks, each with the draws that those before it left. Their samples come one tick after another.
+    // Whether the state is calm, which each tick leaves so, and whether a NaN is given are asked once.
     pub fn block(
         self,
         c: NoiseGeneratorControls,
@@ -419,7 +376,19 @@ impl NoiseGenerator {
         let n = marks.len();
         let first = self.draws_refusal(n, draws);
         answer::block_refusal(PORTS, samples.len(), first, tally, n)?;
-        let state = self.run(c, wanted, draws, samples, marks);
+        let asked = Asked {
+            correlation: self.clamped(c),
+            wanted,
+            calm: self.calm(c),
+            numbers: c.are_numbers(),
+        };
+        let mut state = self;
+        let mut at = 0;
+        for i in 0..n {
+            let turned = state.turn(asked, &draws[at..]);
+            answer::put(turned.answer, PORTS, i, samples, marks);
+            at += turned.taken;
+        }
         Ok(Played {
             state,
             tally: tally.take_marks(marks).unwrap_or(tally),
