@@ -1,25 +1,21 @@
 // PinkNoiseState and NoiseGenerator of oscillators.rs: white and pink noise, and beside each a second one that is correlated with it.
 // The draws of its noise are lent to each tick. Its outputs: p10 white, p11 pink, p12 white2, p13 pink2.
-// A tick changes few rows, so inside the crate they are lent and changed in place: a block copies them once, not at each tick.
+// A tick changes few rows, so inside the crate a state is changed in place: a block copies it once, not at each tick.
 #![tactic(auto)]
 
 ghost use Rattle.std.specs.Prelude.{◌≡◌, ℕ, ◌+◌, ◌*◌, ◌<◌, ◌≤◌, true, false, length, slice_index, slice_index_or, Float};
 ghost use Rattle.std.specs.Float.{nan};
 ghost use Rattle.laws.specs.Float.{InUnit};
-ghost use Rattle.laws.specs.Lists.{tab};
 ghost use Rattle.numeric.specs.Draw.{bipolar_of};
 ghost use Rattle.common.specs.Refusal.{refused_number};
 ghost use Rattle.common.specs.Tests.{draws_refusal_of};
-ghost use Rattle.answer.specs.Block.{after_ticks, joined, block_said, mark_at, frame_at};
+ghost use Rattle.answer.specs.Block.{block_said};
 ghost use Rattle.answer.specs.Mark.{all_finite, all_numbers, mark_of};
-ghost use Rattle.noise_generator.specs.Consts.{n_ports};
 ghost use Rattle.noise_generator.specs.Pink.{new_pink, next_index, changed_of, sampled_of};
-ghost use Rattle.noise_generator.specs.NoiseGenerator.{generator, new_noise_generator, with_correlation, needed_of, changed_by, needed_by};
-ghost use Rattle.noise_generator.specs.NoiseGenerator.{mix_of, noise_generator_volts_of, turn_of, correlation_of, noise_generator_sound_of};
-ghost use Rattle.noise_generator.specs.NoiseGenerator.{noise_generator_tick_of};
-ghost use Rattle.noise_generator.specs.NoiseGenerator.{noise_generator_told_of, noise_generator_next_of, noise_generator_block_of};
-ghost use Rattle.noise_generator.specs.NoiseGenerator.{drawing, controls_of, restarted, rated};
-ghost use Rattle.noise_generator.specs.Shortcuts.{pink_at, needed_at, ticked, turn_volts, Calm, climbed_of};
+ghost use Rattle.noise_generator.specs.NoiseGenerator.{new_noise_generator, with_correlation, needed_of, changed_by, needed_by};
+ghost use Rattle.noise_generator.specs.NoiseGenerator.{mix_of, noise_generator_volts_of, turn_of, correlation_of};
+ghost use Rattle.noise_generator.specs.NoiseGenerator.{noise_generator_tick_of, noise_generator_block_of, controls_of, restarted, rated};
+ghost use Rattle.noise_generator.specs.Shortcuts.{ticked, turn_volts, Calm, climbed_of};
 ghost use Rattle.noise_generator.specs.Promises.{Bounded};
 
 use answer::{Answer, Played, Tally, Ticked, Volts};
@@ -63,20 +59,10 @@ struct Asked {
     numbers: bool,
 }
 
-// A pink without its rows, which are lent beside it.
-#[derive(Clone, Copy)]
-struct Rowless {
-    running_sum: f64,
-    index: u32,
-}
-
-// What a turn leaves beside the rows, and how many draws it took.
+// What a turn answers, and how many draws it took.
 #[derive(Clone, Copy)]
 struct Turned {
     answer: Answer,
-    pink: Rowless,
-    pink2: Rowless,
-    last_white: f64,
     taken: usize,
 }
 
@@ -130,13 +116,23 @@ impl PinkNoiseState {
         }
     }
 
-    fn rowless(self) -> Rowless
-        ensures { pink_at self.rows result ≡ self }
+    // The Rust's sample but for what it answers: each row that changes is drawn, the draws standing from place `at` on.
+    #[tactic(auto, using(crate::proofs::RowLaws::changed_most), unfolding(crate::specs::Pink::rows_of))]
+    fn sample(&mut self, draws: &[u64], at: usize)
+        requires { let n = changed_of (next_index self.old.index) in
+            (at + n ≤ length draws.now) × ((i : ℕ) → i < n → slice_index draws.now (at + i) < 9007199254740992) }
+        ensures state { self.new ≡ sampled_of draws.now at self.old }
+        ensures index { self.new.index ≡ next_index self.old.index }
     {
-        Rowless {
-            running_sum: self.running_sum,
-            index: self.index,
+        let index = next_index(self.index);
+        let mut running_sum = self.running_sum;
+        for i in 0..changed(index) {
+            let row = bipolar(draws[at + i]);
+            running_sum = running_sum - self.rows[i] + row;
+            self.rows[i] = row;
         }
+        self.running_sum = running_sum;
+        self.index = index;
     }
 
     // Whether its rows lie from -1 to 1 and their sum from -2^54 to 2^54: a sample leaves it so, since 1 more or less is rounded
@@ -147,37 +143,6 @@ impl PinkNoiseState {
         self.running_sum >= -18014398509481984.0
             && self.running_sum <= 18014398509481984.0
             && rows_in_unit(self.rows)
-    }
-}
-
-impl Rowless {
-    // The pink of these rows.
-    fn with_rows(self, rows: [f64; ROWS]) -> PinkNoiseState
-        ensures { result ≡ pink_at rows self }
-    {
-        PinkNoiseState {
-            rows,
-            running_sum: self.running_sum,
-            index: self.index,
-        }
-    }
-
-    // The Rust's sample but for what it answers: each row that changes is drawn, the draws standing from place `at` on.
-    #[tactic(auto, using(crate::proofs::RowLaws::changed_most), unfolding(crate::specs::Pink::rows_of))]
-    fn sample(self, rows: &mut [f64; ROWS], draws: &[u64], at: usize) -> Self
-        requires { let n = changed_of (next_index self.index) in
-            (at + n ≤ length draws.now) × ((i : ℕ) → i < n → slice_index draws.now (at + i) < 9007199254740992) }
-        ensures state { pink_at rows.new result ≡ sampled_of draws.now at (pink_at rows.old self) }
-        ensures index { result.index ≡ next_index self.index }
-    {
-        let index = next_index(self.index);
-        let mut running_sum = self.running_sum;
-        for i in 0..changed(index) {
-            let row = bipolar(draws[at + i]);
-            running_sum = running_sum - rows[i] + row;
-            rows[i] = row;
-        }
-        Rowless { running_sum, index }
     }
 }
 
@@ -325,73 +290,29 @@ impl NoiseGenerator {
     }
 
     // An accepted tick: white's draw, independent's, those of pink and of pink2.
-    #[tactic(auto, using(crate::proofs::TurnLaws::turning), unfolding(crate::specs::NoiseGenerator::turn_of, crate::specs::Shortcuts::needed_at))]
-    fn turn(
-        rows: &mut [f64; ROWS],
-        rows2: &mut [f64; ROWS],
-        pink: Rowless,
-        pink2: Rowless,
-        asked: Asked,
-        draws: &[u64],
-    ) -> Turned
-        requires draws_value { draws_refusal_of (needed_at pink pink2) draws.now ≡ 0 }
+    #[tactic(auto, using(crate::proofs::TurnLaws::turning), unfolding(crate::specs::NoiseGenerator::turn_of, crate::specs::NoiseGenerator::needed_of))]
+    fn turn(&mut self, asked: Asked, draws: &[u64]) -> Turned
+        requires draws_value { draws_refusal_of (needed_of self.old) draws.now ≡ 0 }
         requires calm_value { asked.calm ≡ true
-            → all_finite (turn_volts asked.correlation (pink_at rows.old pink) (pink_at rows2.old pink2) asked.wanted draws.now) ≡ true }
-        ensures state { (stored white : Float)
-            → ticked result.answer (generator (pink_at rows.new result.pink) (pink_at rows2.new result.pink2) stored result.last_white)
-            ≡ turn_of asked.correlation asked.numbers (generator (pink_at rows.old pink) (pink_at rows2.old pink2) stored white) asked.wanted draws.now }
-        ensures taken { result.taken ≡ needed_at pink pink2 }
+            → all_finite (turn_volts asked.correlation self.old.pink self.old.pink2 asked.wanted draws.now) ≡ true }
+        ensures state { ticked result.answer self.new ≡ turn_of asked.correlation asked.numbers self.old asked.wanted draws.now }
+        ensures taken { result.taken ≡ needed_of self.old }
     {
         let white1 = bipolar(draws[0]);
         let independent = bipolar(draws[1]);
-        let after = pink.sample(rows, draws, 2);
-        let n = changed(after.index);
-        let after2 = pink2.sample(rows2, draws, 2 + n);
-        let n2 = changed(after2.index);
+        self.pink.sample(draws, 2);
+        let n = changed(self.pink.index);
+        self.pink2.sample(draws, 2 + n);
+        let n2 = changed(self.pink2.index);
+        self.last_white = white1;
         Turned {
             answer: asked.heard(
                 white1,
                 independent,
-                after.running_sum / 16.0,
-                after2.running_sum / 16.0,
+                self.pink.running_sum / 16.0,
+                self.pink2.running_sum / 16.0,
             ),
-            pink: after,
-            pink2: after2,
-            last_white: white1,
             taken: 2 + n + n2,
-        }
-    }
-
-    // An accepted tick. One alone would pay more for the question whether its state is calm than the answer saves it.
-    #[tactic(auto, unfolding(crate::specs::Shortcuts::needed_at, crate::specs::NoiseGenerator::needed_of))]
-    fn sound(self, c: NoiseGeneratorControls, wanted: u32, draws: &[u64]) -> Ticked<NoiseGenerator>
-        requires { draws_refusal_of (needed_of self) draws.now ≡ 0 }
-        ensures { result ≡ noise_generator_sound_of self c wanted draws.now }
-    {
-        let asked = Asked {
-            correlation: self.clamped(c),
-            wanted,
-            calm: false,
-            numbers: c.are_numbers(),
-        };
-        let mut rows = self.pink.rows;
-        let mut rows2 = self.pink2.rows;
-        let turned = Self::turn(
-            &mut rows,
-            &mut rows2,
-            self.pink.rowless(),
-            self.pink2.rowless(),
-            asked,
-            draws,
-        );
-        Ticked {
-            answer: turned.answer,
-            state: NoiseGenerator {
-                pink: turned.pink.with_rows(rows),
-                pink2: turned.pink2.with_rows(rows2),
-                last_white: turned.last_white,
-                ..self
-            },
         }
     }
 
@@ -405,7 +326,21 @@ impl NoiseGenerator {
         ensures { result ≡ noise_generator_tick_of self c wanted draws.now }
     {
         match common::draws_refusal(self.needed(), draws) {
-            Ok(()) => self.sound(c, wanted, draws),
+            Ok(()) => {
+                // One tick alone would pay more for the question whether its state is calm than the answer saves it.
+                let asked = Asked {
+                    correlation: self.clamped(c),
+                    wanted,
+                    calm: false,
+                    numbers: c.are_numbers(),
+                };
+                let mut state = self;
+                let turned = state.turn(asked, draws);
+                Ticked {
+                    answer: turned.answer,
+                    state,
+                }
+            }
             Err(refused) => Ticked {
                 answer: Answer::Refused(refused.number()),
                 state: self,
@@ -424,54 +359,8 @@ impl NoiseGenerator {
         }
     }
 
-    // The ticks of a block, each with the draws that those before it left. Whether the state is calm, which each tick leaves so, and
-    // whether a NaN is given are asked once.
-    fn run(
-        self,
-        c: NoiseGeneratorControls,
-        wanted: u32,
-        draws: &[u64],
-        samples: &mut [f64],
-        marks: &mut [u32],
-    ) -> Self
-        requires { (draws_refusal_of (needed_by self (length marks.old)) draws.now ≡ 0) × (length samples.old ≡ n_ports * length marks.old) }
-        ensures value { result ≡ (after_ticks (noise_generator_next_of c wanted) (length marks.old) (drawing self draws.now)).noise }
-        ensures samples_after { samples.new
-            ≡ joined (frame_at n_ports (noise_generator_told_of c wanted) (noise_generator_next_of c wanted) (drawing self draws.now))
-            (length marks.old) }
-        ensures marks_after { marks.new
-            ≡ tab (mark_at (noise_generator_told_of c wanted) (noise_generator_next_of c wanted) (drawing self draws.now))
-            (length marks.old) }
-    {
-        let asked = Asked {
-            correlation: self.clamped(c),
-            wanted,
-            calm: self.calm(c),
-            numbers: c.are_numbers(),
-        };
-        let mut rows = self.pink.rows;
-        let mut rows2 = self.pink2.rows;
-        let mut pink = self.pink.rowless();
-        let mut pink2 = self.pink2.rowless();
-        let mut last_white = self.last_white;
-        let mut at = 0;
-        for i in 0..marks.len() {
-            let turned = Self::turn(&mut rows, &mut rows2, pink, pink2, asked, &draws[at..]);
-            answer::put(turned.answer, PORTS, i, samples, marks);
-            pink = turned.pink;
-            pink2 = turned.pink2;
-            last_white = turned.last_white;
-            at += turned.taken;
-        }
-        NoiseGenerator {
-            pink: pink.with_rows(rows),
-            pink2: pink2.with_rows(rows2),
-            last_white,
-            ..self
-        }
-    }
-
-    // As many ticks with these controls as there are marks. Their draws are taken and their samples come one tick after another.
+    // As many ticks with these controls as there are marks, each with the draws that those before it left. Their samples come one tick after another.
+    // Whether the state is calm, which each tick leaves so, and whether a NaN is given are asked once.
     pub fn block(
         self,
         c: NoiseGeneratorControls,
@@ -487,7 +376,19 @@ impl NoiseGenerator {
         let n = marks.len();
         let first = self.draws_refusal(n, draws);
         answer::block_refusal(PORTS, samples.len(), first, tally, n)?;
-        let state = self.run(c, wanted, draws, samples, marks);
+        let asked = Asked {
+            correlation: self.clamped(c),
+            wanted,
+            calm: self.calm(c),
+            numbers: c.are_numbers(),
+        };
+        let mut state = self;
+        let mut at = 0;
+        for i in 0..n {
+            let turned = state.turn(asked, &draws[at..]);
+            answer::put(turned.answer, PORTS, i, samples, marks);
+            at += turned.taken;
+        }
         Ok(Played {
             state,
             tally: tally.take_marks(marks).unwrap_or(tally),

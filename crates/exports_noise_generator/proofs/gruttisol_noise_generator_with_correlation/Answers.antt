@@ -1,15 +1,8 @@
-use Rattle.boundary.proofs.Flat.{sized, kept_done, kept_refused}
+use Rattle.std.proofs.Common.{◌∙◌}
+use Rattle.boundary.specs.Flat.{kept_result}
 use Rattle.exports_noise_generator.specs.Calls.{noise_generator_with_correlation_at}
 use Rattle.exports_noise_generator.proofs.gruttisol_noise_generator_with_correlation.Goals as goal
 
-pub store-requires : goal.store-requires
-store-requires c = sized _ _ _ _ _ c.sizes-n.ensures c.if-n-eq0.true
-
-pub returns-then-n-eq0 : goal.returns-then-n-eq0
-unfolding noise_generator_with_correlation_at
-returns-then-n-eq0 c = kept_done _ _ _ _ _ c.sizes-n.ensures c.if-n-eq0.true _ _
-    (simp (c.if-n-eq0.true, c.store.ensures.0, c.store.ensures.1, c.with_correlation.ensures))
-
-pub returns-else-n-eq0 : goal.returns-else-n-eq0
-unfolding noise_generator_with_correlation_at
-returns-else-n-eq0 c = kept_refused _ _ _ _ _ c.sizes-n.ensures c.if-n-eq0.false _
+pub returns : goal.returns
+unfolding noise_generator_with_correlation_at kept_result
+returns c = c.keep.ensures ∙ simp c.with_correlation-noise.ensures

@@ -6,7 +6,7 @@ use Rattle.laws.proofs.Slices.{stored}
 use Rattle.exports_noise_generator.proofs.Slices.{first_kept, both_kept, state_stored}
 use Rattle.exports_noise_generator.specs.State.{floats_of, wholes_of}
 use borrow.Author.Rules.{rules}
-use Rattle.exports_noise_generator.proofs.store.Goals as goal
+use Rattle.exports_noise_generator.proofs.CellsLayout.store.Goals as goal
 
 pub put_rows-requires-2 : goal.put_rows-requires-2
 put_rows-requires-2 c = let a = c.args in
