@@ -120,11 +120,9 @@ fn read_volts(text: &[u8], floats: &mut [f64], wholes: &mut [u64]) -> Result<(),
 pub extern "C" fn gruttisol_score_read(text: &[u8], floats: &mut [f64], wholes: &mut [u64]) -> u32
     ensures { kept result floats.new wholes.new ≡ score_read_at text.now floats.old wholes.old }
 {
-    let n = boundary::sizes(FLOATS, WHOLES, floats, wholes);
-    if n == 0 {
-        code_of(read_volts(text, floats, wholes))
-    } else {
-        n
+    match boundary::sizes(FLOATS, WHOLES, floats, wholes) {
+        Ok(()) => code_of(read_volts(text, floats, wholes)),
+        Err(refused) => refused.number(),
     }
 }
 
