@@ -84,26 +84,24 @@ fn gate_number(gate: Option<u32>) -> u64
 }
 
 #[tactic(auto, unfolding(crate::specs::Cells::wholes_of))]
-fn put_wholes(s: Score, wholes: &mut [u64])
-    requires { length wholes.old ≡ 4 }
-    ensures { wholes.new ≡ wholes_of s }
+fn wholes_of(s: Score) -> [u64; 4]
+    ensures { result ≡ wholes_of s }
 {
-    wholes.copy_from_slice(&[
+    [
         osc_number(score::owner_of(s.inputs)),
         u64::from(s.head.hz),
         u64::from(s.head.frames),
         gate_number(s.head.gate),
-    ]);
+    ]
 }
 
 // ---- the volts
 
 #[tactic(auto, unfolding(crate::specs::Cells::floats_of))]
-fn put_floats(s: Score, floats: &mut [f64])
-    requires { length floats.old ≡ 5 }
-    ensures { floats.new ≡ floats_of s }
+fn floats_of(s: Score) -> [f64; 5]
+    ensures { result ≡ floats_of s }
 {
-    floats.copy_from_slice(&ports_of(s.inputs).map(score::volts));
+    ports_of(s.inputs).map(score::volts)
 }
 
 fn read_volts(text: &[u8], floats: &mut [f64], wholes: &mut [u64]) -> Result<(), Refusal>
@@ -111,8 +109,8 @@ fn read_volts(text: &[u8], floats: &mut [f64], wholes: &mut [u64]) -> Result<(),
     ensures { kept (code_of result) floats.new wholes.new ≡ kept_of (score_of text.now) floats.old wholes.old }
 {
     let s = score::read(text)?;
-    put_floats(s, floats);
-    put_wholes(s, wholes);
+    floats.copy_from_slice(&floats_of(s));
+    wholes.copy_from_slice(&wholes_of(s));
     Ok(())
 }
 
@@ -139,11 +137,10 @@ fn cell_of(c: Control) -> i32
 }
 
 #[tactic(auto, unfolding(crate::specs::Cells::microvolts_of))]
-fn put_microvolts(s: Score, microvolts: &mut [i32])
-    requires { length microvolts.old ≡ 5 }
-    ensures { microvolts.new ≡ microvolts_of s }
+fn microvolts_of(s: Score) -> [i32; 5]
+    ensures { result ≡ microvolts_of s }
 {
-    microvolts.copy_from_slice(&ports_of(s.inputs).map(cell_of));
+    ports_of(s.inputs).map(cell_of)
 }
 
 fn read_microvolts(text: &[u8], microvolts: &mut [i32], wholes: &mut [u64]) -> Result<(), Refusal>
@@ -152,8 +149,8 @@ fn read_microvolts(text: &[u8], microvolts: &mut [i32], wholes: &mut [u64]) -> R
         ≡ told_of (score_of text.now) microvolts.old wholes.old }
 {
     let s = score::read(text)?;
-    put_microvolts(s, microvolts);
-    put_wholes(s, wholes);
+    microvolts.copy_from_slice(&microvolts_of(s));
+    wholes.copy_from_slice(&wholes_of(s));
     Ok(())
 }
 
