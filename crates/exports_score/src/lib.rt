@@ -45,6 +45,7 @@ fn code_of(done: Result<(), Refusal>) -> u32
 
 // ---- the cells of a score
 
+// Kept: four kinds, all known here, so a match and no `dyn`; `ports_of` and `inputs_of` too.
 fn osc_number(osc: Osc) -> u64
     ensures { result ≡ osc_number osc }
 {
@@ -154,6 +155,7 @@ fn read_microvolts(text: &[u8], microvolts: &mut [i32], wholes: &mut [u64]) -> R
     Ok(())
 }
 
+// Kept: the numbers of lengths, here and in `gruttisol_score_write`, since the C interface answers by them.
 #[unsafe(no_mangle)]
 pub extern "C" fn gruttisol_score_values(
     text: &[u8],

@@ -1,5 +1,5 @@
 -- `gruttisol_score_read`: the lengths are asked first, and then the text.
-use mathlib.Core.Path.{refl, ◌∙◌}
+use mathlib.Core.Path.{refl}
 use Rattle.common.specs.Refusal.{refused_number}
 use Rattle.boundary.proofs.Flat.{sized, kept_pass, kept_stop}
 use Rattle.exports_score.specs.Calls.{score_read_at}
