@@ -84,7 +84,7 @@ def item_of(text, at):
     for m in ITEM.finditer(text):
         if m.start() > at:
             break
-        end = re.compile(rf"^{m[1]}\}}|^{m[1]}[^\n]*;$", re.M).search(text, m.start())
+        end = re.compile(rf"^{m[1]}\}}|^{m[1]}\S[^\n]*;$", re.M).search(text, m.start())
         if end and at <= end.end():
             above = re.compile(r"(?:^ *(?://|#\[)[^\n]*\n)*\Z", re.M).search(text, 0, m.start())
             name = re.search(r"\b(?:fn|struct|enum|trait) (\w+)", m[0])
