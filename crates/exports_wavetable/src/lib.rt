@@ -17,6 +17,9 @@ use boundary::Layout;
 use common::{EdgeDetector, Hertz, Memo, Refusal, Turns, VoltsPerOctave};
 use wavetable::{Wavetable, WavetableControls};
 
+// Kept: in `store`, `gruttisol_wavetable_new`, `gruttisol_wavetable_tick`, `gruttisol_wavetable_block`, `gruttisol_wavetable_reset` and
+// `gruttisol_wavetable_set_sample_rate` the slices stand beside one another: the C interface lends them so.
+
 // Where the edge record's floats begin, and what stands after them.
 const EDGE: usize = 2;
 

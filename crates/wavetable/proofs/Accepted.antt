@@ -1,6 +1,6 @@
 -- What the tick's tests say.
 use mathlib.Core.Bool.{Bool, true, false, cond, false≢true}
-use mathlib.Core.Path.{◌≡◌, refl, sym}
+use mathlib.Core.Path.{◌≡◌, refl, sym, ap, ◌∙◌}
 use Prim.Native.Nat.{ℕ, ◌+◌, ◌≤◌}
 use native.Mathlib.Omega.{arith}
 use lib.Dec.{eqb}
@@ -42,10 +42,14 @@ lent_number s size None v h = simp (sym h, ne_eqb _ _ (λ e. false≢true (v.1 e
 lent_number s size (Some x) v h = simp (sym h, eq-eqb _ _ (v.0 refl))
 
 -- what refuses it, told without it
-pub told_alone : {T : Type 0} (r : Result T Refusal) (u : Unit {0}) → refused_number (result_and r (Ok u)) ≡ refused_number r
+pub alone : {T : Type 0} (n : ℕ) (r : Result T Refusal) (u : Unit {0}) (b : Result (Unit {0}) Refusal) → refused_number r ≡ n → b ≡ result_and r (Ok u)
+    → refused_number b ≡ n
 unfolding refused_number
-told_alone (Ok x) u = refl
-told_alone (Err e) u = refl
+alone n r u b h e = ap refused_number e ∙ go r ∙ h
+  where
+    go : {T : Type 0} (r : Result T Refusal) → refused_number (result_and r (Ok u)) ≡ refused_number r
+    go (Ok x) = refl
+    go (Err e) = refl
 
 -- and its rate, its phase and its threshold are good
 abbrev Fine : Wavetable → Type 0

@@ -17,7 +17,8 @@ use Rattle.std.specs.Prelude.{Result, Ok, Err}
 use Rattle.common.proofs.RefusalLaws.{nonzero}
 use Rattle.common.specs.Refusal.{refused_number}
 use Rattle.common.specs.declared.Refusal.{Refusal}
-use Rattle.wavetable.specs.Bank.{Filled, filled, fill_table_of, plain_of, series_of, sum_of, terms_of, scale_of, is_series, cell_of, table_cell, table_of, bank_cell, bank_of}
+use Rattle.wavetable.specs.Bank.{Filled, filled, fill_table_of}
+use Rattle.wavetable.specs.Bank.{plain_of, series_of, sum_of, terms_of, scale_of, is_series, cell_of, table_cell, table_of, bank_cell, bank_of}
 use Rattle.wavetable.specs.Shortcuts.{series_number, plain_number, number_of, Right}
 use Rattle.wavetable.specs.declared.bank.TheConstants.WavetableType.{ALL}
 use Rattle.wavetable.specs.declared.bank.Series.{Series}

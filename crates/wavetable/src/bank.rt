@@ -32,6 +32,7 @@ enum Plain {
     FormantO = 7,
 }
 
+// A table of the bank. Kept: neither an Option nor a Result, since each of the two cases is a table.
 #[derive(Clone, Copy)]
 enum WavetableType {
     Series(Series),
@@ -67,8 +68,8 @@ fn partial(harmonic: f64, i: usize) -> f64
     numeric::sin(phase * harmonic * 2.0 * numeric::PI)
 }
 
-// Kept: `harmonic`, `factor` and `term` ask k < 64, so that 2 * k + 1 is in range, and `terms`, `vowel` and `cell` level < 8, which max_harmonic asks. Types of
-// such numbers would be made of a loop's own number at each call and taken apart again.
+// Kept: `harmonic`, `factor` and `term` ask that k is below 64, which keeps 2 * k + 1 in range, and `terms`, `vowel` and `cell` that a level is below 8, as an
+// index of the sheet. Types of such numbers would be made of a loop's own number at each call and be taken apart again in it.
 impl Series {
     // The harmonic of term k: odd ones only in triangle and square.
     #[tactic(auto, unfolding(crate::specs::Bank::harmonic_of))]

@@ -90,6 +90,8 @@ fn real(n: usize) -> f64
     numeric::of_u64(n as u64)
 }
 
+// Kept: `max_harmonic` asks that a level is below 8, as each index asks it of its row: a type of levels would be made for this index alone.
+
 // The largest harmonic in a level of a table. The Rust halves the first level's from level to level, to at least 1.
 fn max_harmonic(table: usize, level: usize) -> usize
     requires { (table < num_tables) × (level < num_mips) }
@@ -230,6 +232,7 @@ impl WavetableControls {
     }
 }
 
+// Kept: `glide`, `run` and `block` take samples and marks as the two slices that a host lends (the C interface).
 impl Wavetable {
     // Of a rate and of the threshold that its gate goes by. A refused new hands out the state with the bad one, which every later call refuses.
     #[tactic(auto, unfolding(crate::specs::Wavetable::wavetable_new_of, crate::specs::Wavetable::new_wavetable, answer::specs::Calls::made_unless))]
@@ -344,7 +347,13 @@ impl Wavetable {
     }
 
     // The ticks of a block. Only the first can take the edge, and the memo holds from then on. The controls are asked once.
-    fn run(self, c: WavetableControls, bank: &[f64; BANK_SIZE], samples: &mut [f64], marks: &mut [u32]) -> Self
+    fn run(
+        self,
+        c: WavetableControls,
+        bank: &[f64; BANK_SIZE],
+        samples: &mut [f64],
+        marks: &mut [u32],
+    ) -> Self
         requires { (wavetable_tick_refusal_of self (length bank.now) ≡ 0) × (0 < length marks.old) × (length samples.old ≡ n_ports * length marks.old) }
         ensures value { result ≡ after_ticks (wavetable_next_of c bank.now) (length marks.old) self }
         ensures samples_after { samples.new
@@ -383,7 +392,7 @@ impl Wavetable {
         if n == 0 {
             return Ok(Played { state: self, tally });
         }
-        let state = self.run(c, lent?, samples, marks);
+        let state = self.run(c, lent?, samples, marks); // what was lent is refused above
         Ok(Played {
             state,
             tally: tally.take_marks(marks).unwrap_or(tally),

@@ -18,4 +18,6 @@ returns-in_err-refusal-clause-value c = λ x h. absurd (true≢false (sym c.from
 
 pub returns-clause-number : goal.returns-clause-number
 unfolding refused_number
-returns-clause-number c = ap refused_number c.ok_or.ensures.value ∙ lent_number c.args.self _ c.as_array.result c.as_array.ensures.variant c.in_ok-refusal.ensures
+returns-clause-number c =
+    ap refused_number c.ok_or.ensures.value
+    ∙ lent_number c.args.self _ c.as_array.result c.as_array.ensures.variant c.in_ok-refusal.ensures
