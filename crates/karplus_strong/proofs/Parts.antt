@@ -38,7 +38,8 @@ use Rattle.karplus_strong.specs.Shortcuts.{Cut, state_refusal_of}
 use Rattle.karplus_strong.specs.Line.{blank_at, blank_of, struck_of}
 use Rattle.karplus_strong.specs.Step.{filter_coef_of, ap_coef_of, filter_delay_of, ap_delay_of, target_delay_of, offset_one, offset_two}
 use Rattle.karplus_strong.specs.Step.{tap_of, filtered_of, stretched_of, heard_of, rest_of, Ticking, wrote_of, cleared_of, step_of}
-use Rattle.karplus_strong.specs.Shortcuts.{tuning_of, tap_at, turn_of, hear_of, strike_refusal_of, strike_len, strike_at}
+use Rattle.karplus_strong.specs.declared.turning.Loop.{Loop}
+use Rattle.karplus_strong.specs.Shortcuts.{tuning_of, tap_at, turn_of, with_loop, after_turn, hear_of, strike_refusal_of, strike_len, strike_at}
 use Rattle.karplus_strong.specs.KarplusStrong.{max_len_of, string_of, no_string, Strung, strung, line_ok, room_of, karplus_strong_refusal_of}
 use Rattle.karplus_strong.specs.KarplusStrong.{karplus_strong_rate_refusal_of, Making, leaving, made_unless, karplus_strong_new_refusal_of}
 use Rattle.karplus_strong.specs.KarplusStrong.{karplus_strong_new_of}
@@ -561,11 +562,16 @@ module _ (s : KarplusStrong) (t : Tuning) (l : List Float) (sample : Float)
   unfolding turn_of
   turn_clean h next v a en ev ea = rw (← es, h, en, ea, ev, heard_known leaked false t.numbers h)
 
-  pub turn_cleared : is_fin leaked ≡ false → (v : Volts) (a : Answer) (x : List Float) (u : KarplusStrong) → v ≡ volts1 zer
-      → a ≡ marked_of v true true true t.numbers → x ≡ blank_of 0 s.len l → u ≡ rest_of s s.len s.trigger_edge
-      → record { out = record { answer = a; state = u }; line = x } ≡ turn_of s t l
+  pub turn_cleared : is_fin leaked ≡ false → (v : Volts) (a : Answer) (x : List Float) → v ≡ volts1 zer
+      → a ≡ marked_of v true true true t.numbers → x ≡ blank_of 0 s.len l
+      → record { out = record { answer = a; state = rest_of s s.len s.trigger_edge }; line = x } ≡ turn_of s t l
   unfolding turn_of
-  turn_cleared h v a x u ev ea ex eu = rw (← es, h, ea, ev, ex, eu, heard_known zer true t.numbers zer_fin)
+  turn_cleared h v a x ev ea ex = rw (← es, h, ea, ev, ex, heard_known zer true t.numbers zer_fin)
+
+-- a turn of the loop is its string's
+pub loop_turned : (s : KarplusStrong) (u : Loop) (t : Tuning) (l x : List Float) (r : Ticked Loop) → with_loop s u ≡ s
+    → turn_of (with_loop s u) t l ≡ after_turn s r x → after_turn s r x ≡ turn_of s t l
+loop_turned s u t l x r e h = sym h ∙ ap (λ (v : KarplusStrong). turn_of v t l) e
 
 -- a step is the turn of its tuning
 pub turn_is : (s : KarplusStrong) (p d t : Float) (numbers : Bool) (l : List Float) → turn_of s (tuning_of p d t numbers) l ≡ step_of s p d t numbers l

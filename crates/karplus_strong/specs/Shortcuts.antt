@@ -19,6 +19,7 @@ use Rattle.karplus_strong.specs.KarplusStrong.{Strung, strung, max_len_of, line_
 use Rattle.karplus_strong.specs.declared.Heard.{Heard}
 use Rattle.karplus_strong.specs.declared.KarplusStrong.{KarplusStrong}
 use Rattle.karplus_strong.specs.declared.KarplusStrongControls.{KarplusStrongControls}
+use Rattle.karplus_strong.specs.declared.turning.Loop.{Loop}
 use Rattle.karplus_strong.specs.declared.Tuning.{Tuning}
 
 -- ---- the range in which a cast drops the digits of a fraction and nothing else: from 1 to below 2 ^ 52
@@ -53,6 +54,23 @@ turn_of s t l =
     let stretched = stretched_of s filtered t.ap_coef in
     let leaked = mul binary64 stretched loop_leak in
     cond (is_fin leaked) (wrote_of s filtered stretched leaked t.numbers l) (cleared_of s t.numbers l)
+
+-- the string s, where its loop has come to u; and what a turn from there leaves of it
+abbrev pub with_loop : KarplusStrong → Loop → KarplusStrong
+with_loop s u =
+    record {
+      len = u.len;
+      write_pos = u.write_pos;
+      sample_rate = s.sample_rate;
+      lp_state = u.lp_state;
+      ap_x1 = u.ap_x1;
+      ap_y1 = u.ap_y1;
+      trigger_edge = s.trigger_edge;
+      freq_memo = s.freq_memo;
+    }
+
+abbrev pub after_turn : KarplusStrong → Ticked Loop → List Float → Ticking
+after_turn s t l = record { out = record { answer = t.answer; state = with_loop s t.state }; line = l }
 
 unfoldable pub held_answer : Tuning → Strung → Answer
 held_answer t x = (turn_of x.string t x.line).out.answer

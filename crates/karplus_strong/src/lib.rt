@@ -23,10 +23,13 @@ ghost use Rattle.karplus_strong.specs.KarplusStrong.{damping_of, stretch_of, per
 ghost use Rattle.karplus_strong.specs.KarplusStrong.{karplus_strong_tick_of, first_refusal_of, karplus_strong_block_of};
 ghost use Rattle.karplus_strong.specs.KarplusStrong.{with_line, karplus_strong_reset_of, place_of, karplus_strong_set_sample_rate_of, strung};
 ghost use Rattle.karplus_strong.specs.Shortcuts.{Cut, state_refusal_of, strike_refusal_of, strike_len, strike_at, hear_of, ticking};
-ghost use Rattle.karplus_strong.specs.Shortcuts.{tuning_of, turn_of, held_answer, held_next};
+ghost use Rattle.karplus_strong.specs.Shortcuts.{with_loop, after_turn, tuning_of, turn_of, held_answer, held_next};
+
+mod turning;
 
 use answer::{Answer, Made, Played, Tally, Ticked, Volts};
 use common::{EdgeDetector, Hertz, Memo, Refusal, VoltsPerOctave};
+use turning::Loop;
 
 // The number of outputs: p10, out.
 const PORTS: usize = 1;
@@ -72,14 +75,6 @@ struct Heard {
     string: KarplusStrong,
     period: f64,
     strike: Option<usize>,
-}
-
-// The place that a tick writes, among so many cells.
-#[derive(Clone, Copy)]
-struct Place {
-    pos: usize,
-    len: usize,
-    ghost in_line: { pos < len },
 }
 
 // ---- numbers
@@ -175,29 +170,6 @@ fn placed(pos: usize, len: usize) -> usize
     if pos < len { pos } else { 0 }
 }
 
-impl Place {
-    // (pos + 1) % len
-    fn after(self) -> usize
-        ensures { result ≡ (self.pos + 1) % self.len }
-    {
-        let next = self.pos + 1;
-        if next < self.len { next } else { 0 }
-    }
-
-    // The cell that was written `delay` ticks ago, or the oldest one: (pos + len.saturating_sub(delay)) % len without a division.
-    fn behind(self, delay: usize) -> usize
-        ensures { result ≡ (self.pos + (self.len - delay)) % self.len }
-    {
-        if delay <= self.pos {
-            self.pos - delay
-        } else if delay < self.len {
-            self.pos + (self.len - delay)
-        } else {
-            self.pos
-        }
-    }
-}
-
 // The delay that is left for the line once the filters have theirs.
 fn target_delay(period: f64, filter_coef: f64, ap_coef: f64) -> f64
     ensures { result ≡ target_delay_of period filter_coef ap_coef }
@@ -283,10 +255,52 @@ impl Heard {
     }
 }
 
-impl KarplusStrong {
+impl Loop {
     // Loop DC leak: a loop gain below 1, so that an offset dies away.
     const LOOP_LEAK: f64 = 0.9995;
 
+    // One sample: the loop turns once, whichever string's it is. Inlined, for with a call in its loop a block takes more than twice as long.
+    #[inline(always)]
+    fn turn(self, t: Tuning, line: &mut [f64]) -> Ticked<Loop>
+        requires { self.len ≤ length line.old }
+        ensures { (s : KarplusStrong) → turn_of (with_loop s self) t line.old ≡ after_turn s result line.new }
+    {
+        let delay = t.delay as usize;
+        let read = line[self.behind(delay)];
+        let read2 = line[self.behind(delay + 1)];
+        let sample = read * (1.0 - t.fraction) + read2 * t.fraction;
+        let filtered = sample * t.filter_coef + self.lp_state * (1.0 - t.filter_coef);
+        let stretched = t.ap_coef * filtered + self.ap_x1 - t.ap_coef * self.ap_y1;
+        let leaked = stretched * Self::LOOP_LEAK;
+        if is_settled(leaked) {
+            line[self.write_pos] = leaked;
+            Ticked {
+                answer: answer::marked(Volts::of([leaked]), false, true, true, t.numbers),
+                state: Loop {
+                    len: self.len,
+                    write_pos: self.after(),
+                    lp_state: filtered,
+                    ap_x1: filtered,
+                    ap_y1: stretched,
+                },
+            }
+        } else {
+            blank(line, 0, self.len);
+            Ticked {
+                answer: answer::marked(Volts::of([0.0]), true, true, true, t.numbers),
+                state: Loop {
+                    len: self.len,
+                    write_pos: 0,
+                    lp_state: 0.0,
+                    ap_x1: 0.0,
+                    ap_y1: 0.0,
+                },
+            }
+        }
+    }
+}
+
+impl KarplusStrong {
     // The longest line, for a note of about 20 Hz.
     fn max_len_for(sample_rate: Hertz) -> usize
         requires { rate_ok sample_rate ≡ true }
@@ -407,41 +421,31 @@ impl KarplusStrong {
         }
     }
 
-    // One sample: the loop turns once. Inlined, for with a call in its loop a block takes more than twice as long.
-    #[inline(always)]
-    fn turn(self, t: Tuning, line: &mut [f64]) -> Ticked<KarplusStrong>
-        requires { (self.write_pos < self.len) × (self.len ≤ length line.old) }
-        ensures { (result ≡ (turn_of self t line.old).out) × (line.new ≡ (turn_of self t line.old).line) }
+    // The loop as it stands.
+    fn to_loop(self) -> Loop
+        requires { self.write_pos < self.len }
+        ensures { with_loop self result ≡ self }
     {
-        let place = Place {
-            pos: self.write_pos,
+        Loop {
             len: self.len,
-        };
-        let delay = t.delay as usize;
-        let read = line[place.behind(delay)];
-        let read2 = line[place.behind(delay + 1)];
-        let sample = read * (1.0 - t.fraction) + read2 * t.fraction;
-        let filtered = sample * t.filter_coef + self.lp_state * (1.0 - t.filter_coef);
-        let stretched = t.ap_coef * filtered + self.ap_x1 - t.ap_coef * self.ap_y1;
-        let leaked = stretched * KarplusStrong::LOOP_LEAK;
-        if is_settled(leaked) {
-            line[place.pos] = leaked;
-            Ticked {
-                answer: answer::marked(Volts::of([leaked]), false, true, true, t.numbers),
-                state: KarplusStrong {
-                    write_pos: place.after(),
-                    lp_state: filtered,
-                    ap_x1: filtered,
-                    ap_y1: stretched,
-                    ..self
-                },
-            }
-        } else {
-            blank(line, 0, self.len);
-            Ticked {
-                answer: answer::marked(Volts::of([0.0]), true, true, true, t.numbers),
-                state: self.at_rest(self.len),
-            }
+            write_pos: self.write_pos,
+            lp_state: self.lp_state,
+            ap_x1: self.ap_x1,
+            ap_y1: self.ap_y1,
+        }
+    }
+
+    // And back.
+    fn with_loop(self, turning: Loop) -> Self
+        ensures { result ≡ with_loop self turning }
+    {
+        KarplusStrong {
+            len: turning.len,
+            write_pos: turning.write_pos,
+            lp_state: turning.lp_state,
+            ap_x1: turning.ap_x1,
+            ap_y1: turning.ap_y1,
+            ..self
         }
     }
 
@@ -485,7 +489,11 @@ impl KarplusStrong {
         heard.refusal(draws)?;
         let tuning = c.tuning(heard.period);
         let struck = heard.struck(c.brightness, draws, line);
-        Ok(struck.turn(tuning, line))
+        let ticked = struck.to_loop().turn(tuning, line);
+        Ok(Ticked {
+            answer: ticked.answer,
+            state: struck.with_loop(ticked.state),
+        })
     }
 
     #[tactic(auto, unfolding(crate::specs::Shortcuts::ticking))]
@@ -517,13 +525,13 @@ impl KarplusStrong {
         ensures marks_after { marks.new
             ≡ tab (mark_at (held_answer t) (held_next t) (strung self line.old)) (length marks.old) }
     {
-        let mut string = self;
+        let mut turning = self.to_loop();
         for i in 0..marks.len() {
-            let ticked = string.turn(t, &mut *line);
+            let ticked = turning.turn(t, &mut *line);
             answer::put(ticked.answer, PORTS, i, &mut *samples, &mut *marks);
-            string = ticked.state;
+            turning = ticked.state;
         }
-        string
+        self.with_loop(turning)
     }
 
     // What refuses the first of n ticks. Where there is none, its trigger isn't looked at.

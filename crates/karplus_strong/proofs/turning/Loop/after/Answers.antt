@@ -1,5 +1,5 @@
 use Rattle.karplus_strong.proofs.Ring.{next_place, first_place}
-use Rattle.karplus_strong.proofs.Place.after.Goals as goal
+use Rattle.karplus_strong.proofs.turning.Loop.after.Goals as goal
 
 pub returns-then-next-self : goal.returns-then-next-self
 returns-then-next-self c = next_place _ _ c.if-next-self.true

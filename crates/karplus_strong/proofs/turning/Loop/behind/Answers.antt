@@ -1,5 +1,5 @@
 use Rattle.karplus_strong.proofs.Ring.{back_near, back_round, back_oldest}
-use Rattle.karplus_strong.proofs.Place.behind.Goals as goal
+use Rattle.karplus_strong.proofs.turning.Loop.behind.Goals as goal
 
 pub returns-then-delay-self : goal.returns-then-delay-self
 returns-then-delay-self c = back_near _ _ _ c.args.self.in_line c.if-delay-self.true
