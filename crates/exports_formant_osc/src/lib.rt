@@ -203,7 +203,11 @@ pub extern "C" fn gruttisol_formant_osc_set_sample_rate(
 {
     match boundary::state::<Cells>(floats, wholes) {
         Ok(formant_osc) => {
-            boundary::keep::<Cells>(formant_osc.set_sample_rate(Hertz(sample_rate)), floats, wholes)
+            boundary::keep::<Cells>(
+                formant_osc.set_sample_rate(Hertz(sample_rate)),
+                floats,
+                wholes,
+            )
         }
         Err(refused) => refused.number(),
     }

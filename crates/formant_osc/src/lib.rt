@@ -28,6 +28,7 @@ use answer::{Answer, Made, Played, Tally, Ticked, Volts};
 use common::{Hertz, Memo, Refusal, Turns, VoltsPerOctave};
 
 // The Rust's Memo<3, [[f64; 3]; 5]>: b0/norm, a1/norm and a2/norm of each of the five resonators, one after another.
+// Kept: fifteen in a row, and ten cells in a row below, since ReadBack of exports_formant_osc and Spoiled count them so.
 pub type CoefMemo = Memo<(u64, u64, u64), [f64; 15]>;
 
 // The resonators' cells stand one after another, two for each.
@@ -348,6 +349,7 @@ fn sway(start: Driver, vibrato: Vibrato, sample_rate: Hertz, samples: &mut [f64]
 }
 
 // The second time: the pulse that goes into the resonators, and in the mark's place whether the phase stays finite.
+// Kept: the samples and the marks one by one, and in each contract that they are as many, here and in what calls it: the C interface lends them as two slices.
 fn pulse(start: Turns, samples: &mut [f64], marks: &mut [u32]) -> Turns
     requires { length samples.old ≡ length marks.old }
     ensures value { result ≡ phase_at samples.old start (length marks.old) }

@@ -11,9 +11,8 @@ pub returns-in-Ok : goal.returns-in-Ok
 unfolding formant_osc_reset_at
 returns-in-Ok c = let f = c.args.floats.now in
     let w = c.args.wholes.now in
-    c.keep.ensures
-    ∙ ap (λ k. kept_sized n_floats n_wholes k f w)
-    (kept_changing floats_of wholes_of f w c.in-Ok.formant_osc _ _ (c.reset.ensures ∙ ap formant_osc_reset_of (lent n_floats n_wholes state_of f w _ c.in-Ok.ensures)))
+    let said = c.reset.ensures ∙ ap formant_osc_reset_of (lent n_floats n_wholes state_of f w _ c.in-Ok.ensures) in
+    c.keep.ensures ∙ ap (λ k. kept_sized n_floats n_wholes k f w) (kept_changing floats_of wholes_of f w c.in-Ok.formant_osc _ _ said)
 
 pub returns-in-Err : goal.returns-in-Err
 unfolding formant_osc_reset_at

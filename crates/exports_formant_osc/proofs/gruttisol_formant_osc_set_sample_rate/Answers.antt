@@ -11,10 +11,9 @@ pub returns-in-Ok : goal.returns-in-Ok
 unfolding formant_osc_set_sample_rate_at
 returns-in-Ok c = let f = c.args.floats.now in
     let w = c.args.wholes.now in
-    c.keep.ensures
-    ∙ ap (λ k. kept_sized n_floats n_wholes k f w)
-    (kept_changing floats_of wholes_of f w c.in-Ok.formant_osc _ _ (c.set_sample_rate.ensures
-        ∙ ap (λ s. formant_osc_set_sample_rate_of s (record { 0 = c.args.sample_rate })) (lent n_floats n_wholes state_of f w _ c.in-Ok.ensures)))
+    let state = lent n_floats n_wholes state_of f w _ c.in-Ok.ensures in
+    let said = c.set_sample_rate.ensures ∙ ap (λ s. formant_osc_set_sample_rate_of s (record { 0 = c.args.sample_rate })) state in
+    c.keep.ensures ∙ ap (λ k. kept_sized n_floats n_wholes k f w) (kept_changing floats_of wholes_of f w c.in-Ok.formant_osc _ _ said)
 
 pub returns-in-Err : goal.returns-in-Err
 unfolding formant_osc_set_sample_rate_at
