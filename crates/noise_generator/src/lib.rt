@@ -60,6 +60,7 @@ struct Asked {
 }
 
 // A pink without its rows, which are lent beside it.
+// Kept: so much apart from the rows, since with both pinks changed in place by `&mut self` a tick took 26 ns instead of 22.
 #[derive(Clone, Copy)]
 struct Rowless {
     running_sum: f64,
@@ -98,7 +99,7 @@ fn changed(index: u32) -> usize
     ensures { result ≡ changed_of index }
 {
     let changed_bits = (index ^ index.wrapping_sub(1)).trailing_ones();
-    numeric::least(changed_bits as usize, ROWS)
+    (changed_bits as usize).min(ROWS)
 }
 
 // From -1 to 1. A NaN isn't.
@@ -268,15 +269,13 @@ impl NoiseGenerator {
     }
 
     // A new one with another correlation. The clamp lets a NaN pass.
-    #[tactic(auto, unfolding(crate::specs::NoiseGenerator::with_correlation))]
+    #[tactic(auto, unfolding(crate::specs::NoiseGenerator::with_correlation, crate::specs::NoiseGenerator::new_noise_generator))]
     pub fn with_correlation(correlation: f64) -> Self
         ensures { result ≡ with_correlation correlation }
     {
         NoiseGenerator {
-            pink: PinkNoiseState::new(),
-            pink2: PinkNoiseState::new(),
             correlation: numeric::clamp(correlation, 0.0, 1.0),
-            last_white: 0.0,
+            ..NoiseGenerator::new()
         }
     }
 
@@ -473,15 +472,13 @@ impl NoiseGenerator {
     }
 
     // The correlation stays.
-    #[tactic(auto, unfolding(crate::specs::NoiseGenerator::restarted))]
+    #[tactic(auto, unfolding(crate::specs::NoiseGenerator::restarted, crate::specs::NoiseGenerator::new_noise_generator))]
     pub fn reset(self) -> Self
         ensures { result ≡ restarted self }
     {
         NoiseGenerator {
-            pink: PinkNoiseState::new(),
-            pink2: PinkNoiseState::new(),
             correlation: self.correlation,
-            last_white: 0.0,
+            ..NoiseGenerator::new()
         }
     }
 
