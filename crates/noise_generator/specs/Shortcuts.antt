@@ -11,8 +11,16 @@ use Rattle.noise_generator.specs.Promises.{Bounded}
 use Rattle.noise_generator.specs.declared.PinkNoiseState.{PinkNoiseState}
 use Rattle.noise_generator.specs.declared.NoiseGenerator.{NoiseGenerator}
 use Rattle.answer.specs.declared.Ticked.{Ticked}
+use Rattle.noise_generator.specs.declared.Rowless.{Rowless}
 
--- ---- a turn: what it answers, and what it leaves
+-- ---- a turn: the code lends the rows, and has apart from them what else it changes
+abbrev pub pink_at : List Float → Rowless → PinkNoiseState
+pink_at rows r = record { rows = rows; running_sum = r.running_sum; index = r.index }
+
+-- the draws of a tick of these pinks
+unfoldable pub needed_at : Rowless → Rowless → ℕ
+needed_at pink pink2 = 2 + (changed_of (next_index pink.index) + changed_of (next_index pink2.index))
+
 abbrev pub ticked : Answer → NoiseGenerator → Ticked NoiseGenerator
 ticked a s = record { answer = a; state = s }
 

@@ -11,7 +11,7 @@ pub returns-in-Ok : goal.returns-in-Ok
 unfolding refused_number
 returns-in-Ok c = let a = c.args in
     let taken : draws_refusal_of (needed_of a.self) a.draws.now ≡ 0 = search rules in
-    c.turn-turned.ensures.state
+    c.sound.ensures
     ∙ (λ i. turn_of (c.clamped.ensures i) (c.are_numbers.ensures i) a.self a.wanted a.draws.now)
     ∙ sym (tick_taken a.self a.c a.wanted a.draws.now taken)
 

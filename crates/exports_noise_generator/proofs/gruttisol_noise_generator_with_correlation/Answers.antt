@@ -1,8 +1,0 @@
-use Rattle.std.proofs.Common.{◌∙◌}
-use Rattle.boundary.specs.Flat.{kept_result}
-use Rattle.exports_noise_generator.specs.Calls.{noise_generator_with_correlation_at}
-use Rattle.exports_noise_generator.proofs.gruttisol_noise_generator_with_correlation.Goals as goal
-
-pub returns : goal.returns
-unfolding noise_generator_with_correlation_at kept_result
-returns c = c.keep.ensures ∙ simp c.with_correlation-noise.ensures
