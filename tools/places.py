@@ -2,8 +2,8 @@
 """Counts the places that docs/DESIGN-PASS.md speaks of, in crates/*/src as they stand at a commit, or in the work tree without one: how many there are,
 and how many of them are kept with a reason.
 
-A place is kept where a comment that says `Kept:` stands right above the item or inside it, or where such a comment of the file names its function in
-backticks.
+A place is kept where a comment that says `Kept:` stands right above the item or inside it, where such a comment of the file names its function in
+backticks, or where one above it begins `Kept, below:` and no heading `// ----` comes between.
 
 usage: tools/places.py [COMMIT] [--list | --left]      with --list each place is printed after its count, as file:line: what stands there; with --left those
                                                        without a reason
@@ -74,7 +74,7 @@ ITEM = re.compile(r"^( *)(?:pub(?:\([^)]*\))? )?(?:extern \"C\" )?(?:const )?(?:
 def reasons(text):
     """The comments of a file that give a reason, as (place, text)."""
     for m in re.finditer(r"(?:^ *//[^\n]*\n)*^ *//[^\n]*$|//[^\n]*$", text, re.M):
-        if "Kept:" in m[0]:
+        if "Kept:" in m[0] or "Kept, below:" in m[0]:
             yield m.start(), m[0]
 
 
@@ -84,7 +84,7 @@ def item_of(text, at):
     for m in ITEM.finditer(text):
         if m.start() > at:
             break
-        end = re.compile(rf"^{m[1]}\}}|^{m[1]}[^\n]*;$", re.M).search(text, m.start())
+        end = re.compile(rf"^{m[1]}\}}|^{m[1]}\S[^\n]*;$", re.M).search(text, m.start())
         if end and at <= end.end():
             above = re.compile(r"(?:^ *(?://|#\[)[^\n]*\n)*\Z", re.M).search(text, 0, m.start())
             name = re.search(r"\b(?:fn|struct|enum|trait) (\w+)", m[0])
@@ -98,7 +98,12 @@ def kept(where):
     text = dict(SOURCES)[name]
     at = sum(len(part) + 1 for part in text.split("\n")[: int(line) - 1])
     start, end, item = item_of(text, at)
-    return any(start <= place < end and not is_whole(text, start, end) or item and f"`{item}`" in said for place, said in reasons(text))
+    return any(
+        start <= place < end and not is_whole(text, start, end)
+        or item and f"`{item}`" in said
+        or "Kept, below:" in said and place < at and "// ----" not in text[place:at]
+        for place, said in reasons(text)
+    )
 
 
 def is_whole(text, start, end):

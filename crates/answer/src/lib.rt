@@ -73,7 +73,8 @@ const TOLD_STEERED: u32 = 10 + STEERED;
 
 // What a tick answers: its mark with its samples, or the number that refused it. The marks stand in the order of their numbers, so
 // that a number is computed, and not looked up.
-// Kept: a refused tick's number may be any that a host was told, also one of no Refusal: ToldNumbers speaks of each.
+// Kept: no Result of a mark, for the scope names this form, marks that carry samples beside a refused case with a number; and that number may be any that a
+// host was told, also one of no Refusal: ToldNumbers speaks of each.
 #[derive(Clone, Copy)]
 pub enum Answer {
     Cleared(Volts),

@@ -1,6 +1,6 @@
 -- The scope's ten examples, and after them the corners of requests CR 5 and CR 7: one table, about the definitions that the contracts cite, and the
 -- statement that every row holds.
-use Rattle.std.specs.Prelude.{ℕ, Bool, true, false, List, [], ◌∷◌, ◌≡◌, Float}
+use Rattle.std.specs.Prelude.{ℕ, Bool, true, false, List, [], ◌∷◌, ◌≡◌, Float, Option, Some, None}
 use Prim.Native.String.{String, ◌++◌}
 use Rattle.std.specs.Float.{binary64}
 use Rattle.std.specs.Float.Ieee.{of_bits}
@@ -12,8 +12,6 @@ use Rattle.common.specs.Phase.{wrap_of, turned_of, polyblep_of}
 use Rattle.common.specs.declared.EdgeDetector.{EdgeDetector}
 use Rattle.common.specs.declared.Risen.{Risen}
 use Rattle.common.specs.declared.Crossed.{Crossed}
-use Rattle.common.specs.declared.Crossing.{Crossing}
-use Rattle.common.specs.declared.Crossing.TheVariants.{Nowhere, At}
 use Rattle.wavetable.specs.Reads.{select_level, table_pos_of, table_index_of, blend_of}
 use Rattle.karplus_strong.specs.KarplusStrong.{max_len_of}
 use Rattle.karplus_strong.specs.Step.{offset_one, offset_two}
@@ -25,7 +23,7 @@ pub data Row : Type 0 where
   wrap : (x wrapped : Float) → Row
   polyblep : (t dt residual : Float) → Row
   draw : (k : ℕ) (bipolar : Float) → Row
-  edge : (threshold prev v : Float) (at : Crossing) → Row
+  edge : (threshold prev v : Float) (at : Option Float) → Row
   max_len : (hz cells : ℕ) → Row
   level : (n : ℕ) (inc : Float) (selected : ℕ) → Row
   offsets : (len delay one two : ℕ) → Row
@@ -66,9 +64,9 @@ table =
     ∷ draw 4503599627370496 (f64 0)
     ∷ draw 9007199254740991 (f64 0x3feffffffffffffe)
     -- 5. Previous 0, v 5: edge, fraction 0.5. Previous 0, v 2.5: none. Previous NaN, v 5: none.
-    ∷ edge gate_threshold (f64 0) (f64 0x4014000000000000) (At (f64 0x3fe0000000000000))
-    ∷ edge gate_threshold (f64 0) (f64 0x4004000000000000) Nowhere
-    ∷ edge gate_threshold (f64 0x7ff8000000000000) (f64 0x4014000000000000) Nowhere
+    ∷ edge gate_threshold (f64 0) (f64 0x4014000000000000) (Some (f64 0x3fe0000000000000))
+    ∷ edge gate_threshold (f64 0) (f64 0x4004000000000000) None
+    ∷ edge gate_threshold (f64 0x7ff8000000000000) (f64 0x4014000000000000) None
     -- 6. max_len at 1000, 44100, 48000: 60, 2215, 2410.
     ∷ max_len 1000 60
     ∷ max_len 44100 2215
@@ -102,17 +100,17 @@ table =
     ∷ turn (f64 0xfff0000000000000) false
     ∷ turn (f64 0x7ff8000000000000) false
     -- Request CR 7, gates at 1.0 V. Previous 0, v 5: edge, fraction 0.2. Previous 0, v 1.0: none. Previous 1.0, v 1.5: edge, fraction 0; none at 2.5 V.
-    ∷ edge low_gate_threshold (f64 0) (f64 0x4014000000000000) (At (f64 0x3fc999999999999a))
-    ∷ edge low_gate_threshold (f64 0) (f64 0x3ff0000000000000) Nowhere
-    ∷ edge low_gate_threshold (f64 0x7ff8000000000000) (f64 0x4014000000000000) Nowhere
-    ∷ edge low_gate_threshold (f64 0x3ff0000000000000) (f64 0x3ff8000000000000) (At (f64 0))
-    ∷ edge gate_threshold (f64 0x3ff0000000000000) (f64 0x3ff8000000000000) Nowhere
+    ∷ edge low_gate_threshold (f64 0) (f64 0x4014000000000000) (Some (f64 0x3fc999999999999a))
+    ∷ edge low_gate_threshold (f64 0) (f64 0x3ff0000000000000) None
+    ∷ edge low_gate_threshold (f64 0x7ff8000000000000) (f64 0x4014000000000000) None
+    ∷ edge low_gate_threshold (f64 0x3ff0000000000000) (f64 0x3ff8000000000000) (Some (f64 0))
+    ∷ edge gate_threshold (f64 0x3ff0000000000000) (f64 0x3ff8000000000000) None
     ∷ []
 
 -- whether there is an edge
-abbrev pub is_edge : Crossing → Bool
-is_edge Nowhere = false
-is_edge (At frac) = true
+abbrev pub is_edge : Option Float → Bool
+is_edge None = false
+is_edge (Some frac) = true
 
 -- each row is one equation. Of the two detectors one says whether there is an edge and the other where; v is the previous value afterwards.
 abbrev pub Holds : Row → Type 0

@@ -20,7 +20,7 @@ abbrev pub part : List Float → ℕ → ℕ → List Float
 part l k n = tab (λ (i : ℕ). get_or l (k + i) nan) n
 
 -- floats [phase, vibrato_phase, 10 of resonator_state, sample_rate, freq_memo.val, 15 of coef_memo.val]
--- wholes [freq_memo.key, freq_memo.valid, coef_memo.key0, key1, key2, valid]
+-- wholes [freq_memo.key, freq_memo.valid, the three of coef_memo.key, coef_memo.valid]
 unfoldable pub state_of : List Float → List ℕ → FormantOsc
 state_of f w =
     record {
@@ -29,7 +29,7 @@ state_of f w =
       resonator_state = part f 2 10;
       sample_rate = record { 0 = get_or f 12 nan };
       freq_memo = record { key = get_or w 0 0; val = record { 0 = get_or f 13 nan }; valid = not (eqb (get_or w 1 0) 0) };
-      coef_memo = record { key0 = get_or w 2 0; key1 = get_or w 3 0; key2 = get_or w 4 0; val = part f 14 15; valid = not (eqb (get_or w 5 0) 0) };
+      coef_memo = record { key = (get_or w 2 0, get_or w 3 0, get_or w 4 0); val = part f 14 15; valid = not (eqb (get_or w 5 0) 0) };
     }
 
 unfoldable pub floats_of : FormantOsc → List Float
@@ -41,7 +41,7 @@ unfoldable pub wholes_of : FormantOsc → List ℕ
 wholes_of s =
     let f = s.freq_memo in
     let c = s.coef_memo in
-    f.key ∷ cond f.valid 1 0 ∷ c.key0 ∷ c.key1 ∷ c.key2 ∷ cond c.valid 1 0 ∷ []
+    f.key ∷ cond f.valid 1 0 ∷ c.key.0 ∷ c.key.1 ∷ c.key.2 ∷ cond c.valid 1 0 ∷ []
 
 -- [out]
 unfoldable pub samples_of : Volts → List Float

@@ -20,6 +20,8 @@ const EDGE: usize = 2;
 
 const VAL: usize = EDGE + boundary::EDGE_FLOATS;
 
+// Kept, below: floats, wholes, counts, samples and marks stand beside one another, as the C interface lends them.
+
 // How an Lfo lies in the slices.
 struct Cells;
 

@@ -1,2 +1,4 @@
+pub mod Rows
 pub mod Slices
+pub mod Needed
 pub mod Settled

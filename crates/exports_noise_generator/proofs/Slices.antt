@@ -1,11 +1,11 @@
 -- Rows stored one after another, and the floats of a state stored run by run.
 use mathlib.Core.List.{List, [], ◌∷◌, ◌++◌}
 use mathlib.Core.Path.{◌≡◌, sym, ap, ◌∙◌}
-use Prim.Native.Nat.{ℕ, suc, ◌+◌, ◌<◌, ◌≤◌}
+use Prim.Native.Nat.{ℕ, suc, ◌+◌, ◌<◌}
 use native.Mathlib.Numerals.{add-one}
 use native.Mathlib.Omega.{arith}
 use lib.Ieee.{Float, nan}
-use lib.ListN.{length, length-append, length-set, get_or, set, take}
+use lib.ListN.{length, length-append, get_or, set, take}
 use lib.Seq.{sets, length-take-le, take_all, take-suc}
 use Rattle.laws.proofs.Slices.{stored, sets_append}
 use Rattle.exports_noise_generator.specs.State.{n_floats}
@@ -24,12 +24,6 @@ rows_done l m rows at i z h e = e ∙ ap (sets l at) (take_all i rows (omega ari
 
 -- ---- the floats of a state: the first rows, their sum, the second rows, and what is left. m is what stands after the first rows
 -- are stored, k after the second
-pub first_kept : (l m : List Float) (i n : ℕ) (v : Float) → length l ≡ n_floats → length m ≡ length l → n ≤ n_floats → n ≤ length (set m i v)
-first_kept l m i n v h e b = let z = length-set m i v in omega arith
-
-pub both_kept : (l m k : List Float) (i : ℕ) (v : Float) → length l ≡ n_floats → length m ≡ length l → length k ≡ length (set m i v) → length k ≡ n_floats
-both_kept l m k i v h e d = d ∙ length-set m i v ∙ e ∙ h
-
 pub state_stored : (l m k rows rows2 : List Float) (sum sum2 correlation white : Float) → length l ≡ n_floats → length rows ≡ 16 → length rows2 ≡ 16
     → m ≡ sets l 0 rows → k ≡ sets (set m 16 sum) 17 rows2
     → let rest = sum2 ∷ correlation ∷ white ∷ [] in sets k 33 rest ≡ rows ++ (sum ∷ rows2 ++ rest)

@@ -38,7 +38,7 @@ controls_of given c = record { correlation = cond (eqb given 0) None (Some c) }
 unfoldable pub noise_generator_tick_at : ℕ → Float → ℕ → List Float → List ℕ → List ℕ → List Float → Heard
 noise_generator_tick_at given c wanted f w draws o =
     let t = noise_generator_tick_of (state_of f w) (controls_of given c) wanted draws in
-    heard_sized n_floats n_wholes n_samples (heard_of floats_of wholes_of samples_of t.answer t.noise_generator f w o) f w o
+    heard_sized n_floats n_wholes n_samples (heard_of floats_of wholes_of samples_of t.answer t.state f w o) f w o
 
 -- a block: 0, the state, the counts, the samples and the marks after it, or what refused it
 unfoldable pub noise_generator_block_at : ℕ → Float → ℕ → List Float → List ℕ → List ℕ → List ℕ → List Float → List ℕ → Played

@@ -7,41 +7,39 @@
 // same numbers, and the tally's counts.
 #![tactic(auto)]
 
-ghost use Rattle.std.specs.Prelude.{◌≡◌, List, ℕ, ◌+◌, ◌≤◌, Float, length};
+ghost use Rattle.std.specs.Prelude.{◌≡◌, ◌+◌, ◌≤◌, length};
 ghost use Rattle.std.proofs.lemmas.List.Edits.{sets};
-ghost use Rattle.answer.specs.Block.{block};
-ghost use Rattle.boundary.specs.Flat.{n_counts, kept, heard, heard_of, played, played_of};
+ghost use Rattle.boundary.specs.Flat.{kept, heard, played};
 ghost use Rattle.exports_noise_generator.specs.State.{n_floats, n_wholes, n_samples, rows_at, counter_of, state_of, floats_of, wholes_of, samples_of};
 ghost use Rattle.exports_noise_generator.specs.Calls.{noise_generator_new_at, noise_generator_with_correlation_at};
 ghost use Rattle.exports_noise_generator.specs.Calls.{noise_generator_needed_at, noise_generator_needed_by_at};
 ghost use Rattle.exports_noise_generator.specs.Calls.{controls_of, noise_generator_tick_at, noise_generator_block_at};
 ghost use Rattle.exports_noise_generator.specs.Calls.{noise_generator_reset_at, noise_generator_set_sample_rate_at};
 
-use answer::Tallied;
+use answer::Volts;
+use boundary::Layout;
 use common::Hertz;
-use noise_generator::{
-    NoiseGenerator, NoiseGeneratorBlock, NoiseGeneratorControls, NoiseGeneratorTicked,
-    PinkNoiseState,
-};
+use noise_generator::{NoiseGenerator, NoiseGeneratorControls, PinkNoiseState};
 
-// How many floats, wholes and samples there are.
-const FLOATS: usize = 36;
-
-const WHOLES: usize = 2;
-
-const SAMPLES: usize = 4;
+// How many rows a pink has.
+const ROWS: usize = 16;
 
 // The rows that stand from a place on.
-fn rows_at(floats: &[f64], at: usize) -> [f64; 16]
+fn rows_at(floats: &[f64], at: usize) -> [f64; ROWS]
     requires { at + 16 ≤ length floats.now }
     ensures { result ≡ rows_at floats.now at }
 {
-    let mut rows = [0.0; 16];
-    // Kept: row by row, here and in `put_rows`: by copy_from_slice a tick took 67 ns instead of 36.
-    for i in 0..16 {
-        rows[i] = floats[at + i];
+    std::array::from_fn(|i| floats[at + i])
+}
+
+fn put_rows(rows: [f64; ROWS], at: usize, floats: &mut [f64])
+    requires { at + 16 ≤ length floats.old }
+    ensures { floats.new ≡ sets floats.old at rows }
+{
+    // Kept: row by row, since by copy_from_slice a tick took 41 ns instead of 22.
+    for i in 0..ROWS {
+        floats[at + i] = rows[i];
     }
-    rows
 }
 
 // Nothing refuses a larger number, so its low 32 bits count.
@@ -49,64 +47,83 @@ fn rows_at(floats: &[f64], at: usize) -> [f64; 16]
 fn counter(w: u64) -> u32
     ensures { result ≡ counter_of w }
 {
+    // Kept: `as` is proved to lose nothing, and no method of a u64 cuts it to a u32.
     (w % 4294967296) as u32
 }
 
-#[tactic(auto, unfolding(crate::specs::State::state_of))]
-fn state(floats: &[f64], wholes: &[u64]) -> NoiseGenerator
-    requires { (length floats.now ≡ n_floats) × (length wholes.now ≡ n_wholes) }
-    ensures { result ≡ state_of floats.now wholes.now }
-{
-    NoiseGenerator {
-        pink: PinkNoiseState {
-            rows: rows_at(floats, 0),
-            running_sum: floats[16],
-            index: counter(wholes[0]),
-        },
-        pink2: PinkNoiseState {
-            rows: rows_at(floats, 17),
-            running_sum: floats[33],
-            index: counter(wholes[1]),
-        },
-        correlation: floats[34],
-        last_white: floats[35],
+// How a NoiseGenerator lies in the slices.
+struct Cells;
+
+impl Layout for Cells {
+    type State = NoiseGenerator;
+
+    const FLOATS: usize = 36;
+
+    const WHOLES: usize = 2;
+
+    const SAMPLES: usize = 4;
+
+    ghost FLOATS = { n_floats };
+
+    ghost WHOLES = { n_wholes };
+
+    ghost SAMPLES = { n_samples };
+
+    ghost state_of = { state_of };
+
+    ghost floats_of = { floats_of };
+
+    ghost wholes_of = { wholes_of };
+
+    ghost samples_of = { samples_of };
+
+    #[tactic(auto, unfolding(crate::specs::State::state_of))]
+    fn state(floats: &[f64], wholes: &[u64]) -> NoiseGenerator {
+        NoiseGenerator {
+            pink: PinkNoiseState {
+                rows: rows_at(floats, 0),
+                running_sum: floats[16],
+                index: counter(wholes[0]),
+            },
+            pink2: PinkNoiseState {
+                rows: rows_at(floats, 17),
+                running_sum: floats[33],
+                index: counter(wholes[1]),
+            },
+            correlation: floats[34],
+            last_white: floats[35],
+        }
+    }
+
+    fn store(s: NoiseGenerator, floats: &mut [f64], wholes: &mut [u64]) {
+        put_rows(s.pink.rows, 0, floats);
+        floats[16] = s.pink.running_sum;
+        put_rows(s.pink2.rows, 17, floats);
+        floats[33] = s.pink2.running_sum;
+        floats[34] = s.correlation;
+        floats[35] = s.last_white;
+        wholes[0] = s.pink.index as u64;
+        wholes[1] = s.pink2.index as u64;
+    }
+
+    fn put(v: Volts, samples: &mut [f64]) {
+        samples[0] = v.p10;
+        samples[1] = v.p11;
+        samples[2] = v.p12;
+        samples[3] = v.p13;
     }
 }
 
-fn put_rows(rows: [f64; 16], at: usize, floats: &mut [f64])
-    requires { at + 16 ≤ length floats.old }
-    ensures { floats.new ≡ sets floats.old at rows }
-{
-    for i in 0..16 {
-        floats[at + i] = rows[i];
-    }
-}
-
-fn store(s: NoiseGenerator, floats: &mut [f64], wholes: &mut [u64])
-    requires { (length floats.old ≡ n_floats) × (length wholes.old ≡ n_wholes) }
-    ensures { (floats.new ≡ floats_of s) × (wholes.new ≡ wholes_of s) }
-{
-    put_rows(s.pink.rows, 0, floats);
-    floats[16] = s.pink.running_sum;
-    put_rows(s.pink2.rows, 17, floats);
-    floats[33] = s.pink2.running_sum;
-    floats[34] = s.correlation;
-    floats[35] = s.last_white;
-    wholes[0] = s.pink.index as u64;
-    wholes[1] = s.pink2.index as u64;
-}
-
+// Kept: what these calls are given one beside another, floats and wholes, and `given` with its correlation, stands so in the C interface.
+#[tactic(auto, unfolding(crate::specs::Calls::noise_generator_new_at, boundary::specs::Flat::kept_result))]
 #[unsafe(no_mangle)]
 pub extern "C" fn gruttisol_noise_generator_new(floats: &mut [f64], wholes: &mut [u64]) -> u32
     ensures { kept result floats.new wholes.new ≡ noise_generator_new_at floats.old wholes.old }
 {
-    let n = boundary::sizes(FLOATS, WHOLES, floats, wholes);
-    if n == 0 {
-        store(NoiseGenerator::new(), floats, wholes);
-    }
-    n
+    boundary::keep::<Cells>(Ok(NoiseGenerator::new()), floats, wholes)
 }
 
+#[tactic(auto, unfolding(crate::specs::Calls::noise_generator_with_correlation_at, boundary::specs::Flat::kept_result))]
 #[unsafe(no_mangle)]
 pub extern "C" fn gruttisol_noise_generator_with_correlation(
     correlation: f64,
@@ -116,29 +133,19 @@ pub extern "C" fn gruttisol_noise_generator_with_correlation(
     ensures { kept result floats.new wholes.new
         ≡ noise_generator_with_correlation_at correlation floats.old wholes.old }
 {
-    let n = boundary::sizes(FLOATS, WHOLES, floats, wholes);
-    if n == 0 {
-        store(
-            NoiseGenerator::with_correlation(correlation),
-            floats,
-            wholes,
-        );
-    }
-    n
+    let noise = NoiseGenerator::with_correlation(correlation);
+    boundary::keep::<Cells>(Ok(noise), floats, wholes)
 }
+
+// The counters settle what is needed: any floats do.
+const ANY: [f64; Cells::FLOATS] = [0.0; Cells::FLOATS];
 
 // How many draws the next tick needs, or 0 where wholes has another length.
 #[unsafe(no_mangle)]
 pub extern "C" fn gruttisol_noise_generator_needed(wholes: &[u64]) -> u64
     ensures { result ≡ noise_generator_needed_at wholes.now }
 {
-    if wholes.len() == WHOLES {
-        // The counters settle it: any floats do.
-        let floats = [0.0; FLOATS];
-        state(&floats, wholes).needed() as u64
-    } else {
-        0
-    }
+    boundary::state::<Cells>(&ANY, wholes).map_or(0, |noise| noise.needed() as u64)
 }
 
 // How many the next so many ticks need together, likewise.
@@ -146,12 +153,7 @@ pub extern "C" fn gruttisol_noise_generator_needed(wholes: &[u64]) -> u64
 pub extern "C" fn gruttisol_noise_generator_needed_by(ticks: u32, wholes: &[u64]) -> u64
     ensures { result ≡ noise_generator_needed_by_at ticks wholes.now }
 {
-    if wholes.len() == WHOLES {
-        let floats = [0.0; FLOATS];
-        state(&floats, wholes).needed_by(ticks)
-    } else {
-        0
-    }
+    boundary::state::<Cells>(&ANY, wholes).map_or(0, |noise| noise.needed_by(ticks))
 }
 
 #[tactic(auto, unfolding(crate::specs::Calls::controls_of))]
@@ -160,33 +162,6 @@ fn controls(given: u32, correlation: f64) -> NoiseGeneratorControls
 {
     NoiseGeneratorControls {
         correlation: if given == 0 { None } else { Some(correlation) },
-    }
-}
-
-// The samples and the state after an accepted tick; a refused one leaves them. The number is asked for last: asked for before,
-// each mark that it may be would copy the state once more.
-fn put_ticked(
-    t: NoiseGeneratorTicked,
-    floats: &mut [f64],
-    wholes: &mut [u64],
-    samples: &mut [f64],
-) -> u32
-    requires { (length floats.old ≡ n_floats) × (length wholes.old ≡ n_wholes) × (length samples.old ≡ n_samples) }
-    ensures { heard result floats.new wholes.new samples.new
-        ≡ heard_of floats_of wholes_of samples_of t.answer t.noise_generator floats.old wholes.old samples.old }
-{
-    let answer = t.answer;
-    if answer::is_accepted(answer) {
-        let s = t.noise_generator;
-        let v = answer::samples(answer);
-        store(s, &mut *floats, &mut *wholes);
-        samples[0] = v.p10;
-        samples[1] = v.p11;
-        samples[2] = v.p12;
-        samples[3] = v.p13;
-        answer::host_number(answer)
-    } else {
-        answer::host_number(answer)
     }
 }
 
@@ -203,41 +178,13 @@ pub extern "C" fn gruttisol_noise_generator_tick(
     ensures { heard result floats.new wholes.new samples.new
         ≡ noise_generator_tick_at given correlation wanted floats.old wholes.old draws.now samples.old }
 {
-    let n = boundary::tick_sizes(FLOATS, WHOLES, SAMPLES, floats, wholes, samples);
-    if n == 0 {
-        let c = controls(given, correlation);
-        put_ticked(
-            state(floats, wholes).tick(c, wanted, draws),
-            floats,
-            wholes,
-            samples,
-        )
-    } else {
-        n
-    }
-}
-
-// The state and the counts after a block; a refused one leaves them.
-fn put_block(
-    b: NoiseGeneratorBlock,
-    floats: &mut [f64],
-    wholes: &mut [u64],
-    counts: &mut [u32],
-) -> u32
-    requires { (length floats.old ≡ n_floats) × (length wholes.old ≡ n_wholes) × (length counts.old ≡ n_counts) }
-    ensures { (o : List Float) → (m : List ℕ) → played result floats.new wholes.new counts.new o m
-        ≡ played_of floats_of wholes_of (block b.refused b.noise_generator b.tally o m)
-        floats.old wholes.old counts.old }
-{
-    let refused = b.refused;
-    if refused == 0 {
-        let s = b.noise_generator;
-        let tally = b.tally;
-        store(s, &mut *floats, &mut *wholes);
-        boundary::put_counts(tally, counts);
-        0
-    } else {
-        refused
+    match boundary::tick_state::<Cells>(floats, wholes, samples) {
+        Ok(noise) => {
+            let c = controls(given, correlation);
+            let ticked = noise.tick(c, wanted, draws);
+            boundary::hear::<Cells>(ticked, floats, wholes, samples)
+        }
+        Err(refused) => refused.number(),
     }
 }
 
@@ -257,17 +204,15 @@ pub extern "C" fn gruttisol_noise_generator_block(
         ≡ noise_generator_block_at given correlation wanted floats.old wholes.old
         draws.now counts.old samples.old marks.old }
 {
-    match boundary::block_tally(FLOATS, WHOLES, floats, wholes, counts) {
-        Tallied::Taken(tally) => {
+    match boundary::block_state::<Cells>(floats, wholes, counts) {
+        Ok(begun) => {
             let c = controls(given, correlation);
-            put_block(
-                state(floats, wholes).block(c, wanted, draws, tally, samples, marks),
-                floats,
-                wholes,
-                counts,
-            )
+            let played = begun
+                .state
+                .block(c, wanted, draws, begun.tally, samples, marks);
+            boundary::keep_block::<Cells>(played, floats, wholes, counts)
         }
-        Tallied::Refused(refused) => refused,
+        Err(refused) => refused.number(),
     }
 }
 
@@ -275,11 +220,10 @@ pub extern "C" fn gruttisol_noise_generator_block(
 pub extern "C" fn gruttisol_noise_generator_reset(floats: &mut [f64], wholes: &mut [u64]) -> u32
     ensures { kept result floats.new wholes.new ≡ noise_generator_reset_at floats.old wholes.old }
 {
-    let n = boundary::sizes(FLOATS, WHOLES, floats, wholes);
-    if n == 0 {
-        store(state(floats, wholes).reset(), floats, wholes);
+    match boundary::state::<Cells>(floats, wholes) {
+        Ok(noise) => boundary::keep::<Cells>(Ok(noise.reset()), floats, wholes),
+        Err(refused) => refused.number(),
     }
-    n
 }
 
 #[unsafe(no_mangle)]
@@ -291,10 +235,11 @@ pub extern "C" fn gruttisol_noise_generator_set_sample_rate(
     ensures { kept result floats.new wholes.new
         ≡ noise_generator_set_sample_rate_at sample_rate floats.old wholes.old }
 {
-    let n = boundary::sizes(FLOATS, WHOLES, floats, wholes);
-    if n == 0 {
-        let s = state(floats, wholes).set_sample_rate(Hertz(sample_rate));
-        store(s, floats, wholes);
+    match boundary::state::<Cells>(floats, wholes) {
+        Ok(noise) => {
+            let rated = noise.set_sample_rate(Hertz(sample_rate));
+            boundary::keep::<Cells>(Ok(rated), floats, wholes)
+        }
+        Err(refused) => refused.number(),
     }
-    n
 }

@@ -45,6 +45,7 @@ fn code_of(done: Result<(), Refusal>) -> u32
 
 // ---- the cells of a score
 
+// Kept: four kinds, all known here, so a match and no `dyn`; `ports_of` and `inputs_of` too.
 fn osc_number(osc: Osc) -> u64
     ensures { result ≡ osc_number osc }
 {
@@ -84,26 +85,24 @@ fn gate_number(gate: Option<u32>) -> u64
 }
 
 #[tactic(auto, unfolding(crate::specs::Cells::wholes_of))]
-fn put_wholes(s: Score, wholes: &mut [u64])
-    requires { length wholes.old ≡ 4 }
-    ensures { wholes.new ≡ wholes_of s }
+fn wholes_of(s: Score) -> [u64; 4]
+    ensures { result ≡ wholes_of s }
 {
-    wholes.copy_from_slice(&[
+    [
         osc_number(score::owner_of(s.inputs)),
         u64::from(s.head.hz),
         u64::from(s.head.frames),
         gate_number(s.head.gate),
-    ]);
+    ]
 }
 
 // ---- the volts
 
 #[tactic(auto, unfolding(crate::specs::Cells::floats_of))]
-fn put_floats(s: Score, floats: &mut [f64])
-    requires { length floats.old ≡ 5 }
-    ensures { floats.new ≡ floats_of s }
+fn floats_of(s: Score) -> [f64; 5]
+    ensures { result ≡ floats_of s }
 {
-    floats.copy_from_slice(&ports_of(s.inputs).map(score::volts));
+    ports_of(s.inputs).map(score::volts)
 }
 
 fn read_volts(text: &[u8], floats: &mut [f64], wholes: &mut [u64]) -> Result<(), Refusal>
@@ -111,8 +110,8 @@ fn read_volts(text: &[u8], floats: &mut [f64], wholes: &mut [u64]) -> Result<(),
     ensures { kept (code_of result) floats.new wholes.new ≡ kept_of (score_of text.now) floats.old wholes.old }
 {
     let s = score::read(text)?;
-    put_floats(s, floats);
-    put_wholes(s, wholes);
+    floats.copy_from_slice(&floats_of(s));
+    wholes.copy_from_slice(&wholes_of(s));
     Ok(())
 }
 
@@ -120,11 +119,9 @@ fn read_volts(text: &[u8], floats: &mut [f64], wholes: &mut [u64]) -> Result<(),
 pub extern "C" fn gruttisol_score_read(text: &[u8], floats: &mut [f64], wholes: &mut [u64]) -> u32
     ensures { kept result floats.new wholes.new ≡ score_read_at text.now floats.old wholes.old }
 {
-    let n = boundary::sizes(FLOATS, WHOLES, floats, wholes);
-    if n == 0 {
-        code_of(read_volts(text, floats, wholes))
-    } else {
-        n
+    match boundary::sizes(FLOATS, WHOLES, floats, wholes) {
+        Ok(()) => code_of(read_volts(text, floats, wholes)),
+        Err(refused) => refused.number(),
     }
 }
 
@@ -141,11 +138,10 @@ fn cell_of(c: Control) -> i32
 }
 
 #[tactic(auto, unfolding(crate::specs::Cells::microvolts_of))]
-fn put_microvolts(s: Score, microvolts: &mut [i32])
-    requires { length microvolts.old ≡ 5 }
-    ensures { microvolts.new ≡ microvolts_of s }
+fn microvolts_of(s: Score) -> [i32; 5]
+    ensures { result ≡ microvolts_of s }
 {
-    microvolts.copy_from_slice(&ports_of(s.inputs).map(cell_of));
+    ports_of(s.inputs).map(cell_of)
 }
 
 fn read_microvolts(text: &[u8], microvolts: &mut [i32], wholes: &mut [u64]) -> Result<(), Refusal>
@@ -154,11 +150,12 @@ fn read_microvolts(text: &[u8], microvolts: &mut [i32], wholes: &mut [u64]) -> R
         ≡ told_of (score_of text.now) microvolts.old wholes.old }
 {
     let s = score::read(text)?;
-    put_microvolts(s, microvolts);
-    put_wholes(s, wholes);
+    microvolts.copy_from_slice(&microvolts_of(s));
+    wholes.copy_from_slice(&wholes_of(s));
     Ok(())
 }
 
+// Kept: the numbers of lengths, here and in `gruttisol_score_write`, since the C interface answers by them.
 #[unsafe(no_mangle)]
 pub extern "C" fn gruttisol_score_values(
     text: &[u8],

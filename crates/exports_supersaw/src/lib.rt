@@ -15,6 +15,8 @@ use boundary::Layout;
 use common::{Hertz, Memo, Turns, VoltsPerOctave};
 use supersaw::{Supersaw, SupersawControls};
 
+// Kept, below: floats, wholes, counts, samples and marks stand beside one another, as the C interface lends them.
+
 // How a Supersaw lies in the slices.
 struct Cells;
 

@@ -1,2 +1,1 @@
-pub mod Fills
 pub mod Settled

@@ -1,17 +1,18 @@
 -- What each exported call answers, and what it leaves in the lent slices. f, w, k, o and m are floats, wholes, counts, samples and
 -- marks as they stood, l a bank or a part of one.
 use Rattle.std.specs.Prelude.{List, ℕ, Float}
-use Rattle.answer.specs.Answer.{outcome_number}
+use Rattle.answer.specs.Calls.{Outcome}
+use Rattle.common.specs.Refusal.{refused_number}
 use Rattle.boundary.specs.Flat.{Kept, kept_by, kept_sized, Heard, heard_of, heard_sized, Played, played_of, played_sized}
 use Rattle.wavetable.specs.Bank.{Filled, fill_bank_of, fill_table_of}
 use Rattle.wavetable.specs.Wavetable.{wavetable_new_of, wavetable_tick_of, wavetable_block_of, wavetable_reset_of, wavetable_set_sample_rate_of}
 use Rattle.exports_wavetable.specs.State.{n_floats, n_wholes, n_samples, state_of, floats_of, wholes_of, samples_of}
 use Rattle.wavetable.specs.declared.WavetableControls.{WavetableControls}
-use Rattle.wavetable.specs.declared.WavetableMade.{WavetableMade}
+use Rattle.wavetable.specs.declared.Wavetable.{Wavetable}
 
 -- 0 and the new state, or what refused it
-abbrev pub kept_of : WavetableMade → List Float → List ℕ → Kept
-kept_of m f w = kept_by floats_of wholes_of m.outcome m.wavetable f w
+abbrev pub kept_of : Outcome Wavetable → List Float → List ℕ → Kept
+kept_of = kept_by floats_of wholes_of
 
 unfoldable pub wavetable_new_at : Float → Float → List Float → List ℕ → Kept
 wavetable_new_at rate threshold f w = kept_sized n_floats n_wholes (kept_of (wavetable_new_of (record { 0 = rate }) threshold) f w) f w
@@ -28,7 +29,7 @@ controls v table morph sync = record { v_oct = record { 0 = v }; table = table; 
 unfoldable pub wavetable_tick_at : Float → Float → Float → Float → List Float → List Float → List ℕ → List Float → Heard
 wavetable_tick_at v table morph sync l f w o =
     let t = wavetable_tick_of (state_of f w) (controls v table morph sync) l in
-    heard_sized n_floats n_wholes n_samples (heard_of floats_of wholes_of samples_of t.answer t.wavetable f w o) f w o
+    heard_sized n_floats n_wholes n_samples (heard_of floats_of wholes_of samples_of t.answer t.state f w o) f w o
 
 -- a block: 0, the state, the counts, the samples and the marks after it, or what refused it
 unfoldable pub wavetable_block_at : Float → Float → Float → Float → List Float → List Float → List ℕ → List ℕ → List Float → List ℕ → Played
@@ -46,7 +47,7 @@ abbrev pub filled_with : ℕ → List Float → FilledWith
 filled_with n l = record { code = n; cells = l }
 
 unfoldable pub numbered : Filled → FilledWith
-numbered f = filled_with (outcome_number f.outcome) f.cells
+numbered f = filled_with (refused_number f.outcome) f.cells
 
 unfoldable pub wavetable_fill_bank_at : List Float → FilledWith
 wavetable_fill_bank_at l = numbered (fill_bank_of l)

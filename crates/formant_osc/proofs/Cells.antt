@@ -20,8 +20,8 @@ use Rattle.formant_osc.specs.FormantOsc.{formant_osc_block_of, rated, formant_os
 use Rattle.formant_osc.specs.Promises.{Spoiled, WildCell, AnyCellSpoils, AnyCellStays, BlocksAnyCell}
 use Rattle.formant_osc.specs.Sound.{glottal_pulse, resonate_of, rung_of}
 use Rattle.formant_osc.specs.declared.FormantOscControls.{FormantOscControls}
+use Rattle.answer.specs.declared.Ticked.{Ticked}
 use Rattle.formant_osc.specs.declared.FormantOsc.{FormantOsc}
-use Rattle.formant_osc.specs.declared.FormantOscTicked.{FormantOscTicked}
 use Rattle.laws.proofs.Always.{always}
 use Rattle.laws.proofs.Number.{add_wild_r}
 use Rattle.laws.specs.Float.{is_fin}
@@ -59,22 +59,22 @@ rung_any c l x i h e = go (parity i)
     go (j, inr q) = let k : j < 5 = omega arith in (j, k, rung_second c l x j k (ap (λ (n : ℕ). is_fin (get_or l n nan)) (sym q) ∙ e))
 
 -- ---- the tick
-wild_sound : (s : FormantOsc) (c : FormantOscControls) → WildCell s → Spoiled (formant_osc_sound_of s c).formant_osc
+wild_sound : (s : FormantOsc) (c : FormantOscControls) → WildCell s → Spoiled (formant_osc_sound_of s c).state
 unfolding formant_osc_sound_of formant_osc_rung
 wild_sound s c p = rung_any (coef_memo_of s c).val s.resonator_state (glottal_pulse s.phase.0) p.0 p.1 p.2
 
 pub any_cell_spoils : AnyCellSpoils
 unfolding accepted
 any_cell_spoils s c p =
-    tick_either (λ (t : FormantOscTicked). accepted t.answer ≡ true → Spoiled t.formant_osc) s c (λ a. wild_sound s c p) (λ n a. absurd (false≢true a))
+    tick_either (λ (t : Ticked FormantOsc). accepted t.answer ≡ true → Spoiled t.state) s c (λ a. wild_sound s c p) (λ n a. absurd (false≢true a))
 
 -- ---- later calls
 spoiled_wild : (s : FormantOsc) → Spoiled s → WildCell s
 spoiled_wild s (i, h, e) = (2 * i, omega arith, e)
 
-wild_tick : (c : FormantOscControls) (s : FormantOsc) → WildCell s → WildCell (formant_osc_tick_of s c).formant_osc
+wild_tick : (c : FormantOscControls) (s : FormantOsc) → WildCell s → WildCell (formant_osc_tick_of s c).state
 wild_tick c s p =
-    tick_either (λ (t : FormantOscTicked). WildCell t.formant_osc) s c (spoiled_wild (formant_osc_sound_of s c).formant_osc (wild_sound s c p)) (λ n. p)
+    tick_either (λ (t : Ticked FormantOsc). WildCell t.state) s c (spoiled_wild (formant_osc_sound_of s c).state (wild_sound s c p)) (λ n. p)
 
 wild_after : (s : FormantOsc) (c : Call) → WildCell s → NoReset c → WildCell (after s c)
 unfolding after
@@ -87,7 +87,7 @@ wild_later : (s : FormantOsc) {t : FormantOsc} → WildCell s → Later s t → 
 wild_later s p = always WildCell (λ t e. subst WildCell (sym e) p) wild_after
 
 pub any_cell_stays : AnyCellStays
-any_cell_stays s t u p h c a k = stays_spoiled (formant_osc_tick_of t c).formant_osc u (any_cell_spoils t c (wild_later s p h) a) k
+any_cell_stays s t u p h c a k = stays_spoiled (formant_osc_tick_of t c).state u (any_cell_spoils t c (wild_later s p h) a) k
 
 -- ---- a block: each state in it but the first is spoiled
 spoiled_at : (s : FormantOsc) (c : FormantOscControls) → WildCell s → accepted (formant_osc_tick_of s c).answer ≡ true → (i : ℕ)

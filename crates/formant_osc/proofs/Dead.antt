@@ -24,8 +24,8 @@ use Rattle.formant_osc.specs.FormantOsc.{coef_memo_of, formant_osc_rung, formant
 use Rattle.formant_osc.specs.Promises.{shift_factor, Dead, Deadly, DeadShift, NanVowel, BlocksDead, DeadSpoiled}
 use Rattle.formant_osc.specs.Sound.{glottal_pulse, resonate_of, rung_of}
 use Rattle.formant_osc.specs.declared.FormantOscControls.{FormantOscControls}
+use Rattle.answer.specs.declared.Ticked.{Ticked}
 use Rattle.formant_osc.specs.declared.FormantOsc.{FormantOsc}
-use Rattle.formant_osc.specs.declared.FormantOscTicked.{FormantOscTicked}
 use Rattle.laws.proofs.Number.{add_nan_l, add_nan_r, mul_nan_l, mul_nan_r, div_nan_r, div_zero_wild}
 use Rattle.laws.proofs.Values.{round_zero}
 use Rattle.laws.specs.Float.{zer, one, two, is_fin}
@@ -108,8 +108,8 @@ unfolding rung_of
 first_dead c l x e = cell_dead _ _ _ _ _ x e
 
 -- ---- the tick
-abbrev Killed : FormantOscTicked → Type 0
-Killed t = (mark_number t.answer ≡ notfinite) × Dead t.formant_osc
+abbrev Killed : Ticked FormantOsc → Type 0
+Killed t = (mark_number t.answer ≡ notfinite) × Dead t.state
 
 sound_dead : (s : FormantOsc) (c : FormantOscControls) → get_or (coef_memo_of s c).val 0 nan ≡ nan → Killed (formant_osc_sound_of s c)
 unfolding formant_osc_sound_of formant_osc_rung

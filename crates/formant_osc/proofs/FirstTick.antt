@@ -16,7 +16,7 @@ use Rattle.answer.specs.Answer.{mark_number, volts1, clean}
 use Rattle.answer.specs.Mark.{all_finite, all_numbers, rule_of}
 use Rattle.common.proofs.Bounds.{sin_within}
 use Rattle.common.specs.Consts.{c4, five, half}
-use Rattle.common.specs.Memo.{voct_to_hz_at, recall1, hits1, filled1}
+use Rattle.common.specs.Memo.{hits, filled, recall, voct_to_hz_at}
 use Rattle.common.specs.Phase.{increment_of}
 use Rattle.common.specs.Pitch.{voct_to_hz}
 use Rattle.common.specs.Tests.{rate_ok}
@@ -25,11 +25,10 @@ use Rattle.formant_osc.proofs.Reached.{tick_sounds, good, new_accepts}
 use Rattle.formant_osc.specs.Coefs.{spot_of, formant_of, get_formants, bandwidth_of, coef_of, resonator_coefs}
 use Rattle.formant_osc.specs.Consts.{omega_low, omega_high, twelve}
 use Rattle.formant_osc.specs.FormantOsc.{silent, new_formant_osc, freq_memo_of, coef_memo_of, formant_osc_rung, formant_osc_sound_of}
-use Rattle.formant_osc.specs.Memo.{new_coef_memo, coef_hits, coef_filled, coef_recall}
 use Rattle.formant_osc.specs.Promises.{first_rate, no_controls, FirstClean}
 use Rattle.formant_osc.specs.Sound.{glottal_pulse, pitch_of, resonate_of, amplitude_of, plus, rung_of}
+use Rattle.answer.specs.declared.Ticked.{Ticked}
 use Rattle.formant_osc.specs.declared.FormantOsc.{FormantOsc}
-use Rattle.formant_osc.specs.declared.FormantOscTicked.{FormantOscTicked}
 use Rattle.laws.proofs.Interval.{Under, round_under, Within, within_finite, is_within, within_of}
 use Rattle.laws.proofs.Number.{value_finite}
 use Rattle.laws.proofs.Sign.{Plus}
@@ -155,7 +154,7 @@ abbrev new : FormantOsc
 new = new_formant_osc first_rate
 
 sum_zero : (formant_osc_rung new no_controls).sum ≡ zer
-unfolding formant_osc_rung coef_memo_of coef_recall coef_hits coef_filled new_formant_osc new_coef_memo clamp_of lt of_bits
+unfolding formant_osc_rung coef_memo_of recall hits filled new_formant_osc clamp_of lt of_bits
 sum_zero = ap (λ (x : Float). (rung_of (resonator_coefs zer zer first_rate.0) silent x).sum) pulse_zero ∙ sum_silent
 
 hertz_zero : (voct_to_hz_at zer).0 ≡ mul binary64 c4 (fin false 1 (pos 0))
@@ -163,7 +162,7 @@ unfolding voct_to_hz clamp_of lt neg of_int of_bits
 hertz_zero = ap (mul binary64 c4) (exp2_whole (pos 0) (lit≤ tt))
 
 hertz_first : (freq_memo_of new no_controls).val.0 ≡ mul binary64 c4 (fin false 1 (pos 0))
-unfolding freq_memo_of recall1 hits1 filled1 new_formant_osc
+unfolding freq_memo_of recall hits filled new_formant_osc
 hertz_first = ap (λ (x : Float). (voct_to_hz_at x).0) tone_zero ∙ hertz_zero
 
 sound_clean : mark_number (formant_osc_sound_of new no_controls).answer ≡ clean
@@ -174,4 +173,4 @@ pub first_clean : FirstClean
 unfolding rate_ok le lt of_bits
 first_clean =
     let g = good (begun new ((new_accepts first_rate).1 refl (of_bits-fits binary64 0x40e7700000000000))) in
-    ap (λ (t : FormantOscTicked). mark_number t.answer) (tick_sounds new no_controls g) ∙ sound_clean
+    ap (λ (t : Ticked FormantOsc). mark_number t.answer) (tick_sounds new no_controls g) ∙ sound_clean

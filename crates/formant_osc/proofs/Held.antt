@@ -19,13 +19,12 @@ use Rattle.answer.specs.declared.Volts.{Volts}
 use Rattle.answer.proofs.Blocks.{Holds, held_after, held_marks, held_frames, held_accepted, all_taken}
 use Rattle.answer.proofs.Laws.{mark_says, refused_by, mark_steers, tick_steers}
 use Rattle.answer.specs.Mark.{all_numbers}
-use Rattle.common.specs.Memo.{recall1, voct_to_hz_at}
+use Rattle.common.specs.Memo.{Memo1, recall1, voct_to_hz_at}
 use Rattle.common.specs.Phase.{turns, wrap_phase_of, increment_of}
 use Rattle.common.specs.Tests.{rate_ok, phase_ok}
 use Rattle.common.proofs.MemoLaws.{recall1_again}
 use Rattle.common.proofs.PhaseLaws.{wrap_in, accepted_state}
 use Rattle.common.specs.declared.Hertz.{Hertz}
-use Rattle.common.specs.declared.Memo1.{Memo1}
 use Rattle.common.specs.declared.Turns.{Turns}
 use Rattle.common.specs.declared.Wrapped.{Wrapped}
 use Rattle.common.specs.declared.VoltsPerOctave.{VoltsPerOctave}
@@ -39,11 +38,11 @@ use Rattle.formant_osc.specs.Shortcuts.{drive_memo, phase_sum, vibrato_sum, driv
 use Rattle.formant_osc.specs.Shortcuts.{phase_at, phase_flag_at, vibrato_of, voiced_of, cells_at, voiced_at}
 use Rattle.formant_osc.specs.Sound.{glottal_pulse, pitch_of, rung_of}
 use Rattle.formant_osc.specs.Promises.{NanSteers, BlockAccepts, BlockTallies}
-use Rattle.formant_osc.specs.declared.CoefMemo.{CoefMemo}
 use Rattle.formant_osc.specs.declared.Driver.{Driver}
 use Rattle.formant_osc.specs.declared.FormantOscControls.{FormantOscControls}
+use Rattle.answer.specs.declared.Ticked.{Ticked}
+use Rattle.formant_osc.specs.Memo.{CoefMemo}
 use Rattle.formant_osc.specs.declared.FormantOsc.{FormantOsc}
-use Rattle.formant_osc.specs.declared.FormantOscTicked.{FormantOscTicked}
 use Rattle.formant_osc.specs.declared.Rung.{Rung}
 use Rattle.formant_osc.specs.declared.Vibrato.{Vibrato}
 use Rattle.laws.specs.Float.{F64, zer, one, is_fin}
@@ -251,7 +250,7 @@ held_sound : (s : FormantOsc) (c : FormantOscControls) (h : Moving) → rate_ok 
     → formant_osc_sound_of (state_of s c h) c
     ≡ record {
       answer = held_answer (numbers_of c) c.v_oct (depth_of c) s.sample_rate (coef_memo_of s c).val h;
-      formant_osc = state_of s c (held_next c.v_oct (depth_of c) s.sample_rate (coef_memo_of s c).val h);
+      state = state_of s c (held_next c.v_oct (depth_of c) s.sample_rate (coef_memo_of s c).val h);
     }
 unfolding formant_osc_sound_of freq_memo_of coef_memo_of formant_osc_rung drive_next phase_sum vibrato_sum drive_memo voiced_of
 held_sound s c h r g =
@@ -265,7 +264,7 @@ held_sound s c h r g =
 first_sound : (s : FormantOsc) (c : FormantOscControls) → rate_ok s.sample_rate ≡ true → phase_ok s.vibrato_phase ≡ true → formant_osc_sound_of s c
     ≡ record {
       answer = held_answer (numbers_of c) c.v_oct (depth_of c) s.sample_rate (coef_memo_of s c).val (moving (start_of s c) s.resonator_state);
-      formant_osc = state_of s c (held_next c.v_oct (depth_of c) s.sample_rate (coef_memo_of s c).val (moving (start_of s c) s.resonator_state));
+      state = state_of s c (held_next c.v_oct (depth_of c) s.sample_rate (coef_memo_of s c).val (moving (start_of s c) s.resonator_state));
     }
 unfolding formant_osc_sound_of freq_memo_of coef_memo_of formant_osc_rung drive_next phase_sum vibrato_sum drive_memo voiced_of
 first_sound s c r g =
@@ -282,7 +281,7 @@ module _ (s : FormantOsc) (c : FormantOscControls) (e : formant_osc_refusal_of s
   next_of : Moving → Moving
   next_of = held_next c.v_oct (depth_of c) s.sample_rate (coef_memo_of s c).val
 
-  held_tick : (h : Moving) → Good h → formant_osc_tick_of (state_of s c h) c ≡ record { answer = answer_of h; formant_osc = state_of s c (next_of h) }
+  held_tick : (h : Moving) → Good h → formant_osc_tick_of (state_of s c h) c ≡ record { answer = answer_of h; state = state_of s c (next_of h) }
   unfolding answer_of next_of
   held_tick h g = tick_sounds (state_of s c h) c (state_accepted s c h e g) ∙ held_sound s c h (accepts s e).0 g.1
 
@@ -290,11 +289,11 @@ module _ (s : FormantOsc) (c : FormantOscControls) (e : formant_osc_refusal_of s
   holds =
       record {
         good = ((accepts s e).1, (accepts s e).2);
-        first = unfold answer_of in ap (λ (t : FormantOscTicked). t.answer) (tick_sounds s c e ∙ first_sound s c (accepts s e).0 (accepts s e).2);
-        second = unfold next_of in ap (λ (t : FormantOscTicked). t.formant_osc) (tick_sounds s c e ∙ first_sound s c (accepts s e).0 (accepts s e).2);
+        first = unfold answer_of in ap (λ (t : Ticked FormantOsc). t.answer) (tick_sounds s c e ∙ first_sound s c (accepts s e).0 (accepts s e).2);
+        second = unfold next_of in ap (λ (t : Ticked FormantOsc). t.state) (tick_sounds s c e ∙ first_sound s c (accepts s e).0 (accepts s e).2);
         stays = λ h g. unfold next_of drive_next phase_sum vibrato_sum in (wrap_in _ (add-fits binary64 _ _), wrap_in _ (add-fits binary64 _ _));
-        answers = λ h g. ap (λ (t : FormantOscTicked). t.answer) (held_tick h g);
-        moves = λ h g. ap (λ (t : FormantOscTicked). t.formant_osc) (held_tick h g);
+        answers = λ h g. ap (λ (t : Ticked FormantOsc). t.answer) (held_tick h g);
+        moves = λ h g. ap (λ (t : Ticked FormantOsc). t.state) (held_tick h g);
       }
 
   -- what the three loops leave is what the ticks leave
@@ -394,9 +393,9 @@ block_tallies s c h = all_taken _ _ s (block_accepts s c h)
 -- ---- a tick is refused by what refuses its state
 pub tick_refusal : (s : FormantOsc) (c : FormantOscControls) → refusal_of (formant_osc_tick_of s c).answer ≡ formant_osc_refusal_of s
 unfolding formant_osc_tick_of formant_osc_sound_of
-tick_refusal s c = refused_by (λ (t : FormantOscTicked). t.answer) (formant_osc_refusal_of s) _ _ (mark_says _ _ _ _ _).is_accepted refl
+tick_refusal s c = refused_by (λ (t : Ticked FormantOsc). t.answer) (formant_osc_refusal_of s) _ _ (mark_says _ _ _ _ _).is_accepted refl
 
 -- ---- and marked over its controls
 pub nan_steers : NanSteers
 unfolding formant_osc_tick_of formant_osc_sound_of
-nan_steers s c = tick_steers (λ (t : FormantOscTicked). t.answer) (controls_of c) (formant_osc_refusal_of s) _ _ (mark_steers _ _ _ _ (controls_of c)) refl
+nan_steers s c = tick_steers (λ (t : Ticked FormantOsc). t.answer) (controls_of c) (formant_osc_refusal_of s) _ _ (mark_steers _ _ _ _ (controls_of c)) refl

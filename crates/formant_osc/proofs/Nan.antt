@@ -9,11 +9,10 @@ use Rattle.answer.specs.Block.{answer_at}
 use Rattle.answer.specs.Mark.{all_finite, rule_of, mark_of}
 use Rattle.answer.specs.declared.Volts.{Volts}
 use Rattle.common.proofs.MemoLaws.{recall1_is}
-use Rattle.common.specs.Memo.{voct_to_hz_at, recall1, filled1}
+use Rattle.common.specs.Memo.{Memo1, filled, recall1, voct_to_hz_at}
 use Rattle.common.specs.Phase.{increment_of}
 use Rattle.common.specs.Pitch.{voct_to_hz}
 use Rattle.common.specs.Promises.{Coherent1}
-use Rattle.common.specs.declared.Memo1.{Memo1}
 use Rattle.formant_osc.proofs.Dead.{dead_shift, nan_vowel, reached_at}
 use Rattle.formant_osc.proofs.Reached.{tick_sounds, good}
 use Rattle.formant_osc.proofs.Taken.{taken_mark}
@@ -22,8 +21,8 @@ use Rattle.formant_osc.specs.FormantOsc.{freq_memo_of, formant_osc_sound_of, for
 use Rattle.formant_osc.specs.Promises.{shift_factor, Dirty, NanDirties, BlocksDirty}
 use Rattle.formant_osc.specs.Sound.{pitch_of}
 use Rattle.formant_osc.specs.declared.FormantOscControls.{FormantOscControls}
+use Rattle.answer.specs.declared.Ticked.{Ticked}
 use Rattle.formant_osc.specs.declared.FormantOsc.{FormantOsc}
-use Rattle.formant_osc.specs.declared.FormantOscTicked.{FormantOscTicked}
 use Rattle.laws.proofs.Number.{add_nan_l, add_nan_r, mul_nan_l, mul_nan_r, div_nan_l}
 use Rattle.laws.specs.Float.{zer, one, is_fin}
 use Rattle.numeric.proofs.Laws.{clamp_nan, exp2_nan}
@@ -43,7 +42,7 @@ unfolding voct_to_hz
 hertz_nan = simp (clamp_nan, exp2_nan, mul_nan_r)
 
 memo_nan : (s : FormantOsc) (c : FormantOscControls) → Coherent1 voct_to_hz_at s.freq_memo → tone s c ≡ nan → (freq_memo_of s c).val.0 ≡ nan
-unfolding freq_memo_of filled1 fits
+unfolding freq_memo_of filled fits
 memo_nan s c h e =
     ap (λ (x : Float). (recall1 voct_to_hz_at s.freq_memo x).val.0) e
     ∙ ap (λ (m : Memo1). m.val.0) (recall1_is voct_to_hz_at s.freq_memo h nan tt)
@@ -71,7 +70,7 @@ tick_lost : (s : FormantOsc) → ReachedFormantOsc s → (c : FormantOscControls
     → Dirty (mark_number (formant_osc_tick_of s c).answer)
 tick_lost s h c d =
     let g = good h in
-    subst (λ (t : FormantOscTicked). Dirty (mark_number t.answer)) (sym (tick_sounds s c g)) (sound_lost s c (memo_nan s c g.pitch (tone_nan s c d)))
+    subst (λ (t : Ticked FormantOsc). Dirty (mark_number t.answer)) (sym (tick_sounds s c g)) (sound_lost s c (memo_nan s c g.pitch (tone_nan s c d)))
 
 -- ---- a shift that is NaN has that factor
 factor_nan : (c : FormantOscControls) → c.formant_shift ≡ nan → shift_factor c ≡ nan

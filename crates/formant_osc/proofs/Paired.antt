@@ -28,9 +28,9 @@ use Rattle.formant_osc.specs.FormantOsc.{formant_osc_block_of, formant_osc_reset
 use Rattle.formant_osc.specs.Promises.{Spoiled, ReachedCells, NeverCleanAgain, BlocksNeverAgain}
 use Rattle.formant_osc.specs.Sound.{glottal_pulse, resonate_of, rung_of}
 use Rattle.formant_osc.specs.declared.FormantOscControls.{FormantOscControls}
-use Rattle.formant_osc.specs.declared.FormantOscMade.{FormantOscMade}
+use Rattle.answer.specs.declared.Ticked.{Ticked}
+use Rattle.answer.specs.Calls.{Outcome}
 use Rattle.formant_osc.specs.declared.FormantOsc.{FormantOsc}
-use Rattle.formant_osc.specs.declared.FormantOscTicked.{FormantOscTicked}
 use Rattle.formant_osc.specs.declared.Resonated.{Resonated}
 use Rattle.laws.proofs.Always.{always}
 use Rattle.laws.proofs.Greatest.{mul_finite, sub_finite}
@@ -130,7 +130,7 @@ module _ (vowel shift rate : Float) (l : List Float) (x : Float) (w : Within 0 x
   rung_paired (suc (suc (suc (suc zero)))) h = one_pair 4 (bandwidth_of 4) _ _ h (unfold of_bits in tt)
   rung_paired (suc (suc (suc (suc (suc i))))) h = absurd (omega arith)
 
-sound_paired : (s : FormantOsc) (c : FormantOscControls) → Good s → Fit c → Paired (formant_osc_sound_of s c).formant_osc.resonator_state
+sound_paired : (s : FormantOsc) (c : FormantOscControls) → Good s → Fit c → Paired (formant_osc_sound_of s c).state.resonator_state
 unfolding formant_osc_sound_of formant_osc_rung
 sound_paired s c g f =
     subst (λ (k : List Float). Paired (rung_of k s.resonator_state (glottal_pulse s.phase.0)).state) (sym (tick_coefs s c g.coefs f g.fit))
@@ -157,10 +157,10 @@ first_well : (s : FormantOsc) → First s → Well s
 unfolding formant_osc_new_of new_formant_osc
 first_well s f =
     let new = new_formant_osc f.0 in
-    (first_good s f, subst At (ap (λ (m : FormantOscMade). m.formant_osc) f.2) (made_either At _ new new rest_paired rest_paired))
+    (first_good s f, subst At (ap (λ (m : Outcome FormantOsc). m.state) f.2) (made_either At _ new new rest_paired rest_paired))
 
-tick_well : (c : FormantOscControls) → Fit c → (s : FormantOsc) → Well s → Well (formant_osc_tick_of s c).formant_osc
-tick_well c f s (g, p) = (tick_good c f s g, tick_either (λ (t : FormantOscTicked). At t.formant_osc) s c (sound_paired s c g f) (λ n. p))
+tick_well : (c : FormantOscControls) → Fit c → (s : FormantOsc) → Well s → Well (formant_osc_tick_of s c).state
+tick_well c f s (g, p) = (tick_good c f s g, tick_either (λ (t : Ticked FormantOsc). At t.state) s c (sound_paired s c g f) (λ n. p))
 
 after_well : (s : FormantOsc) (c : Call) → Well s → FitCall c → Well (after s c)
 unfolding after

@@ -1,19 +1,18 @@
 -- What every reached FormantOsc has: a good rate, two phases in [0, 1), and a pitch and coefficients that it would compute. So no call
 -- refuses it but for what the call is lent.
-use mathlib.Core.Bool.{Bool, true, false, cond}
+use mathlib.Core.Bool.{true}
 use mathlib.Core.Logic.{inl}
 use mathlib.Core.Path.{◌≡◌, refl, sym, ap, subst, ◌∙◌}
 use Prim.Native.Nat.{ℕ, ◌*◌}
-use native.Mathlib.Omega.{arith}
 use lib.Dec.{eqb}
 use lib.Ieee.{binary64}
 use lib.Ieee.Fits.{add-fits}
 use lib.ListN.{length}
 use Rattle.answer.proofs.Blocks.{block_keeps, block_refusal}
 use Rattle.answer.proofs.Laws.{mark_says}
-use Rattle.answer.specs.Answer.{accepted, outcome_number}
+use Rattle.answer.specs.Answer.{accepted}
+use Rattle.answer.proofs.Calls.{made_cases, made_number, made_state}
 use Rattle.answer.specs.Block.{block_refusal_of}
-use Rattle.answer.specs.declared.Outcome.TheVariants as outcome
 use Rattle.common.proofs.MemoLaws.{recalled1}
 use Rattle.common.proofs.PhaseLaws.{wrap_in, zero_in}
 use Rattle.common.specs.Memo.{voct_to_hz_at}
@@ -24,17 +23,18 @@ use Rattle.formant_osc.proofs.Coherent.{Coherent, tick_coherent}
 use Rattle.formant_osc.proofs.Either.{made_either}
 use Rattle.formant_osc.specs.Calls.{Call, Fit, Tick, Play, Reset, SetSampleRate, Told, after, reply, First, FitCall, ReachedFormantOsc}
 use Rattle.formant_osc.specs.Consts.{n_ports}
-use Rattle.formant_osc.specs.FormantOsc.{new_formant_osc, formant_osc_refusal_of, formant_osc_rate_refusal_of, made_unless, formant_osc_new_of, freq_memo_of}
+use Rattle.formant_osc.specs.FormantOsc.{new_formant_osc, formant_osc_refusal_of, formant_osc_rate_refusal_of, formant_osc_new_of, freq_memo_of}
 use Rattle.formant_osc.specs.FormantOsc.{formant_osc_sound_of, formant_osc_tick_of, formant_osc_block_of}
 use Rattle.formant_osc.specs.FormantOsc.{restarted, formant_osc_reset_of, rated, formant_osc_set_sample_rate_of}
 use Rattle.formant_osc.specs.Memo.{new_coef_memo}
 use Rattle.formant_osc.specs.Promises.{NewAccepts, NeverRefused}
 use Rattle.formant_osc.specs.Sound.{pitch_of}
 use Rattle.formant_osc.specs.declared.FormantOscControls.{FormantOscControls}
-use Rattle.formant_osc.specs.declared.FormantOscMade.{FormantOscMade}
+use Rattle.answer.specs.declared.Ticked.{Ticked}
+use Rattle.answer.specs.Calls.{Outcome, made_unless}
 use Rattle.formant_osc.specs.declared.FormantOsc.{FormantOsc}
-use Rattle.formant_osc.specs.declared.FormantOscTicked.{FormantOscTicked}
 use Rattle.laws.proofs.Always.{always}
+use Rattle.laws.proofs.Tests.{passed}
 use Rattle.laws.specs.Float.{F64}
 
 pub record Good (s : FormantOsc) : Type 0 where
@@ -64,21 +64,18 @@ unfolding restarted
 rest_good s g = record { rate = g.rate; fit = g.fit; phase = zero_in; vibrato = zero_in; pitch = g.pitch; coefs = g.coefs }
 
 new_good : (r : Hertz) → rate_ok r ≡ true → F64 r.0 → Good (new_formant_osc r)
-unfolding new_formant_osc new_coef_memo
+unfolding new_formant_osc
 new_good r h f = record { rate = h; fit = f; phase = zero_in; vibrato = zero_in; pitch = inl refl; coefs = inl refl }
 
 pub first_good : (s : FormantOsc) → First s → Good s
-unfolding formant_osc_new_of made_unless
-first_good s f = go (rate_ok f.0) refl f.2
-  where
-    new : FormantOsc
-    new = new_formant_osc f.0
+unfolding formant_osc_new_of
+first_good s f =
+    let new = new_formant_osc f.0 in
+    let number = sym (made_number _ new new) ∙ ap (λ (m : Outcome FormantOsc). m.refused) f.2 in
+    let state = sym (made_state _ new) ∙ ap (λ (m : Outcome FormantOsc). m.state) f.2 in
+    subst Good state (new_good f.0 (passed (rate_ok f.0) 0 number) f.1)
 
-    go : (b : Bool) → rate_ok f.0 ≡ b → made_unless (cond b 0 1) new new ≡ record { outcome = outcome.Done; formant_osc = s } → Good s
-    go true e h = subst Good (ap (λ (m : FormantOscMade). m.formant_osc) h) (new_good f.0 e f.1)
-    go false e h = absurd (let q : outcome.Refused 1 ≡ outcome.Done = ap (λ (m : FormantOscMade). m.outcome) h in let z : ◌≡◌ {A = ℕ} 0 1 = cc in omega arith)
-
-sound_good : (s : FormantOsc) (c : FormantOscControls) → Good s → Fit c → Good (formant_osc_sound_of s c).formant_osc
+sound_good : (s : FormantOsc) (c : FormantOscControls) → Good s → Fit c → Good (formant_osc_sound_of s c).state
 unfolding formant_osc_sound_of
 sound_good s c g f =
     record {
@@ -90,50 +87,47 @@ sound_good s c g f =
       coefs = tick_coherent s c g.coefs f g.fit;
     }
 
-pub tick_good : (c : FormantOscControls) → Fit c → (s : FormantOsc) → Good s → Good (formant_osc_tick_of s c).formant_osc
-tick_good c f s g = subst (λ (t : FormantOscTicked). Good t.formant_osc) (sym (tick_sounds s c g)) (sound_good s c g f)
+pub tick_good : (c : FormantOscControls) → Fit c → (s : FormantOsc) → Good s → Good (formant_osc_tick_of s c).state
+tick_good c f s g = subst (λ (t : Ticked FormantOsc). Good t.state) (sym (tick_sounds s c g)) (sound_good s c g f)
+
+rated_good : (s : FormantOsc) (r : Hertz) → Good s → F64 r.0 → formant_osc_rate_refusal_of s r ≡ 0 → Good (rated s r)
+unfolding formant_osc_rate_refusal_of
+rated_good s r g f e =
+    record {
+      rate = passed (rate_ok r) (formant_osc_refusal_of s) e;
+      fit = f;
+      phase = g.phase;
+      vibrato = g.vibrato;
+      pitch = g.pitch;
+      coefs = g.coefs;
+    }
 
 pub after_good : (s : FormantOsc) (c : Call) → Good s → FitCall c → Good (after s c)
 unfolding after
 after_good s (Tick c) g f = tick_good c f s g
 after_good s (Play c t o m) g f = unfold formant_osc_block_of in block_keeps n_ports _ _ _ Good (tick_good c f) s g t o m
 after_good s Reset g f = unfold formant_osc_reset_of in made_either Good (formant_osc_refusal_of s) s _ g (rest_good s g)
-after_good s (SetSampleRate r) g f = unfold formant_osc_set_sample_rate_of formant_osc_rate_refusal_of in go (rate_ok r) refl
-  where
-    rated_good : rate_ok r ≡ true → Good (rated s r)
-    rated_good e = record { rate = e; fit = f; phase = g.phase; vibrato = g.vibrato; pitch = g.pitch; coefs = g.coefs }
-
-    go : (b : Bool) → rate_ok r ≡ b → Good (made_unless (cond b (formant_osc_refusal_of s) 1) s (rated s r)).formant_osc
-    go true e = made_either Good (formant_osc_refusal_of s) s (rated s r) g (rated_good e)
-    go false e = unfold made_unless in g
+after_good s (SetSampleRate r) g f = unfold formant_osc_set_sample_rate_of in made_cases (λ m. Good m.state) _ s (rated s r) (rated_good s r g f) g
 
 pub good : {s : FormantOsc} → ReachedFormantOsc s → Good s
 good = always Good first_good after_good
 
 -- ---- the promises
 pub new_accepts : NewAccepts
-unfolding formant_osc_new_of made_unless outcome_number
-new_accepts r = (number (rate_ok r), λ ok fit. (r, fit, rw ok refl))
-  where
-    number : (b : Bool) → outcome_number (made_unless (cond b 0 1) (new_formant_osc r) (new_formant_osc r)).outcome ≡ cond b 0 1
-    number true = refl
-    number false = refl
+unfolding formant_osc_new_of
+new_accepts r = (made_number _ _ _, λ ok fit. (r, fit, unfold made_unless in rw ok refl))
 
 pub never_refused : NeverRefused
-unfolding reply outcome_number formant_osc_block_of formant_osc_reset_of formant_osc_set_sample_rate_of formant_osc_rate_refusal_of made_unless
+unfolding reply formant_osc_block_of formant_osc_reset_of formant_osc_set_sample_rate_of
 never_refused s h =
     let g = good h in
+    let n = unrefused s g in
     record {
       phase = g.phase;
       vibrato_phase = g.vibrato;
       tick = λ c. rw (tick_sounds s c g) (sound_accepted s c);
-      play =
-          λ c t o m. block_refusal n_ports _ _ _ s t o m
-          ∙ ap (λ (n : ℕ). block_refusal_of (eqb (length o) (n_ports * length m)) n t (length m)) (unrefused s g);
-      reset = simp (unrefused s g);
-      rate = λ r. rates r (rate_ok r);
+      play = λ c t o m. block_refusal n_ports _ _ _ s t o m
+          ∙ ap (λ (k : ℕ). block_refusal_of (eqb (length o) (n_ports * length m)) k t (length m)) n;
+      reset = ap Told (made_number _ _ _ ∙ n);
+      rate = λ r. ap Told (made_number _ _ _ ∙ (unfold formant_osc_rate_refusal_of in simp n));
     }
-  where
-    rates : (r : Hertz) (b : Bool) → Told (outcome_number (made_unless (cond b (formant_osc_refusal_of s) 1) s (rated s r)).outcome) ≡ Told (cond b 0 1)
-    rates r true = unfold made_unless in simp (unrefused s (good h))
-    rates r false = unfold made_unless in refl

@@ -24,8 +24,8 @@ use Rattle.formant_osc.specs.FormantOsc.{rated, formant_osc_set_sample_rate_of}
 use Rattle.formant_osc.specs.Promises.{SumMarks, CleanFinite, Spoiled, StaysSpoiled, BlocksSpoiled}
 use Rattle.formant_osc.specs.Sound.{glottal_pulse, resonate_of, plus, rung_of}
 use Rattle.formant_osc.specs.declared.FormantOscControls.{FormantOscControls}
+use Rattle.answer.specs.declared.Ticked.{Ticked}
 use Rattle.formant_osc.specs.declared.FormantOsc.{FormantOsc}
-use Rattle.formant_osc.specs.declared.FormantOscTicked.{FormantOscTicked}
 use Rattle.laws.proofs.Always.{always}
 use Rattle.laws.proofs.Number.{add_wild_l, add_wild_r, mul_wild_l, mul_wild_r}
 use Rattle.laws.proofs.Over.{tab_ext}
@@ -42,7 +42,7 @@ pub sound_unfinished : (s : FormantOsc) (c : FormantOscControls) → is_fin (for
 unfolding formant_osc_sound_of
 sound_unfinished s c e = unfinished _ _ _ _ e
 
-abbrev Unfinished : FormantOscTicked → Type 0
+abbrev Unfinished : Ticked FormantOsc → Type 0
 Unfinished t = accepted t.answer ≡ true → mark_number t.answer ≡ notfinite
 
 pub sum_marks : SumMarks
@@ -51,7 +51,7 @@ sum_marks s c e = tick_either Unfinished s c (λ a. sound_unfinished s c e) (λ 
 
 pub clean_finite : CleanFinite
 unfolding mark_number
-clean_finite s c = tick_either (λ (t : FormantOscTicked). Steady (mark_number t.answer) → is_fin (formant_osc_rung s c).sum ≡ true) s c
+clean_finite s c = tick_either (λ (t : Ticked FormantOsc). Steady (mark_number t.answer) → is_fin (formant_osc_rung s c).sum ≡ true) s c
     (go (is_fin (formant_osc_rung s c).sum) refl) (λ n h. absurd (none h))
   where
     Steady : ℕ → Type 0
@@ -106,12 +106,12 @@ pub spoiled_sum : (s : FormantOsc) (c : FormantOscControls) → Spoiled s → is
 unfolding formant_osc_rung
 spoiled_sum s c p = rung_sum (coef_memo_of s c).val s.resonator_state (glottal_pulse s.phase.0) p.0 p.1 p.2
 
-spoiled_sound : (s : FormantOsc) (c : FormantOscControls) → Spoiled s → Spoiled (formant_osc_sound_of s c).formant_osc
+spoiled_sound : (s : FormantOsc) (c : FormantOscControls) → Spoiled s → Spoiled (formant_osc_sound_of s c).state
 unfolding formant_osc_sound_of formant_osc_rung
 spoiled_sound s c p = (p.0, p.1, rung_cell (coef_memo_of s c).val s.resonator_state (glottal_pulse s.phase.0) p.0 p.1 p.2)
 
-pub spoiled_tick : (c : FormantOscControls) (s : FormantOsc) → Spoiled s → Spoiled (formant_osc_tick_of s c).formant_osc
-spoiled_tick c s p = tick_either (λ (t : FormantOscTicked). Spoiled t.formant_osc) s c (spoiled_sound s c p) (λ n. p)
+pub spoiled_tick : (c : FormantOscControls) (s : FormantOsc) → Spoiled s → Spoiled (formant_osc_tick_of s c).state
+spoiled_tick c s p = tick_either (λ (t : Ticked FormantOsc). Spoiled t.state) s c (spoiled_sound s c p) (λ n. p)
 
 spoiled_after : (s : FormantOsc) (c : Call) → Spoiled s → NoReset c → Spoiled (after s c)
 unfolding after

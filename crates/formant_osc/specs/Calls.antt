@@ -1,9 +1,8 @@
 -- Calls on a FormantOsc, one after another, and what they answer.
 use Rattle.std.specs.Prelude.{List, ◌≡◌, ℕ, Float}
-use Rattle.answer.specs.Answer.{outcome_number}
 use Rattle.answer.specs.Block.{Block}
+use Rattle.answer.specs.Calls.{outcome}
 use Rattle.answer.specs.declared.Answer.{Answer}
-use Rattle.answer.specs.declared.Outcome.TheVariants as outcome
 use Rattle.answer.specs.declared.Tally.{Tally}
 use Rattle.common.specs.declared.Hertz.{Hertz}
 use Rattle.formant_osc.specs.FormantOsc.{formant_osc_new_of, formant_osc_tick_of, formant_osc_block_of, formant_osc_reset_of, formant_osc_set_sample_rate_of}
@@ -37,20 +36,20 @@ FitCall (SetSampleRate r) = F64 r.0
 
 -- the state after a call; a refused one leaves it
 unfoldable pub after : FormantOsc → Call → FormantOsc
-after s (Tick c) = (formant_osc_tick_of s c).formant_osc
+after s (Tick c) = (formant_osc_tick_of s c).state
 after s (Play c t o m) = (formant_osc_block_of s c t o m).state
-after s Reset = (formant_osc_reset_of s).formant_osc
-after s (SetSampleRate r) = (formant_osc_set_sample_rate_of s r).formant_osc
+after s Reset = (formant_osc_reset_of s).state
+after s (SetSampleRate r) = (formant_osc_set_sample_rate_of s r).state
 
 unfoldable pub reply : FormantOsc → Call → Reply
 reply s (Tick c) = Ticked (formant_osc_tick_of s c).answer
 reply s (Play c t o m) = Played (formant_osc_block_of s c t o m)
-reply s Reset = Told (outcome_number (formant_osc_reset_of s).outcome)
-reply s (SetSampleRate r) = Told (outcome_number (formant_osc_set_sample_rate_of s r).outcome)
+reply s Reset = Told (formant_osc_reset_of s).refused
+reply s (SetSampleRate r) = Told (formant_osc_set_sample_rate_of s r).refused
 
 -- an accepted new one
 abbrev pub First : FormantOsc → Type 0
-First s = (r : Hertz) × F64 r.0 × (formant_osc_new_of r ≡ record { outcome = outcome.Done; formant_osc = s })
+First s = (r : Hertz) × F64 r.0 × (formant_osc_new_of r ≡ outcome 0 s)
 
 abbrev pub ReachedFormantOsc : FormantOsc → Type 0
 ReachedFormantOsc = Reached First FitCall after

@@ -12,15 +12,20 @@ n_ports = 1
 abbrev pub formants : List (List Float)
 formants =
     -- A: 700, 1220, 2600, 3500, 4500
-    (of_bits binary64 0x4085e00000000000 ∷ of_bits binary64 0x4093100000000000 ∷ of_bits binary64 0x40a4500000000000 ∷ of_bits binary64 0x40ab580000000000 ∷ of_bits binary64 0x40b1940000000000 ∷ []) ∷
+    (of_bits binary64 0x4085e00000000000 ∷ of_bits binary64 0x4093100000000000 ∷ of_bits binary64 0x40a4500000000000 ∷ of_bits binary64 0x40ab580000000000
+    ∷ of_bits binary64 0x40b1940000000000 ∷ []) ∷
     -- E: 530, 1840, 2480, 3500, 4500
-    (of_bits binary64 0x4080900000000000 ∷ of_bits binary64 0x409cc00000000000 ∷ of_bits binary64 0x40a3600000000000 ∷ of_bits binary64 0x40ab580000000000 ∷ of_bits binary64 0x40b1940000000000 ∷ []) ∷
+    (of_bits binary64 0x4080900000000000 ∷ of_bits binary64 0x409cc00000000000 ∷ of_bits binary64 0x40a3600000000000 ∷ of_bits binary64 0x40ab580000000000
+    ∷ of_bits binary64 0x40b1940000000000 ∷ []) ∷
     -- I: 280, 2250, 2890, 3500, 4500
-    (of_bits binary64 0x4071800000000000 ∷ of_bits binary64 0x40a1940000000000 ∷ of_bits binary64 0x40a6940000000000 ∷ of_bits binary64 0x40ab580000000000 ∷ of_bits binary64 0x40b1940000000000 ∷ []) ∷
+    (of_bits binary64 0x4071800000000000 ∷ of_bits binary64 0x40a1940000000000 ∷ of_bits binary64 0x40a6940000000000 ∷ of_bits binary64 0x40ab580000000000
+    ∷ of_bits binary64 0x40b1940000000000 ∷ []) ∷
     -- O: 500, 700, 2350, 3500, 4500
-    (of_bits binary64 0x407f400000000000 ∷ of_bits binary64 0x4085e00000000000 ∷ of_bits binary64 0x40a25c0000000000 ∷ of_bits binary64 0x40ab580000000000 ∷ of_bits binary64 0x40b1940000000000 ∷ []) ∷
+    (of_bits binary64 0x407f400000000000 ∷ of_bits binary64 0x4085e00000000000 ∷ of_bits binary64 0x40a25c0000000000 ∷ of_bits binary64 0x40ab580000000000
+    ∷ of_bits binary64 0x40b1940000000000 ∷ []) ∷
     -- U: 300, 870, 2250, 3500, 4500
-    (of_bits binary64 0x4072c00000000000 ∷ of_bits binary64 0x408b300000000000 ∷ of_bits binary64 0x40a1940000000000 ∷ of_bits binary64 0x40ab580000000000 ∷ of_bits binary64 0x40b1940000000000 ∷ []) ∷ []
+    (of_bits binary64 0x4072c00000000000 ∷ of_bits binary64 0x408b300000000000 ∷ of_bits binary64 0x40a1940000000000 ∷ of_bits binary64 0x40ab580000000000
+    ∷ of_bits binary64 0x40b1940000000000 ∷ []) ∷ []
 
 -- BANDWIDTHS: 80, 90, 120, 150, 200
 abbrev pub bandwidths : List Float

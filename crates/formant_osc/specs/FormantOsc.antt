@@ -5,27 +5,24 @@ use Rattle.std.specs.Float.Ieee.{add, mul, neg}
 use Rattle.laws.specs.Float.{zer, one, is_fin}
 use Rattle.numeric.specs.Basic.{clamp_of}
 use Rattle.common.specs.Consts.{five}
-use Rattle.common.specs.Memo.{new_memo1, recall1, voct_to_hz_at}
+use Rattle.common.specs.Memo.{Memo1, new_memo1, recall1, voct_to_hz_at}
 use Rattle.common.specs.Phase.{turns, wrap_phase_of, increment_of}
 use Rattle.common.specs.Tests.{rate_ok, phase_ok}
 use Rattle.common.specs.declared.Hertz.{Hertz}
-use Rattle.common.specs.declared.Memo1.{Memo1}
 use Rattle.answer.specs.Answer.{volts1}
 use Rattle.answer.specs.Block.{Block, block_of}
+use Rattle.answer.specs.Calls.{Outcome, made_unless}
 use Rattle.answer.specs.Mark.{all_numbers, mark_of}
 use Rattle.answer.specs.declared.Answer.{Answer}
 use Rattle.answer.specs.declared.Tally.{Tally}
 use Rattle.answer.specs.declared.Answer.TheVariants as answer
-use Rattle.answer.specs.declared.Outcome.TheVariants as outcome
+use Rattle.answer.specs.declared.Ticked.{Ticked}
 use Rattle.formant_osc.specs.Consts.{n_ports, vibrato_rate}
-use Rattle.formant_osc.specs.Memo.{new_coef_memo, coef_recall}
+use Rattle.formant_osc.specs.Memo.{CoefMemo, new_coef_memo, coef_recall}
 use Rattle.formant_osc.specs.Sound.{glottal_pulse, pitch_of, rung_of}
-use Rattle.formant_osc.specs.declared.CoefMemo.{CoefMemo}
 use Rattle.formant_osc.specs.declared.Rung.{Rung}
 use Rattle.formant_osc.specs.declared.FormantOsc.{FormantOsc}
 use Rattle.formant_osc.specs.declared.FormantOscControls.{FormantOscControls}
-use Rattle.formant_osc.specs.declared.FormantOscTicked.{FormantOscTicked}
-use Rattle.formant_osc.specs.declared.FormantOscMade.{FormantOscMade}
 
 -- two cells for each resonator, all 0
 abbrev pub silent : List Float
@@ -44,12 +41,8 @@ formant_osc_refusal_of s = cond (rate_ok s.sample_rate) (cond (phase_ok s.phase 
 unfoldable pub formant_osc_rate_refusal_of : FormantOsc → Hertz → ℕ
 formant_osc_rate_refusal_of s r = cond (rate_ok r) (formant_osc_refusal_of s) 1
 
--- the new state and that all is done, unless n refuses; then the old one
-unfoldable pub made_unless : ℕ → FormantOsc → FormantOsc → FormantOscMade
-made_unless n old new = cond (eqb n 0) (record { outcome = outcome.Done; formant_osc = new }) (record { outcome = outcome.Refused n; formant_osc = old })
-
 -- 1 on the rate; a refused new hands out the state with the bad rate, which every call refuses
-unfoldable pub formant_osc_new_of : Hertz → FormantOscMade
+unfoldable pub formant_osc_new_of : Hertz → Outcome FormantOsc
 formant_osc_new_of r = made_unless (cond (rate_ok r) 0 1) (new_formant_osc r) (new_formant_osc r)
 
 -- the memos after a tick
@@ -68,7 +61,7 @@ abbrev pub controls_of : FormantOscControls → List Float
 controls_of c = c.v_oct.0 ∷ c.vowel ∷ c.formant_shift ∷ c.vibrato ∷ []
 
 -- tick_generic, line by line
-unfoldable pub formant_osc_sound_of : FormantOsc → FormantOscControls → FormantOscTicked
+unfoldable pub formant_osc_sound_of : FormantOsc → FormantOscControls → Ticked FormantOsc
 formant_osc_sound_of s c =
     let freqs = freq_memo_of s c in
     let rung = formant_osc_rung s c in
@@ -78,7 +71,7 @@ formant_osc_sound_of s c =
       answer =
           mark_of (volts1 (mul binary64 (clamp_of rung.sum (neg one) one) five)) false (is_fin rung.sum) (is_fin next && is_fin vibrato_next)
           (all_numbers (controls_of c));
-      formant_osc =
+      state =
           record {
             phase = (wrap_phase_of (turns next)).phase;
             vibrato_phase = (wrap_phase_of (turns vibrato_next)).phase;
@@ -90,17 +83,17 @@ formant_osc_sound_of s c =
     }
 
 -- a refused tick leaves the state
-unfoldable pub formant_osc_tick_of : FormantOsc → FormantOscControls → FormantOscTicked
+unfoldable pub formant_osc_tick_of : FormantOsc → FormantOscControls → Ticked FormantOsc
 formant_osc_tick_of s c =
     let n = formant_osc_refusal_of s in
-    cond (eqb n 0) (formant_osc_sound_of s c) (record { answer = answer.Refused n; formant_osc = s })
+    cond (eqb n 0) (formant_osc_sound_of s c) (record { answer = answer.Refused n; state = s })
 
 -- a block of as many ticks with these controls as there are marks, a sample each
 abbrev pub formant_osc_told_of : FormantOscControls → FormantOsc → Answer
 formant_osc_told_of c s = (formant_osc_tick_of s c).answer
 
 abbrev pub formant_osc_next_of : FormantOscControls → FormantOsc → FormantOsc
-formant_osc_next_of c s = (formant_osc_tick_of s c).formant_osc
+formant_osc_next_of c s = (formant_osc_tick_of s c).state
 
 unfoldable pub formant_osc_block_of : FormantOsc → FormantOscControls → Tally → List Float → List ℕ → Block FormantOsc
 formant_osc_block_of s c t o m = block_of n_ports (formant_osc_refusal_of s) (formant_osc_told_of c) (formant_osc_next_of c) s t o m
@@ -117,7 +110,7 @@ restarted s =
       coef_memo = s.coef_memo;
     }
 
-unfoldable pub formant_osc_reset_of : FormantOsc → FormantOscMade
+unfoldable pub formant_osc_reset_of : FormantOsc → Outcome FormantOsc
 formant_osc_reset_of s = made_unless (formant_osc_refusal_of s) s (restarted s)
 
 -- self.sample_rate = sample_rate
@@ -132,5 +125,5 @@ rated s r =
       coef_memo = s.coef_memo;
     }
 
-unfoldable pub formant_osc_set_sample_rate_of : FormantOsc → Hertz → FormantOscMade
+unfoldable pub formant_osc_set_sample_rate_of : FormantOsc → Hertz → Outcome FormantOsc
 formant_osc_set_sample_rate_of s r = made_unless (formant_osc_rate_refusal_of s r) s (rated s r)

@@ -1,21 +1,22 @@
--- The Rust's Memo<3, [[f64; 3]; 5]> of the coefficients. Keys are bits, any NaN's as one.
-use Rattle.std.specs.Prelude.{Bool, true, false, cond, ◌&&◌, List, [], ◌∷◌, eqb, Float}
-use Rattle.std.specs.Float.{binary64}
-use Rattle.std.specs.Float.Ieee.{to_bits}
+-- The Rust's Memo<3, [[f64; 3]; 5]> of the coefficients: common's Memo of three f64s' bits, any NaN's as one.
+use Rattle.std.specs.Prelude.{Bool, List, [], ◌∷◌, Float}
 use Rattle.laws.specs.Float.{zer}
+use Rattle.common.specs.Memo.{Key3, key3, same3, new_memo, hits, filled, recall}
+use Rattle.common.specs.declared.Memo.{Memo}
 use Rattle.formant_osc.specs.Coefs.{resonator_coefs}
-use Rattle.formant_osc.specs.declared.CoefMemo.{CoefMemo}
 
-unfoldable pub new_coef_memo : CoefMemo
-new_coef_memo =
-    record { key0 = 0; key1 = 0; key2 = 0; val = zer ∷ zer ∷ zer ∷ zer ∷ zer ∷ zer ∷ zer ∷ zer ∷ zer ∷ zer ∷ zer ∷ zer ∷ zer ∷ zer ∷ zer ∷ []; valid = false }
+abbrev pub CoefMemo : Type 0
+CoefMemo = Memo Key3 (List Float)
 
-unfoldable pub coef_hits : CoefMemo → Float → Float → Float → Bool
-coef_hits m x y z = m.valid && (eqb m.key0 (to_bits binary64 x) && (eqb m.key1 (to_bits binary64 y) && eqb m.key2 (to_bits binary64 z)))
+abbrev pub new_coef_memo : CoefMemo
+new_coef_memo = new_memo (0, 0, 0) (zer ∷ zer ∷ zer ∷ zer ∷ zer ∷ zer ∷ zer ∷ zer ∷ zer ∷ zer ∷ zer ∷ zer ∷ zer ∷ zer ∷ zer ∷ [])
 
-unfoldable pub coef_filled : Float → Float → Float → List Float → CoefMemo
-coef_filled x y z v = record { key0 = to_bits binary64 x; key1 = to_bits binary64 y; key2 = to_bits binary64 z; val = v; valid = true }
+abbrev pub coef_hits : CoefMemo → Float → Float → Float → Bool
+coef_hits m x y z = hits same3 m (key3 x y z)
+
+abbrev pub coef_filled : Float → Float → Float → List Float → CoefMemo
+coef_filled x y z v = filled (key3 x y z) v
 
 -- get_or_compute([vowel, shift, sample_rate], || resonator_coefs(..)): the memo after it, whose val is its answer
-unfoldable pub coef_recall : CoefMemo → Float → Float → Float → CoefMemo
-coef_recall m vowel shift rate = cond (coef_hits m vowel shift rate) m (coef_filled vowel shift rate (resonator_coefs vowel shift rate))
+abbrev pub coef_recall : CoefMemo → Float → Float → Float → CoefMemo
+coef_recall m vowel shift rate = recall same3 (resonator_coefs vowel shift rate) m (key3 vowel shift rate)

@@ -1,22 +1,24 @@
 -- Theorems about the FormantOsc: the statements. proofs/ proves each under the same name in small letters.
-use Rattle.std.specs.Prelude.{true, false, cond, List, [], ◌∷◌, ◌⊎◌, ◌≡◌, ℕ, suc, ◌<◌, ◌*◌, eqb, Float, length, get_or}
+use Rattle.std.specs.Prelude.{Result, true, false, cond, List, [], ◌∷◌, ◌⊎◌, ◌≡◌, ℕ, suc, ◌<◌, ◌*◌, eqb, Float, length, get_or}
 use Rattle.std.specs.Float.{nan, binary64}
 use Rattle.std.specs.Float.Ieee.{div, of_bits}
-use Rattle.answer.specs.Answer.{notfinite, lost, steered, clean, told, mark_number, accepted, outcome_number}
+use Rattle.answer.specs.Answer.{notfinite, lost, steered, clean, told, mark_number, accepted}
 use Rattle.answer.specs.Block.{Block, block_refusal_of}
+use Rattle.answer.specs.Calls.{making, changing}
 use Rattle.answer.specs.Promises.{Steers, AllAccepted, AllTaken}
+use Rattle.answer.specs.declared.Made.{Made}
 use Rattle.answer.specs.declared.Tally.{Tally}
+use Rattle.answer.specs.declared.Ticked.{Ticked}
 use Rattle.common.specs.Consts.{five}
 use Rattle.common.specs.Tests.{rate_ok, phase_ok}
 use Rattle.common.specs.declared.Hertz.{Hertz}
+use Rattle.common.specs.declared.Refusal.{Refusal}
 use Rattle.formant_osc.specs.Calls.{Fit, reply, First, ReachedFormantOsc, Later, Reset, SetSampleRate, Told}
 use Rattle.formant_osc.specs.Consts.{n_ports}
 use Rattle.formant_osc.specs.FormantOsc.{new_formant_osc, formant_osc_new_of, formant_osc_rung, formant_osc_tick_of, formant_osc_block_of, formant_osc_reset_of}
 use Rattle.formant_osc.specs.FormantOsc.{formant_osc_set_sample_rate_of, formant_osc_refusal_of, formant_osc_told_of, formant_osc_next_of}
 use Rattle.formant_osc.specs.declared.FormantOscControls.{FormantOscControls}
-use Rattle.formant_osc.specs.declared.FormantOscMade.{FormantOscMade}
 use Rattle.formant_osc.specs.declared.FormantOsc.{FormantOsc}
-use Rattle.formant_osc.specs.declared.FormantOscTicked.{FormantOscTicked}
 use Rattle.laws.specs.Float.{F64, zer, is_fin}
 use Rattle.laws.specs.Lists.{tab}
 use Rattle.laws.specs.Machine.{Settles}
@@ -24,7 +26,7 @@ use Rattle.numeric.specs.Power.{exp2_of}
 
 -- ---- `new` refuses a bad rate alone: at each other one there is a first state
 abbrev pub NewAccepts : Type 0
-NewAccepts = (r : Hertz) → (outcome_number (formant_osc_new_of r).outcome ≡ cond (rate_ok r) 0 1) × (rate_ok r ≡ true → F64 r.0 → First (new_formant_osc r))
+NewAccepts = (r : Hertz) → ((formant_osc_new_of r).refused ≡ cond (rate_ok r) 0 1) × (rate_ok r ≡ true → F64 r.0 → First (new_formant_osc r))
 
 -- ---- a reached state refuses no call but for the call's own input: a block for samples that don't fit its marks, or for a tally
 -- without room
@@ -82,12 +84,12 @@ WildCell s = (i : ℕ) × (i < 10) × (is_fin (get_or s.resonator_state i nan) �
 
 abbrev pub AnyCellSpoils : Type 0
 AnyCellSpoils = (s : FormantOsc) (c : FormantOscControls) → WildCell s → accepted (formant_osc_tick_of s c).answer ≡ true
-    → Spoiled (formant_osc_tick_of s c).formant_osc
+    → Spoiled (formant_osc_tick_of s c).state
 
 -- once any cell isn't finite, every later tick but the first one is notfinite until a reset; t has that first tick, and u any later one
 abbrev pub AnyCellStays : Type 0
 AnyCellStays = (s t u : FormantOsc) → WildCell s → Later s t → (c : FormantOscControls) → accepted (formant_osc_tick_of t c).answer ≡ true
-    → Later (formant_osc_tick_of t c).formant_osc u → (d : FormantOscControls) → accepted (formant_osc_tick_of u d).answer ≡ true
+    → Later (formant_osc_tick_of t c).state u → (d : FormantOscControls) → accepted (formant_osc_tick_of u d).answer ≡ true
     → mark_number (formant_osc_tick_of u d).answer ≡ notfinite
 
 -- in a block too: every mark after the first tells it, and it leaves a spoiled resonator
@@ -119,11 +121,11 @@ Dead s = get_or s.resonator_state 0 nan ≡ nan
 
 abbrev pub DeadShift : Type 0
 DeadShift = (s : FormantOsc) → ReachedFormantOsc s → (c : FormantOscControls) → Fit c → (shift_factor c ≡ zer) ⊎ (shift_factor c ≡ nan)
-    → (mark_number (formant_osc_tick_of s c).answer ≡ notfinite) × Dead (formant_osc_tick_of s c).formant_osc
+    → (mark_number (formant_osc_tick_of s c).answer ≡ notfinite) × Dead (formant_osc_tick_of s c).state
 
 abbrev pub NanVowel : Type 0
 NanVowel = (s : FormantOsc) → ReachedFormantOsc s → (c : FormantOscControls) → Fit c → c.vowel ≡ nan
-    → (mark_number (formant_osc_tick_of s c).answer ≡ notfinite) × Dead (formant_osc_tick_of s c).formant_osc
+    → (mark_number (formant_osc_tick_of s c).answer ≡ notfinite) × Dead (formant_osc_tick_of s c).state
 
 -- so are the ticks of a block
 abbrev pub Deadly : FormantOscControls → Type 0
@@ -168,9 +170,9 @@ BlockTallies = (s : FormantOsc) (c : FormantOscControls) → formant_osc_refusal
 
 -- ---- each contract settles its answer
 pub record Settled : Type 0 where
-  pub new : (r : Hertz) → Settles (λ (a : FormantOscMade). a ≡ formant_osc_new_of r)
-  pub tick : (s : FormantOsc) (c : FormantOscControls) → Settles (λ (a : FormantOscTicked). a ≡ formant_osc_tick_of s c)
+  pub new : (r : Hertz) → Settles (λ (a : Made FormantOsc). making a ≡ formant_osc_new_of r)
+  pub tick : (s : FormantOsc) (c : FormantOscControls) → Settles (λ (a : Ticked FormantOsc). a ≡ formant_osc_tick_of s c)
   pub block : (s : FormantOsc) (c : FormantOscControls) (t : Tally) (o : List Float) (m : List ℕ)
       → Settles (λ (b : Block FormantOsc). b ≡ formant_osc_block_of s c t o m)
-  pub reset : (s : FormantOsc) → Settles (λ (a : FormantOscMade). a ≡ formant_osc_reset_of s)
-  pub set_sample_rate : (s : FormantOsc) (r : Hertz) → Settles (λ (a : FormantOscMade). a ≡ formant_osc_set_sample_rate_of s r)
+  pub reset : (s : FormantOsc) → Settles (λ (a : Result FormantOsc Refusal). changing s a ≡ formant_osc_reset_of s)
+  pub set_sample_rate : (s : FormantOsc) (r : Hertz) → Settles (λ (a : Result FormantOsc Refusal). changing s a ≡ formant_osc_set_sample_rate_of s r)

@@ -9,10 +9,9 @@ use Rattle.answer.specs.Block.{after_ticks}
 use Rattle.answer.specs.Mark.{mark_of}
 use Rattle.answer.specs.declared.Answer.{Answer}
 use Rattle.common.specs.Consts.{five}
-use Rattle.common.specs.Memo.{recall1, voct_to_hz_at}
+use Rattle.common.specs.Memo.{Memo1, recall1, voct_to_hz_at}
 use Rattle.common.specs.Phase.{turns, wrap_phase_of, increment_of}
 use Rattle.common.specs.declared.Hertz.{Hertz}
-use Rattle.common.specs.declared.Memo1.{Memo1}
 use Rattle.common.specs.declared.Turns.{Turns}
 use Rattle.common.specs.declared.VoltsPerOctave.{VoltsPerOctave}
 use Rattle.formant_osc.specs.Consts.{vibrato_rate}

@@ -9,32 +9,27 @@ ghost use Rattle.laws.specs.Float.{zer};
 ghost use Rattle.laws.specs.Lists.{tab};
 ghost use Rattle.common.specs.Memo.{recall1, voct_to_hz_at};
 ghost use Rattle.common.specs.Phase.{turns};
+ghost use Rattle.common.specs.Refusal.{refused_number};
 ghost use Rattle.common.specs.Tests.{phase_ok};
 ghost use Rattle.answer.specs.Answer.{host_number, volts_of};
 ghost use Rattle.answer.specs.Mark.{all_numbers};
-ghost use Rattle.answer.specs.Block.{after_ticks, joined, block, mark_at, frame_at};
+ghost use Rattle.answer.specs.Block.{after_ticks, joined, block_said, mark_at, frame_at};
+ghost use Rattle.answer.specs.Calls.{making, changing};
 ghost use Rattle.formant_osc.specs.Consts.{n_ports};
 ghost use Rattle.formant_osc.specs.Coefs.{spot_of, formant_of, get_formants, coef_of, resonator_coefs};
-ghost use Rattle.formant_osc.specs.Memo.{new_coef_memo, coef_hits, coef_filled, coef_recall};
 ghost use Rattle.formant_osc.specs.Sound.{glottal_pulse, pitch_of, resonate_of, rung_of};
-ghost use Rattle.formant_osc.specs.FormantOsc.{controls_of, new_formant_osc, formant_osc_refusal_of, formant_osc_rate_refusal_of, formant_osc_new_of, formant_osc_sound_of};
+ghost use Rattle.formant_osc.specs.FormantOsc.{controls_of, formant_osc_refusal_of, formant_osc_rate_refusal_of, formant_osc_new_of, formant_osc_sound_of};
 ghost use Rattle.formant_osc.specs.FormantOsc.{formant_osc_tick_of, formant_osc_told_of, formant_osc_next_of, formant_osc_block_of, formant_osc_reset_of};
 ghost use Rattle.formant_osc.specs.FormantOsc.{freq_memo_of, coef_memo_of, formant_osc_set_sample_rate_of};
 ghost use Rattle.formant_osc.specs.Shortcuts.{drive_next, pulse_at, flag, is_flagged, flag_at, stride_at, swayed, phase_at, phase_flag_at};
 ghost use Rattle.formant_osc.specs.Shortcuts.{voiced_of, voiced_at, cells_at, vibrato_of};
 
-use answer::{Answer, Outcome, Tally};
-use common::{Hertz, Memo1, Turns, VoltsPerOctave};
+use answer::{Answer, Made, Played, Tally, Ticked, Volts};
+use common::{Hertz, Memo, Refusal, Turns, VoltsPerOctave};
 
 // The Rust's Memo<3, [[f64; 3]; 5]>: b0/norm, a1/norm and a2/norm of each of the five resonators, one after another.
-#[derive(Clone, Copy)]
-pub struct CoefMemo {
-    pub key0: u64,
-    pub key1: u64,
-    pub key2: u64,
-    pub val: [f64; 15],
-    pub valid: bool,
-}
+// Kept: fifteen in a row, and ten cells in a row below, since ReadBack of exports_formant_osc and Spoiled count them so.
+pub type CoefMemo = Memo<(u64, u64, u64), [f64; 15]>;
 
 // The resonators' cells stand one after another, two for each.
 #[derive(Clone, Copy)]
@@ -43,7 +38,7 @@ pub struct FormantOsc {
     pub vibrato_phase: Turns,
     pub resonator_state: [f64; 10],
     pub sample_rate: Hertz,
-    pub freq_memo: Memo1,
+    pub freq_memo: Memo<u64, Hertz>,
     pub coef_memo: CoefMemo,
 }
 
@@ -54,27 +49,6 @@ pub struct FormantOscControls {
     pub vowel: f64,
     pub formant_shift: f64,
     pub vibrato: f64,
-}
-
-#[derive(Clone, Copy)]
-pub struct FormantOscTicked {
-    pub answer: Answer,
-    pub formant_osc: FormantOsc,
-}
-
-// What a block leaves beside its samples and marks: `refused` is 0, or the number that refused it.
-#[derive(Clone, Copy)]
-pub struct FormantOscBlock {
-    pub refused: u32,
-    pub formant_osc: FormantOsc,
-    pub tally: Tally,
-}
-
-// What new, reset and set_sample_rate say, beside the state after it.
-#[derive(Clone, Copy)]
-pub struct FormantOscMade {
-    pub outcome: Outcome,
-    pub formant_osc: FormantOsc,
 }
 
 // The lower vowel of two, and how much of the upper.
@@ -112,7 +86,7 @@ struct Vibrato {
 struct Driver {
     phase: Turns,
     vibrato_phase: Turns,
-    freq_memo: Memo1,
+    freq_memo: Memo<u64, Hertz>,
 }
 
 // What the five give together, and their cells after it.
@@ -213,59 +187,6 @@ fn resonator_coefs(vowel: f64, shift: f64, sample_rate: Hertz) -> [f64; 15]
     rows
 }
 
-impl CoefMemo {
-    #[tactic(auto, unfolding(crate::specs::Memo::new_coef_memo))]
-    fn new() -> Self
-        ensures { result ≡ new_coef_memo }
-    {
-        CoefMemo {
-            key0: 0,
-            key1: 0,
-            key2: 0,
-            val: [0.0; 15],
-            valid: false,
-        }
-    }
-
-    // Whether the memo holds the coefficients for x, y and z.
-    #[tactic(auto, unfolding(crate::specs::Memo::coef_hits))]
-    fn hits(self, x: f64, y: f64, z: f64) -> bool
-        ensures { result ≡ coef_hits self x y z }
-    {
-        self.valid
-            && self.key0 == numeric::bits(x)
-            && self.key1 == numeric::bits(y)
-            && self.key2 == numeric::bits(z)
-    }
-
-    // A memo that holds these coefficients for x, y and z.
-    #[tactic(auto, unfolding(crate::specs::Memo::coef_filled))]
-    fn filled(x: f64, y: f64, z: f64, val: [f64; 15]) -> Self
-        ensures { result ≡ coef_filled x y z val }
-    {
-        CoefMemo {
-            key0: numeric::bits(x),
-            key1: numeric::bits(y),
-            key2: numeric::bits(z),
-            val,
-            valid: true,
-        }
-    }
-
-    // The Rust's get_or_compute; its answer is the new memo's val.
-    #[tactic(auto, unfolding(crate::specs::Memo::coef_recall))]
-    fn recall(self, vowel: f64, shift: f64, sample_rate: Hertz) -> Self
-        ensures { result ≡ coef_recall self vowel shift sample_rate.0 }
-    {
-        if self.hits(vowel, shift, sample_rate.0) {
-            self
-        } else {
-            let val = resonator_coefs(vowel, shift, sample_rate);
-            CoefMemo::filled(vowel, shift, sample_rate.0, val)
-        }
-    }
-}
-
 // A quick rise to 0.4 of the turn, a slower fall to 0.8, then nothing.
 #[tactic(auto, unfolding(crate::specs::Sound::glottal_pulse))]
 fn glottal_pulse(phase: Turns) -> f64
@@ -311,7 +232,7 @@ impl Vibrato {
     }
 
     // The memo after a tick. Where the pitch stands still it holds it already.
-    fn tuned(self, still: bool, memo: Memo1, phase: Turns) -> Memo1
+    fn tuned(self, still: bool, memo: Memo<u64, Hertz>, phase: Turns) -> Memo<u64, Hertz>
         requires { still ≡ true → recall1 voct_to_hz_at memo (pitch_of self.v_oct self.depth phase.0).0 ≡ memo }
         ensures { result ≡ recall1 voct_to_hz_at memo (pitch_of self.v_oct self.depth phase.0).0 }
     {
@@ -393,7 +314,7 @@ fn is_flagged(n: u32) -> bool
 fn voiced(sum: f64, phases: bool, numbers: bool) -> Answer
     ensures { result ≡ voiced_of sum phases numbers }
 {
-    let volts = answer::volts1(numeric::clamp(sum, -1.0, 1.0) * 5.0);
+    let volts = Volts::of([numeric::clamp(sum, -1.0, 1.0) * 5.0]);
     answer::mark(volts, false, numeric::is_finite(sum), phases, numbers)
 }
 
@@ -428,6 +349,7 @@ fn sway(start: Driver, vibrato: Vibrato, sample_rate: Hertz, samples: &mut [f64]
 }
 
 // The second time: the pulse that goes into the resonators, and in the mark's place whether the phase stays finite.
+// Kept: the samples and the marks one by one, and in each contract that they are as many, here and in what calls it: the C interface lends them as two slices.
 fn pulse(start: Turns, samples: &mut [f64], marks: &mut [u32]) -> Turns
     requires { length samples.old ≡ length marks.old }
     ensures value { result ≡ phase_at samples.old start (length marks.old) }
@@ -497,7 +419,7 @@ impl FormantOscControls {
     fn are_numbers(self) -> bool
         ensures { result ≡ all_numbers (controls_of self) }
     {
-        answer::numbers4(self.v_oct.0, self.vowel, self.formant_shift, self.vibrato)
+        answer::numbers([self.v_oct.0, self.vowel, self.formant_shift, self.vibrato])
     }
 
     // Its depth is brought into 0 to 1.
@@ -512,71 +434,55 @@ impl FormantOscControls {
 }
 
 impl FormantOsc {
-    // 0, or the number that refuses this state: 1 its rate, 2 a phase.
-    #[tactic(auto, unfolding(crate::specs::FormantOsc::formant_osc_refusal_of))]
-    fn refusal(self) -> u32
-        ensures { result ≡ formant_osc_refusal_of self }
+    // What refuses this state: its rate, then a phase.
+    #[tactic(auto, unfolding(crate::specs::FormantOsc::formant_osc_refusal_of, common::specs::Refusal::refused_number, common::specs::Refusal::number_of))]
+    fn refusal(self) -> Result<(), Refusal>
+        ensures { refused_number result ≡ formant_osc_refusal_of self }
     {
-        if common::rate_ok(self.sample_rate) {
-            if common::phase_ok(self.phase) && common::phase_ok(self.vibrato_phase) {
-                0
-            } else {
-                2
-            }
+        if !common::rate_ok(self.sample_rate) {
+            return Err(Refusal::Rate);
+        }
+        if common::phase_ok(self.phase) && common::phase_ok(self.vibrato_phase) {
+            Ok(())
         } else {
-            1
+            Err(Refusal::State)
         }
     }
 
-    // What refuses a change to this rate: 1 on the new rate and on the old, then 2.
-    #[tactic(auto, unfolding(crate::specs::FormantOsc::formant_osc_rate_refusal_of))]
-    fn rate_refusal(self, sample_rate: Hertz) -> u32
-        ensures { result ≡ formant_osc_rate_refusal_of self sample_rate }
+    // What refuses a change to this rate: the new rate or the old, then a phase.
+    #[tactic(auto, unfolding(crate::specs::FormantOsc::formant_osc_rate_refusal_of, common::specs::Refusal::refused_number, common::specs::Refusal::number_of))]
+    fn rate_refusal(self, sample_rate: Hertz) -> Result<(), Refusal>
+        ensures { refused_number result ≡ formant_osc_rate_refusal_of self sample_rate }
     {
         if common::rate_ok(sample_rate) {
             self.refusal()
         } else {
-            1
-        }
-    }
-
-    // At rest, with nothing in its memos.
-    #[tactic(auto, unfolding(crate::specs::FormantOsc::new_formant_osc))]
-    fn first(sample_rate: Hertz) -> Self
-        ensures { result ≡ new_formant_osc sample_rate }
-    {
-        FormantOsc {
-            phase: Turns(0.0),
-            vibrato_phase: Turns(0.0),
-            resonator_state: [0.0; 10],
-            sample_rate,
-            freq_memo: Memo1::new(),
-            coef_memo: CoefMemo::new(),
+            Err(Refusal::Rate)
         }
     }
 
     // A refused new hands out the state with the bad rate, which every later call refuses.
-    pub fn new(sample_rate: Hertz) -> FormantOscMade
-        ensures { result ≡ formant_osc_new_of sample_rate }
+    pub fn new(sample_rate: Hertz) -> Made<FormantOsc>
+        ensures { making result ≡ formant_osc_new_of sample_rate }
     {
-        let formant_osc = FormantOsc::first(sample_rate);
-        if common::rate_ok(sample_rate) {
-            FormantOscMade {
-                outcome: Outcome::Done,
-                formant_osc,
-            }
-        } else {
-            FormantOscMade {
-                outcome: Outcome::Refused(1),
-                formant_osc,
-            }
+        let state = FormantOsc {
+            phase: Turns(0.0),
+            vibrato_phase: Turns(0.0),
+            resonator_state: [0.0; 10],
+            sample_rate,
+            freq_memo: Memo::new(0, Hertz(0.0)),
+            coef_memo: Memo::new((0, 0, 0), [0.0; 15]),
+        };
+        Made {
+            outcome: state.refusal(),
+            state,
         }
     }
 
     // The memos after a tick. Inlined, for with a call in the place of each a tick takes a tenth longer.
     #[inline(always)]
     #[tactic(auto, unfolding(crate::specs::FormantOsc::freq_memo_of))]
-    fn freqs(self, c: FormantOscControls) -> Memo1
+    fn freqs(self, c: FormantOscControls) -> Memo<u64, Hertz>
         ensures { result ≡ freq_memo_of self c }
     {
         self.freq_memo
@@ -588,16 +494,19 @@ impl FormantOsc {
     fn coefs(self, c: FormantOscControls) -> CoefMemo
         ensures { result ≡ coef_memo_of self c }
     {
-        self.coef_memo.recall(
-            numeric::clamp(c.vowel, 0.0, 1.0),
-            c.formant_shift,
-            self.sample_rate,
-        )
+        let vowel = numeric::clamp(c.vowel, 0.0, 1.0);
+        let shift = c.formant_shift;
+        let rate = self.sample_rate;
+        let key = common::key3(vowel, shift, rate.0);
+        let compute = ||
+            ensures { result ≡ resonator_coefs vowel shift rate.0 }
+        { resonator_coefs(vowel, shift, rate) };
+        self.coef_memo.get_or_compute(key, compute)
     }
 
     // An accepted tick: the Rust's tick_generic.
     #[tactic(auto, unfolding(crate::specs::FormantOsc::formant_osc_sound_of, crate::specs::FormantOsc::formant_osc_rung, crate::specs::Shortcuts::voiced_of))]
-    fn sound(self, c: FormantOscControls) -> FormantOscTicked
+    fn sound(self, c: FormantOscControls) -> Ticked<FormantOsc>
         ensures { result ≡ formant_osc_sound_of self c }
     {
         // Here, far from the other phase: side by side the two become one pair, which the next tick can't read before the
@@ -614,9 +523,9 @@ impl FormantOsc {
         let next = Turns(self.phase.0 + phase_inc.0);
         let moved = common::wrap_of_several(next).phase;
         let phases = numeric::is_finite(next.0) && numeric::is_finite(vibrato_next.0);
-        FormantOscTicked {
+        Ticked {
             answer: voiced(rung.sum, phases, c.are_numbers()),
-            formant_osc: FormantOsc {
+            state: FormantOsc {
                 phase: moved,
                 vibrato_phase: vibrato_moved,
                 resonator_state,
@@ -627,17 +536,15 @@ impl FormantOsc {
         }
     }
 
-    pub fn tick(self, c: FormantOscControls) -> FormantOscTicked
+    pub fn tick(self, c: FormantOscControls) -> Ticked<FormantOsc>
         ensures { result ≡ formant_osc_tick_of self c }
     {
-        let n = self.refusal();
-        if n == 0 {
-            self.sound(c)
-        } else {
-            FormantOscTicked {
-                answer: Answer::Refused(n),
-                formant_osc: self,
-            }
+        match self.refusal() {
+            Ok(()) => self.sound(c),
+            Err(refused) => Ticked {
+                answer: Answer::Refused(refused.number()),
+                state: self,
+            },
         }
     }
 
@@ -679,75 +586,43 @@ impl FormantOsc {
         tally: Tally,
         samples: &mut [f64],
         marks: &mut [u32],
-    ) -> FormantOscBlock
-        ensures { block result.refused result.formant_osc result.tally samples.new marks.new
+    ) -> Result<Played<FormantOsc>, Refusal>
+        ensures { block_said self tally result samples.new marks.new
             ≡ formant_osc_block_of self c tally samples.old marks.old }
     {
         let n = marks.len();
-        let refused = answer::block_refusal(PORTS, samples.len(), self.refusal(), tally, n);
-        if refused == 0 {
-            if n == 0 {
-                FormantOscBlock {
-                    refused: 0,
-                    formant_osc: self,
-                    tally,
-                }
-            } else {
-                let formant_osc = self.run(c, samples, marks);
-                FormantOscBlock {
-                    refused: 0,
-                    formant_osc,
-                    tally: tally.take_marks(marks).or(tally),
-                }
-            }
-        } else {
-            FormantOscBlock {
-                refused,
-                formant_osc: self,
-                tally,
-            }
+        answer::block_refusal(PORTS, samples.len(), self.refusal(), tally, n)?;
+        if n == 0 {
+            return Ok(Played { state: self, tally });
         }
+        let state = self.run(c, samples, marks);
+        Ok(Played {
+            state,
+            tally: tally.take_marks(marks).unwrap_or(tally),
+        })
     }
 
-    // The memos stay.
-    pub fn reset(self) -> FormantOscMade
-        ensures { result ≡ formant_osc_reset_of self }
+    // The phases and the resonators start again; the memos stay.
+    pub fn reset(self) -> Result<FormantOsc, Refusal>
+        ensures { changing self result ≡ formant_osc_reset_of self }
     {
-        let n = self.refusal();
-        if n == 0 {
-            FormantOscMade {
-                outcome: Outcome::Done,
-                formant_osc: FormantOsc {
-                    freq_memo: self.freq_memo,
-                    coef_memo: self.coef_memo,
-                    ..FormantOsc::first(self.sample_rate)
-                },
-            }
-        } else {
-            FormantOscMade {
-                outcome: Outcome::Refused(n),
-                formant_osc: self,
-            }
-        }
+        self.refusal()?;
+        let start = Turns(0.0);
+        Ok(FormantOsc {
+            phase: start,
+            vibrato_phase: start,
+            resonator_state: [0.0; 10],
+            ..self
+        })
     }
 
-    pub fn set_sample_rate(self, sample_rate: Hertz) -> FormantOscMade
-        ensures { result ≡ formant_osc_set_sample_rate_of self sample_rate }
+    pub fn set_sample_rate(self, sample_rate: Hertz) -> Result<FormantOsc, Refusal>
+        ensures { changing self result ≡ formant_osc_set_sample_rate_of self sample_rate }
     {
-        let n = self.rate_refusal(sample_rate);
-        if n == 0 {
-            FormantOscMade {
-                outcome: Outcome::Done,
-                formant_osc: FormantOsc {
-                    sample_rate,
-                    ..self
-                },
-            }
-        } else {
-            FormantOscMade {
-                outcome: Outcome::Refused(n),
-                formant_osc: self,
-            }
-        }
+        self.rate_refusal(sample_rate)?;
+        Ok(FormantOsc {
+            sample_rate,
+            ..self
+        })
     }
 }

@@ -34,6 +34,8 @@ fn put_waves(page: &mut Page, v: Volts)
     put_sample(page, b"sqr=", v.p13);
 }
 
+// Kept: four kinds, all known here, so a match and no `dyn`; `ports_of` too. And `put_outputs`, `put_marked`, `put_frame` and `put_frames` take the page
+// beside what they put on it, as a page's own methods do.
 #[tactic(auto, using(text::proofs::PageLaws::page_then), unfolding(crate::specs::Frame::outputs_text))]
 fn put_outputs(page: &mut Page, osc: Osc, v: Volts)
     ensures { page.new ≡ with_text page.old (outputs_text osc v) }
@@ -110,14 +112,14 @@ fn volts_at(ports: usize, samples: &[f64], i: usize) -> Volts
     requires { ports * (i + 1) ≤ length samples.now }
     ensures { result ≡ volts_at ports samples.now i }
 {
-    answer::volts6(
+    Volts::of([
         output_at(ports, samples, i, 0),
         output_at(ports, samples, i, 1),
         output_at(ports, samples, i, 2),
         output_at(ports, samples, i, 3),
         output_at(ports, samples, i, 4),
         output_at(ports, samples, i, 5),
-    )
+    ])
 }
 
 // Whether so many samples are those of n frames, and a u32 can number these from `first` on.

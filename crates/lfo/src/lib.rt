@@ -142,6 +142,7 @@ impl LfoControls {
 }
 
 impl Setting {
+    // Kept: controls and mask apart, as a tick takes them.
     fn new(c: LfoControls, wanted: u32) -> Self
         ensures mask { result.wanted ≡ wanted }
         ensures depth { result.depth ≡ div binary64 c.depth ten }

@@ -10,14 +10,14 @@ use Rattle.line.specs.Number.{digits_from, digits_of, negative_of, signed_of, nu
 use Rattle.text.specs.Decimal.{decimal_from, decimal_text}
 use Rattle.text.specs.Hex.{glyph, hex_from, hex_text}
 use Rattle.answer.specs.Answer.{mark_number, volts4}
-use Rattle.common.specs.Refusal.{number_of, refused_number}
+use Rattle.common.specs.Refusal.{refused_number}
 use Rattle.answer.specs.Tally.{adds_up, one_if, counted, tally_or, tally_of, settle, run, tally_after}
 use Rattle.answer.specs.declared.Answer.{Answer}
 use Rattle.answer.specs.declared.Answer.TheVariants as answer
 use Rattle.answer.specs.declared.Volts.{Volts}
 use Rattle.common.specs.declared.Hertz.{Hertz}
 use Rattle.score.specs.Control.{volts_of}
-use Rattle.score.specs.Lines.{osc_of, within_of, control_of, osc_line, whole_line, control_line}
+use Rattle.score.specs.Lines.{osc_of, numbered, within_of, control_of, osc_line, whole_line, control_line}
 use Rattle.score.specs.Score.{osc, whole, control, end_of, inputs_of, gate, head_of, lines_of, score_of}
 use Rattle.score.specs.declared.Control.TheVariants.{Microvolts}
 use Rattle.std.specs.Prelude.{None, Ok}
@@ -57,7 +57,7 @@ volts = volts4 (of_bits binary64 0) (of_bits binary64 0xc014000000000000) (of_bi
 
 is_read : score_of given ≡ Ok score
 unfolding given score inputs same_of has_of until_of past_of line_of after_line key_of value_of is_line digits_from digits_of negative_of signed_of number_of
-    osc_of within_of
+    osc_of numbered within_of
     control_of osc_line whole_line control_line osc whole control end_of inputs_of gate head_of lines_of score_of
 is_read = refl
 

@@ -41,6 +41,7 @@ const LFO_ALL: u32 = 63;
 
 // ---- a score's player
 
+#[tactic(auto, unfolding(crate::specs::Begin::rate_of))]
 fn rate_of(hz: u32) -> Hertz
     ensures { result ≡ rate_of hz }
 {
@@ -48,6 +49,7 @@ fn rate_of(hz: u32) -> Hertz
 }
 
 // Where a gate counts as high: issue 1 holds where no line says one.
+#[tactic(auto, unfolding(crate::specs::Begin::threshold_of))]
 fn threshold_of(gate: Option<u32>) -> f64
     ensures { result ≡ threshold_of gate }
 {
@@ -63,7 +65,10 @@ fn threshold_of(gate: Option<u32>) -> f64
     }
 }
 
-// The inputs in volts. Kept: functions, and no `From`, since neither side of such an impl is of this crate.
+// The inputs in volts.
+// Kept: `vco_controls`, `lfo_controls`, `supersaw_controls` and `formant_controls` are four functions and no `From`, since neither side of such an impl is
+// of this crate.
+#[tactic(auto, unfolding(crate::specs::Begin::vco_controls))]
 fn vco_controls(i: VcoInputs) -> VcoControls
     ensures { result ≡ vco_controls i }
 {
@@ -76,6 +81,7 @@ fn vco_controls(i: VcoInputs) -> VcoControls
     }
 }
 
+#[tactic(auto, unfolding(crate::specs::Begin::lfo_controls))]
 fn lfo_controls(i: LfoInputs) -> LfoControls
     ensures { result ≡ lfo_controls i }
 {
@@ -86,6 +92,7 @@ fn lfo_controls(i: LfoInputs) -> LfoControls
     }
 }
 
+#[tactic(auto, unfolding(crate::specs::Begin::supersaw_controls))]
 fn supersaw_controls(i: SupersawInputs) -> SupersawControls
     ensures { result ≡ supersaw_controls i }
 {
@@ -96,6 +103,7 @@ fn supersaw_controls(i: SupersawInputs) -> SupersawControls
     }
 }
 
+#[tactic(auto, unfolding(crate::specs::Begin::formant_controls))]
 fn formant_controls(i: FormantInputs) -> FormantOscControls
     ensures { result ≡ formant_controls i }
 {
@@ -107,14 +115,18 @@ fn formant_controls(i: FormantInputs) -> FormantOscControls
     }
 }
 
-fn controls_of(inputs: Inputs) -> Controls
-    ensures { result ≡ controls_of inputs }
-{
-    match inputs {
-        Inputs::Vco(i) => Controls::Vco(vco_controls(i)),
-        Inputs::Lfo(i) => Controls::Lfo(lfo_controls(i)),
-        Inputs::Supersaw(i) => Controls::Supersaw(supersaw_controls(i)),
-        Inputs::Formant(i) => Controls::Formant(formant_controls(i)),
+impl From<Inputs> for Controls {
+    ghost from_gives = { λ i c. c ≡ controls_of i };
+
+    // Kept: four kinds, all known here, so a match and no `dyn`.
+    #[tactic(auto, unfolding(crate::specs::Player::controls_of))]
+    fn from(inputs: Inputs) -> Self {
+        match inputs {
+            Inputs::Vco(i) => Controls::Vco(vco_controls(i)),
+            Inputs::Lfo(i) => Controls::Lfo(lfo_controls(i)),
+            Inputs::Supersaw(i) => Controls::Supersaw(supersaw_controls(i)),
+            Inputs::Formant(i) => Controls::Formant(formant_controls(i)),
+        }
     }
 }
 
@@ -126,7 +138,7 @@ impl Player {
         let threshold = threshold_of(score.head.gate);
         // Where `new` refuses the rate, each tick refuses it too.
         Player {
-            controls: controls_of(score.inputs),
+            controls: Controls::from(score.inputs),
             vco: Vco::new(rate, threshold).state,
             lfo: Lfo::new(rate, threshold).state,
             supersaw: Supersaw::new(rate).state,

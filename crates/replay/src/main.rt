@@ -4,7 +4,7 @@
 // What is printed is held to the file `stdout`. A contract here says only what the safety of its callers needs, but for `find`, which was a library's.
 #![tactic(auto)]
 
-ghost use Rattle.std.specs.Prelude.{◌≡◌, ◌≢◌, ℕ, ◌≤◌, ◌<◌, length, take, slice_index, IfOk};
+ghost use Rattle.std.specs.Prelude.{◌≡◌, ◌≢◌, ℕ, ◌+◌, ◌≤◌, ◌<◌, length, slice_index, IfOk};
 ghost use Rattle.std.specs.Counts.{IsPrefixLen};
 
 use exports_formant_osc::gruttisol_formant_osc_tick;
@@ -17,333 +17,391 @@ use exports_wavetable::{gruttisol_wavetable_fill_bank, gruttisol_wavetable_tick}
 use numeric::bits;
 use std::io;
 use std::io::Read;
-use std::num::{wrapping_add_u64, wrapping_sub_u64, wrapping_sub_usize};
+use std::iter::once;
+use std::num::{wrapping_add_u64, wrapping_sub_u64};
 
-// The names, a line each. A further name is a line at the end, a number of `WORDS`, and an arm of `same_case` or of `answer`.
-const NAMES: [u8; 189] =
-    *b"sin\ncos\nexp2\npow3000\nfloor\nfabs\nis_finite\nclamp\nmin\nmax\nto_u64\nof_u64\nbits\ndraw\nbipolar\n\
-    lfo_tick\nvco_tick\nsupersaw_tick\nformant_tick\nwavetable_tick\nkarplus_strong_tick\nnoise_generator_tick\n";
+// What a case is of, in the order in which they are said. A further kind is a case at the end, also of `KINDS`, a name, its words, and an arm of `same_case`
+// or of `answer`.
+#[derive(Clone, Copy)]
+enum Kind {
+    Sin,
+    Cos,
+    Exp2,
+    Pow3000,
+    Floor,
+    Fabs,
+    IsFinite,
+    Clamp,
+    Min,
+    Max,
+    ToU64,
+    OfU64,
+    Bits,
+    Draw,
+    Bipolar,
+    Lfo,
+    Vco,
+    Supersaw,
+    Formant,
+    Wavetable,
+    KarplusStrong,
+    NoiseGenerator,
+}
 
-// How many words a case of each has.
-const WORDS: [usize; 22] = [
-    2, 2, 2, 2, 2, 2, 2, 4, 3, 3, 2, 2, 2, 2, 2, 25, 29, 30, 76, 20, 215, 118,
+const KINDS: [Kind; 22] = [
+    Kind::Sin,
+    Kind::Cos,
+    Kind::Exp2,
+    Kind::Pow3000,
+    Kind::Floor,
+    Kind::Fabs,
+    Kind::IsFinite,
+    Kind::Clamp,
+    Kind::Min,
+    Kind::Max,
+    Kind::ToU64,
+    Kind::OfU64,
+    Kind::Bits,
+    Kind::Draw,
+    Kind::Bipolar,
+    Kind::Lfo,
+    Kind::Vco,
+    Kind::Supersaw,
+    Kind::Formant,
+    Kind::Wavetable,
+    Kind::KarplusStrong,
+    Kind::NoiseGenerator,
 ];
 
-fn words_of(k: usize) -> usize {
-    if k < 22 { WORDS[k] } else { 0 }
+impl Kind {
+    fn name(self) -> &'static [u8] {
+        match self {
+            Kind::Sin => b"sin",
+            Kind::Cos => b"cos",
+            Kind::Exp2 => b"exp2",
+            Kind::Pow3000 => b"pow3000",
+            Kind::Floor => b"floor",
+            Kind::Fabs => b"fabs",
+            Kind::IsFinite => b"is_finite",
+            Kind::Clamp => b"clamp",
+            Kind::Min => b"min",
+            Kind::Max => b"max",
+            Kind::ToU64 => b"to_u64",
+            Kind::OfU64 => b"of_u64",
+            Kind::Bits => b"bits",
+            Kind::Draw => b"draw",
+            Kind::Bipolar => b"bipolar",
+            Kind::Lfo => b"lfo_tick",
+            Kind::Vco => b"vco_tick",
+            Kind::Supersaw => b"supersaw_tick",
+            Kind::Formant => b"formant_tick",
+            Kind::Wavetable => b"wavetable_tick",
+            Kind::KarplusStrong => b"karplus_strong_tick",
+            Kind::NoiseGenerator => b"noise_generator_tick",
+        }
+    }
+
+    // How many words a case has.
+    fn words(self) -> usize {
+        match self {
+            Kind::Clamp => 4,
+            Kind::Min | Kind::Max => 3,
+            Kind::Lfo => 25,
+            Kind::Vco => 29,
+            Kind::Supersaw => 30,
+            Kind::Formant => 76,
+            Kind::Wavetable => 20,
+            Kind::KarplusStrong => 215,
+            Kind::NoiseGenerator => 118,
+            _ => 2,
+        }
+    }
 }
 
 // ---- the words of a case
 
-fn word(words: &[u8], k: usize) -> Option<u64> {
-    if words.len() / 17 <= k {
-        return None;
+// The number of a word.
+fn number(word: &[u8; 17]) -> Option<u64> {
+    if word[0] == b' ' {
+        text::read_hex(&word[1..])
+    } else {
+        None
     }
-    let at = 17 * k;
-    if words[at] != b' ' {
-        return None;
-    }
-    text::read_hex(&words[at + 1..at + 17])
 }
 
-fn is_word(words: &[u8], k: usize) -> bool {
-    word(words, k).is_some()
+#[derive(Clone, Copy)]
+struct Words<'a> {
+    each: &'a [[u8; 17]],
 }
 
-// So many words, and nothing else.
-fn are_words(words: &[u8], n: usize) -> bool {
-    if words.len() % 17 != 0 {
-        return false;
+impl<'a> Words<'a> {
+    // So many words, and nothing else.
+    fn of(text: &'a [u8], n: usize) -> Option<Words<'a>> {
+        let (each, rest) = text.as_chunks();
+        let are_words = rest.is_empty()
+            && each.len() == n
+            && each.iter().all(|word| number(word).is_some());
+        are_words.then_some(Words { each })
     }
-    if words.len() / 17 != n {
-        return false;
+
+    // The number of the k-th, 0 where it is none.
+    fn value(self, k: usize) -> u64 {
+        self.each.get(k).and_then(number).unwrap_or(0)
     }
-    let mut k = 0;
-    while k < n {
-        if !is_word(words, k) {
-            return false;
+
+    // The number of the last.
+    fn last(self) -> u64 {
+        self.each.last().and_then(number).unwrap_or(0)
+    }
+
+    // The f64 that the k-th stands for.
+    fn real(self, k: usize) -> f64 {
+        numeric::of_bits(self.value(k))
+    }
+
+    // It as a mask of outputs.
+    fn mask(self, k: usize) -> u32 {
+        (self.value(k) % 4294967296) as u32
+    }
+
+    // So many from one on.
+    fn values<const N: usize>(self, from: usize) -> [u64; N]
+        requires { from + N ≤ 1000 }
+    {
+        let mut out = [0; N];
+        for i in 0..N {
+            out[i] = self.value(from + i);
         }
-        k += 1;
+        out
     }
-    true
-}
 
-// The number of a word, 0 where it is none.
-fn value(words: &[u8], k: usize) -> u64 {
-    word(words, k).unwrap_or(0)
-}
-
-// The f64 that it stands for.
-fn real(words: &[u8], k: usize) -> f64 {
-    numeric::of_bits(value(words, k))
-}
-
-// It as a mask of outputs.
-fn mask(words: &[u8], k: usize) -> u32 {
-    (value(words, k) % 4294967296) as u32
-}
-
-// ---- 62 of them: no state, line or draws of a case are more
-
-// So many words from one on, and zeros behind them.
-fn values(words: &[u8], from: usize, n: usize) -> [u64; 62]
-    requires { (from ≤ 1000) × (n ≤ 62) }
-    ensures { (n ≤ length result) × (n ≡ length (take n result)) }
-{
-    let mut out = [0; 62];
-    let mut i = 0;
-    while i < n {
-        out[i] = value(words, from + i);
-        i += 1;
+    fn reals<const N: usize>(self, from: usize) -> [f64; N]
+        requires { from + N ≤ 1000 }
+    {
+        self.values::<N>(from).map(numeric::of_bits)
     }
-    out
-}
-
-fn reals(words: &[u8], from: usize, n: usize) -> [f64; 62]
-    requires { (from ≤ 1000) × (n ≤ 62) }
-    ensures { (n ≤ length result) × (n ≡ length (take n result)) }
-{
-    let mut out = [0.0; 62];
-    let mut i = 0;
-    while i < n {
-        out[i] = real(words, from + i);
-        i += 1;
-    }
-    out
-}
-
-fn value_at(a: [u64; 62], i: usize) -> u64 {
-    if i < 62 { a[i] } else { 0 }
-}
-
-fn bits_at(a: [f64; 62], i: usize) -> u64 {
-    if i < 62 { bits(a[i]) } else { 0 }
 }
 
 // ---- an oscillator's tick
 
-// What comes out, word by word: the tick's number, so many floats and whole numbers of the state, so many samples, and the line.
-fn told(
-    i: usize,
+// What comes out of a tick: its number, the state's floats and whole numbers, the samples, and a string's line.
+#[derive(Clone, Copy)]
+struct Told<'a> {
     code: u32,
-    f: usize,
-    floats: [f64; 62],
-    w: usize,
-    wholes: [u64; 62],
-    s: usize,
-    samples: [f64; 62],
-    line: [f64; 62],
-) -> u64 {
-    if i == 0 {
-        return code as u64;
-    }
-    let i = i - 1;
-    if i < f {
-        return bits_at(floats, i);
-    }
-    let i = i - f;
-    if i < w {
-        return value_at(wholes, i);
-    }
-    let i = i - w;
-    if i < s {
-        return bits_at(samples, i);
-    }
-    bits_at(line, i - s)
+    floats: &'a [f64],
+    wholes: &'a [u64],
+    samples: &'a [f64],
+    line: &'a [f64],
 }
 
-// The words from one on are what comes out.
-fn same_told(
-    words: &[u8],
-    from: usize,
-    code: u32,
-    f: usize,
-    floats: [f64; 62],
-    w: usize,
-    wholes: [u64; 62],
-    s: usize,
-    samples: [f64; 62],
-    line: [f64; 62],
-) -> bool {
-    let n = words.len() / 17;
-    let mut k = from;
-    while k < n {
-        if value(words, k) != told(k - from, code, f, floats, w, wholes, s, samples, line) {
-            return false;
+impl Told<'_> {
+    // Word i of it, 0 past the last.
+    fn word(self, i: usize) -> u64 {
+        once(u64::from(self.code))
+            .chain(self.floats.iter().map(|x| bits(*x)))
+            .chain(self.wholes.iter().copied())
+            .chain(self.samples.iter().map(|x| bits(*x)))
+            .chain(self.line.iter().map(|x| bits(*x)))
+            .nth(i)
+            .unwrap_or(0)
+    }
+}
+
+impl Words<'_> {
+    // Those from one on are what comes out.
+    fn say(self, from: usize, told: Told) -> bool {
+        for k in from..self.each.len() {
+            if self.value(k) != told.word(k - from) {
+                return false;
+            }
         }
-        k += 1;
+        true
     }
-    true
+
+    // Those from one on are what comes out of a tick of the state that the first are: so many floats and whole numbers. It has so many samples.
+    fn say_tick<
+        const F: usize,
+        const W: usize,
+        const S: usize,
+        T: FnOnce(&mut [f64], &mut [u64], &mut [f64]) -> u32,
+    >(self, from: usize, tick: T) -> bool
+        requires few { F + W + S ≤ 1000 }
+        requires callable { T.IsAlwaysCallable tick }
+    {
+        let mut floats = self.reals::<F>(0);
+        let mut wholes = self.values::<W>(F);
+        let mut samples = [0.0; S];
+        let code = tick(&mut floats, &mut wholes, &mut samples);
+        self.say(
+            from,
+            Told {
+                code,
+                floats: &floats,
+                wholes: &wholes,
+                samples: &samples,
+                line: &[],
+            },
+        )
+    }
 }
 
-fn same_lfo(words: &[u8]) -> bool {
-    let mut floats = reals(words, 0, 5);
-    let mut wholes = values(words, 5, 2);
-    let mut samples = [0.0; 62];
-    let code = gruttisol_lfo_tick(
-        real(words, 7),
-        real(words, 8),
-        real(words, 9),
-        mask(words, 10),
-        &mut floats[..5],
-        &mut wholes[..2],
-        &mut samples[..6],
-    );
-    same_told(words, 11, code, 5, floats, 2, wholes, 6, samples, [0.0; 62])
+fn same_lfo(words: Words) -> bool {
+    words.say_tick::<5, 2, 6, _>(11, |floats, wholes, samples| {
+        gruttisol_lfo_tick(
+            words.real(7),
+            words.real(8),
+            words.real(9),
+            words.mask(10),
+            floats,
+            wholes,
+            samples,
+        )
+    })
 }
 
-fn same_vco(words: &[u8]) -> bool {
-    let mut floats = reals(words, 0, 5);
-    let mut wholes = values(words, 5, 4);
-    let mut samples = [0.0; 62];
-    let code = gruttisol_vco_tick(
-        real(words, 9),
-        real(words, 10),
-        real(words, 11),
-        real(words, 12),
-        real(words, 13),
-        mask(words, 14),
-        &mut floats[..5],
-        &mut wholes[..4],
-        &mut samples[..4],
-    );
-    same_told(words, 15, code, 5, floats, 4, wholes, 4, samples, [0.0; 62])
+fn same_vco(words: Words) -> bool {
+    words.say_tick::<5, 4, 4, _>(15, |floats, wholes, samples| {
+        gruttisol_vco_tick(
+            words.real(9),
+            words.real(10),
+            words.real(11),
+            words.real(12),
+            words.real(13),
+            words.mask(14),
+            floats,
+            wholes,
+            samples,
+        )
+    })
 }
 
-fn same_supersaw(words: &[u8]) -> bool {
-    let mut floats = reals(words, 0, 10);
-    let mut wholes = values(words, 10, 2);
-    let mut samples = [0.0; 62];
-    let code = gruttisol_supersaw_tick(
-        real(words, 12),
-        real(words, 13),
-        real(words, 14),
-        &mut floats[..10],
-        &mut wholes[..2],
-        &mut samples[..2],
-    );
-    same_told(
-        words, 15, code, 10, floats, 2, wholes, 2, samples, [0.0; 62],
-    )
+fn same_supersaw(words: Words) -> bool {
+    words.say_tick::<10, 2, 2, _>(15, |floats, wholes, samples| {
+        gruttisol_supersaw_tick(
+            words.real(12),
+            words.real(13),
+            words.real(14),
+            floats,
+            wholes,
+            samples,
+        )
+    })
 }
 
-fn same_formant_osc(words: &[u8]) -> bool {
-    let mut floats = reals(words, 0, 29);
-    let mut wholes = values(words, 29, 6);
-    let mut samples = [0.0; 62];
-    let code = gruttisol_formant_osc_tick(
-        real(words, 35),
-        real(words, 36),
-        real(words, 37),
-        real(words, 38),
-        &mut floats[..29],
-        &mut wholes[..6],
-        &mut samples[..1],
-    );
-    same_told(
-        words, 39, code, 29, floats, 6, wholes, 1, samples, [0.0; 62],
-    )
+fn same_formant(words: Words) -> bool {
+    words.say_tick::<29, 6, 1, _>(39, |floats, wholes, samples| {
+        gruttisol_formant_osc_tick(
+            words.real(35),
+            words.real(36),
+            words.real(37),
+            words.real(38),
+            floats,
+            wholes,
+            samples,
+        )
+    })
 }
 
 // The bank is the one that our fill makes.
-fn same_wavetable(words: &[u8], bank: &[f64]) -> bool {
-    let mut floats = reals(words, 0, 5);
-    let mut wholes = values(words, 5, 2);
-    let mut samples = [0.0; 62];
-    let code = gruttisol_wavetable_tick(
-        real(words, 7),
-        real(words, 8),
-        real(words, 9),
-        real(words, 10),
-        &mut floats[..5],
-        &mut wholes[..2],
-        bank,
-        &mut samples[..1],
-    );
-    same_told(words, 11, code, 5, floats, 2, wholes, 1, samples, [0.0; 62])
+fn same_wavetable(words: Words, bank: &[f64]) -> bool {
+    words.say_tick::<5, 2, 1, _>(11, |floats, wholes, samples| {
+        gruttisol_wavetable_tick(
+            words.real(7),
+            words.real(8),
+            words.real(9),
+            words.real(10),
+            floats,
+            wholes,
+            bank,
+            samples,
+        )
+    })
 }
 
 // A line and draws of 62, which is what a string at 1,000 Hz needs.
-fn same_karplus_strong(words: &[u8]) -> bool {
-    let mut floats = reals(words, 0, 7);
-    let mut wholes = values(words, 7, 4);
-    let mut line = reals(words, 16, 62);
-    let draws = values(words, 78, 62);
-    let mut samples = [0.0; 62];
+fn same_karplus_strong(words: Words) -> bool {
+    let mut floats = words.reals::<7>(0);
+    let mut wholes = words.values::<4>(7);
+    let mut line = words.reals::<62>(16);
+    let draws = words.values::<62>(78);
+    let mut samples = [0.0; 1];
     let code = gruttisol_karplus_strong_tick(
-        real(words, 11),
-        real(words, 12),
-        real(words, 13),
-        real(words, 14),
-        real(words, 15),
-        &mut floats[..7],
-        &mut wholes[..4],
-        &mut line[..62],
-        &draws[..62],
-        &mut samples[..1],
+        words.real(11),
+        words.real(12),
+        words.real(13),
+        words.real(14),
+        words.real(15),
+        &mut floats,
+        &mut wholes,
+        &mut line,
+        &draws,
+        &mut samples,
     );
-    same_told(words, 140, code, 7, floats, 4, wholes, 1, samples, line)
+    words.say(
+        140,
+        Told {
+            code,
+            floats: &floats,
+            wholes: &wholes,
+            samples: &samples,
+            line: &line,
+        },
+    )
 }
 
 // 34 draws are the most that a tick needs.
-fn same_noise_generator(words: &[u8]) -> bool {
-    let mut floats = reals(words, 0, 36);
-    let mut wholes = values(words, 36, 2);
-    let draws = values(words, 41, 34);
-    let mut samples = [0.0; 62];
-    let code = gruttisol_noise_generator_tick(
-        mask(words, 40),
-        real(words, 38),
-        mask(words, 39),
-        &mut floats[..36],
-        &mut wholes[..2],
-        &draws[..34],
-        &mut samples[..4],
-    );
-    same_told(
-        words, 75, code, 36, floats, 2, wholes, 4, samples, [0.0; 62],
-    )
+fn same_noise_generator(words: Words) -> bool {
+    let draws = words.values::<34>(41);
+    words.say_tick::<36, 2, 4, _>(75, |floats, wholes, samples| {
+        gruttisol_noise_generator_tick(
+            words.mask(40),
+            words.real(38),
+            words.mask(39),
+            floats,
+            wholes,
+            &draws,
+            samples,
+        )
+    })
 }
 
 // ---- a case
 
-// The f64 that comes out of a case of the k-th name.
-fn answer(k: usize, n: u64, x: f64, y: f64, z: f64) -> f64 {
-    match k {
-        0 => numeric::sin(x),
-        1 => numeric::cos(x),
-        2 => numeric::exp2(x),
-        3 => numeric::pow3000(x),
-        4 => numeric::floor(x),
-        5 => numeric::fabs(x),
-        7 => numeric::clamp(x, y, z),
-        8 => numeric::min(x, y),
-        9 => numeric::max(x, y),
-        11 => numeric::of_u64(n),
-        12 => x,
-        13 => numeric::draw(n),
-        _ => numeric::bipolar(n),
+// What comes out of a case that is no tick.
+// Kept: all kinds are known here, so a match and no table of functions; `same_case` too.
+fn answer(kind: Kind, words: Words) -> u64 {
+    let x = words.real(0);
+    let y = words.real(1);
+    match kind {
+        Kind::Sin => bits(numeric::sin(x)),
+        Kind::Cos => bits(numeric::cos(x)),
+        Kind::Exp2 => bits(numeric::exp2(x)),
+        Kind::Pow3000 => bits(numeric::pow3000(x)),
+        Kind::Floor => bits(numeric::floor(x)),
+        Kind::Fabs => bits(numeric::fabs(x)),
+        Kind::IsFinite => u64::from(numeric::is_finite(x)),
+        Kind::Clamp => bits(numeric::clamp(x, y, words.real(2))),
+        Kind::Min => bits(numeric::min(x, y)),
+        Kind::Max => bits(numeric::max(x, y)),
+        Kind::ToU64 => numeric::to_u64(x),
+        Kind::OfU64 => bits(numeric::of_u64(words.value(0))),
+        Kind::Draw => bits(numeric::draw(words.value(0))),
+        Kind::Bipolar => bits(numeric::bipolar(words.value(0))),
+        _ => bits(x),
     }
 }
 
-// What comes out of the words of a case of the k-th name is what they say.
-fn same_case(words: &[u8], k: usize, bank: &[f64]) -> bool {
-    match k {
-        6 => value(words, 1) == numeric::is_finite(real(words, 0)) as u64,
-        10 => value(words, 1) == numeric::to_u64(real(words, 0)),
-        15 => same_lfo(words),
-        16 => same_vco(words),
-        17 => same_supersaw(words),
-        18 => same_formant_osc(words),
-        19 => same_wavetable(words, bank),
-        20 => same_karplus_strong(words),
-        21 => same_noise_generator(words),
-        _ => {
-            let last = wrapping_sub_usize(words.len() / 17, 1);
-            let x = real(words, 0);
-            value(words, last)
-                == bits(answer(k, value(words, 0), x, real(words, 1), real(words, 2)))
-        }
+// What comes out of the words of a case is what they say.
+fn same_case(kind: Kind, words: Words, bank: &[f64]) -> bool {
+    match kind {
+        Kind::Lfo => same_lfo(words),
+        Kind::Vco => same_vco(words),
+        Kind::Supersaw => same_supersaw(words),
+        Kind::Formant => same_formant(words),
+        Kind::Wavetable => same_wavetable(words, bank),
+        Kind::KarplusStrong => same_karplus_strong(words),
+        Kind::NoiseGenerator => same_noise_generator(words),
+        _ => words.last() == answer(kind, words),
     }
 }
 
@@ -357,61 +415,56 @@ fn find(text: &[u8], from: usize, end: usize, byte: u8) -> usize
     ensures before { (k : ℕ) → from ≤ k → k < result → slice_index text.now k ≢ byte }
     ensures found { result < end → slice_index text.now result ≡ byte }
 {
-    let mut at = from;
-    while at < end {
+    for at in from..end {
         if text[at] == byte {
             return at;
         }
-        at += 1;
     }
     end
 }
 
-// 1 for a line, from one place to another, that is a case of the k-th name, 2 where it differs, 0 for any other.
-fn verdict(text: &[u8], from: usize, end: usize, k: usize, name: &[u8], bank: &[f64]) -> u64
-    requires { (from ≤ end) × (end ≤ length text.now) }
-{
-    let n = find(text, from, end, b' ');
-    if &text[from..n] != name {
-        return 0;
+// Whether a line that is a case of this kind comes out as it says; no other line is said of.
+fn verdict(line: &[u8], kind: Kind, bank: &[f64]) -> Option<bool> {
+    let n = find(line, 0, line.len(), b' ');
+    if &line[..n] != kind.name() {
+        return None;
     }
-    let words = &text[n..end];
-    if !are_words(words, words_of(k)) {
-        return 0;
-    }
-    if same_case(words, k, bank) { 1 } else { 2 }
+    let words = Words::of(&line[n..], kind.words())?;
+    Some(same_case(kind, words, bank))
 }
 
-#[derive(Clone, Copy)]
+#[derive(Drop)]
 struct Tally {
     lines: u64,
     cases: u64,
     differences: u64,
 }
 
-// The lines of a text, the cases of the k-th name and those that differ. No text has so many that a sum wraps.
-fn tallied(text: &[u8], k: usize, name: &[u8], bank: &[f64]) -> Tally {
-    let mut lines = 0;
-    let mut cases = 0;
-    let mut differences = 0;
+// The lines of a text, the cases of a kind and those that differ. No text has so many that a sum wraps.
+fn tallied(text: &[u8], kind: Kind, bank: &[f64]) -> Tally {
+    let mut tally = Tally {
+        lines: 0,
+        cases: 0,
+        differences: 0,
+    };
     let mut from = 0;
+    // Kept: the edit empty_line_for_ever leaves out the step behind a line, which no iterator has.
     while from < text.len() {
         let end = find(text, from, text.len(), b'\n');
-        let v = verdict(text, from, end, k, name, bank);
-        lines = wrapping_add_u64(lines, 1);
-        cases = wrapping_add_u64(cases, (0 < v) as u64);
-        differences = wrapping_add_u64(differences, (1 < v) as u64);
+        tally.lines = wrapping_add_u64(tally.lines, 1);
+        if let Some(same) = verdict(&text[from..end], kind, bank) {
+            tally.cases = wrapping_add_u64(tally.cases, 1);
+            tally.differences = wrapping_add_u64(tally.differences, u64::from(!same));
+        }
         from = end + 1;
     }
-    Tally {
-        lines,
-        cases,
-        differences,
-    }
+    tally
 }
 
-fn say_name(rt: &impl Print, name: &[u8], cases: u64, differences: u64) -> io::Result<()> {
-    rt.write_all(name)?;
+fn say_kind(rt: &impl Print, kind: Kind, tally: &Tally) -> io::Result<()> {
+    let cases = tally.cases;
+    let differences = tally.differences;
+    rt.write_all(kind.name())?;
     println!(rt; " cases={cases} differences={differences}")
 }
 
@@ -419,21 +472,15 @@ fn say_lines(rt: &impl Print, lines: u64, malformed: u64) -> io::Result<()> {
     println!(rt; "lines={lines} malformed={malformed}")
 }
 
-// A line for each name, and one for the whole text. No line is a case of two names, so what is left over is malformed.
-fn replay(rt: &impl Print, text: &[u8], names: &[u8], bank: &[f64]) -> io::Result<()> {
+// A line for each kind, and one for the whole text. No line is a case of two kinds, so what is left over is malformed.
+fn replay(rt: &impl Print, text: &[u8], bank: &[f64]) -> io::Result<()> {
     let mut lines = 0;
     let mut cases = 0;
-    let mut k = 0;
-    let mut at = 0;
-    while at < names.len() {
-        let to = find(names, at, names.len(), b'\n');
-        let name = &names[at..to];
-        let t = tallied(text, k, name, bank);
-        say_name(rt, name, t.cases, t.differences)?;
-        lines = t.lines;
-        cases = wrapping_add_u64(cases, t.cases);
-        k += 1;
-        at = to + 1;
+    for kind in KINDS {
+        let tally = tallied(text, kind, bank);
+        say_kind(rt, kind, &tally)?;
+        lines = tally.lines;
+        cases = wrapping_add_u64(cases, tally.cases);
     }
     say_lines(rt, lines, wrapping_sub_u64(lines, cases))
 }
@@ -450,6 +497,7 @@ fn read_full(from: &mut impl Read, room: &mut [u8]) -> io::Result<usize>
     ensures { IfOk result (λ n. IsPrefixLen n room.new) }
 {
     let mut done = 0;
+    // Kept: no heap, and the library reads an unknown number of bytes into a Vec alone.
     while done < room.len() {
         let more = from.read(&mut room[done..])?;
         if more == 0 {
@@ -468,5 +516,5 @@ fn main(rt: HostRuntime) -> io::Result<()> {
     }
     let mut bank = [0.0; 16384];
     gruttisol_wavetable_fill_bank(&mut bank);
-    replay(&rt, &input[..n], &NAMES, &bank)
+    replay(&rt, &input[..n], &bank)
 }

@@ -1,12 +1,18 @@
 -- What the tick's tests say.
-use mathlib.Core.Bool.{Bool, true, false, cond}
-use mathlib.Core.Path.{◌≡◌, refl}
+use mathlib.Core.Bool.{Bool, true, false, cond, false≢true}
+use mathlib.Core.Path.{◌≡◌, refl, sym, ap, ◌∙◌}
 use Prim.Native.Nat.{ℕ, ◌+◌, ◌≤◌}
 use native.Mathlib.Omega.{arith}
 use lib.Dec.{eqb}
 use lib.Ieee.{Float}
-use borrow.Author.Tests.{eqb-true, eqb-false}
+use Rattle.std.specs.Option.{IsSome, ok_or}
+use Rattle.std.specs.Prelude.{◌↔◌, Option, Some, None, Result, Ok, Err}
+use Rattle.std.specs.Result.{result_and}
+use borrow.Author.Tests.{eqb-true, eqb-false, eq-eqb, ne_eqb}
 use Rattle.common.proofs.PhaseLaws.{accepted_gate}
+use Rattle.common.specs.Refusal.{number_of, refused_number}
+use Rattle.common.specs.declared.Refusal.{Refusal}
+use Rattle.common.specs.declared.Refusal.TheVariants as refusal
 use Rattle.common.specs.Tests.{rate_ok, phase_ok, threshold_ok}
 use Rattle.wavetable.specs.Shortcuts.{PairFits, pair_of}
 use Rattle.wavetable.specs.Consts.{table_size, bank_size}
@@ -27,6 +33,23 @@ passed n size h = go (eqb n 0) (eqb size bank_size) refl refl h
 pub bank_sized : (s : Wavetable) (size : ℕ) → wavetable_tick_refusal_of s size ≡ 0 → size ≡ bank_size
 unfolding wavetable_tick_refusal_of
 bank_sized s size h = (passed (wavetable_refusal_of s) size h).1
+
+-- a bank of the right size is lent, and another refused by 4
+pub lent_number : {T : Type 0} (s : Wavetable) (size : ℕ) (a : Option T) → IsSome a ↔ (size ≡ bank_size) → 0 ≡ wavetable_refusal_of s
+    → refused_number (ok_or a refusal.Bank) ≡ wavetable_tick_refusal_of s size
+unfolding wavetable_tick_refusal_of refused_number number_of
+lent_number s size None v h = simp (sym h, ne_eqb _ _ (λ e. false≢true (v.1 e)))
+lent_number s size (Some x) v h = simp (sym h, eq-eqb _ _ (v.0 refl))
+
+-- what refuses it, told without it
+pub alone : {T : Type 0} (n : ℕ) (r : Result T Refusal) (u : Unit {0}) (b : Result (Unit {0}) Refusal) → refused_number r ≡ n → b ≡ result_and r (Ok u)
+    → refused_number b ≡ n
+unfolding refused_number
+alone n r u b h e = ap refused_number e ∙ go r ∙ h
+  where
+    go : {T : Type 0} (r : Result T Refusal) → refused_number (result_and r (Ok u)) ≡ refused_number r
+    go (Ok x) = refl
+    go (Err e) = refl
 
 -- and its rate, its phase and its threshold are good
 abbrev Fine : Wavetable → Type 0

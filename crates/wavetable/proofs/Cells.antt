@@ -9,21 +9,64 @@ use lib.Dec.{eqb}
 use lib.Ieee.{Float, nan, binary64, mul}
 use lib.ListN.{length, get_or, set, take, length-append, length-take}
 use lib.Seq.{get_or-set_same, get_or-set_other, take_at, take_all}
-use borrow.Author.Tests.{eqb-true, eqb-false}
+use Rattle.std.proofs.lemmas.Bool.{lt-ltb}
+use borrow.Author.Tests.{eq-eqb, eqb-true, eqb-false}
 use Rattle.laws.proofs.Over.{by_cells, length_tab, tab_ext, tab_append}
 use Rattle.laws.specs.Lists.{tab}
+use Rattle.std.specs.Prelude.{Result, Ok, Err}
+use Rattle.common.proofs.RefusalLaws.{nonzero}
+use Rattle.common.specs.Refusal.{refused_number}
+use Rattle.common.specs.declared.Refusal.{Refusal}
+use Rattle.wavetable.specs.Bank.{Filled, filled, fill_table_of}
 use Rattle.wavetable.specs.Bank.{plain_of, series_of, sum_of, terms_of, scale_of, is_series, cell_of, table_cell, table_of, bank_cell, bank_of}
-use Rattle.wavetable.specs.Shortcuts.{number_of, Right}
+use Rattle.wavetable.specs.Shortcuts.{series_number, plain_number, number_of, Right}
 use Rattle.wavetable.specs.declared.bank.TheConstants.WavetableType.{ALL}
-use Rattle.wavetable.specs.declared.bank.WavetableType.TheVariants.{Sine}
+use Rattle.wavetable.specs.declared.bank.Series.{Series}
+use Rattle.wavetable.specs.declared.bank.Series.TheVariants as series
+use Rattle.wavetable.specs.declared.bank.Plain.{Plain}
+use Rattle.wavetable.specs.declared.bank.Plain.TheVariants as plain
+use Rattle.wavetable.specs.declared.bank.WavetableType.{WavetableType}
+use Rattle.wavetable.specs.declared.bank.WavetableType.TheVariants as tables
 
-pub plain_cell : (t j : ℕ) (v : Float) → is_series t ≡ false → v ≡ plain_of t (j / 256) (j % 256) → v ≡ table_cell t j
+is_plain : (p : Plain) → is_series (plain_number p) ≡ false
+unfolding is_series
+is_plain plain.Sine = refl
+is_plain plain.FormantA = refl
+is_plain plain.FormantO = refl
+
+is_sum : (s : Series) → is_series (series_number s) ≡ true
+unfolding is_series
+is_sum series.Triangle = refl
+is_sum series.Saw = refl
+is_sum series.Square = refl
+is_sum series.Pulse25 = refl
+is_sum series.Pulse12 = refl
+
+pub plain_cell : (p : Plain) (j : ℕ) (v : Float) → v ≡ plain_of (plain_number p) (j / 256) (j % 256) → v ≡ table_cell (plain_number p) j
 unfolding table_cell cell_of
-plain_cell t j v s e = rw (s, e)
+plain_cell p j v e = rw (is_plain p, e)
 
-pub series_cell : (t l i : ℕ) (s b : Float) → is_series t ≡ true → s ≡ sum_of t (terms_of t l) i → b ≡ scale_of t → mul binary64 s b ≡ cell_of t l i
+pub series_cell : (t : Series) (l i : ℕ) (s b : Float) → s ≡ sum_of (series_number t) (terms_of (series_number t) l) i → b ≡ scale_of (series_number t)
+    → mul binary64 s b ≡ cell_of (series_number t) l i
 unfolding cell_of series_of
-series_cell t l i s b h e f = rw (h, e, f)
+series_cell t l i s b e f = rw (is_sum t, e, f)
+
+-- a table of the bank
+pub few : (w : WavetableType) → number_of w < 8
+few (tables.Series s) = sums s
+  where
+    sums : (s : Series) → series_number s < 8
+    sums series.Triangle = omega arith
+    sums series.Saw = omega arith
+    sums series.Square = omega arith
+    sums series.Pulse25 = omega arith
+    sums series.Pulse12 = omega arith
+few (tables.Plain p) = plains p
+  where
+    plains : (p : Plain) → plain_number p < 8
+    plains plain.Sine = omega arith
+    plains plain.FormantA = omega arith
+    plains plain.FormantO = omega arith
 
 -- ---- places of a series, one after another
 pub right_more : (t i level n : ℕ) (p : List Float) (v : Float) → level + 1 ≡ n → length p ≡ 2048 → i < 256 → level < 8 → v ≡ cell_of t level i
@@ -50,7 +93,10 @@ right_all t p s r = by_cells nan (table_cell t) 2048 p s each
         ap (λ x. get_or p x nan) (sym q) ∙ r (j / 256) (j % 256) (omega arith) (omega arith) (omega arith)
 
 -- ---- tables of the bank, one after another
-pub in_order : (n : ℕ) → n < 8 → number_of (get_or ALL n Sine) ≡ n
+abbrev pub table_at : ℕ → WavetableType
+table_at n = get_or ALL n (tables.Series series.Triangle)
+
+pub in_order : (n : ℕ) → n < 8 → number_of (table_at n) ≡ n
 in_order zero h = refl
 in_order (suc zero) h = refl
 in_order (suc (suc zero)) h = refl
@@ -93,3 +139,15 @@ next_table t xs ys zs s h e f =
 pub all_tables : (xs : List Float) → length xs ≡ 16384 → take 16384 xs ≡ tab bank_cell 16384 → xs ≡ bank_of
 unfolding bank_of
 all_tables xs s e = sym (take_all 16384 xs (omega arith)) ∙ e
+
+-- what a fill leaves of a part of the right size
+pub part_filled : (w : WavetableType) (r : Result (Unit {0}) Refusal) (old new : List Float) → length old ≡ 2048
+    → filled r new ≡ fill_table_of (number_of w) old → (r ≡ Ok tt) × (new ≡ table_of (number_of w))
+unfolding fill_table_of
+part_filled w r old new s h =
+    let e : fill_table_of (number_of w) old ≡ filled (Ok tt) (table_of (number_of w)) = simp (eq-eqb _ _ s, lt-ltb _ _ (few w)) in
+    (ap (λ (f : Filled). f.outcome) (h ∙ e), ap (λ (f : Filled). f.cells) (h ∙ e))
+
+pub ok_not_err : (e : Refusal) → ◌≡◌ {A = Result (Unit {0}) Refusal} (Ok tt) (Err e) → ⊥
+unfolding refused_number
+ok_not_err e h = nonzero e (sym (ap refused_number h))

@@ -18,19 +18,29 @@ use Rattle.wavetable.specs.Reads.{between, start_of, select_level, table_pos_of,
 use Rattle.wavetable.specs.declared.Pair.{Pair}
 use Rattle.common.specs.declared.Refusal.{Refusal}
 use Rattle.common.specs.declared.Refusal.TheVariants as refusal
+use Rattle.wavetable.specs.declared.bank.Series.{Series}
+use Rattle.wavetable.specs.declared.bank.Series.TheVariants as series
+use Rattle.wavetable.specs.declared.bank.Plain.{Plain}
+use Rattle.wavetable.specs.declared.bank.Plain.TheVariants as plain
 use Rattle.wavetable.specs.declared.bank.WavetableType.{WavetableType}
 use Rattle.wavetable.specs.declared.bank.WavetableType.TheVariants as tables
 
 -- ---- a table's number in the bank
+abbrev pub series_number : Series → ℕ
+series_number series.Triangle = 1
+series_number series.Saw = 2
+series_number series.Square = 3
+series_number series.Pulse25 = 4
+series_number series.Pulse12 = 5
+
+abbrev pub plain_number : Plain → ℕ
+plain_number plain.Sine = 0
+plain_number plain.FormantA = 6
+plain_number plain.FormantO = 7
+
 abbrev pub number_of : WavetableType → ℕ
-number_of tables.Sine = 0
-number_of tables.Triangle = 1
-number_of tables.Saw = 2
-number_of tables.Square = 3
-number_of tables.Pulse25 = 4
-number_of tables.Pulse12 = 5
-number_of tables.FormantA = 6
-number_of tables.FormantO = 7
+number_of (tables.Series s) = series_number s
+number_of (tables.Plain p) = plain_number p
 
 -- the result is the table of this number, or a refusal where there is none
 abbrev pub IsTable : ℕ → Result WavetableType Refusal → Type 0

@@ -5,6 +5,7 @@
 pub mod bank;
 
 ghost use Rattle.std.specs.Prelude.{◌≡◌, ◌≤◌, ◌<◌, ◌+◌, ◌*◌, length, true, false};
+ghost use Rattle.std.specs.Result.{ForOk};
 ghost use Rattle.std.specs.Float.{binary64};
 ghost use Rattle.std.specs.Float.Ieee.{sub};
 ghost use Rattle.laws.specs.Lists.{tab};
@@ -89,6 +90,8 @@ fn real(n: usize) -> f64
     numeric::of_u64(n as u64)
 }
 
+// Kept: `max_harmonic` asks that a level is below 8, as each index asks it of its row: a type of levels would be made for this index alone.
+
 // The largest harmonic in a level of a table. The Rust halves the first level's from level to level, to at least 1.
 fn max_harmonic(table: usize, level: usize) -> usize
     requires { (table < num_tables) × (level < num_mips) }
@@ -124,8 +127,8 @@ fn start(table_idx: usize, level: usize) -> usize
 }
 
 // The level that begins there, between two of its numbers.
-fn read_table(bank: &[f64], first: usize, idx0: usize, frac: f64) -> f64
-    requires { (length bank.now ≡ bank_size) × (first + table_size ≤ bank_size) × (idx0 < table_size) }
+fn read_table(bank: &[f64; BANK_SIZE], first: usize, idx0: usize, frac: f64) -> f64
+    requires { (first + table_size ≤ bank_size) × (idx0 < table_size) }
     ensures { result ≡ between bank.now first idx0 frac }
 {
     let idx1 = (idx0 + 1) % TABLE_SIZE;
@@ -199,8 +202,8 @@ fn choose(table: f64, morph: f64, phase_inc: Turns) -> Pair
 
 // The sample in volts: both tables at their levels, blended. What the two reads share is worked out once.
 #[tactic(auto, unfolding(crate::specs::Shortcuts::mix_at))]
-fn mix(bank: &[f64], pair: Pair, phase: Turns) -> f64
-    requires { (length bank.now ≡ bank_size) × PairFits pair }
+fn mix(bank: &[f64; BANK_SIZE], pair: Pair, phase: Turns) -> f64
+    requires { PairFits pair }
     ensures { result ≡ mix_at bank.now pair phase.0 }
 {
     let blend = pair.blend;
@@ -229,6 +232,7 @@ impl WavetableControls {
     }
 }
 
+// Kept: `glide`, `run` and `block` take samples and marks as the two slices that a host lends (the C interface).
 impl Wavetable {
     // Of a rate and of the threshold that its gate goes by. A refused new hands out the state with the bad one, which every later call refuses.
     #[tactic(auto, unfolding(crate::specs::Wavetable::wavetable_new_of, crate::specs::Wavetable::new_wavetable, answer::specs::Calls::made_unless))]
@@ -256,17 +260,14 @@ impl Wavetable {
         common::gated_refusal(self.sample_rate, self.phase, self.threshold)
     }
 
-    // The same, then a bank of another size.
+    // The bank, where neither this state is refused nor a bank of another size.
     #[tactic(auto, unfolding(crate::specs::Wavetable::wavetable_tick_refusal_of, common::specs::Refusal::refused_number))]
-    fn tick_refusal(self, size: usize) -> Result<(), Refusal>
-        ensures { refused_number result ≡ wavetable_tick_refusal_of self size }
+    fn lent<'a>(self, bank: &'a [f64]) -> Result<&'a [f64; BANK_SIZE], Refusal>
+        ensures number { refused_number result ≡ wavetable_tick_refusal_of self (length bank.now) }
+        ensures value { ForOk result (λ lent. lent.now ≡ bank.now) }
     {
         self.refusal()?;
-        if size == BANK_SIZE {
-            Ok(())
-        } else {
-            Err(Refusal::Bank)
-        }
+        bank.as_array().ok_or(Refusal::Bank)
     }
 
     // What refuses a change to this rate: the new rate or the old, then the rest of the state.
@@ -283,8 +284,7 @@ impl Wavetable {
 
     // An accepted tick: the Rust's tick_generic.
     #[tactic(auto, using(crate::proofs::Accepted::pair_fits, crate::proofs::Held::mix_pair), unfolding(crate::specs::Wavetable::wavetable_sound_of))]
-    fn sound(self, c: WavetableControls, bank: &[f64]) -> Ticked<Wavetable>
-        requires { length bank.now ≡ bank_size }
+    fn sound(self, c: WavetableControls, bank: &[f64; BANK_SIZE]) -> Ticked<Wavetable>
         ensures { result ≡ wavetable_sound_of self c bank.now }
     {
         let numbers = c.are_numbers();
@@ -309,8 +309,8 @@ impl Wavetable {
     pub fn tick(self, c: WavetableControls, bank: &[f64]) -> Ticked<Wavetable>
         ensures { result ≡ wavetable_tick_of self c bank.now }
     {
-        match self.tick_refusal(bank.len()) {
-            Ok(()) => self.sound(c, bank),
+        match self.lent(bank) {
+            Ok(lent) => self.sound(c, lent),
             Err(refused) => Ticked {
                 answer: Answer::Refused(refused.number()),
                 state: self,
@@ -324,11 +324,11 @@ impl Wavetable {
         first: Turns,
         step: Turns,
         numbers: bool,
-        bank: &[f64],
+        bank: &[f64; BANK_SIZE],
         samples: &mut [f64],
         marks: &mut [u32],
     ) -> Turns
-        requires { (length bank.now ≡ bank_size) × PairFits pair × (length samples.old ≡ n_ports * length marks.old) }
+        requires { PairFits pair × (length samples.old ≡ n_ports * length marks.old) }
         ensures value { result ≡ after_ticks (held_next step) (length marks.old) first }
         ensures samples_after { samples.new
             ≡ joined (frame_at n_ports (held_answer bank.now pair numbers step) (held_next step) first) (length marks.old) }
@@ -347,7 +347,13 @@ impl Wavetable {
     }
 
     // The ticks of a block. Only the first can take the edge, and the memo holds from then on. The controls are asked once.
-    fn run(self, c: WavetableControls, bank: &[f64], samples: &mut [f64], marks: &mut [u32]) -> Self
+    fn run(
+        self,
+        c: WavetableControls,
+        bank: &[f64; BANK_SIZE],
+        samples: &mut [f64],
+        marks: &mut [u32],
+    ) -> Self
         requires { (wavetable_tick_refusal_of self (length bank.now) ≡ 0) × (0 < length marks.old) × (length samples.old ≡ n_ports * length marks.old) }
         ensures value { result ≡ after_ticks (wavetable_next_of c bank.now) (length marks.old) self }
         ensures samples_after { samples.new
@@ -381,12 +387,12 @@ impl Wavetable {
             ≡ wavetable_block_of self c tally bank.now samples.old marks.old }
     {
         let n = marks.len();
-        let first = self.tick_refusal(bank.len());
-        answer::block_refusal(PORTS, samples.len(), first, tally, n)?;
+        let lent = self.lent(bank);
+        answer::block_refusal(PORTS, samples.len(), lent.and(Ok(())), tally, n)?;
         if n == 0 {
             return Ok(Played { state: self, tally });
         }
-        let state = self.run(c, bank, samples, marks);
+        let state = self.run(c, lent?, samples, marks); // what was lent is refused above
         Ok(Played {
             state,
             tally: tally.take_marks(marks).unwrap_or(tally),

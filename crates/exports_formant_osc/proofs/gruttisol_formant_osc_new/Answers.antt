@@ -1,16 +1,14 @@
-use mathlib.Core.Path.{◌∙◌}
-use Rattle.boundary.proofs.Flat.{sized, kept_done, kept_refused}
+use mathlib.Core.Path.{ap, ◌∙◌}
+use Rattle.boundary.proofs.Lent.{kept_changing}
+use Rattle.boundary.specs.Flat.{kept_sized}
 use Rattle.exports_formant_osc.specs.Calls.{formant_osc_new_at}
+use Rattle.exports_formant_osc.specs.State.{n_floats, n_wholes, floats_of, wholes_of}
 use Rattle.exports_formant_osc.proofs.gruttisol_formant_osc_new.Goals as goal
 
-pub put_made-requires : goal.put_made-requires
-put_made-requires c = sized _ _ _ _ _ c.sizes-n.ensures c.if-n-eq0.true
-
-pub returns-then-n-eq0 : goal.returns-then-n-eq0
+pub returns : goal.returns
 unfolding formant_osc_new_at
-returns-then-n-eq0 c = kept_done _ _ _ _ _ c.sizes-n.ensures c.if-n-eq0.true _ _
-    (c.put_made.ensures ∙ simp c.new.ensures)
-
-pub returns-else-n-eq0 : goal.returns-else-n-eq0
-unfolding formant_osc_new_at
-returns-else-n-eq0 c = kept_refused _ _ _ _ _ c.sizes-n.ensures c.if-n-eq0.false _
+returns c = let f = c.args.floats.now in
+    let w = c.args.wholes.now in
+    c.keep.ensures
+    ∙ ap (λ k. kept_sized n_floats n_wholes k f w)
+    (kept_changing floats_of wholes_of f w _ _ _ (c.accepted.ensures ∙ c.new-made.ensures))

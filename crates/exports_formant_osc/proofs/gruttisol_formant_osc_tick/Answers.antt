@@ -1,19 +1,18 @@
-use mathlib.Core.Path.{◌∙◌}
-use Rattle.boundary.proofs.Flat.{tick_sized, heard_done, heard_refused}
+use mathlib.Core.Path.{ap, ◌∙◌}
+use Rattle.boundary.proofs.Flat.{heard_stop}
+use Rattle.boundary.proofs.Lent.{lent_tick, unlent_tick}
 use Rattle.exports_formant_osc.specs.Calls.{formant_osc_tick_at}
+use Rattle.exports_formant_osc.specs.State.{n_floats, n_wholes, n_samples, state_of}
 use Rattle.exports_formant_osc.proofs.gruttisol_formant_osc_tick.Goals as goal
 
-pub state-requires : goal.state-requires
-state-requires c = let z = tick_sized _ _ _ _ _ _ _ c.tick_sizes-n.ensures c.if-n-eq0.true in (z.0, z.1)
-
-pub put_ticked-requires : goal.put_ticked-requires
-put_ticked-requires c = tick_sized _ _ _ _ _ _ _ c.tick_sizes-n.ensures c.if-n-eq0.true
-
-pub returns-then-n-eq0 : goal.returns-then-n-eq0
+pub returns-in-Ok : goal.returns-in-Ok
 unfolding formant_osc_tick_at
-returns-then-n-eq0 c = heard_done _ _ _ _ _ _ _ c.tick_sizes-n.ensures c.if-n-eq0.true _ _
-    (c.put_ticked.ensures ∙ simp (c.tick.ensures, c.state.ensures))
+returns-in-Ok c = let a = c.args in
+    let s = lent_tick n_floats n_wholes n_samples state_of a.floats.now a.wholes.now a.samples.now _ c.in-Ok.ensures in
+    c.hear.ensures ∙ simp (c.tick.ensures, s)
 
-pub returns-else-n-eq0 : goal.returns-else-n-eq0
+pub returns-in-Err : goal.returns-in-Err
 unfolding formant_osc_tick_at
-returns-else-n-eq0 c = heard_refused _ _ _ _ _ _ _ c.tick_sizes-n.ensures c.if-n-eq0.false _
+returns-in-Err c = let a = c.args in
+    let e = unlent_tick n_floats n_wholes n_samples state_of a.floats.now a.wholes.now a.samples.now _ c.in-Err.ensures in
+    heard_stop _ _ _ _ _ _ c.in-Err.refused _ e c.number.ensures _

@@ -1,13 +1,10 @@
-use borrow.Author.Tests.{eq-eqb, ne_eqb}
+use Rattle.std.proofs.Common.{rules, refl}
 use Rattle.noise_generator.specs.NoiseGenerator.{needed_by}
 use Rattle.exports_noise_generator.specs.Calls.{noise_generator_needed_by_at}
 use Rattle.exports_noise_generator.specs.State.{state_of}
+use Rattle.exports_noise_generator.proofs.Needed.{told}
 use Rattle.exports_noise_generator.proofs.gruttisol_noise_generator_needed_by.Goals as goal
 
-pub returns-then-wholes-eq-WHOLES : goal.returns-then-wholes-eq-WHOLES
+pub returns : goal.returns
 unfolding noise_generator_needed_by_at needed_by state_of
-returns-then-wholes-eq-WHOLES c = simp (eq-eqb _ _ c.if-wholes-eq-WHOLES.true, c.needed_by.ensures, c.state.ensures)
-
-pub returns-else-wholes-eq-WHOLES : goal.returns-else-wholes-eq-WHOLES
-unfolding noise_generator_needed_by_at
-returns-else-wholes-eq-WHOLES c = simp (ne_eqb _ _ c.if-wholes-eq-WHOLES.false)
+returns c = told _ c.args.wholes.now _ _ (λ s. needed_by s c.args.ticks) refl c.state.ensures c.map_or.ensures (λ s h. search rules)

@@ -1,18 +1,17 @@
-use Rattle.boundary.proofs.Flat.{sized, kept_done, kept_refused}
+use Rattle.std.proofs.Common.{◌∙◌}
+use Rattle.boundary.proofs.Flat.{kept_stop}
+use Rattle.boundary.proofs.Lent.{lent, unlent}
+use Rattle.boundary.specs.Flat.{kept_result}
 use Rattle.exports_noise_generator.specs.Calls.{noise_generator_reset_at}
+use Rattle.exports_noise_generator.specs.State.{n_floats, n_wholes, state_of}
 use Rattle.exports_noise_generator.proofs.gruttisol_noise_generator_reset.Goals as goal
 
-pub state-requires : goal.state-requires
-state-requires c = sized _ _ _ _ _ c.sizes-n.ensures c.if-n-eq0.true
+pub returns-in-Ok : goal.returns-in-Ok
+unfolding noise_generator_reset_at kept_result
+returns-in-Ok c = let a = c.args in
+    c.keep.ensures ∙ simp (c.reset.ensures, lent n_floats n_wholes state_of a.floats.now a.wholes.now _ c.in-Ok.ensures)
 
-pub store-requires : goal.store-requires
-store-requires c = sized _ _ _ _ _ c.sizes-n.ensures c.if-n-eq0.true
-
-pub returns-then-n-eq0 : goal.returns-then-n-eq0
+pub returns-in-Err : goal.returns-in-Err
 unfolding noise_generator_reset_at
-returns-then-n-eq0 c = kept_done _ _ _ _ _ c.sizes-n.ensures c.if-n-eq0.true _ _
-    (simp (c.if-n-eq0.true, c.store.ensures.0, c.store.ensures.1, c.reset.ensures, c.state.ensures))
-
-pub returns-else-n-eq0 : goal.returns-else-n-eq0
-unfolding noise_generator_reset_at
-returns-else-n-eq0 c = kept_refused _ _ _ _ _ c.sizes-n.ensures c.if-n-eq0.false _
+returns-in-Err c = let a = c.args in
+    kept_stop _ _ _ _ c.in-Err.refused _ (unlent n_floats n_wholes state_of a.floats.now a.wholes.now _ c.in-Err.ensures) c.number.ensures _

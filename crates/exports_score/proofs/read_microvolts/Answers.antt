@@ -9,4 +9,4 @@ returns-in_err-s c = rw (stopped _ c.from_residual.ensures.1) (simp (← c.in_er
 
 pub returns : goal.returns
 unfolding told_of
-returns c = simp (← c.in_ok-s.ensures, c.put_microvolts.ensures, c.put_wholes.ensures)
+returns c = simp (← c.in_ok-s.ensures, c.copy_from_slice.ensures.after, c.copy_from_slice-2.ensures.after, c.microvolts_of.ensures, c.wholes_of.ensures)

@@ -14,7 +14,7 @@ returns-in-Ok c = let f = c.args.floats.now in
     c.keep.ensures
     ∙ ap (λ k. kept_sized n_floats n_wholes k f w)
     (kept_changing floats_of wholes_of f w c.in-Ok.vco _ _ (c.set_sample_rate.ensures
-        ∙ ap (λ s. vco_set_sample_rate_of s (record { 0 = c.args.sample_rate })) (lent n_floats n_wholes state_of f w _ c.in-Ok.ensures)))
+    ∙ ap (λ s. vco_set_sample_rate_of s (record { 0 = c.args.sample_rate })) (lent n_floats n_wholes state_of f w _ c.in-Ok.ensures)))
 
 pub returns-in-Err : goal.returns-in-Err
 unfolding vco_set_sample_rate_at

@@ -1,20 +1,22 @@
-use mathlib.Core.Path.{◌∙◌}
-use Rattle.boundary.proofs.Flat.{block_sized, played_done, played_refused}
-use Rattle.exports_wavetable.specs.Calls.{wavetable_block_at}
+use mathlib.Core.Path.{ap, ◌∙◌}
+use Rattle.boundary.proofs.Lent.{lent_block, unlent_block, played_left, played_pass, played_stop}
+use Rattle.wavetable.specs.Wavetable.{wavetable_block_of}
+use Rattle.exports_wavetable.specs.Calls.{controls, wavetable_block_at}
+use Rattle.exports_wavetable.specs.State.{n_floats, n_wholes, state_of, floats_of, wholes_of}
 use Rattle.exports_wavetable.proofs.gruttisol_wavetable_block.Goals as goal
 
-pub state-requires : goal.state-requires
-state-requires c = let z = block_sized _ _ _ _ _ _ _ c.block_tally.ensures c.in-Taken.is in
-    (z.0, z.1)
-
-pub put_block-requires : goal.put_block-requires
-put_block-requires c = block_sized _ _ _ _ _ _ _ c.block_tally.ensures c.in-Taken.is
-
-pub returns-in-Taken : goal.returns-in-Taken
+pub returns-in-Ok : goal.returns-in-Ok
 unfolding wavetable_block_at
-returns-in-Taken c = played_done _ _ _ _ _ _ _ _ _ c.block_tally.ensures _ _ c.in-Taken.is
-    (c.put_block.ensures _ _ ∙ simp (c.block.ensures, c.state.ensures))
+returns-in-Ok c = let a = c.args in
+    let s = lent_block n_floats n_wholes state_of a.floats.now a.wholes.now a.counts.now _ _ c.in-Ok.ensures in
+    let b = c.block-played.ensures
+    ∙ ap (λ x. wavetable_block_of x (controls a.v_oct a.table a.morph a.sync) c.in-Ok.begun.tally a.bank.now a.samples.now a.marks.now) s.0 in
+    played_pass n_floats n_wholes _ a.floats.now a.wholes.now a.counts.now a.samples.now a.marks.now c.in-Ok.begun.tally _ s.1
+    (played_left floats_of wholes_of a.floats.now a.wholes.now n_floats n_wholes a.counts.now c.in-Ok.begun.state c.in-Ok.begun.tally c.block-played.result
+    _ _ _ _ s.1 c.keep_block.ensures b)
 
-pub returns-in-Refused : goal.returns-in-Refused
+pub returns-in-Err : goal.returns-in-Err
 unfolding wavetable_block_at
-returns-in-Refused c = played_refused _ _ _ _ _ _ _ _ _ c.block_tally.ensures _ c.in-Refused.is
+returns-in-Err c = let a = c.args in
+    let e = unlent_block n_floats n_wholes state_of a.floats.now a.wholes.now a.counts.now _ c.in-Err.ensures in
+    played_stop _ _ _ _ _ _ _ _ c.in-Err.refused _ e c.number.ensures

@@ -1,19 +1,22 @@
-use mathlib.Core.Path.{◌∙◌}
-use Rattle.boundary.proofs.Flat.{sized, kept_done, kept_refused}
+use mathlib.Core.Path.{ap, ◌∙◌}
+use Rattle.boundary.proofs.Flat.{kept_stop}
+use Rattle.boundary.proofs.Lent.{lent, unlent, kept_changing}
+use Rattle.boundary.specs.Flat.{kept_sized}
+use Rattle.exports_wavetable.specs.State.{n_floats, n_wholes, state_of, floats_of, wholes_of}
+use Rattle.wavetable.specs.Wavetable.{wavetable_set_sample_rate_of}
 use Rattle.exports_wavetable.specs.Calls.{wavetable_set_sample_rate_at}
 use Rattle.exports_wavetable.proofs.gruttisol_wavetable_set_sample_rate.Goals as goal
 
-pub state-requires : goal.state-requires
-state-requires c = sized _ _ _ _ _ c.sizes-n.ensures c.if-n-eq0.true
-
-pub put_made-requires : goal.put_made-requires
-put_made-requires c = sized _ _ _ _ _ c.sizes-n.ensures c.if-n-eq0.true
-
-pub returns-then-n-eq0 : goal.returns-then-n-eq0
+pub returns-in-Ok : goal.returns-in-Ok
 unfolding wavetable_set_sample_rate_at
-returns-then-n-eq0 c = kept_done _ _ _ _ _ c.sizes-n.ensures c.if-n-eq0.true _ _
-    (c.put_made.ensures ∙ simp (c.set_sample_rate.ensures, c.state.ensures))
+returns-in-Ok c = let f = c.args.floats.now in
+    let w = c.args.wholes.now in
+    c.keep.ensures
+    ∙ ap (λ k. kept_sized n_floats n_wholes k f w)
+    (kept_changing floats_of wholes_of f w c.in-Ok.wavetable _ _ (c.set_sample_rate-rated.ensures
+    ∙ ap (λ s. wavetable_set_sample_rate_of s (record { 0 = c.args.sample_rate })) (lent n_floats n_wholes state_of f w _ c.in-Ok.ensures)))
 
-pub returns-else-n-eq0 : goal.returns-else-n-eq0
+pub returns-in-Err : goal.returns-in-Err
 unfolding wavetable_set_sample_rate_at
-returns-else-n-eq0 c = kept_refused _ _ _ _ _ c.sizes-n.ensures c.if-n-eq0.false _
+returns-in-Err c =
+    kept_stop _ _ _ _ c.in-Err.refused _ (unlent n_floats n_wholes state_of c.args.floats.now c.args.wholes.now _ c.in-Err.ensures) c.number.ensures _

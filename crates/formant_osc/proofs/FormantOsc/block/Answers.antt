@@ -1,35 +1,34 @@
-use native.Mathlib.Omega.{arith}
-use Rattle.answer.proofs.Blocks.{block_refused, block_fits, block_empty, block_done}
-use Rattle.answer.specs.Tally.{tally_or}
-use Rattle.formant_osc.specs.FormantOsc.{formant_osc_block_of}
-use Rattle.formant_osc.specs.Consts.{n_ports}
+use mathlib.Core.Path.{◌∙◌}
 use native.Mathlib.Nat.{one-mul}
-use mathlib.Core.Path.{ap, ◌∙◌}
+use native.Mathlib.Omega.{arith}
+use Rattle.std.proofs.lemmas.Result.{err_from_is_err_and}
+use Rattle.answer.proofs.Said.{said_fits, said_refused, said_empty, said_done, kept_or}
+use Rattle.formant_osc.specs.Consts.{n_ports}
+use Rattle.formant_osc.specs.FormantOsc.{formant_osc_block_of}
 use Rattle.formant_osc.proofs.FormantOsc.block.Goals as goal
 
-pub run-formant_osc-requires : goal.run-formant_osc-requires
-run-formant_osc-requires c = let a = c.args in
-    let f = block_fits n_ports _ a.tally a.samples.now a.marks.now _
-    (rw c.refusal.ensures at c.block_refusal-refused.ensures) c.if-refused-eq0.true in
+pub returns-in_err-block_refusal : goal.returns-in_err-block_refusal
+unfolding formant_osc_block_of
+returns-in_err-block_refusal c = let a = c.args in
+    let p = err_from_is_err_and c.from_residual.result c.from_residual.ensures.1 in
+    rw (p.1, p.2) (said_refused n_ports _ a.tally a.samples.now a.marks.now _ _ c.refusal.ensures c.block_refusal.ensures _ _ a.self _
+    c.in_err-block_refusal.was)
+
+pub run-state-requires : goal.run-state-requires
+run-state-requires c = let a = c.args in
+    let f = said_fits n_ports _ a.tally a.samples.now a.marks.now _ _ c.refusal.ensures c.block_refusal.ensures _ c.in_ok-block_refusal.was in
     let z = c.if-n-eq0.false in
     (f.1, omega arith, f.0 ∙ one-mul _)
 
 pub returns-then-n-eq0 : goal.returns-then-n-eq0
 unfolding formant_osc_block_of
 returns-then-n-eq0 c = let a = c.args in
-    block_empty n_ports _ _ _ a.self a.tally a.samples.now a.marks.now _
-    (rw c.refusal.ensures at c.block_refusal-refused.ensures) c.if-refused-eq0.true c.if-n-eq0.true
+    said_empty n_ports _ a.tally a.samples.now a.marks.now _ _ c.refusal.ensures c.block_refusal.ensures _ _ a.self _ c.in_ok-block_refusal.was
+    c.if-n-eq0.true
 
-pub returns-else-n-eq0 : goal.returns-else-n-eq0
+pub returns : goal.returns
 unfolding formant_osc_block_of
-returns-else-n-eq0 c = let a = c.args in
-    block_done n_ports _ _ _ a.self a.tally a.samples.now a.marks.now _
-    (rw c.refusal.ensures at c.block_refusal-refused.ensures) c.if-refused-eq0.true _ _ _ _ c.run-formant_osc.ensures.value
-    c.run-formant_osc.ensures.samples_after c.run-formant_osc.ensures.marks_after
-    (c.or.ensures ∙ ap (tally_or a.tally) c.take_marks.ensures)
-
-pub returns-else-refused-eq0 : goal.returns-else-refused-eq0
-unfolding formant_osc_block_of
-returns-else-refused-eq0 c = let a = c.args in
-    block_refused n_ports _ _ _ a.self a.tally a.samples.now a.marks.now _
-    (rw c.refusal.ensures at c.block_refusal-refused.ensures) c.if-refused-eq0.false
+returns c = let a = c.args in
+    said_done n_ports _ a.tally a.samples.now a.marks.now _ _ c.refusal.ensures c.block_refusal.ensures _ _ a.self _ c.in_ok-block_refusal.was _ _ _ _
+    c.run-state.ensures.value c.run-state.ensures.samples_after c.run-state.ensures.marks_after
+    (kept_or _ _ _ _ c.unwrap_or.ensures c.take_marks.ensures)

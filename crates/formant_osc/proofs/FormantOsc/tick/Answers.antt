@@ -1,11 +1,14 @@
-use borrow.Author.Tests.{ne_eqb, eq-eqb}
+use mathlib.Core.Path.{◌∙◌}
+use Rattle.answer.specs.declared.Answer.TheVariants as answer
+use Rattle.common.proofs.RefusalLaws.{passed, stopped}
+use Rattle.common.specs.Refusal.{refused_number}
 use Rattle.formant_osc.specs.FormantOsc.{formant_osc_tick_of}
 use Rattle.formant_osc.proofs.FormantOsc.tick.Goals as goal
 
-pub returns-then-n-eq0 : goal.returns-then-n-eq0
-unfolding formant_osc_tick_of
-returns-then-n-eq0 c = simp (c.sound.ensures, eq-eqb _ _ c.if-n-eq0.true, ← c.refusal-n.ensures)
+pub returns-in-Ok : goal.returns-in-Ok
+unfolding formant_osc_tick_of refused_number
+returns-in-Ok c = c.sound.ensures ∙ passed _ c.in-Ok.ensures _ _
 
-pub returns-else-n-eq0 : goal.returns-else-n-eq0
-unfolding formant_osc_tick_of
-returns-else-n-eq0 c = simp (ne_eqb _ _ c.if-n-eq0.false, ← c.refusal-n.ensures)
+pub returns-in-Err : goal.returns-in-Err
+unfolding formant_osc_tick_of refused_number
+returns-in-Err c = stopped c.in-Err.refused _ _ c.in-Err.ensures c.number.ensures _ (λ k. record { answer = answer.Refused k; state = c.args.self })

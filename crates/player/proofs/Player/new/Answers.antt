@@ -19,5 +19,5 @@ returns c =
       ap (λ (m : Outcome FormantOsc). m.state) c.new-4.ensures ∙ formant_new _,
       c.rate_of-rate.ensures,
       c.threshold_of-threshold.ensures,
-      c.controls_of.ensures,
+      c.from.ensures,
     )

@@ -14,9 +14,6 @@ pub loop-i-init : goal.loop-i-init
 unfolding after_ticks
 loop-i-init c = (omega arith, refl, refl, joined_none _ _, over_none _ _, refl)
 
-pub mix-out-requires : goal.mix-out-requires
-mix-out-requires c = (c.requires.0, c.requires.1)
-
 pub loop-i-preserved : goal.loop-i-preserved
 loop-i-preserved c = let s = c.loop-i.invariant in
     let t = c.loop-i-test.true in
@@ -26,7 +23,7 @@ loop-i-preserved c = let s = c.loop-i.invariant in
       omega arith,
       k.samples ∙ s.1,
       k.marks ∙ s.2,
-      rw c.put.ensures.samples_after (frames_more n_ports one_port _ _ _ _ _ _ _ _ _ s.2 t (s.1 ∙ c.requires.2) s.3 a),
+      rw c.put.ensures.samples_after (frames_more n_ports one_port _ _ _ _ _ _ _ _ _ s.2 t (s.1 ∙ c.requires.1) s.3 a),
       rw c.put.ensures.marks_after (marks_more n_ports one_port _ _ _ _ _ _ _ t s.4 a),
       moved _ _ _ _ _ c.wrap_phase.ensures s.5,
     )
@@ -41,7 +38,7 @@ pub returns : goal.returns
 returns c = let s = c.loop-i.invariant in
     let a = c.args in
     let n : c.loop-i.i ≡ length a.marks.now = le_antisymm s.0 (omega arith) in
-    let frames = frames_done n_ports one_port _ _ _ _ _ _ _ n c.requires.2 s.3 in
+    let frames = frames_done n_ports one_port _ _ _ _ _ _ _ n c.requires.1 s.3 in
     record {
       value = s.5 ∙ ap (λ k. after_ticks (held_next a.step) k a.first) n;
       samples_after = frames;

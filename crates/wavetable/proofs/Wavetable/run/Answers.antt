@@ -2,12 +2,12 @@ use mathlib.Core.Path.{sym, ◌∙◌}
 use lib.ListN.{length}
 use Rattle.answer.proofs.Blocks.{held_after, held_marks, held_frames}
 use Rattle.wavetable.specs.Consts.{n_ports}
-use Rattle.wavetable.proofs.Accepted.{bank_sized, pair_fits}
+use Rattle.wavetable.proofs.Accepted.{pair_fits}
 use Rattle.wavetable.proofs.Held.{holds}
 use Rattle.wavetable.proofs.Wavetable.run.Goals as goal
 
 pub glide-requires : goal.glide-requires
-glide-requires c = (bank_sized _ _ c.requires.0, pair_fits _ _ _ _ c.choose-pair.ensures, c.requires.2)
+glide-requires c = (pair_fits _ _ _ _ c.choose-pair.ensures, c.requires.2)
 
 pub returns : goal.returns
 returns c = let a = c.args in
