@@ -298,6 +298,8 @@ impl Loop {
     }
 }
 
+// Kept: `struck`, `sound`, `tick`, `first_refusal` and `block` take controls, draws and line apart, for draws and line are slices that a host lends (the C
+// interface): a struct of them would be made in `tick` and in `block`, and taken apart at once.
 impl KarplusStrong {
     // The longest line, for a note of about 20 Hz.
     fn max_len_for(sample_rate: Hertz) -> usize

@@ -7,6 +7,6 @@ pub returns : goal.returns
 unfolding pulse_of impulse_of
 returns c =
     elim c.if-i-n.branch [
-      then-i-n w ↦ simp (c.bipolar.ensures, w.impulse-is, lt-ltb _ _ w.if-i-n.true)
+      | then-i-n w ↦ simp (c.bipolar.ensures, w.impulse-is, lt-ltb _ _ w.if-i-n.true)
       | else-i-n w ↦ simp (c.bipolar.ensures, w.impulse-is, le-ltb _ _ w.if-i-n.false)
     ]
