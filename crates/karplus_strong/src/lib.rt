@@ -133,8 +133,12 @@ fn blank(line: &mut [f64], from: usize, to: usize)
 fn pulse(n: usize, brightness: f64, draw: u64, i: usize) -> f64
     ensures { result ≡ pulse_of n brightness draw i }
 {
-    let impulse = if i < n / 4 { 1.0 } else { 0.0 };
-    numeric::bipolar(draw) * brightness + impulse * (1.0 - brightness)
+    let noise = numeric::bipolar(draw);
+    if i < n / 4 {
+        noise * brightness + 1.0 * (1.0 - brightness)
+    } else {
+        noise * brightness + 0.0 * (1.0 - brightness)
+    }
 }
 
 // Rust's sum of floats starts at -0.0.
