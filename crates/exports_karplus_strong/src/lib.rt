@@ -22,6 +22,8 @@ const EDGE: usize = 4;
 
 const VAL: usize = EDGE + boundary::EDGE_FLOATS;
 
+// Kept, below: floats, wholes, line, draws, counts, samples and marks stand beside one another, as the C interface lends them.
+
 // How a KarplusStrong lies in the slices.
 struct Cells;
 
@@ -172,7 +174,9 @@ pub extern "C" fn gruttisol_karplus_strong_block(
                 brightness,
                 stretch,
             };
-            let played = begun.state.block(c, draws, begun.tally, line, samples, marks);
+            let played = begun
+                .state
+                .block(c, draws, begun.tally, line, samples, marks);
             boundary::keep_block::<Cells>(played, floats, wholes, counts)
         }
         Err(refused) => refused.number(), // of lengths or counts
