@@ -1,5 +1,6 @@
 -- What the string promises: the statements. The proofs of the same names in small letters stand in proofs/.
-use Rattle.std.specs.Prelude.{◌≡◌, ℕ, ◌*◌, ◌<◌, ◌≤◌, min, Bool, true, false, cond, ◌⊎◌, Result, List, [], ◌∷◌, length, ◌==◌, nat_le, slice_index, slice_index_or, Float}
+use Rattle.std.specs.Prelude.{◌≡◌, ℕ, ◌*◌, ◌<◌, ◌≤◌, min, Bool, true, false, cond, ◌⊎◌, ◌==◌, nat_le, Float}
+use Rattle.std.specs.Prelude.{Result, List, [], ◌∷◌, length, slice_index, slice_index_or}
 use Rattle.std.specs.Float.{nan}
 use Rattle.std.specs.Float.Ieee.{eq, lt, le}
 use Rattle.laws.specs.Float.{zer, is_fin}
@@ -19,7 +20,8 @@ use Rattle.answer.specs.declared.Played.{Played}
 use Rattle.answer.specs.declared.Tally.{Tally}
 use Rattle.karplus_strong.specs.Consts.{n_ports}
 use Rattle.karplus_strong.specs.Step.{Ticking}
-use Rattle.karplus_strong.specs.KarplusStrong.{max_len_of, Strung, strung, strung_said, new_strung, new_like, room_of, karplus_strong_refusal_of, karplus_strong_cells_of}
+use Rattle.karplus_strong.specs.KarplusStrong.{max_len_of, Strung, strung, strung_said, new_strung, new_like, room_of}
+use Rattle.karplus_strong.specs.KarplusStrong.{karplus_strong_refusal_of, karplus_strong_cells_of}
 use Rattle.karplus_strong.specs.KarplusStrong.{karplus_strong_new_of, struck_len, stretch_of, controls_of, period_at, karplus_strong_tick_of}
 use Rattle.karplus_strong.specs.KarplusStrong.{karplus_strong_next_of, trigger_refusal_of, first_refusal_of, karplus_strong_block_of, karplus_strong_reset_of}
 use Rattle.karplus_strong.specs.KarplusStrong.{karplus_strong_told_of, karplus_strong_set_sample_rate_of, new_karplus_strong, restarted, rated}
