@@ -91,9 +91,8 @@ module _ (b : Tally → Block Strung) (f : List Float) (w : List ℕ) (l : List 
   ps t = played_of strung_floats strung_wholes (b t) f w k
 
   -- of the string s, over p, q and x: the samples, the marks and the line that it leaves
-  pub rung_pass : (s : KarplusStrong) (t : Tally) → tally_sized n_floats n_wholes f w k ≡ Ok t
-      → (r : Result (answers.Played KarplusStrong) Refusal) (u : flat.Left)
-      (p : List Float) (q : List ℕ) (x : List Float) → u ≡ left_sized n_floats n_wholes (left_by floats_of wholes_of r f w k) f w k
+  pub rung_pass : (s : KarplusStrong) (t : Tally) → tally_sized n_floats n_wholes f w k ≡ Ok t → (r : Result (answers.Played KarplusStrong) Refusal)
+      (u : flat.Left) (p : List Float) (q : List ℕ) (x : List Float) → u ≡ left_sized n_floats n_wholes (left_by floats_of wholes_of r f w k) f w k
       → with_line (block_said s t r p q) x ≡ b t
       → rung (played u.code u.floats u.wholes u.counts p q) x ≡ rung_sized b f w l k o m
   unfolding rung_sized line_from played_of

@@ -51,8 +51,8 @@ pub summed : (l : List Float) (i : ℕ) → i ≤ length l → fold (add binary6
 unfolding sum_to
 summed l zero h = refl
 summed l (suc i) h =
-    rw (summed l i (omega arith)) at (ap (λ k. fold (add binary64) (neg zer) (take k l)) (sym (add-one i))
-    ∙ fold_more (add binary64) (neg zer) l i nan h)
+    let more = ap (λ k. fold (add binary64) (neg zer) (take k l)) (sym (add-one i)) ∙ fold_more (add binary64) (neg zer) l i nan h in
+    rw (summed l i (omega arith)) at more
 
 -- each pass over all of a list's cells
 pub struck_by : (n : ℕ) (b : Float) (d : List ℕ) (l x y : List Float) (t r : Float) → length x ≡ n → x ≡ excited_of n b d l

@@ -1,6 +1,6 @@
 -- How the parts of a call make up the whole, over plain values, and what an accepted call has.
-use Rattle.std.proofs.Common.{◌≡◌, ℕ, zero, suc, ◌+◌, ◌-◌, ◌%◌, ◌<◌, ◌≤◌, min, Bool, true, false, cond, not, ◌&&◌, T, eqb, ltb, leb}
-use Rattle.std.proofs.Common.{List, ◌++◌, length, length-take, get_or, set, take, drop}
+use Rattle.std.proofs.Common.{◌≡◌, ℕ, zero, suc, ◌+◌, ◌-◌, ◌%◌, ◌<◌, ◌≤◌, min, Bool, true, false, cond, not, ◌&&◌, T, eqb, ltb, leb, List}
+use Rattle.std.proofs.Common.{◌++◌, length, length-take, get_or, set, take, drop}
 use Rattle.std.proofs.Common.{pos, sym, refl, ap, ◌∙◌, subst, true≢false, le_trans, arith, lit≤, le→leb, ltb-true, lt-ltb, ne_eqb, eqb-true, le-leb, leb-true}
 use mathlib.Core.Bool.{and-false}
 use Rattle.std.specs.Prelude.{Some, None, Result, Ok, Err}
@@ -400,8 +400,7 @@ module _ (r : Hertz) (v : Float) (n : ℕ) where
 
 -- a string of so many cells, and what a call says that is refused by r or let pass
 module _ (r : Hertz) (v : Float) (l x : List Float) (o : Result (Unit {0}) Refusal) (n : ℕ)
-    (q : refused_number o ≡ karplus_strong_new_refusal_of r v (length l))
-    (ex : x ≡ blank_of 0 n l) where
+    (q : refused_number o ≡ karplus_strong_new_refusal_of r v (length l)) (ex : x ≡ blank_of 0 n l) where
   abbrev says : Making
   says = leaving (outcome (refused_number o) (string_of r v n)) x
 

@@ -25,8 +25,8 @@ loop-cell-preserved c = let more = c.loop-cell-test.true in
 pub returns : goal.returns
 unfolding excited_of level_of
 returns c = let a = c.args in
-    let filled = ap (λ k. over (excited_at (length a.cells.now) a.brightness a.draws.now) k a.cells.now)
-    (le_antisymm c.loop-i.auto.i-end c.loop-i-test.false) in
+    let end = le_antisymm c.loop-i.auto.i-end c.loop-i-test.false in
+    let filled = ap (λ k. over (excited_at (length a.cells.now) a.brightness a.draws.now) k a.cells.now) end in
     let mean = div binary64 c.sum.result c.of_u64.result in
     let levelled = ap (λ k. over (level_at mean c.loop-i.cells) k c.loop-i.cells) (le_antisymm c.loop-cell.auto.cell-index-end c.loop-cell-test.false) in
     struck_by _ _ _ _ _ _ _ _ c.loop-i.auto.cells (c.loop-i.invariant ∙ filled) c.sum.ensures c.of_u64.ensures (c.loop-cell.invariant ∙ levelled)

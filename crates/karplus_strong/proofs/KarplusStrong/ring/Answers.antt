@@ -28,8 +28,8 @@ loop-i-preserved c = let s = c.loop-i.invariant in
     record {
       samples_so_far =
           rw c.put.ensures.samples_after
-          (frames_more n_ports one_port _ _ _ _ (length c.args.marks.now) _ _ _ _ same.marks c.loop-i-test.true
-          (same.samples ∙ c.requires.2) s.samples_so_far told);
+          (frames_more n_ports one_port _ _ _ _ (length c.args.marks.now) _ _ _ _ same.marks c.loop-i-test.true (same.samples ∙ c.requires.2)
+          s.samples_so_far told);
       marks_so_far = rw c.put.ensures.marks_after (marks_more n_ports one_port _ _ _ _ _ _ _ c.loop-i-test.true s.marks_so_far told);
       turned = moved _ _ _ _ _ _ _ e.0 e.1 s.turned;
       in_line = omega arith;
