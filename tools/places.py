@@ -134,7 +134,7 @@ POINTS = {
     "7 switches on which oscillator's step to run": lines(r"^( *match (?:osc|inputs|controls|k) \{)"),
 }
 # ---- found by a name that stayed, where the library's method or the one generic function does the work now
-LIBRARY = re.compile(r"\.get\(|\.ok_or\(|\.min\(|\ba == b\b|get_or_compute|\bkey: K\b")
+LIBRARY = re.compile(r"from_fn|\.get\(|\.ok_or\(|\.min\(|\ba == b\b|get_or_compute|\bkey: K\b")
 
 
 def by_the_library(where, what):

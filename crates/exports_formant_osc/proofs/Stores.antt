@@ -18,10 +18,6 @@ all_pasted l cells at h =
 pub whole : (l : List Float) (n : ℕ) → length l ≡ n → tab (λ (i : ℕ). get_or l i nan) n ≡ l
 whole l n h = sym (by_cells nan (λ (i : ℕ). get_or l i nan) n l h (λ i k. refl))
 
--- n cells among the floats from the place `at` on
-pub room : (at n x y : ℕ) → x ≡ n_floats → y ≡ n → at + n ≤ n_floats → at + y ≤ x
-room at n x y h k e = rw (h, k) e
-
 pub all_stored : (s : FormantOsc) (l m n : List Float) → length l ≡ n_floats → length s.resonator_state ≡ 10 → length s.coef_memo.val ≡ 15
     → m ≡ sets l 2 s.resonator_state → n ≡ sets m 14 s.coef_memo.val
     → set (set (set (set n 0 s.phase.0) 1 s.vibrato_phase.0) 12 s.sample_rate.0) 13 s.freq_memo.val.0 ≡ floats_of s

@@ -43,6 +43,8 @@ const CELLS: usize = 2;
 
 const COEFS: usize = 14;
 
+// Kept, below: the controls, floats, wholes, counts, samples and marks stand beside one another, as the C interface lends them.
+
 // How a FormantOsc lies in the slices.
 struct Cells;
 
@@ -112,7 +114,6 @@ impl Layout for Cells {
     }
 }
 
-// Kept: the controls and the slices one by one, in this call and those below, as the C interface names them.
 #[unsafe(no_mangle)]
 pub extern "C" fn gruttisol_formant_osc_new(
     sample_rate: f64,

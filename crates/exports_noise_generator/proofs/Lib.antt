@@ -1,4 +1,3 @@
-pub mod Rows
 pub mod Slices
 pub mod Needed
 pub mod Settled

@@ -51,6 +51,8 @@ fn counter(w: u64) -> u32
     (w % 4294967296) as u32
 }
 
+// Kept, below: `given` and the correlation, floats, wholes, draws, counts, samples and marks stand beside one another, as the C interface lends them.
+
 // How a NoiseGenerator lies in the slices.
 struct Cells;
 
@@ -114,7 +116,6 @@ impl Layout for Cells {
     }
 }
 
-// Kept: what these calls are given one beside another, floats and wholes, and `given` with its correlation, stands so in the C interface.
 #[tactic(auto, unfolding(crate::specs::Calls::noise_generator_new_at, boundary::specs::Flat::kept_result))]
 #[unsafe(no_mangle)]
 pub extern "C" fn gruttisol_noise_generator_new(floats: &mut [f64], wholes: &mut [u64]) -> u32

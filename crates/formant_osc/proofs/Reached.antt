@@ -26,7 +26,6 @@ use Rattle.formant_osc.specs.Consts.{n_ports}
 use Rattle.formant_osc.specs.FormantOsc.{new_formant_osc, formant_osc_refusal_of, formant_osc_rate_refusal_of, formant_osc_new_of, freq_memo_of}
 use Rattle.formant_osc.specs.FormantOsc.{formant_osc_sound_of, formant_osc_tick_of, formant_osc_block_of}
 use Rattle.formant_osc.specs.FormantOsc.{restarted, formant_osc_reset_of, rated, formant_osc_set_sample_rate_of}
-use Rattle.formant_osc.specs.Memo.{new_coef_memo}
 use Rattle.formant_osc.specs.Promises.{NewAccepts, NeverRefused}
 use Rattle.formant_osc.specs.Sound.{pitch_of}
 use Rattle.formant_osc.specs.declared.FormantOscControls.{FormantOscControls}

@@ -349,7 +349,8 @@ fn sway(start: Driver, vibrato: Vibrato, sample_rate: Hertz, samples: &mut [f64]
 }
 
 // The second time: the pulse that goes into the resonators, and in the mark's place whether the phase stays finite.
-// Kept: the samples and the marks one by one, and in each contract that they are as many, here and in what calls it: the C interface lends them as two slices.
+// Kept: here and in `drive`, `voice`, `run` and `block` samples and marks one by one, and in each contract that they are as many: the C interface lends them
+// as two slices.
 fn pulse(start: Turns, samples: &mut [f64], marks: &mut [u32]) -> Turns
     requires { length samples.old ≡ length marks.old }
     ensures value { result ≡ phase_at samples.old start (length marks.old) }

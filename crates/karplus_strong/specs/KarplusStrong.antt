@@ -1,5 +1,5 @@
 -- KarplusStrong, written from oscillators.rs. The line is lent, so each call says what it holds afterwards.
-use Rattle.std.specs.Prelude.{ℕ, zero, suc, ◌+◌, min, Bool, cond, not, ◌&&◌, List, [], ◌∷◌, length, ◌==◌, is_nan, nat_le, nat_lt, Float}
+use Rattle.std.specs.Prelude.{ℕ, zero, suc, ◌+◌, min, Bool, cond, not, ◌&&◌, Result, List, [], ◌∷◌, length, ◌==◌, is_nan, nat_le, nat_lt, Float}
 use Rattle.std.specs.Float.{binary64}
 use Rattle.std.specs.Float.Ieee.{sub, div, neg}
 use Rattle.laws.specs.Float.{zer, one, two, is_fin}
@@ -10,11 +10,13 @@ use Rattle.common.specs.Memo.{Memo1, new_memo1, recall1, voct_to_hz_at}
 use Rattle.common.specs.Tests.{rate_ok, threshold_ok, draws_refusal_of}
 use Rattle.common.specs.declared.EdgeDetector.{EdgeDetector}
 use Rattle.common.specs.declared.Hertz.{Hertz}
-use Rattle.answer.specs.Block.{Block, block, block_of}
+use Rattle.common.specs.declared.Refusal.{Refusal}
+use Rattle.answer.specs.Block.{Block, block, block_of, block_said}
 use Rattle.answer.specs.Calls.{Outcome, outcome}
 use Rattle.answer.specs.Mark.{all_numbers}
 use Rattle.answer.specs.declared.Answer.{Answer}
 use Rattle.answer.specs.declared.Answer.TheVariants as answer
+use Rattle.answer.specs.declared.Played.{Played}
 use Rattle.answer.specs.declared.Tally.{Tally}
 use Rattle.answer.specs.declared.Ticked.{Ticked}
 use Rattle.karplus_strong.specs.Consts.{n_ports, twenty}
@@ -211,9 +213,12 @@ karplus_strong_block_of x c draws t o m =
     block_of n_ports (first_refusal_of x.string c draws (length x.line) (length m)) (karplus_strong_told_of c draws)
     (karplus_strong_next_of c draws) x t o m
 
--- what its call says beside the line, with the line that it leaves
+-- what its call says: of a refused one what it was given stays; and the line that it leaves
 abbrev pub with_line : Block KarplusStrong → List Float → Block Strung
 with_line b l = block b.refused (strung b.state l) b.tally b.samples b.marks
+
+abbrev pub strung_said : KarplusStrong → Tally → Result (Played KarplusStrong) Refusal → List Float → List ℕ → List Float → Block Strung
+strung_said s t r o m l = with_line (block_said s t r o m) l
 
 -- ---- reset and rate change
 -- clear_loop_state, and the edge's own reset: the length stays, and so does the memo

@@ -1,6 +1,6 @@
 -- What the string promises: the statements. The proofs of the same names in small letters stand in proofs/.
-use Rattle.std.specs.Prelude.{◌≡◌, ℕ, ◌*◌, ◌<◌, ◌≤◌, min, Bool, true, false, cond, ◌⊎◌, Result, List, [], ◌∷◌, length, ◌==◌, nat_le}
-use Rattle.std.specs.Prelude.{slice_index, slice_index_or, Float}
+use Rattle.std.specs.Prelude.{◌≡◌, ℕ, ◌*◌, ◌<◌, ◌≤◌, min, Bool, true, false, cond, ◌⊎◌, ◌==◌, nat_le, Float}
+use Rattle.std.specs.Prelude.{Result, List, [], ◌∷◌, length, slice_index, slice_index_or}
 use Rattle.std.specs.Float.{nan}
 use Rattle.std.specs.Float.Ieee.{eq, lt, le}
 use Rattle.laws.specs.Float.{zer, is_fin}
@@ -16,10 +16,12 @@ use Rattle.answer.specs.Promises.{Steers, AllAccepted, AllTaken}
 use Rattle.answer.specs.Calls.{making, changing}
 use Rattle.answer.specs.Mark.{all_numbers}
 use Rattle.answer.specs.declared.Made.{Made}
+use Rattle.answer.specs.declared.Played.{Played}
 use Rattle.answer.specs.declared.Tally.{Tally}
 use Rattle.karplus_strong.specs.Consts.{n_ports}
 use Rattle.karplus_strong.specs.Step.{Ticking}
-use Rattle.karplus_strong.specs.KarplusStrong.{max_len_of, Strung, strung, new_strung, new_like, room_of, karplus_strong_refusal_of, karplus_strong_cells_of}
+use Rattle.karplus_strong.specs.KarplusStrong.{max_len_of, Strung, strung, strung_said, new_strung, new_like, room_of}
+use Rattle.karplus_strong.specs.KarplusStrong.{karplus_strong_refusal_of, karplus_strong_cells_of}
 use Rattle.karplus_strong.specs.KarplusStrong.{karplus_strong_new_of, struck_len, stretch_of, controls_of, period_at, karplus_strong_tick_of}
 use Rattle.karplus_strong.specs.KarplusStrong.{karplus_strong_next_of, trigger_refusal_of, first_refusal_of, karplus_strong_block_of, karplus_strong_reset_of}
 use Rattle.karplus_strong.specs.KarplusStrong.{karplus_strong_told_of, karplus_strong_set_sample_rate_of, new_karplus_strong, restarted, rated}
@@ -232,6 +234,11 @@ BlockTallies = (x : Strung) (c : KarplusStrongControls) (draws : List ℕ) (n : 
 abbrev pub CellsEnough : Type 0
 CellsEnough = (rate : Hertz) (threshold : Float) (l : List Float) → (karplus_strong_new_of rate threshold l).out.refused
     ≡ cond (rate_ok rate) (cond (threshold_ok threshold) (cond (nat_le (karplus_strong_cells_of rate) (length l)) 0 3) 2) 1
+
+-- ---- what a block's call says of itself, with the line, tells what it leaves
+abbrev pub StrungTells : Type 0
+StrungTells = (s : KarplusStrong) (t : Tally) (b : Block Strung)
+    → Settles (λ (x : Result (Played KarplusStrong) Refusal × List Float × List ℕ × List Float). strung_said s t x.0 x.1 x.2 x.3 ≡ b)
 
 -- ---- each contract settles the answer and the line, and a block's its samples and marks
 pub record Settled : Type 0 where

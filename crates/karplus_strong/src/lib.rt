@@ -13,7 +13,7 @@ ghost use Rattle.common.specs.Refusal.{refused_number};
 ghost use Rattle.common.specs.Tests.{rate_ok};
 ghost use Rattle.answer.specs.Calls.{making, changing};
 ghost use Rattle.answer.specs.Mark.{all_numbers};
-ghost use Rattle.answer.specs.Block.{after_ticks, joined, block_said, mark_at, frame_at};
+ghost use Rattle.answer.specs.Block.{after_ticks, joined, mark_at, frame_at};
 ghost use Rattle.karplus_strong.specs.Consts.{n_ports};
 ghost use Rattle.karplus_strong.specs.Line.{blank_of, pulse_of, struck_of};
 ghost use Rattle.karplus_strong.specs.Step.{filter_coef_of, ap_coef_of, target_delay_of, rest_of};
@@ -21,7 +21,7 @@ ghost use Rattle.karplus_strong.specs.KarplusStrong.{max_len_of, line_ok, karplu
 ghost use Rattle.karplus_strong.specs.KarplusStrong.{karplus_strong_cells_of, karplus_strong_new_refusal_of, karplus_strong_new_of, finite_or, controls_of};
 ghost use Rattle.karplus_strong.specs.KarplusStrong.{damping_of, stretch_of, period_of};
 ghost use Rattle.karplus_strong.specs.KarplusStrong.{karplus_strong_tick_of, first_refusal_of, karplus_strong_block_of};
-ghost use Rattle.karplus_strong.specs.KarplusStrong.{with_line, karplus_strong_reset_of, place_of, karplus_strong_set_sample_rate_of, strung};
+ghost use Rattle.karplus_strong.specs.KarplusStrong.{strung_said, karplus_strong_reset_of, place_of, karplus_strong_set_sample_rate_of, strung};
 ghost use Rattle.karplus_strong.specs.Shortcuts.{Cut, state_refusal_of, strike_refusal_of, strike_len, strike_at, hear_of, ticking};
 ghost use Rattle.karplus_strong.specs.Shortcuts.{with_loop, after_turn, tuning_of, turn_of, held_answer, held_next};
 
@@ -566,7 +566,7 @@ impl KarplusStrong {
         samples: &mut [f64],
         marks: &mut [u32],
     ) -> Result<Played<KarplusStrong>, Refusal>
-        ensures { with_line (block_said self tally result samples.new marks.new) line.new
+        ensures { strung_said self tally result samples.new marks.new line.new
             ≡ karplus_strong_block_of (strung self line.old) c draws.now tally samples.old marks.old }
     {
         let n = marks.len();

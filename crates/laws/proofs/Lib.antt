@@ -12,6 +12,7 @@ pub mod Weights
 pub mod Zeros
 pub mod Greatest
 pub mod Over
+pub mod Arrays
 pub mod All
 pub mod Always
 pub mod Settled

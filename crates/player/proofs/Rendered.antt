@@ -4,7 +4,7 @@ use native.Mathlib.Omega.{arith}
 use Rattle.laws.proofs.Settled as laws
 use Rattle.score.proofs.Text.{read_valid}
 use Rattle.player.specs.Play.{heard_of}
-use Rattle.player.specs.Player.{player_of, played_of}
+use Rattle.player.specs.Player.{controls_of, player_of, played_of}
 use Rattle.player.specs.Promises.{ReadRenders, Settled}
 use Rattle.player.proofs.Counts.{all_begin, heard_counts, claimed_clean}
 use Rattle.player.proofs.Heard.{frames_heard, frames_accepted}
@@ -28,4 +28,4 @@ read_renders text s e =
     }
 
 pub settled : Settled
-settled = record { new = λ s. laws.settled (player_of s); play = λ p t o m. laws.settled (played_of p t o m) }
+settled = record { from = λ i. laws.settled (controls_of i); new = λ s. laws.settled (player_of s); play = λ p t o m. laws.settled (played_of p t o m) }

@@ -27,7 +27,8 @@ use Rattle.frame.specs.Frames.{ports_in, played_text}
 use Rattle.player.specs.Begin.{rate_of, threshold_of}
 use Rattle.player.specs.Frames.{player_at, tally_at, samples_from, marks_from, text_from}
 use Rattle.player.specs.Play.{heard_of, play_of, render_of}
-use Rattle.player.specs.Player.{player_of, played_of}
+use Rattle.player.specs.Player.{controls_of, player_of, played_of}
+use Rattle.player.specs.declared.Controls.{Controls}
 use Rattle.player.specs.declared.Player.{Player}
 
 -- ---- the frames in pieces are all frames
@@ -135,6 +136,7 @@ pub record GateIdle : Type 0 where
 
 -- ---- each contract settles its answer and the lent buffers
 pub record Settled : Type 0 where
+  pub from : (i : Inputs) → Settles (λ (c : Controls). c ≡ controls_of i)
   pub new : (s : Score) → Settles (λ (p : Player). p ≡ player_of s)
   pub play : (p : Player) (t : Tally) (o : List Float) (m : List ℕ) → Settles (λ (b : Block Player). b ≡ played_of p t o m)
 

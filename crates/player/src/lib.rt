@@ -120,7 +120,9 @@ impl From<Inputs> for Controls {
 
     // Kept: four kinds, all known here, so a match and no `dyn`.
     #[tactic(auto, unfolding(crate::specs::Player::controls_of))]
-    fn from(inputs: Inputs) -> Self {
+    fn from(inputs: Inputs) -> Self
+        ensures { result ≡ controls_of inputs }
+    {
         match inputs {
             Inputs::Vco(i) => Controls::Vco(vco_controls(i)),
             Inputs::Lfo(i) => Controls::Lfo(lfo_controls(i)),

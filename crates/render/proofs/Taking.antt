@@ -8,7 +8,7 @@ use lib.Dec.{eqb}
 use lib.ListN.{length, take}
 use lib.Seq.{length-take-le}
 use borrow.Author.Tests.{eqb-false, eq-eqb, ne_eqb}
-use Rattle.std.specs.Prelude.{Option, Some, None, Result, Ok, Err, ControlFlow, Continue, Break}
+use Rattle.std.proofs.Common.{Option, Some, None, Result, Ok, Err, ControlFlow, Continue, Break}
 use Rattle.render.specs.Reads.{step_of, step_by, Within, Reaches, taken_of}
 use Rattle.render.specs.Promises.{FailedRead}
 
@@ -59,4 +59,4 @@ within_text taken n input h e = (subst (λ (t : Option ℕ). Within t input) e h
 -- ---- the promise
 pub failed_read : FailedRead
 unfolding step_of taken_of
-failed_read e n room input = (refl, refl)
+failed_read E e n room input = (refl, refl)

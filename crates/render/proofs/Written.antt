@@ -13,8 +13,9 @@ use lib.Seq.{take_at}
 use borrow.Author.Tests.{leb-true, leb-false}
 use Rattle.text.specs.Promises.{Put}
 use Rattle.text.proofs.PutLaws.{within, put_whole}
-use Rattle.answer.specs.Block.{Block, block, joined, after_ticks}
+use Rattle.answer.specs.Block.{Block, block, block_said, joined, after_ticks}
 use Rattle.answer.specs.Tally.{tally_after, run, new_tally}
+use Rattle.answer.specs.declared.Played.{Played}
 use Rattle.answer.specs.declared.Tally.{Tally}
 use Rattle.laws.specs.Lists.{tab}
 use Rattle.score.proofs.Lines.{not_refused}
@@ -23,7 +24,9 @@ use Rattle.score.specs.Score.{score_of}
 use Rattle.score.specs.Keys.{owner_of}
 use Rattle.score.specs.declared.Osc.{Osc}
 use Rattle.score.specs.declared.Osc.TheVariants as osc
-use Rattle.std.specs.Prelude.{Option, Some, None, Ok}
+use Rattle.std.specs.Prelude.{Option, Some, None, Result, Ok, Err, IsOk}
+use Rattle.common.proofs.RefusalLaws.{nonzero}
+use Rattle.common.specs.declared.Refusal.{Refusal}
 use Rattle.score.specs.declared.Score.{Score}
 use Rattle.frame.specs.Promises.{ShortTally}
 use Rattle.frame.specs.End.{end_text, refused_text}
@@ -81,6 +84,12 @@ ports_most osc.Lfo = lit≤ tt
 ports_most osc.Supersaw = lit≤ tt
 ports_most osc.Formant = lit≤ tt
 
+-- a block that is done
+pub done : (p : Player) (t : Tally) (r : Result (Played Player) Refusal) (o : List Float) (m : List ℕ) (b : Block Player) (x : Played Player) → r ≡ Ok x
+    → block_said p t r o m ≡ b → block 0 x.state x.tally o m ≡ b
+unfolding block_said
+done p t r o m b x e h = sym (ap (λ (y : Result (Played Player) Refusal). block_said p t y o m) e) ∙ h
+
 -- what a first part leaves of a buffer that gets another one
 module _ {A : Type 0} (n : ℕ) (l part : List A) (h : n ≤ length l) where
   cut_size : n ≡ length (take n l)
@@ -131,15 +140,26 @@ module _ {s : Score} {frames : ℕ} {osc : Osc} {ports : ℕ} {out : List ℕ} {
       go true z (m, w) = inl (suc m, omega (arith, leb-true 400 (frames - k) z))
       go false z w = inr (omega (arith, leb-false 400 (frames - k) z, i.frames_are))
 
-  -- what was played, of samples and marks that are cut off longer ones
-  module _ {r : ℕ} {p' : Player} {t' : Tally} {o' : List Float} {m' : List ℕ}
-      (played : block r p' t' o' m' ≡ played_of p t (take (ports * n) sm) (take n mk))
+  -- what is played on samples and marks that are cut off longer ones
+  played_on : played_of p t (take (ports * n) sm) (take n mk)
+      ≡ block 0 (player_at s (k + n)) (tally_at s (k + n)) (samples_from s k n) (marks_from s k n)
+  played_on =
+      (λ j. played_of (i.stands.player j) (i.stands.tally j) (take (ports * n) sm) (take n mk))
+      ∙ plays_on i.read.0 s i.read.1 k n some_left _ _ (sym marks_cut)
+      (sym samples_cut ∙ ap (λ (x : ℕ). x * n) (i.ports_are ∙ ap ports_in i.owner))
+
+  -- none of it is refused
+  pub played_done : (r : Result (Played Player) Refusal) (o' : List Float) (m' : List ℕ)
+      → block_said p t r o' m' ≡ played_of p t (take (ports * n) sm) (take n mk) → IsOk r
+  unfolding block_said
+  played_done (Ok x) o' m' e = refl
+  played_done (Err why) o' m' e = absurd (nonzero why (ap (λ (b : Block Player). b.refused) (e ∙ played_on)))
+
+  -- what was played
+  module _ {p' : Player} {t' : Tally} {o' : List Float} {m' : List ℕ} (played : block 0 p' t' o' m' ≡ played_of p t (take (ports * n) sm) (take n mk))
       (same_samples : length o' ≡ length (take (ports * n) sm)) (same_marks : length m' ≡ length (take n mk)) where
-    as_said : block r p' t' o' m' ≡ block 0 (player_at s (k + n)) (tally_at s (k + n)) (samples_from s k n) (marks_from s k n)
-    as_said =
-        played ∙ (λ j. played_of (i.stands.player j) (i.stands.tally j) (take (ports * n) sm) (take n mk))
-        ∙ plays_on i.read.0 s i.read.1 k n some_left _ _ (sym marks_cut)
-        (sym samples_cut ∙ ap (λ (x : ℕ). x * n) (i.ports_are ∙ ap ports_in i.owner))
+    as_said : block 0 p' t' o' m' ≡ block 0 (player_at s (k + n)) (tally_at s (k + n)) (samples_from s k n) (marks_from s k n)
+    as_said = played ∙ played_on
 
     pub samples_room : ports * n ≤ length (o' ++ drop (ports * n) sm)
     samples_room = omega (arith, cut_kept (ports * n) sm o' room_samples same_samples, room_samples)

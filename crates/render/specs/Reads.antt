@@ -1,6 +1,8 @@
 -- What the program takes its standard input to say.
 use Rattle.std.specs.Prelude.{ℕ, ◌+◌, ◌≤◌, ◌<◌, min, Bool, true, false, List, eqb, length, take}
-use Rattle.std.specs.Prelude.{Option, Some, None, Result, Ok, Err, ControlFlow, Continue, Break}
+use Rattle.std.specs.Prelude.{Option, Some, None, Result, Ok, Err}
+use Rattle.std.specs.declared.ops.ControlFlow.{ControlFlow}
+use Rattle.std.specs.declared.ops.ControlFlow.TheVariants.{Continue, Break}
 use Rattle.std.specs.Counts.{IsPrefixLen}
 use Rattle.score.specs.Score.{score_of}
 use Rattle.score.specs.declared.Score.{Score}

@@ -20,6 +20,8 @@ const AT_ONCE: u32 = 400;
 
 // ---- all that is written; no contract can speak of the output, so the `requires` says what is handed to it, of which input, and
 // that nothing follows a write that failed. `taken` is what standard input gave: a text of so many bytes, or a failure.
+// Kept: `write_piece`, `write_end`, `write_refused`, `reading`, `play` and `print` take the input, how much of it was taken and the score that it reads as,
+// since the promise of what is written is stated of the three; in a ghost field that equation would only be the truth that there is a proof of it.
 
 fn write_piece(
     rt: &impl Print,
@@ -48,7 +50,13 @@ fn write_end(
     rt.write_all(text).is_ok()
 }
 
-fn write_refused(rt: &impl Print, text: &[u8], input: &[u8], taken: Option<usize>, why: Refusal) -> bool
+fn write_refused(
+    rt: &impl Print,
+    text: &[u8],
+    input: &[u8],
+    taken: Option<usize>,
+    why: Refusal,
+) -> bool
     requires { (taken_of taken input.now ≡ Err why) × (text.now ≡ refused_text (refusal_number why)) }
 {
     rt.write_all(text).is_ok()
@@ -57,11 +65,7 @@ fn write_refused(rt: &impl Print, text: &[u8], input: &[u8], taken: Option<usize
 // ---- what is read
 
 // After a read behind n bytes: there are so many now, or no more come, and what was taken is settled.
-fn after_read(
-    n: usize,
-    got: io::Result<usize>,
-    room: &[u8],
-) -> ControlFlow<Option<usize>, usize>
+fn after_read(n: usize, got: io::Result<usize>, room: &[u8]) -> ControlFlow<Option<usize>, usize>
     requires { n + length room.now < 4096 }
     ensures { result ≡ step_of n got (length room.now) }
 {
@@ -93,6 +97,7 @@ fn read_text(from: &mut impl Read, input: &mut [u8]) -> Option<usize>
     ensures { Within result input.new }
 {
     let mut n = 0;
+    // Kept: a room of fixed size, of which a read fills as much as comes (no heap).
     while n < input.len() {
         match read_on(&mut *from, &mut *input, n) {
             ControlFlow::Continue(more) => n = more,
@@ -129,6 +134,7 @@ fn play(rt: &impl Print, out: &mut [u8], input: &[u8], taken: Option<usize>, sco
     let mut tally = Tally::new();
     let mut first = 0;
     let mut wrote = true;
+    // Kept: a step is as long as what was played, which the edits never_ends and past_the_end are about.
     while first < frames {
         let n = AT_ONCE.min(frames - first);
         let size = n as usize;

@@ -1,4 +1,4 @@
--- A test of each number below n is the test of each cell of a list of n; an array made of a function of the index holds its answers.
+-- A test of each number below n is the test of each cell of a list of n.
 use mathlib.Core.Bool.{Bool, ◌&&◌}
 use mathlib.Core.List.{List}
 use mathlib.Core.Logic.{⊎_elim}
@@ -23,15 +23,3 @@ all_taken d p l (suc n) h = rw (← add-one) (list_all_more p l n d (omega arith
 
 pub all_list : {A : Type 0} (d : A) (p : A → Bool) (l : List A) (n : ℕ) → length l ≡ n → list_all p l ≡ all (λ (i : ℕ). p (get_or l i d)) n
 all_list {A} d p l n e = ap (λ (t : List A). list_all p t) (sym (take_all n l (omega arith))) ∙ all_taken d p l n (omega arith)
-
-module _ {F B : Type 0} (g : Mut F (ℕ × Unit {0}) B) (h : ℕ → B) (f : F)
-    (acts : (i : ℕ) (y : B) (q : F) → Called g f (i, tt) y q → (q ≡ f) × (y ≡ h i)) (ys : List B) (d : B) where
-  cells : (n i : ℕ) (p : F) → p ≡ f → IsFromFnResultFrom g p ys i n → (j : ℕ) → i ≤ j → j < i + n → get_or ys j d ≡ h j
-  cells zero i p e r j a b = absurd (omega arith)
-  cells (suc n) i p e r j a b =
-      let k = acts i r.1 r.0 (subst (λ (z : F). Called g z (i, tt) r.1 r.0) e r.3) in
-      ⊎_elim (λ (s : i ≡ j). subst (λ (m : ℕ). get_or ys m d ≡ h m) s (r.2.1 d ∙ k.1))
-      (λ (l : i < j). cells n (i + 1) r.0 k.0 r.4 j (omega arith) (omega arith)) (eq-or-lt_of_le a)
-
-  pub from_fn_tab : (n : ℕ) → IsFromFnResult g f ys n → ys ≡ tab h n
-  from_fn_tab n r = by_cells d h n ys r.long (λ i l. cells n 0 f refl r.each i (omega arith) (omega arith))

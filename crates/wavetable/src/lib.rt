@@ -392,7 +392,7 @@ impl Wavetable {
         if n == 0 {
             return Ok(Played { state: self, tally });
         }
-        let state = self.run(c, lent?, samples, marks); // what was lent is refused above
+        let state = self.run(c, lent?, samples, marks); // a bank that isn't lent is refused above
         Ok(Played {
             state,
             tally: tally.take_marks(marks).unwrap_or(tally),

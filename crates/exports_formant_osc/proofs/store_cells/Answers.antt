@@ -1,12 +1,9 @@
 use Rattle.std.proofs.Common.{ap, ◌∙◌, le_antisymm, arith}
 use native.Mathlib.Numerals.{add-one}
 use lib.Ieee.{nan}
-use lib.Seq.{paste, paste-zero, paste-suc}
+use lib.Seq.{paste, paste-suc}
 use Rattle.exports_formant_osc.proofs.Stores.{all_pasted}
 use Rattle.exports_formant_osc.proofs.store_cells.Goals as goal
-
-pub loop-i-init : goal.loop-i-init
-loop-i-init c = paste-zero c.args.floats.now c.args.at c.args.cells.now
 
 pub loop-i-preserved : goal.loop-i-preserved
 loop-i-preserved c = let a = c.args in

@@ -1,7 +1,7 @@
 use Rattle.std.proofs.Common.{rules, ◌+◌, get_or}
 use lib.Ieee.{nan}
 use Rattle.exports_noise_generator.specs.State.{rows_at}
-use Rattle.exports_noise_generator.proofs.Rows.{from_fn_tab}
+use Rattle.laws.proofs.Arrays.{from_fn_tab}
 use Rattle.exports_noise_generator.proofs.rows_at.Goals as goal
 
 pub returns : goal.returns

@@ -11,9 +11,10 @@ pub returns-in-Ok : goal.returns-in-Ok
 unfolding wavetable_reset_at
 returns-in-Ok c = let f = c.args.floats.now in
     let w = c.args.wholes.now in
+    let s = lent n_floats n_wholes state_of f w _ c.in-Ok.ensures in
     c.keep.ensures
     ∙ ap (λ k. kept_sized n_floats n_wholes k f w)
-    (kept_changing floats_of wholes_of f w c.in-Ok.wavetable _ _ (c.reset.ensures ∙ ap wavetable_reset_of (lent n_floats n_wholes state_of f w _ c.in-Ok.ensures)))
+    (kept_changing floats_of wholes_of f w c.in-Ok.wavetable _ _ (c.reset.ensures ∙ ap wavetable_reset_of s))
 
 pub returns-in-Err : goal.returns-in-Err
 unfolding wavetable_reset_at

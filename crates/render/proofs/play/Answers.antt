@@ -4,7 +4,7 @@ use mathlib.Core.Path.{◌≡◌, refl}
 use native.Mathlib.Omega.{arith}
 use Rattle.text.specs.Page.{with_text, page_at}
 use Rattle.render.proofs.Written.{was_read, stands_first, room_samples, samples_cut, samples_room}
-use Rattle.render.proofs.Written.{samples_told, begins, piece_written, turn_next, end_written}
+use Rattle.render.proofs.Written.{played_done, done, samples_told, begins, piece_written, turn_next, end_written}
 use Rattle.render.proofs.play.Goals as goal
 
 pub loop-first-init : goal.loop-first-init
@@ -32,15 +32,18 @@ slice_bounds-samples-end g c = room_samples c.loop-first.invariant c.loop-first-
 pub slice_bounds-play-end : goal.slice_bounds-play-end
 slice_bounds-play-end g c = samples_cut c.loop-first.invariant c.loop-first-test.true _ c.min-n.ensures
 
+pub unwrap-played-requires : goal.unwrap-played-requires
+unwrap-played-requires g c = played_done c.loop-first.invariant c.loop-first-test.true _ c.min-n.ensures _ _ _ c.play.ensures
+
 pub slice_bounds-samples-end-in-loop-first : goal.slice_bounds-samples-end-in-loop-first
 slice_bounds-samples-end-in-loop-first g c =
     samples_room c.loop-first.invariant c.loop-first-test.true _ c.min-n.ensures
-    c.play-played.ensures c.play-played.auto.samples c.play-played.auto.marks
+    (done _ _ _ _ _ _ _ c.unwrap-played.ensures c.play.ensures) c.play.auto.samples c.play.auto.marks
 
 pub slice_bounds-put_frames-end : goal.slice_bounds-put_frames-end
 slice_bounds-put_frames-end g c =
     samples_told c.loop-first.invariant c.loop-first-test.true _ c.min-n.ensures
-    c.play-played.ensures c.play-played.auto.samples c.play-played.auto.marks
+    (done _ _ _ _ _ _ _ c.unwrap-played.ensures c.play.ensures) c.play.auto.samples c.play.auto.marks
 
 pub write_piece-wrote-requires : goal.write_piece-wrote-requires
 unfolding with_text page_at
@@ -48,7 +51,7 @@ write_piece-wrote-requires g c =
     let i = c.loop-first.invariant in
     let some = c.loop-first-test.true in (
       c.requires.1,
-      piece_written i some _ c.min-n.ensures c.play-played.ensures c.play-played.auto.samples c.play-played.auto.marks
+      piece_written i some _ c.min-n.ensures (done _ _ _ _ _ _ _ c.unwrap-played.ensures c.play.ensures) c.play.auto.samples c.play.auto.marks
           (rw (c.place-to.ensures, c.put_frames.ensures, c.new-page.ensures) (refl, grind arith)),
       begins i some _ c.min-n.ensures,
       i.so_far,
@@ -59,7 +62,7 @@ unfolding with_text page_at
 loop-first-preserved g c =
     let on : c.write_piece-wrote.result ≡ true = cc in
     turn_next c.loop-first.invariant c.loop-first-test.true _ c.min-n.ensures
-    c.play-played.ensures c.play-played.auto.samples c.play-played.auto.marks
+    (done _ _ _ _ _ _ _ c.unwrap-played.ensures c.play.ensures) c.play.auto.samples c.play.auto.marks
     {to = c.place-to.result}
     (rw (c.place-to.ensures, c.put_frames.ensures, c.new-page.ensures) (refl, grind arith)) on
 

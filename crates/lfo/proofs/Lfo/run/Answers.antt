@@ -22,6 +22,7 @@ returns c = let a = c.args in
     let set = c.new.ensures in
     record {
       value = simp (c.glide.ensures.value, step, at, edge, memo) (sym (held_after _ _ _ _ _ _ _ _ w n c.requires.1));
-      samples_after = c.glide.ensures.samples_after ∙ simp (step, at, edge, memo, set.mask, set.depth, set.numbers) (sym (held_frames _ _ _ _ _ _ _ _ w n_ports n));
+      samples_after = c.glide.ensures.samples_after
+          ∙ simp (step, at, edge, memo, set.mask, set.depth, set.numbers) (sym (held_frames _ _ _ _ _ _ _ _ w n_ports n));
       marks_after = c.glide.ensures.marks_after ∙ simp (step, at, edge, memo, set.mask, set.depth, set.numbers) (sym (held_marks _ _ _ _ _ _ _ _ w n));
     }

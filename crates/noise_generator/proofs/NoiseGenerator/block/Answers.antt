@@ -5,7 +5,8 @@ use Rattle.answer.proofs.Blocks.{four_ports, joined_none, frames_more, frames_do
 use Rattle.answer.proofs.Said.{said_fits, said_refused, said_done, kept_or}
 use Rattle.answer.specs.Block.{after_ticks}
 use Rattle.noise_generator.specs.Consts.{n_ports}
-use Rattle.noise_generator.specs.NoiseGenerator.{generator, needed_of, changed_by, needed_by, correlation_of, drawing, undrawn, noise_generator_told_of, noise_generator_next_of}
+use Rattle.noise_generator.specs.NoiseGenerator.{generator, needed_of, changed_by, needed_by, correlation_of}
+use Rattle.noise_generator.specs.NoiseGenerator.{drawing, undrawn, noise_generator_told_of, noise_generator_next_of}
 use Rattle.noise_generator.specs.NoiseGenerator.{noise_generator_block_of}
 use Rattle.noise_generator.specs.Shortcuts.{pink_at, needed_at}
 use Rattle.noise_generator.proofs.CalmLaws.{ahead_taken, ahead_finite}

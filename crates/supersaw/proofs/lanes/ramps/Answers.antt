@@ -2,7 +2,7 @@ use borrow.Author.Rules.{rules}
 use Prim.Native.Nat.{ℕ}
 use lib.Ieee.{nan, binary64, sub, mul}
 use Rattle.laws.specs.Float.{zer, one, two}
-use Rattle.supersaw.proofs.Loops.{from_fn_tab}
+use Rattle.laws.proofs.Arrays.{from_fn_tab}
 use Rattle.supersaw.specs.Shortcuts.{ramps_of}
 use Rattle.supersaw.specs.Voices.{at}
 use Rattle.supersaw.proofs.lanes.ramps.Goals as goal

@@ -1,7 +1,7 @@
 use borrow.Author.Rules.{rules}
 use Prim.Native.Nat.{ℕ}
 use lib.Ieee.{nan}
-use Rattle.supersaw.proofs.Loops.{from_fn_tab}
+use Rattle.laws.proofs.Arrays.{from_fn_tab}
 use Rattle.supersaw.specs.Shortcuts.{saws_of}
 use Rattle.supersaw.specs.Voices.{at, saw_of}
 use Rattle.supersaw.proofs.lanes.saws.Goals as goal

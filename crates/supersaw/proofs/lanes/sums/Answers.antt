@@ -1,7 +1,7 @@
 use borrow.Author.Rules.{rules}
 use Prim.Native.Nat.{ℕ}
 use lib.Ieee.{nan, binary64, add}
-use Rattle.supersaw.proofs.Loops.{from_fn_tab}
+use Rattle.laws.proofs.Arrays.{from_fn_tab}
 use Rattle.supersaw.specs.Shortcuts.{sums_of}
 use Rattle.supersaw.specs.Voices.{at}
 use Rattle.supersaw.proofs.lanes.sums.Goals as goal

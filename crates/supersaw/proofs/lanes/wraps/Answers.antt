@@ -2,7 +2,7 @@ use borrow.Author.Rules.{rules}
 use Prim.Native.Nat.{ℕ}
 use lib.Ieee.{nan}
 use Rattle.common.specs.Phase.{turns, wrap_phase_of}
-use Rattle.supersaw.proofs.Loops.{from_fn_tab}
+use Rattle.laws.proofs.Arrays.{from_fn_tab}
 use Rattle.supersaw.specs.Shortcuts.{wraps_of}
 use Rattle.supersaw.specs.Voices.{at}
 use Rattle.supersaw.proofs.lanes.wraps.Goals as goal
