@@ -1,6 +1,6 @@
 use borrow.Author.Rules.{rules}
 use lib.Ieee.{nan}
-use Rattle.supersaw.proofs.Loops.{from_fn_tab}
+use Rattle.laws.proofs.Arrays.{from_fn_tab}
 use Rattle.supersaw.specs.Voices.{at}
 use Rattle.exports_supersaw.specs.State.{state_of}
 use Rattle.exports_supersaw.proofs.CellsLayout.state.Goals as goal
