@@ -7,7 +7,7 @@ use borrow.Author.Tests.{eqb-true}
 use Rattle.std.specs.Prelude.{Result, Ok, Err}
 use Rattle.laws.specs.Machine.{Settles}
 use Rattle.common.proofs.RefusalLaws.{read, read_back, reason, reason_back, refuses}
-use Rattle.common.specs.Refusal.{number_of, refused_number}
+use Rattle.common.specs.Refusal.{refused_number}
 use Rattle.common.specs.declared.Refusal.{Refusal}
 use Rattle.answer.specs.Calls.{Outcome, outcome, made_unless, making, changing}
 use Rattle.answer.specs.declared.Made.{Made}

@@ -1,12 +1,12 @@
 -- Lengths that nothing refuses, a bool that is read back from a whole number, and exported calls as their code has them.
 use mathlib.Core.Bool.{Bool, true, false, cond, true≢false, not}
-use mathlib.Core.List.{List, [], ◌∷◌}
+use mathlib.Core.List.{List}
 use mathlib.Core.Path.{◌≡◌, refl, sym, ap, ◌∙◌}
 use Prim.Native.Nat.{ℕ}
 use native.Mathlib.Omega.{arith}
 use lib.Dec.{eqb}
 use lib.Ieee.{Float}
-use lib.ListN.{length, get_or}
+use lib.ListN.{length}
 use borrow.Author.Tests.{eqb-true, eq-eqb}
 use Rattle.laws.proofs.Tests.{eqb_yes}
 use Rattle.common.proofs.RefusalLaws.{reason, reason_back, nonzero, passed, stopped}

@@ -17,8 +17,8 @@ use Rattle.answer.specs.Calls.{Outcome, changing}
 use Rattle.answer.specs.declared.Played as answers
 use Rattle.answer.specs.declared.Tally.{Tally}
 use Rattle.boundary.specs.Flat.{after_state, counts_of, fitting, sizes_of, tick_sizes_of, tally_sized, state_sized, state_heard, state_played}
-use Rattle.boundary.specs.Flat.{kept_by, kept_result, kept_sized, Kept, kept}
-use Rattle.boundary.specs.Flat.{Left, left, left_by, left_from, left_sized, Played, played, played_of, played_from, played_sized}
+use Rattle.boundary.specs.Flat.{kept_by, kept_result, kept}
+use Rattle.boundary.specs.Flat.{Left, left_by, left_from, left_sized, Played, played, played_of, played_from, played_sized}
 
 -- ---- an answer is one or the other
 ok_same : {S : Type 0} (s t : S) → ◌≡◌ {A = Result S Refusal} (Ok s) (Ok t) → s ≡ t

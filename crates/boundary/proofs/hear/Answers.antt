@@ -1,7 +1,7 @@
 use mathlib.Core.Path.{refl}
 use Rattle.common.specs.Refusal.{refused_number}
 use Rattle.boundary.proofs.Flat.{tick_sized, heard_pass, heard_stop}
-use Rattle.boundary.specs.Flat.{heard, heard_of}
+use Rattle.boundary.specs.Flat.{heard_of}
 use Rattle.boundary.proofs.hear.Goals as goal
 
 pub store-requires : goal.store-requires

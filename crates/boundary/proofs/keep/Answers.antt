@@ -1,4 +1,4 @@
-use mathlib.Core.Path.{refl, ◌∙◌}
+use mathlib.Core.Path.{refl}
 use Rattle.common.specs.Refusal.{refused_number}
 use Rattle.boundary.proofs.Flat.{sized, kept_pass, kept_stop}
 use Rattle.boundary.specs.Flat.{kept, kept_result}

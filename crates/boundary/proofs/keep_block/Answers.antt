@@ -1,4 +1,4 @@
-use mathlib.Core.Path.{refl, sym, ◌∙◌}
+use mathlib.Core.Path.{refl, sym}
 use Rattle.boundary.proofs.Flat.{block_sized, left_pass, left_stop}
 use Rattle.boundary.specs.Flat.{left, left_by}
 use Rattle.boundary.proofs.keep_block.Goals as goal

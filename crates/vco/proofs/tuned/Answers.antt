@@ -1,5 +1,5 @@
 -- the closure's answer is the frequency of its keys
-use mathlib.Core.Path.{◌≡◌, ap, ◌∙◌}
+use mathlib.Core.Path.{ap, ◌∙◌}
 use Rattle.std.proofs.Common.{rules}
 use Rattle.common.specs.Memo.{recall, same3}
 use Rattle.vco.specs.Vco.{frequency_of}
