@@ -8,7 +8,7 @@ use Rattle.answer.specs.Answer.{answer_of, volts1}
 use Rattle.answer.specs.Tally.{tally_of}
 use Rattle.answer.specs.declared.Answer.{Answer}
 use Rattle.answer.specs.declared.Tally.{Tally}
-use Rattle.std.specs.Prelude.{Result, Ok, Err}
+use Rattle.std.specs.Prelude.{Ok, Err}
 use Rattle.common.specs.Refusal.{number_of}
 use Rattle.common.specs.declared.Refusal.{Refusal}
 use Rattle.boundary.proofs.Flat.{all_counts}

@@ -1,4 +1,4 @@
-use mathlib.Core.Path.{ap, ◌∙◌}
+use mathlib.Core.Path.{◌∙◌}
 use Rattle.boundary.proofs.Flat.{heard_stop}
 use Rattle.boundary.proofs.Lent.{lent_tick, unlent_tick}
 use Rattle.exports_lfo.specs.Calls.{lfo_tick_at}
