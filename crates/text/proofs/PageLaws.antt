@@ -1,10 +1,8 @@
--- A text put on a page after another is the two put as one; and the texts of no byte and of one.
-use mathlib.Core.List.{List, [], ◌∷◌}
-use mathlib.Core.Path.{◌≡◌, refl, sym, ap}
-use Prim.Native.Nat.{ℕ, ◌+◌, ◌≤◌, ◌<◌, min}
-use native.Mathlib.Omega.{arith}
-use lib.ListN.{length, set}
-use lib.Seq.{set_out}
+-- A text put on a page after another is the two put as one.
+use mathlib.Core.List.{List}
+use mathlib.Core.Path.{◌≡◌, refl, ap}
+use Prim.Native.Nat.{ℕ}
+use lib.Seq.{sets}
 use Rattle.text.proofs.PutLaws.{after}
 use Rattle.text.specs.Page.{page_at, with_text}
 use Rattle.text.specs.Promises.{PagePut, PageThen}
@@ -28,24 +26,7 @@ pub page_put : PagePut
 unfolding with_text page_at
 page_put out at t q e = (ap (λ (p : Page). p.out.ghost_name) e, (ap (λ (p : Page). p.at) e, ap (λ (p : Page). p.out.now) e))
 
--- ---- what `nothing` and `byte` leave
-pub no_byte : (p : Page) → changed p p.out.now (min (length p.out.now) p.at) ≡ with_text p []
-unfolding with_text page_at place_of
-no_byte p = changed_by p refl (place _ _)
-  where
-    place : (n at : ℕ) → min n at ≡ min n (at + 0)
-    place n at = omega arith
-
-pub byte_within : (p : Page) (b : ℕ) → p.at < length p.out.now → changed p (set p.out.now p.at b) (p.at + 1) ≡ with_text p (b ∷ [])
-unfolding with_text page_at place_of
-byte_within p b h = changed_by p refl (place _ _ h)
-  where
-    place : (n at : ℕ) → at < n → at + 1 ≡ min n (at + 1)
-    place n at h = omega arith
-
-pub byte_past : (p : Page) (b : ℕ) → length p.out.now ≤ p.at → changed p p.out.now (length p.out.now) ≡ with_text p (b ∷ [])
-unfolding with_text page_at place_of
-byte_past p b h = changed_by p (sym (set_out p.out.now p.at b h)) (place _ _ h)
-  where
-    place : (n at : ℕ) → n ≤ at → n ≡ min n (at + 1)
-    place n at h = omega arith
+-- what is put into a page's bytes at its place is put on it
+pub put_on : (p : Page) (t l : List ℕ) (n : ℕ) → n ≡ place_of p.out.now p.at t → l ≡ sets p.out.now p.at t → changed p l n ≡ with_text p t
+unfolding with_text page_at
+put_on p t l n v a = changed_by p a v
