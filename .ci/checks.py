@@ -540,6 +540,7 @@ CHECKS = {
         {"crates/x/src/lib.rt": "pub fn f(x: [u8; 2]) -> [u8; 2] // ensures { x }\n{\n    x\n}\n"},
         {"crates/x/src/lib.rt": 'pub extern "C" fn f(x: u8) -> u8\n    ensures same { x }\n    requires small { x }\n{ x }\n'},
         {"crates/x/src/lib.rt": "pub(crate) fn f(x: u8) -> u8\n{\n    x\n}\n"},
+        {"crates/x/src/lib.rt": "mod calls;\n", "crates/x/src/calls.rt": 'pub extern "C" fn f(x: u8) -> u8\n{\n    x\n}\n'},
         {"crates/x/src/lib.rt": "pub const unsafe fn f<'a>(x: u8) -> u8\n{\n    x\n}\n"},
         {"crates/x/src/lib.rt": "pub fn f<F: FnOnce() -> u8>(g: F) -> u8\n{\n    g()\n}\n"},
         {"crates/x/src/lib.rt": "pub fn f<F: FnOnce() -> u8>(g: F, x: u8) -> u8\n    requires { F.pre x }\n    ensures { x }\n{ x }\n"},

@@ -19,8 +19,8 @@ gives it. One that its equations don't use would make the field say nothing if i
 function's inputs, or is a whole number or a type. `Settles` is that of the crate laws. What the static library hands out has the
 contracts of other crates, word for word, by a check of its own (handed).
 
-Public is what stands as `pub`, for a part of the crate too, and what a type has of a trait that isn't the crates' own. What a module that its crate keeps
-to itself says of its own types is not, while nothing public names one of these types.
+Public is what stands as `pub`, for a part of the crate too, what is handed to C, and what a type has of a trait that isn't the crates' own. What else a
+module that its crate keeps to itself says of its own types is not, while nothing public names one of these types.
 """
 import itertools
 import re
@@ -231,8 +231,9 @@ def public(files):
     traits = {name for text in sources.values() for name in re.findall(r"\btrait\s+(\w+)", text)}
     for path, text in sources.items():
         inside = kept_inside(path, sources)
+        handed_out = set(re.findall(r"extern\s+\S+\s+fn\s+(\w+)", text))  # to C, whatever its module
         for function in functions(text, traits):
-            if inside is None or function.own and bare(function.own) not in inside:
+            if inside is None or function.name in handed_out or function.own and bare(function.own) not in inside:
                 yield path, path.split("/")[1], function
 
 
