@@ -95,6 +95,8 @@ pub fn ports_of(osc: Osc) -> usize
 }
 
 // Output j of frame i; 0.0 where there is no such output.
+// Kept: `i` counts the frames here and in `volts_at` and `put_frames`, and no chunks of the samples do: the number `first + i` of each frame needs it in any
+// case, and `frame.get(j)` with its default would be no shorter than the test below.
 #[tactic(auto, unfolding(crate::specs::Frames::output_at))]
 fn output_at(ports: usize, samples: &[f64], i: usize, j: usize) -> f64
     requires { ports * (i + 1) ≤ length samples.now }
@@ -123,6 +125,7 @@ fn volts_at(ports: usize, samples: &[f64], i: usize) -> Volts
 }
 
 // Whether so many samples are those of n frames, and a u32 can number these from `first` on.
+// Kept: `fits` of crates/answer, which asks the same of samples, is private there, and asks of no outputs besides; here it is half a line.
 fn are_frames(osc: Osc, first: u32, samples: usize, n: usize) -> bool
     ensures { result ≡ are_frames osc first samples n }
 {

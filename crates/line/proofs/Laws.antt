@@ -7,10 +7,10 @@ use Prim.Native.Nat.{ℕ, ◌+◌, ◌≤◌, ◌-◌, suc, ◌<◌, ◌^◌, �
 use native.Mathlib.Nat.{pow-succ', pow-le-pow_right}
 use native.Mathlib.Numerals.{add-one}
 use native.Mathlib.Omega.{arith}
-use lib.Dec.{leb, leb-suc-suc, ltb, eqb}
+use lib.Dec.{leb, ltb, eqb}
 use lib.ListN.{length, get_or, take, drop, length-drop, length-take, drop_of_length-le}
-use Rattle.std.specs.Prelude.{Some, None, Option, unwrap_or, option_and_then, ◌&&◌, ◌⊎◌}
-use Rattle.std.specs.List.{position_from}
+use Rattle.std.specs.Prelude.{Some, None, Option, unwrap_or, option_and_then, ◌&&◌, ◌||◌, ◌⊎◌}
+use Rattle.std.specs.List.{position_from, list_any}
 use Rattle.std.specs.Cmp.Lexicographic.{pointwise}
 use lib.Seq.{drop-cons, drop-drop}
 use borrow.Author.Tests.{lt-ltb, le-ltb, leb-true, leb-false, eqb-true, ne_eqb, eq-eqb}
@@ -170,11 +170,6 @@ module _ (x b : ℕ) (bs : List ℕ) where
   drop_step true h = refl
   drop_step false h = h
 
-  has_step : (e : Bool) → has_of x bs ≡ ltb (length (until_of x bs)) (length bs)
-      → cond e true (has_of x bs) ≡ ltb (length (cond e [] (b ∷ until_of x bs))) (length (b ∷ bs))
-  has_step true h = sym (lt-ltb 0 (suc (length bs)) (omega arith))
-  has_step false h = h ∙ sym (leb-suc-suc (suc (length (until_of x bs))) (length bs))
-
 pub until_take : (x : ℕ) (t : List ℕ) → take (length (until_of x t)) t ≡ until_of x t
 unfolding until_of
 until_take x [] = refl
@@ -198,10 +193,15 @@ until_short x t = omega (arith, ap length (until_take x t), length-take (length 
 pub past_short : (x : ℕ) (t : List ℕ) → length (past_of x t) ≤ length t
 past_short x t = omega (arith, ap length (past_drop x t), length-drop (suc (length (until_of x t))) t)
 
-pub has_until : (x : ℕ) (t : List ℕ) → has_of x t ≡ ltb (length (until_of x t)) (length t)
-unfolding has_of until_of
-has_until x [] = refl
-has_until x (b ∷ bs) = has_step x b bs (eqb b x) (has_until x bs)
+-- the library's test of each byte asks whether the byte stands there
+pub has_any : (x : ℕ) (t : List ℕ) → list_any (λ b. eqb b x) t ≡ has_of x t
+unfolding has_of
+has_any x [] = refl
+has_any x (b ∷ bs) = step (eqb b x) (has_any x bs)
+  where
+    step : (e : Bool) → list_any (λ b. eqb b x) bs ≡ has_of x bs → (e || list_any (λ b. eqb b x) bs) ≡ cond e true (has_of x bs)
+    step true h = refl
+    step false h = h
 
 -- the text after a line is the text from the next place on
 next_rest : (s : List ℕ) (at : ℕ) → drop (next_of s at) s ≡ after_line (drop at s)

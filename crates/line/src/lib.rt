@@ -36,7 +36,7 @@ fn count_until(t: &[u8], byte: u8) -> usize
 fn has(t: &[u8], byte: u8) -> bool
     ensures { result ≡ has_of byte t.now }
 {
-    count_until(t, byte) < t.len()
+    t.contains(&byte)
 }
 
 fn until(t: &[u8], byte: u8) -> &[u8]
@@ -52,7 +52,8 @@ fn past(t: &[u8], byte: u8) -> &[u8]
     from(t, count_until(t, byte) + 1)
 }
 
-// Kept: what the lines and the numbers are defined by is same_of, and this says so to callers of the library's ==.
+// Kept: a public function, of which Settled.same speaks; what the lines and the numbers are defined by is same_of, and this says so to callers of the
+// library's ==.
 pub fn same(a: &[u8], b: &[u8]) -> bool
     ensures { result ≡ same_of a.now b.now }
 {

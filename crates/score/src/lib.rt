@@ -156,6 +156,7 @@ pub fn volts(c: Control) -> f64
 }
 
 // The number that an input's line holds: a sign and a size, or nan.
+// Kept: a public function, of which Settled.number_in speaks, so no `From` stands in its place.
 pub fn number_in(c: Control) -> Number
     ensures { result ≡ number_in c }
 {
@@ -169,7 +170,8 @@ pub fn number_in(c: Control) -> Number
 }
 
 // The oscillator whose inputs they are.
-// Kept: four kinds, all known here, so a match and no `dyn`; `take_inputs` too.
+// Kept: four kinds, all known here, so a match and no `dyn`; `take_inputs` too. And it is a public function, of which Settled.owner_of speaks, so no `From`
+// stands in its place.
 pub fn owner_of(inputs: Inputs) -> Osc
     ensures { result ≡ owner_of inputs }
 {
@@ -223,6 +225,7 @@ pub fn within(n: Number, range: Range) -> Result<u32, Refusal>
 // An input is at most 10 V, above 0 or below.
 const MICROVOLTS_MOST: u64 = 10000000;
 
+// Kept: a public function, of which Settled.control_of speaks, so no `TryFrom` stands in its place.
 #[tactic(auto, unfolding(crate::specs::Lines::control_of))]
 pub fn control_of(n: Number) -> Result<Control, Refusal>
     ensures { result ≡ control_of n }
@@ -292,6 +295,8 @@ fn take_control(lines: &mut Reader, key: &[u8]) -> Result<Control, Refusal>
     control_of(numbered(value)?)
 }
 
+// Kept: in `take_vco`, `take_lfo`, `take_supersaw` and `take_formant` the keys alone differ, but a list of the controls that one function took would have to be
+// taken apart again, field by field.
 fn take_vco(lines: &mut Reader) -> Result<Inputs, Refusal>
     ensures { Takes (inputs O.Vco) lines.old result lines.new }
 {

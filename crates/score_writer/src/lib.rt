@@ -143,8 +143,8 @@ fn put_head(page: &mut Page, head: Head)
 
 // ---- the inputs, in the Rust's port order and names
 
-// Kept: `put_vco`, `put_lfo`, `put_supersaw` and `put_formant` differ in their keys alone, which stand here in any case: one function over a list of pairs
-// holds the same lines and a loop.
+// Kept: `put_vco`, `put_lfo`, `put_supersaw` and `put_formant` differ in their keys alone, but one function over a list is no plainer: each line
+// `put_control(page, key, field)` would be a pair `(key, field)` of the list, and a loop over it would come to them, with its invariant.
 
 #[tactic(auto, using(text::proofs::PageLaws::page_then, crate::proofs::Ended::ended))]
 fn put_vco(page: &mut Page, i: VcoInputs)
@@ -223,6 +223,7 @@ pub fn write(score: Score, out: &mut [u8]) -> Result<usize, Refusal>
     ensures out_after { out.new ≡ written_of score out.old }
 {
     check(score)?;
+    // Kept: an array and how many of its bytes are the text's, for there is no heap.
     let mut bytes = [0u8; LONGEST];
     let n = put_score(&mut bytes, score);
     if out.len() < n {

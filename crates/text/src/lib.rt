@@ -52,6 +52,8 @@ fn put_byte(out: &mut [u8], at: usize, b: u8) -> usize
     }
 }
 
+// Kept: byte by byte. `copy_from_slice` was tried, and proved: a render of 20,000 frames then took 31.4 million instructions instead of 30.3, for the texts are
+// short.
 fn put_text(out: &mut [u8], at: usize, t: &[u8]) -> usize
     ensures value { result ≡ place_of out.old at t.now }
     ensures out_after { out.new ≡ sets out.old at t.now }
@@ -75,6 +77,7 @@ fn put_hex(out: &mut [u8], at: usize, x: u64) -> usize
     to
 }
 
+// Kept: lent bytes with a place beside them, and no Vec or String, for there is no heap.
 #[derive(Drop)]
 pub struct Page<'a> {
     out: &'a mut [u8],
@@ -93,7 +96,7 @@ impl<'a> Page<'a> {
     pub fn place(&self) -> usize
         ensures { result ≡ place_on self.now }
     {
-        self.at
+        self.at // where the next text goes
     }
 
     pub fn byte(&mut self, b: u8)
@@ -109,6 +112,8 @@ impl<'a> Page<'a> {
     }
 
     // 16 digits, in capitals.
+    // Kept: digit by digit, and no Display, here and in `decimal`: the texts are the theorems', hex_text of HexRead and decimal_text of DecimalRead,
+    // DecimalDigits, DecimalFirst and DecimalShort.
     pub fn hex(&mut self, x: u64)
         ensures { self.new ≡ with_text self.old (hex_text x) }
     {

@@ -8,6 +8,7 @@ ghost use Rattle.values.specs.Line.{line_of};
 use std::io;
 use text::Page;
 
+// Kept: by hand, and no Display: its text is line_of, whose digits are hex_text, of which the theorem HexRead of crates/text speaks.
 #[tactic(auto, using(text::proofs::PageLaws::page_then), unfolding(crate::specs::Line::line_of))]
 fn put_line(page: &mut Page, call: &[u8], x: f64)
     ensures { page.new ≡ with_text page.old (line_of call.now x) }

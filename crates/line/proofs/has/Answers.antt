@@ -1,6 +1,7 @@
 -- `line::has` meets its contract. Assumes nothing.
-use Rattle.line.proofs.Laws.{has_until}
+use mathlib.Core.Path.{◌∙◌}
+use Rattle.line.proofs.Laws.{has_any}
 use Rattle.line.proofs.has.Goals as goal
 
 pub returns : goal.returns
-returns c = simp (c.count_until.ensures, has_until)
+returns c = c.contains.ensures.value ∙ has_any _ _
