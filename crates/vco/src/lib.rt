@@ -14,7 +14,7 @@ ghost use Rattle.answer.specs.Block.{after_ticks, joined, block_said, mark_at, f
 ghost use Rattle.answer.specs.Calls.{making, changing};
 ghost use Rattle.vco.specs.Consts.{n_ports, pw_low, pw_high};
 ghost use Rattle.vco.specs.Waves.{sine_of, saw_of, level_of, sqr_of, corner_half_of, tri_of, stepped_of};
-ghost use Rattle.vco.specs.Vco.{vco_refusal_of, vco_rate_refusal_of, vco_new_of, frequency_of, crosses_of, controls_of, vco_sound_of};
+ghost use Rattle.vco.specs.Vco.{vco_refusal_of, vco_rate_refusal_of, vco_new_of, frequency_of, controls_of, vco_sound_of};
 ghost use Rattle.vco.specs.Vco.{vco_tick_of, vco_told_of, vco_next_of, vco_block_of, vco_reset_of, vco_set_sample_rate_of};
 
 mod moment;
@@ -73,14 +73,6 @@ fn width(pw: f64) -> f64
     ensures { result ≡ clamp_of pw pw_low pw_high }
 {
     numeric::clamp(pw, 0.05, 0.95)
-}
-
-// Whether a sync edge is taken: the phase that the waveforms see starts again there.
-#[tactic(auto, unfolding(crate::specs::Vco::crosses_of))]
-fn crosses(at: Option<f64>) -> bool
-    ensures { result ≡ crosses_of at }
-{
-    at.is_some()
 }
 
 #[tactic(auto, unfolding(crate::specs::Waves::sine_of))]
