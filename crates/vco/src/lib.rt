@@ -19,7 +19,7 @@ ghost use Rattle.vco.specs.Vco.{vco_tick_of, vco_told_of, vco_next_of, vco_block
 
 mod moment;
 
-use answer::{Answer, Made, Played, Tally, Ticked};
+use answer::{Made, Played, Tally, Ticked};
 use common::{EdgeDetector, Hertz, Memo, Refusal, Turns, VoltsPerOctave};
 use moment::{Moment, Setting};
 
@@ -149,8 +149,8 @@ impl VcoControls {
     }
 }
 
-// Kept: `sound`, `tick`, `run` and `block` take controls and mask apart, as the Rust's tick_wanted does, and `run` and `block` samples and marks as the two
-// slices that a host lends (the C interface).
+// Kept: `sound`, `tick`, `run` and `block` take controls and mask apart, and `run` and `block` samples and marks: the public `tick` and `block` may not change,
+// whose clauses, and `tick` and `block` of Settled, speak of each by itself.
 impl Vco {
     // The bits of `wanted`, in port order.
     const WANT_SIN: u32 = 1 << 0;
@@ -210,10 +210,7 @@ impl Vco {
     {
         match self.refusal() {
             Ok(()) => self.sound(c, wanted),
-            Err(refused) => Ticked {
-                answer: Answer::Refused(refused.number()),
-                state: self,
-            },
+            Err(refused) => Ticked::refused(self, refused),
         }
     }
 
@@ -274,6 +271,7 @@ impl Vco {
     }
 
     // What refuses a rate change: the new rate or the old, then the rest of the state.
+    // Kept: equal to that of other oscillators but for the state, whose own `refusal` each asks; a common one would take it as an argument and be no shorter.
     fn rate_refusal(self, sample_rate: Hertz) -> Result<(), Refusal>
         ensures { refused_number result ≡ vco_rate_refusal_of self sample_rate }
     {
