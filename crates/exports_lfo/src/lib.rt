@@ -20,7 +20,9 @@ const EDGE: usize = 2;
 
 const VAL: usize = EDGE + boundary::EDGE_FLOATS;
 
-// Kept, below: floats, wholes, counts, samples and marks stand beside one another, as the C interface lends them.
+// Kept, below: controls, floats, wholes, counts, samples and marks stand beside one another, as the C interface lends them; each call stands under its C name
+// with its own contract, so that the bodies of reset, set_sample_rate, tick and block are alike in seven crates; and `put` writes the samples that `samples_of`
+// names, one by one.
 
 // How an Lfo lies in the slices.
 struct Cells;

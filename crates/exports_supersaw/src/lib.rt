@@ -15,7 +15,9 @@ use boundary::Layout;
 use common::{Hertz, Memo, Turns, VoltsPerOctave};
 use supersaw::{Supersaw, SupersawControls};
 
-// Kept, below: floats, wholes, counts, samples and marks stand beside one another, as the C interface lends them.
+// Kept, below: controls, floats, wholes, counts, samples and marks stand beside one another, as the C interface lends them; each call stands under its C name
+// with its own contract, so that the bodies of reset, set_sample_rate, tick and block are alike in seven crates; and `put` writes the samples that `samples_of`
+// names, one by one.
 
 // How a Supersaw lies in the slices.
 struct Cells;
@@ -45,7 +47,7 @@ impl Layout for Cells {
 
     fn state(floats: &[f64], wholes: &[u64]) -> Supersaw {
         Supersaw {
-            phases: std::array::from_fn(|i| floats[i]),
+            phases: *floats.first_chunk().unwrap(),
             sub_phase: Turns(floats[7]),
             sample_rate: Hertz(floats[8]),
             freq_memo: Memo {

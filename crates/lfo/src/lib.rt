@@ -74,6 +74,7 @@ fn sin(want: bool, sine: f64, scale: f64) -> f64
     if want { sine * scale } else { 0.0 }
 }
 
+#[tactic(auto, unfolding(crate::specs::Waves::tri_wave))]
 fn tri(want: bool, phase: Turns, scale: f64) -> f64
     ensures { result ≡ tri_wave want phase.0 scale }
 {
@@ -84,6 +85,7 @@ fn tri(want: bool, phase: Turns, scale: f64) -> f64
     }
 }
 
+#[tactic(auto, unfolding(crate::specs::Waves::saw_wave))]
 fn saw(want: bool, phase: Turns, scale: f64) -> f64
     ensures { result ≡ saw_wave want phase.0 scale }
 {
@@ -94,6 +96,7 @@ fn saw(want: bool, phase: Turns, scale: f64) -> f64
     }
 }
 
+#[tactic(auto, unfolding(crate::specs::Waves::sqr_wave))]
 fn sqr(want: bool, phase: Turns, scale: f64) -> f64
     ensures { result ≡ sqr_wave want phase.0 scale }
 {
@@ -104,6 +107,7 @@ fn sqr(want: bool, phase: Turns, scale: f64) -> f64
     }
 }
 
+#[tactic(auto, unfolding(crate::specs::Waves::sin_uni_wave))]
 fn sin_uni(want: bool, sine: f64, depth: f64) -> f64
     ensures { result ≡ sin_uni_wave want sine depth }
 {
@@ -115,14 +119,11 @@ fn sin_uni(want: bool, sine: f64, depth: f64) -> f64
 }
 
 // 5 V in the tick at whose end a whole turn is passed, whatever the depth.
+#[tactic(auto, unfolding(crate::specs::Waves::eoc_wave))]
 fn eoc(want: bool, turned: bool) -> f64
     ensures { result ≡ eoc_wave want turned }
 {
-    if want {
-        if turned { 5.0 } else { 0.0 }
-    } else {
-        0.0
-    }
+    if want && turned { 5.0 } else { 0.0 }
 }
 
 // At this depth no output can overflow.
@@ -142,7 +143,7 @@ impl LfoControls {
 }
 
 impl Setting {
-    // Kept: controls and mask apart, as a tick takes them.
+    // Kept: controls and mask apart, as the public `tick` and `block` take them, which may not change, nor Settled.tick.
     fn new(c: LfoControls, wanted: u32) -> Self
         ensures mask { result.wanted ≡ wanted }
         ensures depth { result.depth ≡ div binary64 c.depth ten }
@@ -200,7 +201,7 @@ impl Setting {
     }
 
     // Ticks in which no edge is taken and the memo holds: only the phase moves.
-    // Kept: samples and marks are the two slices that a host lends (the C interface).
+    // Kept: samples and marks apart, as in `block`, whose clause speaks of each and may not change.
     fn glide(self, start: Turns, step: Turns, samples: &mut [f64], marks: &mut [u32]) -> Turns
         requires { (phase_ok start ≡ true) × (length samples.old ≡ n_ports * length marks.old) }
         ensures value { result ≡ after_ticks (held_next step) (length marks.old) start }
@@ -210,6 +211,7 @@ impl Setting {
             ≡ tab (mark_at (held_told self.wanted self.depth self.numbers step) (held_next step) start) (length marks.old) }
     {
         let mut phase = start;
+        // Kept: `put` is told the tick by its index, for nothing is said of what the samples end as after chunks_exact_mut or as_chunks_mut.
         for i in 0..marks.len() {
             let next = Turns(phase.0 + step.0);
             let wrapped = common::wrap_phase(next);
@@ -221,8 +223,8 @@ impl Setting {
     }
 }
 
-// Kept: `sound`, `tick`, `run` and `block` take controls and mask apart, as the Rust's tick_wanted does, and `run` and `block` samples and marks as the two
-// slices that a host lends (the C interface).
+// Kept: `sound`, `tick`, `run` and `block` take controls and mask apart, and `run` and `block` samples and marks: the public `tick` and `block` may not change,
+// whose clauses, and `tick` and `block` of Settled, speak of each by itself.
 impl Lfo {
     // Of a rate and of the threshold that its gate goes by.
     pub fn new(sample_rate: Hertz, threshold: f64) -> Made<Lfo>
@@ -349,6 +351,7 @@ impl Lfo {
     }
 
     // What refuses a rate change: the new rate or the old, then the rest of the state.
+    // Kept: equal to that of other oscillators but for the state, whose own `refusal` each asks; a common one would take it as an argument and be no shorter.
     fn rate_refusal(self, sample_rate: Hertz) -> Result<(), Refusal>
         ensures { refused_number result ≡ lfo_rate_refusal_of self sample_rate }
     {

@@ -44,7 +44,8 @@ pub fn lanes(phases: [f64; 7], sub_phase: Turns) -> [f64; 8]
 pub fn voices(t: [f64; 8]) -> [f64; 7]
     ensures { result ≡ tab (at t) 7 }
 {
-    std::array::from_fn(|i| t[i])
+    let [a, b, c, d, e, f, g, _] = t;
+    [a, b, c, d, e, f, g]
 }
 
 // Kept: `saws`, `sums` and `all_steady` take the phases, which move, beside the increments, which stand still in a Setting.
@@ -210,7 +211,7 @@ impl Setting {
     }
 
     // Ticks in which the memo holds: only the phases move.
-    // Kept: samples and marks are the two slices that a host lends (the C interface).
+    // Kept: samples and marks apart, as in `block`, whose clause speaks of each and may not change.
     pub fn glide(&self, first: [f64; 8], samples: &mut [f64], marks: &mut [u32]) -> [f64; 8]
         requires { length samples.old ≡ n_ports * length marks.old }
         ensures value { result ≡ after_ticks (held_next self.now.dt self.now.mix self.now.numbers) (length marks.old) first }
@@ -222,6 +223,7 @@ impl Setting {
             (length marks.old) }
     {
         let mut t = first;
+        // Kept: `put` is told the tick by its index, for nothing is said of what the samples end as after chunks_exact_mut or as_chunks_mut.
         for i in 0..marks.len() {
             let moved = self.turn(t);
             answer::put(moved.answer, PORTS, i, &mut *samples, &mut *marks);

@@ -17,7 +17,7 @@ ghost use Rattle.supersaw.specs.Supersaw.{supersaw_set_sample_rate_of};
 
 mod lanes;
 
-use answer::{Answer, Made, Played, Tally, Ticked, Volts};
+use answer::{Made, Played, Tally, Ticked, Volts};
 use common::{Hertz, Memo, Refusal, Turns, VoltsPerOctave};
 use lanes::{Setting, lanes, voices};
 
@@ -65,6 +65,8 @@ impl SupersawControls {
 }
 
 impl Supersaw {
+    // Kept: two constant arrays of the type, as the Rust has them; the scope names this form.
+
     // Detune amounts of the seven voices: the center and three pairs.
     const DETUNE_RATIOS: [f64; 7] = [
         -0.11002313,
@@ -197,14 +199,11 @@ impl Supersaw {
     {
         match self.refusal() {
             Ok(()) => self.sound(c),
-            Err(refused) => Ticked {
-                answer: Answer::Refused(refused.number()),
-                state: self,
-            },
+            Err(refused) => Ticked::refused(self, refused),
         }
     }
 
-    // Kept: `run` and `block` take samples and marks as the two slices that a host lends (the C interface).
+    // Kept: `run` and `block` take samples and marks apart: the public `block` may not change, whose clause, and Settled.block, speak of each by itself.
 
     // The ticks of a block: the memo holds from the first on. The controls are asked once.
     fn run(self, c: SupersawControls, samples: &mut [f64], marks: &mut [u32]) -> Self
@@ -261,6 +260,7 @@ impl Supersaw {
     }
 
     // What refuses a rate change: the new rate or the old, then the rest of the state.
+    // Kept: equal to that of other oscillators but for the state, whose own `refusal` each asks; a common one would take it as an argument and be no shorter.
     fn rate_refusal(self, sample_rate: Hertz) -> Result<(), Refusal>
         ensures { refused_number result ≡ supersaw_rate_refusal_of self sample_rate }
     {

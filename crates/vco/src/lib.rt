@@ -14,12 +14,12 @@ ghost use Rattle.answer.specs.Block.{after_ticks, joined, block_said, mark_at, f
 ghost use Rattle.answer.specs.Calls.{making, changing};
 ghost use Rattle.vco.specs.Consts.{n_ports, pw_low, pw_high};
 ghost use Rattle.vco.specs.Waves.{sine_of, saw_of, level_of, sqr_of, corner_half_of, tri_of, stepped_of};
-ghost use Rattle.vco.specs.Vco.{vco_refusal_of, vco_rate_refusal_of, vco_new_of, frequency_of, crosses_of, controls_of, vco_sound_of};
+ghost use Rattle.vco.specs.Vco.{vco_refusal_of, vco_rate_refusal_of, vco_new_of, frequency_of, controls_of, vco_sound_of};
 ghost use Rattle.vco.specs.Vco.{vco_tick_of, vco_told_of, vco_next_of, vco_block_of, vco_reset_of, vco_set_sample_rate_of};
 
 mod moment;
 
-use answer::{Answer, Made, Played, Tally, Ticked};
+use answer::{Made, Played, Tally, Ticked};
 use common::{EdgeDetector, Hertz, Memo, Refusal, Turns, VoltsPerOctave};
 use moment::{Moment, Setting};
 
@@ -73,14 +73,6 @@ fn width(pw: f64) -> f64
     ensures { result ≡ clamp_of pw pw_low pw_high }
 {
     numeric::clamp(pw, 0.05, 0.95)
-}
-
-// Whether a sync edge is taken: the phase that the waveforms see starts again there.
-#[tactic(auto, unfolding(crate::specs::Vco::crosses_of))]
-fn crosses(at: Option<f64>) -> bool
-    ensures { result ≡ crosses_of at }
-{
-    at.is_some()
 }
 
 #[tactic(auto, unfolding(crate::specs::Waves::sine_of))]
@@ -157,8 +149,8 @@ impl VcoControls {
     }
 }
 
-// Kept: `sound`, `tick`, `run` and `block` take controls and mask apart, as the Rust's tick_wanted does, and `run` and `block` samples and marks as the two
-// slices that a host lends (the C interface).
+// Kept: `sound`, `tick`, `run` and `block` take controls and mask apart, and `run` and `block` samples and marks: the public `tick` and `block` may not change,
+// whose clauses, and `tick` and `block` of Settled, speak of each by itself.
 impl Vco {
     // The bits of `wanted`, in port order.
     const WANT_SIN: u32 = 1 << 0;
@@ -218,10 +210,7 @@ impl Vco {
     {
         match self.refusal() {
             Ok(()) => self.sound(c, wanted),
-            Err(refused) => Ticked {
-                answer: Answer::Refused(refused.number()),
-                state: self,
-            },
+            Err(refused) => Ticked::refused(self, refused),
         }
     }
 
@@ -282,6 +271,7 @@ impl Vco {
     }
 
     // What refuses a rate change: the new rate or the old, then the rest of the state.
+    // Kept: equal to that of other oscillators but for the state, whose own `refusal` each asks; a common one would take it as an argument and be no shorter.
     fn rate_refusal(self, sample_rate: Hertz) -> Result<(), Refusal>
         ensures { refused_number result ≡ vco_rate_refusal_of self sample_rate }
     {

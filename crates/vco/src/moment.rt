@@ -178,7 +178,7 @@ impl Setting {
     }
 
     // Ticks whose memo holds. Only the first may take the edge: after it the sync stands still.
-    // Kept: samples and marks are the two slices that a host lends (the C interface).
+    // Kept: samples and marks apart, as in `block`, whose clause speaks of each and may not change.
     pub fn glide(self, first: Moment, samples: &mut [f64], marks: &mut [u32]) -> Turns
         requires { length samples.old ≡ n_ports * length marks.old }
         ensures value { result ≡ (after_ticks (held_next self.dt) (length marks.old) (held first.p_old first.at)).phase }
@@ -189,6 +189,7 @@ impl Setting {
             ≡ tab (mark_at (held_told self.wanted self.pw self.numbers self.dt) (held_next self.dt) (held first.p_old first.at)) (length marks.old) }
     {
         let mut now = first;
+        // Kept: `put` is told the tick by its index, for nothing is said of what the samples end as after chunks_exact_mut or as_chunks_mut.
         for i in 0..marks.len() {
             answer::put(self.heard(now), PORTS, i, &mut *samples, &mut *marks);
             now = now.next(self.dt);

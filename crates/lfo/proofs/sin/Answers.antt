@@ -1,3 +1,4 @@
+-- Kept: by these the edit one_sample is refused at an equation; without them where a search ends.
 use Rattle.lfo.specs.Waves.{sin_wave}
 use Rattle.lfo.proofs.sin.Goals as goal
 
