@@ -22,15 +22,6 @@ pub spot_few : (a : Spot) (v : Float) → a ≡ spot_of v → a.index ≤ 3
 unfolding spot_of
 spot_few a v e = let q = ap (λ (x : Spot). x.index) e in omega arith
 
--- ---- the formants
-abbrev pub no_formants : List Float
-no_formants = zer ∷ zer ∷ zer ∷ zer ∷ zer ∷ []
-
-pub five_formants : (vowel shift by : Float) (at : Spot) (i : ℕ) (m : List Float) → at ≡ spot_of vowel → by ≡ exp2_of (div binary64 shift five) → i ≡ 5
-    → m ≡ over (λ k. formant_of at k by) i no_formants → m ≡ get_formants vowel shift
-unfolding get_formants over tab
-five_formants vowel shift by at i m ea eb ei em = em ∙ (λ j. over (λ k. formant_of (ea j) k (eb j)) (ei j) no_formants)
-
 -- ---- the rows of coefficients
 abbrev pub no_rows : List Float
 no_rows = zer ∷ zer ∷ zer ∷ zer ∷ zer ∷ zer ∷ zer ∷ zer ∷ zer ∷ zer ∷ zer ∷ zer ∷ zer ∷ zer ∷ zer ∷ []
