@@ -8,6 +8,7 @@ pub settled : Settled
 settled =
     record {
       volts_of = λ ports. laws.settled _;
+      ticked_refused = λ s why. laws.settled _;
       made_accepted = λ m. changing_settled m.state _;
       mark_number = λ a. laws.settled _;
       is_accepted = λ a. laws.settled _;

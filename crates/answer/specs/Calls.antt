@@ -1,8 +1,14 @@
--- A call without samples: what it says of itself, and the state that it leaves. One text for every oscillator.
+-- A refused tick; and a call without samples: what it says of itself, and the state that it leaves. One text for every oscillator.
 use Rattle.std.specs.Prelude.{cond, ℕ, eqb, Result, Ok, Err}
 use Rattle.common.specs.Refusal.{number_of, refused_number}
 use Rattle.common.specs.declared.Refusal.{Refusal}
+use Rattle.answer.specs.declared.Answer.TheVariants as answer
 use Rattle.answer.specs.declared.Made.{Made}
+use Rattle.answer.specs.declared.Ticked.{Ticked}
+
+-- a tick that something refuses: its number, and the state that it was given
+abbrev pub refused_tick : {S : Type 0} → S → Refusal → Ticked S
+refused_tick s why = record { answer = answer.Refused (number_of why); state = s }
 
 -- 0 or what refused it, and the state after it
 pub record Outcome (S : Type 0) : Type 0 where

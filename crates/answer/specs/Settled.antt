@@ -8,14 +8,16 @@ use Rattle.answer.specs.Answer as answers
 use Rattle.answer.specs.Block.{room_for, marks_taken, framed, block_refusal_of}
 use Rattle.answer.specs.Mark.{all_numbers, marked_of, mark_of}
 use Rattle.answer.specs.Tally.{new_tally, tally_of}
-use Rattle.answer.specs.Calls.{making, changing}
+use Rattle.answer.specs.Calls.{refused_tick, making, changing}
 use Rattle.answer.specs.declared.Made.{Made}
+use Rattle.answer.specs.declared.Ticked.{Ticked}
 use Rattle.answer.specs.declared.Volts.{Volts}
 use Rattle.answer.specs.declared.Answer.{Answer}
 use Rattle.answer.specs.declared.Tally.{Tally}
 
 pub record Settled : Type 1 where
   pub volts_of : (ports : List Float) → Settles (λ (r : Volts). r ≡ volts_from ports)
+  pub ticked_refused : {S : Type 0} (s : S) (why : Refusal) → Settles (λ (r : Ticked S). r ≡ refused_tick s why)
   pub made_accepted : {S : Type 0} (m : Made S) → Settles (λ (r : Result S Refusal). changing m.state r ≡ making m)
   pub mark_number : (a : Answer) → Settles (λ (r : ℕ). r ≡ mark_number a)
   pub is_accepted : (a : Answer) → Settles (λ (r : Bool). r ≡ accepted a)

@@ -6,7 +6,7 @@ ghost use Rattle.std.proofs.lemmas.List.Edits.{sets};
 ghost use Rattle.laws.specs.Float.{zer};
 ghost use Rattle.common.specs.Refusal.{refused_number};
 ghost use Rattle.answer.specs.Answer.{volts_from, mark_number, host_number, volts_of, accepted, answer_of};
-ghost use Rattle.answer.specs.Calls.{making, changing};
+ghost use Rattle.answer.specs.Calls.{refused_tick, making, changing};
 ghost use Rattle.answer.specs.Mark.{all_finite, all_numbers, marked_of, mark_of};
 ghost use Rattle.answer.specs.Tally.{new_tally, sum_of, adds_up, one_if, counted, tally_of};
 ghost use Rattle.answer.specs.Block.{many_to, cells_of, room_for, grown_by, marks_taken, ports_of, framed, block_refusal_of};
@@ -90,6 +90,18 @@ pub enum Answer {
 pub struct Ticked<S> {
     pub answer: Answer,
     pub state: S,
+}
+
+impl<S: Copy> Ticked<S> {
+    // A refused one leaves the state that it was given.
+    pub fn refused(state: S, why: Refusal) -> Self
+        ensures { result ≡ refused_tick state why }
+    {
+        Ticked {
+            answer: Answer::Refused(why.number()),
+            state,
+        }
+    }
 }
 
 // What making an oscillator leaves. A refused one leaves a state too: every call refuses it, as making it was refused.

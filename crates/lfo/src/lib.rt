@@ -288,10 +288,7 @@ impl Lfo {
     {
         match self.refusal() {
             Ok(()) => self.sound(c, wanted),
-            Err(refused) => Ticked {
-                answer: Answer::Refused(refused.number()),
-                state: self,
-            },
+            Err(refused) => Ticked::refused(self, refused),
         }
     }
 
