@@ -348,6 +348,7 @@ fn pulse(start: Turns, samples: &mut [f64], marks: &mut [u32]) -> Turns
     ensures marks_after { marks.new ≡ tab (phase_flag_at samples.old start) (length marks.old) }
 {
     let mut phase = start;
+    // Kept: a tick by its index: a proof knows no number of samples or marks after a zip of their iter_mut.
     for i in 0..marks.len() {
         let next = Turns(phase.0 + kept_turns(samples, i).0);
         samples[i] = glottal_pulse(phase);
@@ -395,7 +396,7 @@ fn voice(
         ≡ tab (λ i. host_number (voiced_at numbers c start samples.old marks.old i)) (length marks.old) }
 {
     let mut cells = start;
-    // Kept: a tick by its index, since answer::put is told it so.
+    // Kept: a tick by its index: answer::put is told it so, since a proof knows no number of samples or marks after a zip of their iter_mut.
     for i in 0..marks.len() {
         let rung = ring(c, cells, samples[i]);
         let heard = voiced(rung.sum, is_flagged(marks[i]), numbers);
@@ -533,10 +534,7 @@ impl FormantOsc {
     {
         match self.refusal() {
             Ok(()) => self.sound(c),
-            Err(refused) => Ticked {
-                answer: Answer::Refused(refused.number()),
-                state: self,
-            },
+            Err(refused) => Ticked::refused(self, refused),
         }
     }
 

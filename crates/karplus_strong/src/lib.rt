@@ -514,10 +514,7 @@ impl KarplusStrong {
     {
         match self.sound(c, draws, line) {
             Ok(ticked) => ticked,
-            Err(refused) => Ticked {
-                answer: Answer::Refused(refused.number()),
-                state: self,
-            },
+            Err(refused) => Ticked::refused(self, refused),
         }
     }
 

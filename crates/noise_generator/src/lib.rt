@@ -406,10 +406,7 @@ impl NoiseGenerator {
                 };
                 self.sound(asked, draws)
             }
-            Err(refused) => Ticked {
-                answer: Answer::Refused(refused.number()),
-                state: self,
-            },
+            Err(refused) => Ticked::refused(self, refused),
         }
     }
 

@@ -316,10 +316,7 @@ impl Wavetable {
     {
         match self.lent(bank) {
             Ok(lent) => self.sound(c, lent),
-            Err(refused) => Ticked {
-                answer: Answer::Refused(refused.number()),
-                state: self,
-            },
+            Err(refused) => Ticked::refused(self, refused),
         }
     }
 
