@@ -27,7 +27,7 @@ ghost use Rattle.karplus_strong.specs.Shortcuts.{with_loop, after_turn, tuning_o
 
 mod turning;
 
-use answer::{Answer, Made, Played, Tally, Ticked, Volts};
+use answer::{Made, Played, Tally, Ticked, Volts};
 use common::{EdgeDetector, Hertz, Memo, Refusal, VoltsPerOctave};
 use turning::Loop;
 
