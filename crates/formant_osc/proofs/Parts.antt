@@ -4,14 +4,12 @@ use mathlib.Core.Path.{◌≡◌, refl, ap, ◌∙◌}
 use Prim.Native.Nat.{ℕ, zero, suc, ◌+◌, ◌*◌, ◌<◌, ◌≤◌}
 use native.Mathlib.Numerals.{add-one}
 use native.Mathlib.Omega.{arith}
-use lib.Ieee.{Float, nan, binary64, div}
+use lib.Ieee.{Float, nan}
 use lib.ListN.{length, get_or, set}
-use Rattle.common.specs.Consts.{five}
 use Rattle.laws.proofs.Over.{over_more, over_done}
 use Rattle.laws.specs.Float.{zer}
 use Rattle.laws.specs.Lists.{tab, over}
-use Rattle.numeric.specs.Power.{exp2_of}
-use Rattle.formant_osc.specs.Coefs.{spot_of, formant_of, get_formants, coef_of, bandwidth_of, resonator_coefs}
+use Rattle.formant_osc.specs.Coefs.{spot_of, get_formants, coef_of, bandwidth_of, resonator_coefs}
 use Rattle.formant_osc.specs.Sound.{resonate_of, amplitude_of, plus, rung_of}
 use Rattle.formant_osc.specs.declared.Coef.{Coef}
 use Rattle.formant_osc.specs.declared.Resonated.{Resonated}
