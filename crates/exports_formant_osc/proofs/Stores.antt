@@ -1,18 +1,32 @@
--- Lists stored one cell after another, and the floats of a state stored so.
+-- Parts of a list read and written, and the floats of a state stored so.
 use mathlib.Core.List.{List, ◌++◌}
 use mathlib.Core.Path.{◌≡◌, refl, sym, ap, ◌∙◌}
-use Prim.Native.Nat.{ℕ, ◌+◌, ◌≤◌}
+use Prim.Native.Nat.{ℕ, ◌+◌, ◌-◌, ◌≤◌}
+use native.Mathlib.Omega.{arith}
 use lib.Ieee.{Float, nan}
-use lib.ListN.{length, get_or, set, take, drop}
-use lib.Seq.{sets, sets-eq, paste, take-length}
-use Rattle.exports_formant_osc.specs.State.{n_floats, floats_of}
+use lib.ListN.{length, length-drop, get_or, set, take, drop}
+use lib.Seq.{sets, length-take-le, get_or-take, get_or-drop}
+use Rattle.exports_formant_osc.specs.State.{n_floats, part, floats_of}
 use Rattle.formant_osc.specs.declared.FormantOsc.{FormantOsc}
 use Rattle.laws.proofs.Over.{by_cells}
+use Rattle.laws.proofs.Slices.{stored, sets_part}
 use Rattle.laws.specs.Lists.{tab}
 
-pub all_pasted : (l cells : List Float) (at : ℕ) → at + length cells ≤ length l → paste l at cells (length cells) ≡ sets l at cells
-all_pasted l cells at h =
-    ap (λ (r : List Float). take at l ++ r ++ drop (at + length cells) l) (take-length cells) ∙ sym (sets-eq cells l at h)
+-- a part of a list, copied out of it
+pub part_read : (l m : List Float) (at n k : ℕ) → at + n ≤ length l → k ≡ n → m ≡ take k (drop at l) → m ≡ part l at n
+part_read l m at n k h e q =
+    let long : length (drop at l) ≡ length l - at = length-drop at l in
+    let size : length m ≡ n = ap length q ∙ length-take-le k (drop at l) (omega arith) ∙ e in
+    by_cells nan (λ (i : ℕ). get_or l (at + i) nan) n m size
+    (λ i b. ap (λ (x : List Float). get_or x i nan) q ∙ get_or-take k (drop at l) i nan (omega arith) ∙ get_or-drop at l i nan)
+
+-- and copied into it
+pub part_written : (l m cells : List Float) (at k : ℕ) → at + length cells ≤ length l → k ≡ length cells → m ≡ cells
+    → take at l ++ (m ++ drop k (drop at l)) ≡ sets l at cells
+part_written l m cells at k h e q =
+    let long : length (drop at l) ≡ length l - at = length-drop at l in
+    let size : length (take k (drop at l)) ≡ length cells = length-take-le k (drop at l) (omega arith) ∙ e in
+    sets_part l m cells at k (omega arith) (omega arith) (q ∙ sym (stored (take k (drop at l)) cells size))
 
 -- all cells of a list are the list
 pub whole : (l : List Float) (n : ℕ) → length l ≡ n → tab (λ (i : ℕ). get_or l i nan) n ≡ l

@@ -23,9 +23,8 @@ fn load_cells(floats: &[f64], at: usize, cells: &mut [f64])
     requires { at + length cells.old ≤ length floats.now }
     ensures { cells.new ≡ part floats.now at (length cells.old) }
 {
-    for (i, cell) in cells.iter_mut().enumerate() {
-        *cell = floats[at + i];
-    }
+    let n = cells.len();
+    cells.copy_from_slice(&floats[at..at + n]);
 }
 
 // The cells one after another, the first at the place `at`.
@@ -33,9 +32,7 @@ fn store_cells(cells: &[f64], at: usize, floats: &mut [f64])
     requires { at + length cells.now ≤ length floats.old }
     ensures { floats.new ≡ sets floats.old at cells.now }
 {
-    for (i, cell) in cells.iter().enumerate() {
-        floats[at + i] = *cell;
-    }
+    floats[at..at + cells.len()].copy_from_slice(cells);
 }
 
 // Where in the floats the resonators' cells begin, and their coefficients.
@@ -43,7 +40,8 @@ const CELLS: usize = 2;
 
 const COEFS: usize = 14;
 
-// Kept, below: the controls, floats, wholes, counts, samples and marks stand beside one another, as the C interface lends them.
+// Kept, below: the controls, floats, wholes, counts, samples and marks stand beside one another, as the C interface lends them, and each call stands under its
+// C name with its own contract, though bodies are alike in seven crates. `put` writes the samples that `samples_of` names.
 
 // How a FormantOsc lies in the slices.
 struct Cells;

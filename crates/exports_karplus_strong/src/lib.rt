@@ -22,7 +22,8 @@ const EDGE: usize = 4;
 
 const VAL: usize = EDGE + boundary::EDGE_FLOATS;
 
-// Kept, below: floats, wholes, line, draws, counts, samples and marks stand beside one another, as the C interface lends them.
+// Kept, below: the controls, floats, wholes, line, draws, counts, samples and marks stand beside one another, as the C interface lends them, and each call
+// stands under its C name with its own contract, though bodies are alike in seven crates. `put` writes the samples that `samples_of` names.
 
 // How a KarplusStrong lies in the slices.
 struct Cells;

@@ -47,11 +47,12 @@ fn put_rows(rows: [f64; ROWS], at: usize, floats: &mut [f64])
 fn counter(w: u64) -> u32
     ensures { result ≡ counter_of w }
 {
-    // Kept: `as` is proved to lose nothing, and no method of a u64 cuts it to a u32.
+    // Kept: `as` is proved to lose nothing here. u32::try_from of the remainder would be no plainer, with an Err to answer for that never comes.
     (w % 4294967296) as u32
 }
 
-// Kept, below: `given` and the correlation, floats, wholes, draws, counts, samples and marks stand beside one another, as the C interface lends them.
+// Kept, below: `given` and the correlation, floats, wholes, draws, counts, samples and marks stand beside one another, as the C interface lends them, and each
+// call stands under its C name with its own contract, though bodies are alike in seven crates. `put` writes the samples that `samples_of` names.
 
 // How a NoiseGenerator lies in the slices.
 struct Cells;

@@ -17,8 +17,8 @@ use boundary::Layout;
 use common::{EdgeDetector, Hertz, Memo, Refusal, Turns, VoltsPerOctave};
 use wavetable::{Wavetable, WavetableControls};
 
-// Kept: in `store`, `gruttisol_wavetable_new`, `gruttisol_wavetable_tick`, `gruttisol_wavetable_block`, `gruttisol_wavetable_reset` and
-// `gruttisol_wavetable_set_sample_rate` the slices stand beside one another: the C interface lends them so.
+// Kept, below: the controls, floats, wholes, bank, counts, samples and marks stand beside one another, as the C interface lends them, and each call stands
+// under its C name with its own contract, though bodies are alike in seven crates. `put` writes the samples that `samples_of` names.
 
 // Where the edge record's floats begin, and what stands after them.
 const EDGE: usize = 2;
@@ -185,6 +185,7 @@ pub extern "C" fn gruttisol_wavetable_set_sample_rate(
 }
 
 // 0, or the number of what refused the fill.
+// Kept: 0 for done is the C interface's. boundary::keep answers so too, but of a state that it stores, and a fill has none.
 #[tactic(auto, unfolding(common::specs::Refusal::refused_number))]
 fn fill_number(filled: Result<(), Refusal>) -> u32
     ensures { result ≡ refused_number filled }

@@ -4,14 +4,12 @@ use mathlib.Core.Path.{◌≡◌, refl, ap, ◌∙◌}
 use Prim.Native.Nat.{ℕ, zero, suc, ◌+◌, ◌*◌, ◌<◌, ◌≤◌}
 use native.Mathlib.Numerals.{add-one}
 use native.Mathlib.Omega.{arith}
-use lib.Ieee.{Float, nan, binary64, div}
+use lib.Ieee.{Float, nan}
 use lib.ListN.{length, get_or, set}
-use Rattle.common.specs.Consts.{five}
 use Rattle.laws.proofs.Over.{over_more, over_done}
 use Rattle.laws.specs.Float.{zer}
 use Rattle.laws.specs.Lists.{tab, over}
-use Rattle.numeric.specs.Power.{exp2_of}
-use Rattle.formant_osc.specs.Coefs.{spot_of, formant_of, get_formants, coef_of, bandwidth_of, resonator_coefs}
+use Rattle.formant_osc.specs.Coefs.{spot_of, get_formants, coef_of, bandwidth_of, resonator_coefs}
 use Rattle.formant_osc.specs.Sound.{resonate_of, amplitude_of, plus, rung_of}
 use Rattle.formant_osc.specs.declared.Coef.{Coef}
 use Rattle.formant_osc.specs.declared.Resonated.{Resonated}
@@ -21,15 +19,6 @@ use Rattle.formant_osc.specs.declared.Spot.{Spot}
 pub spot_few : (a : Spot) (v : Float) → a ≡ spot_of v → a.index ≤ 3
 unfolding spot_of
 spot_few a v e = let q = ap (λ (x : Spot). x.index) e in omega arith
-
--- ---- the formants
-abbrev pub no_formants : List Float
-no_formants = zer ∷ zer ∷ zer ∷ zer ∷ zer ∷ []
-
-pub five_formants : (vowel shift by : Float) (at : Spot) (i : ℕ) (m : List Float) → at ≡ spot_of vowel → by ≡ exp2_of (div binary64 shift five) → i ≡ 5
-    → m ≡ over (λ k. formant_of at k by) i no_formants → m ≡ get_formants vowel shift
-unfolding get_formants over tab
-five_formants vowel shift by at i m ea eb ei em = em ∙ (λ j. over (λ k. formant_of (ea j) k (eb j)) (ei j) no_formants)
 
 -- ---- the rows of coefficients
 abbrev pub no_rows : List Float

@@ -2,7 +2,7 @@
 // Its output: p10 out.
 #![tactic(auto)]
 
-ghost use Rattle.std.specs.Prelude.{◌≡◌, true, not, ◌&&◌, ◌≤◌, ◌<◌, length, get_or, set};
+ghost use Rattle.std.specs.Prelude.{◌≡◌, true, not, ◌&&◌, ◌≤◌, ◌<◌, length, get_or};
 ghost use Rattle.std.specs.Float.{nan};
 ghost use Rattle.std.specs.Float.Ieee.{eq};
 ghost use Rattle.laws.specs.Float.{zer};
@@ -106,6 +106,7 @@ const FORMANTS: [[f64; 5]; 5] = [
 ];
 
 // The bandwidth of each formant, and how loud it is.
+// Kept: two rows side by side, as the Rust has them and the definitions `bandwidth_of` and `amplitude_of` do, and each is read in a loop of its own.
 const BANDWIDTHS: [f64; 5] = [80.0, 90.0, 120.0, 150.0, 200.0];
 
 const AMPLITUDES: [f64; 5] = [1.0, 0.5, 0.25, 0.1, 0.05];
@@ -119,11 +120,12 @@ const PORTS: usize = 1;
 // Where a vowel lies among the five.
 #[tactic(auto, unfolding(crate::specs::Coefs::spot_of))]
 fn spot_of(vowel: f64) -> Spot
-    ensures { result ≡ spot_of vowel }
+    ensures value { result ≡ spot_of vowel }
+    ensures few { result.index ≤ 3 }
 {
     let idx = numeric::clamp(vowel, 0.0, 1.0) * 4.0;
     let index = numeric::to_usize(idx).min(3);
-    let frac = idx - numeric::of_u64(index as u64);
+    let frac = idx - std::num::nearest_usize_to_f64(index);
     Spot { index, frac }
 }
 
@@ -140,16 +142,13 @@ impl Spot {
     }
 }
 
+#[tactic(auto, unfolding(crate::specs::Coefs::get_formants, laws::specs::Lists::tab))]
 fn get_formants(vowel: f64, shift: f64) -> [f64; 5]
     ensures { result ≡ get_formants vowel shift }
 {
     let at = spot_of(vowel);
     let shift_mult = numeric::exp2(shift / 5.0);
-    let mut formants = [0.0; 5];
-    for (i, formant) in formants.iter_mut().enumerate() {
-        *formant = at.formant(i, shift_mult);
-    }
-    formants
+    std::array::from_fn(|i| at.formant(i, shift_mult))
 }
 
 // Turn i of the loop in resonator_coefs.
@@ -279,14 +278,7 @@ fn ring(c: [f64; 15], s: [f64; 10], x: f64) -> Rung
     Rung { sum, state }
 }
 
-// Turns wait as a plain number in the place of tick i's sample, which a caller lends: these two put them there and fetch them.
-fn keep_turns(turns: Turns, i: usize, samples: &mut [f64])
-    requires { i < length samples.old }
-    ensures { samples.new ≡ set samples.old i turns.0 }
-{
-    samples[i] = turns.0;
-}
-
+// Turns wait as a plain number in the place of tick i's sample, which a caller lends: `sway` puts them there, and this fetches them.
 fn kept_turns(samples: &[f64], i: usize) -> Turns
     requires { i < length samples.now }
     ensures { result ≡ turns (get_or samples.now i nan) }
@@ -295,6 +287,7 @@ fn kept_turns(samples: &[f64], i: usize) -> Turns
 }
 
 // Whether a phase stays finite waits in the place of tick i's mark. It is no mark.
+// Kept: a bool as 1 or 0, here and in `is_flagged`: a block has no memory of its own for as many bools as there are marks (fixed memory).
 #[tactic(auto, unfolding(crate::specs::Shortcuts::flag))]
 fn flag(b: bool) -> u32
     ensures { result ≡ flag b }
@@ -331,14 +324,10 @@ fn sway(start: Driver, vibrato: Vibrato, sample_rate: Hertz, samples: &mut [f64]
     let vibrato_step = common::increment(Hertz(VIBRATO_RATE), sample_rate);
     let mut vibrato_phase = start.vibrato_phase;
     let mut freq_memo = start.freq_memo;
-    for i in 0..samples.len() {
+    for sample in samples.iter_mut() {
         let next = Turns(vibrato_phase.0 + vibrato_step.0);
         freq_memo = vibrato.tuned(still, freq_memo, vibrato_phase);
-        keep_turns(
-            common::increment(freq_memo.val, sample_rate),
-            i,
-            &mut *samples,
-        );
+        *sample = common::increment(freq_memo.val, sample_rate).0;
         vibrato_phase = common::wrap_of_several(next).phase;
     }
     Driver {
@@ -349,8 +338,8 @@ fn sway(start: Driver, vibrato: Vibrato, sample_rate: Hertz, samples: &mut [f64]
 }
 
 // The second time: the pulse that goes into the resonators, and in the mark's place whether the phase stays finite.
-// Kept: here and in `drive`, `voice`, `run` and `block` samples and marks one by one, and in each contract that they are as many: the C interface lends them
-// as two slices.
+// Kept: here and in `drive`, `voice`, `run` and `block` samples and marks one by one, and in each contract that they are as many: `block`'s contract says of
+// each what it becomes, and of marks how many ticks there are.
 fn pulse(start: Turns, samples: &mut [f64], marks: &mut [u32]) -> Turns
     requires { length samples.old ≡ length marks.old }
     ensures value { result ≡ phase_at samples.old start (length marks.old) }
@@ -359,6 +348,7 @@ fn pulse(start: Turns, samples: &mut [f64], marks: &mut [u32]) -> Turns
     ensures marks_after { marks.new ≡ tab (phase_flag_at samples.old start) (length marks.old) }
 {
     let mut phase = start;
+    // Kept: a tick by its index: a proof knows no number of samples or marks after a zip of their iter_mut.
     for i in 0..marks.len() {
         let next = Turns(phase.0 + kept_turns(samples, i).0);
         samples[i] = glottal_pulse(phase);
@@ -406,6 +396,7 @@ fn voice(
         ≡ tab (λ i. host_number (voiced_at numbers c start samples.old marks.old i)) (length marks.old) }
 {
     let mut cells = start;
+    // Kept: a tick by its index: answer::put is told it so, since a proof knows no number of samples or marks after a zip of their iter_mut.
     for i in 0..marks.len() {
         let rung = ring(c, cells, samples[i]);
         let heard = voiced(rung.sum, is_flagged(marks[i]), numbers);
@@ -451,6 +442,7 @@ impl FormantOsc {
     }
 
     // What refuses a change to this rate: the new rate or the old, then a phase.
+    // Kept: the Wavetable's has the same body, but each asks its own state's `refusal`; a trait would need that one's contract as a law, for two of them.
     #[tactic(auto, unfolding(crate::specs::FormantOsc::formant_osc_rate_refusal_of, common::specs::Refusal::refused_number, common::specs::Refusal::number_of))]
     fn rate_refusal(self, sample_rate: Hertz) -> Result<(), Refusal>
         ensures { refused_number result ≡ formant_osc_rate_refusal_of self sample_rate }
@@ -542,10 +534,7 @@ impl FormantOsc {
     {
         match self.refusal() {
             Ok(()) => self.sound(c),
-            Err(refused) => Ticked {
-                answer: Answer::Refused(refused.number()),
-                state: self,
-            },
+            Err(refused) => Ticked::refused(self, refused),
         }
     }
 

@@ -27,7 +27,7 @@ ghost use Rattle.karplus_strong.specs.Shortcuts.{with_loop, after_turn, tuning_o
 
 mod turning;
 
-use answer::{Answer, Made, Played, Tally, Ticked, Volts};
+use answer::{Made, Played, Tally, Ticked, Volts};
 use common::{EdgeDetector, Hertz, Memo, Refusal, VoltsPerOctave};
 use turning::Loop;
 
@@ -80,6 +80,7 @@ struct Heard {
 // ---- numbers
 
 // `x as usize`, where x is known to be from 1 to below 2^52: its digits under their leading one, less those of the fraction.
+// Kept: beside numeric::to_usize, which is of every x: by that one a tick took 38.8 ns instead of 34.3 (docs/BENCH.md: 11.7 %).
 fn whole(x: f64) -> usize
     requires { Cut x }
     ensures { result ≡ whole_of x }
@@ -91,6 +92,7 @@ fn whole(x: f64) -> usize
 }
 
 // Neither an infinity nor a NaN. Compilers hold a NaN for rare, so what follows a number stays the straight way.
+// Kept: beside numeric::is_finite, which says the same: by that one a tick took 35.8 ns instead of 34.3 (docs/BENCH.md: 4.3 %).
 fn is_settled(x: f64) -> bool
     ensures { result ≡ is_fin x }
 {
@@ -157,7 +159,7 @@ fn excite(cells: &mut [f64], brightness: f64, draws: &[u64])
     for (i, cell) in cells.iter_mut().enumerate() {
         *cell = pulse(n, brightness, draws[i], i);
     }
-    let mean = sum(cells) / numeric::of_u64(n as u64);
+    let mean = sum(cells) / std::num::nearest_usize_to_f64(n);
     for cell in cells.iter_mut() {
         *cell -= mean;
     }
@@ -302,8 +304,8 @@ impl Loop {
     }
 }
 
-// Kept: `struck`, `sound`, `tick`, `first_refusal` and `block` take controls, draws and line apart, for draws and line are slices that a host lends (the C
-// interface): a struct of them would be made in `tick` and in `block`, and taken apart at once.
+// Kept: `struck`, `sound`, `tick`, `first_refusal` and `block` take controls, draws and line apart, for the contracts of `tick` and `block` name draws.now,
+// line.old and line.new each: a struct of them would be made in `tick` and in `block`, and taken apart at once.
 impl KarplusStrong {
     // The longest line, for a note of about 20 Hz.
     fn max_len_for(sample_rate: Hertz) -> usize
@@ -512,10 +514,7 @@ impl KarplusStrong {
     {
         match self.sound(c, draws, line) {
             Ok(ticked) => ticked,
-            Err(refused) => Ticked {
-                answer: Answer::Refused(refused.number()),
-                state: self,
-            },
+            Err(refused) => Ticked::refused(self, refused),
         }
     }
 
@@ -530,6 +529,7 @@ impl KarplusStrong {
             ≡ tab (mark_at (held_answer t) (held_next t) (strung self line.old)) (length marks.old) }
     {
         let mut turning = self.to_loop();
+        // Kept: a tick by its index: answer::put is told it so, since a proof knows no number of samples after their chunks_exact_mut.
         for i in 0..marks.len() {
             let ticked = turning.turn(t, &mut *line);
             answer::put(ticked.answer, PORTS, i, &mut *samples, &mut *marks);

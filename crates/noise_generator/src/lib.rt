@@ -78,6 +78,7 @@ struct Turned {
 }
 
 // next_bipolar of a draw that is known to be below 2^53: no digit is lost on the way, so that 2^-53 and 2.0 may be one factor.
+// Kept: beside numeric::bipolar, which is of every draw: by that one a tick took 43.3 ns instead of 39.4 (docs/BENCH.md: 8.8 %).
 fn bipolar(draw: u64) -> f64
     requires { draw < 9007199254740992 }
     ensures { result ≡ bipolar_of draw }
@@ -405,10 +406,7 @@ impl NoiseGenerator {
                 };
                 self.sound(asked, draws)
             }
-            Err(refused) => Ticked {
-                answer: Answer::Refused(refused.number()),
-                state: self,
-            },
+            Err(refused) => Ticked::refused(self, refused),
         }
     }
 
@@ -452,6 +450,7 @@ impl NoiseGenerator {
         let mut pink2 = self.pink2.rowless();
         let mut last_white = self.last_white;
         let mut at = 0;
+        // Kept: a tick by its index: answer::put is told it so, since a proof knows no number of samples after their chunks_exact_mut.
         for i in 0..n {
             let turned = Self::turn(&mut rows, &mut rows2, pink, pink2, asked, &draws[at..]);
             answer::put(turned.answer, PORTS, i, samples, marks);

@@ -68,8 +68,8 @@ fn partial(harmonic: f64, i: usize) -> f64
     numeric::sin(phase * harmonic * 2.0 * numeric::PI)
 }
 
-// Kept: `harmonic`, `factor` and `term` ask that k is below 64, which keeps 2 * k + 1 in range, and `terms`, `vowel` and `cell` that a level is below 8, as an
-// index of the sheet. Types of such numbers would be made of a loop's own number at each call and be taken apart again in it.
+// Kept: `harmonic`, `factor` and `term` ask that k is below 64, which keeps 2 * k + 1 in range, and `terms`, `vowel` and `cell` that a level is below 8, as
+// `max_harmonic` does, which they call. Types of such numbers would be made of a loop's own number at each call and be taken apart again in it.
 impl Series {
     // The harmonic of term k: odd ones only in triangle and square.
     #[tactic(auto, unfolding(crate::specs::Bank::harmonic_of))]

@@ -28,6 +28,8 @@ ghost use Rattle.wavetable.specs.Wavetable.{wavetable_reset_of, wavetable_set_sa
 use answer::{Answer, Made, Played, Tally, Ticked, Volts};
 use common::{EdgeDetector, Hertz, Memo, Refusal, Turns, VoltsPerOctave};
 
+// Kept: `prev_sync` and `threshold` are the fields of an edge record, but the Rust keeps its last sample plain, and the definitions restarted and rated name
+// both so.
 #[derive(Clone, Copy)]
 pub struct Wavetable {
     pub phase: Turns,
@@ -87,10 +89,11 @@ const MAX_HARMONICS: [[u16; 8]; 8] = [
 fn real(n: usize) -> f64
     ensures { result ≡ real_of n }
 {
-    numeric::of_u64(n as u64)
+    std::num::nearest_usize_to_f64(n)
 }
 
-// Kept: `max_harmonic` asks that a level is below 8, as each index asks it of its row: a type of levels would be made for this index alone.
+// Kept: `max_harmonic` asks that a level is below 8, and so do `terms`, `vowel` and `cell` of bank.rt, which call it: a type of levels would be made of a
+// loop's own number, or of a quotient, at each call, and be taken apart for this one index.
 
 // The largest harmonic in a level of a table. The Rust halves the first level's from level to level, to at least 1.
 fn max_harmonic(table: usize, level: usize) -> usize
@@ -123,7 +126,7 @@ fn select_level(table: usize, allowed: f64) -> usize
 fn start(table_idx: usize, level: usize) -> usize
     ensures { result ≡ start_of table_idx level }
 {
-    table_idx % NUM_TABLES * PART_SIZE + numeric::least(level, NUM_MIPS - 1) * TABLE_SIZE
+    table_idx % NUM_TABLES * PART_SIZE + level.min(NUM_MIPS - 1) * TABLE_SIZE
 }
 
 // The level that begins there, between two of its numbers.
@@ -171,7 +174,7 @@ fn table_pos(table: f64) -> f64
 fn table_index(pos: f64) -> usize
     ensures { result ≡ table_index_of pos }
 {
-    numeric::least(numeric::to_usize(pos), NUM_TABLES - 2)
+    numeric::to_usize(pos).min(NUM_TABLES - 2)
 }
 
 // How much of the upper table; 1 where a control is NaN, since `min` gives the other number.
@@ -232,7 +235,8 @@ impl WavetableControls {
     }
 }
 
-// Kept: `glide`, `run` and `block` take samples and marks as the two slices that a host lends (the C interface).
+// Kept: `glide`, `run` and `block` take samples and marks one by one, since `block`'s contract says of each what it becomes, and of marks how many ticks
+// there are; a pair of them would be made in `block` and taken apart in `glide`.
 impl Wavetable {
     // Of a rate and of the threshold that its gate goes by. A refused new hands out the state with the bad one, which every later call refuses.
     #[tactic(auto, unfolding(crate::specs::Wavetable::wavetable_new_of, crate::specs::Wavetable::new_wavetable, answer::specs::Calls::made_unless))]
@@ -271,6 +275,7 @@ impl Wavetable {
     }
 
     // What refuses a change to this rate: the new rate or the old, then the rest of the state.
+    // Kept: the FormantOsc's has the same body, but each asks its own state's `refusal`; a trait would need that one's contract as a law, for two of them.
     #[tactic(auto, unfolding(crate::specs::Wavetable::wavetable_rate_refusal_of, common::specs::Refusal::refused_number, common::specs::Refusal::number_of))]
     fn rate_refusal(self, sample_rate: Hertz) -> Result<(), Refusal>
         ensures { refused_number result ≡ wavetable_rate_refusal_of self sample_rate }
@@ -293,7 +298,7 @@ impl Wavetable {
         let phase_inc = common::increment(freq_memo.val, self.sample_rate);
         let out = mix(bank, choose(c.table, c.morph, phase_inc), phase);
         let next = Turns(phase.0 + phase_inc.0);
-        // Kept: the phase is wrapped before the mark is asked for: after it a tick with a moving pitch took 53 ns instead of 50.
+        // The phase is wrapped before the mark is asked for: after it a tick with a moving pitch took 53 ns instead of 50.
         let moved = common::wrap_phase(next).phase;
         Ticked {
             answer: heard(out, numeric::is_finite(next.0), numbers),
@@ -311,10 +316,7 @@ impl Wavetable {
     {
         match self.lent(bank) {
             Ok(lent) => self.sound(c, lent),
-            Err(refused) => Ticked {
-                answer: Answer::Refused(refused.number()),
-                state: self,
-            },
+            Err(refused) => Ticked::refused(self, refused),
         }
     }
 
@@ -336,6 +338,7 @@ impl Wavetable {
             ≡ tab (mark_at (held_answer bank.now pair numbers step) (held_next step) first) (length marks.old) }
     {
         let mut phase = first;
+        // Kept: a tick by its index: answer::put is told it so, since a proof knows no number of samples after their chunks_exact_mut.
         for i in 0..marks.len() {
             let next = Turns(phase.0 + step.0);
             let out = mix(bank, pair, phase);

@@ -10,17 +10,17 @@ use Rattle.formant_osc.specs.Shortcuts.{swayed}
 use Rattle.formant_osc.proofs.Held.{still_tuned, still_memo, swung, stridden}
 use Rattle.formant_osc.proofs.sway.Goals as goal
 
-pub loop-i-init : goal.loop-i-init
+pub loop-sample-init : goal.loop-sample-init
 unfolding after_ticks
-loop-i-init c = record { strides = over_none _ _; swung = refl; tuned = refl; in_range = c.requires.0; same = λ t. refl }
+loop-sample-init c = record { strides = over_none _ _; swung = refl; tuned = refl; in_range = c.requires.0; same = λ t. refl }
 
 pub tuned-freq_memo-requires : goal.tuned-freq_memo-requires
-tuned-freq_memo-requires c = let s = c.loop-i.invariant in
+tuned-freq_memo-requires c = let s = c.loop-sample.invariant in
     let v = c.args.vibrato.v_oct.0 in
     still_tuned _ _ _ _ _ _ _ (of_true (fits binary64 v) c.well_formed.1.0.1.1.0.1.1.0.1) c.is_still-still.ensures c.requires.0 s.in_range c.requires.1 s.same
 
-pub loop-i-preserved : goal.loop-i-preserved
-loop-i-preserved c = let s = c.loop-i.invariant in
+pub loop-sample-preserved : goal.loop-sample-preserved
+loop-sample-preserved c = let s = c.loop-sample.invariant in
     let v = c.args.vibrato.v_oct.0 in
     let t = c.tuned-freq_memo.ensures in
     let still = still_tuned _ _ _ _ _ _ _ (of_true (fits binary64 v) c.well_formed.1.0.1.1.0.1.1.0.1) c.is_still-still.ensures c.requires.0 s.in_range
@@ -28,7 +28,7 @@ loop-i-preserved c = let s = c.loop-i.invariant in
     let w = swung _ _ _ _ _ _ _ _ _ _ t c.increment-vibrato_step.ensures c.wrap_of_several.ensures s.swung s.tuned in
     let x = stridden _ _ _ _ _ _ _ _ _ t c.increment.ensures s.swung s.tuned in
     record {
-      strides = rw c.keep_turns.ensures (over_more _ _ _ _ _ c.loop-i-test.true s.strides (ap (λ (u : Turns). u.0) x));
+      strides = over_more _ _ _ _ _ c.loop-sample-test.true s.strides (ap (λ (u : Turns). u.0) x);
       swung = w.0;
       tuned = w.1;
       in_range = rw c.wrap_of_several.ensures (wrap_in _ (add-fits binary64 _ _));
@@ -37,6 +37,6 @@ loop-i-preserved c = let s = c.loop-i.invariant in
 
 pub returns : goal.returns
 unfolding swayed
-returns c = let s = c.loop-i.invariant in
-    let n : c.loop-i.i ≡ length c.args.samples.now = le_antisymm c.loop-i.auto.i-end c.loop-i-test.false in
+returns c = let s = c.loop-sample.invariant in
+    let n : c.loop-sample.sample-index ≡ length c.args.samples.now = le_antisymm c.loop-sample.auto.sample-index-end c.loop-sample-test.false in
     record { value = simp (s.swung, s.tuned, n); samples_after = over_done _ _ _ _ _ n refl s.strides }

@@ -20,13 +20,13 @@ pub loop-cell-preserved : goal.loop-cell-preserved
 unfolding level_at
 loop-cell-preserved c = let more = c.loop-cell-test.true in
     let s = c.loop-cell.invariant in
-    over_more _ _ _ _ _ more s (ap (λ x. sub binary64 x (div binary64 c.sum.result c.of_u64.result)) (rw s (over_at nan _ _ _ more)))
+    over_more _ _ _ _ _ more s (ap (λ x. sub binary64 x (div binary64 c.sum.result c.nearest_usize_to_f64.result)) (rw s (over_at nan _ _ _ more)))
 
 pub returns : goal.returns
 unfolding excited_of level_of
 returns c = let a = c.args in
     let end = le_antisymm c.loop-i.auto.i-end c.loop-i-test.false in
     let filled = ap (λ k. over (excited_at (length a.cells.now) a.brightness a.draws.now) k a.cells.now) end in
-    let mean = div binary64 c.sum.result c.of_u64.result in
+    let mean = div binary64 c.sum.result c.nearest_usize_to_f64.result in
     let levelled = ap (λ k. over (level_at mean c.loop-i.cells) k c.loop-i.cells) (le_antisymm c.loop-cell.auto.cell-index-end c.loop-cell-test.false) in
-    struck_by _ _ _ _ _ _ _ _ c.loop-i.auto.cells (c.loop-i.invariant ∙ filled) c.sum.ensures c.of_u64.ensures (c.loop-cell.invariant ∙ levelled)
+    struck_by _ _ _ _ _ _ _ _ c.loop-i.auto.cells (c.loop-i.invariant ∙ filled) c.sum.ensures c.nearest_usize_to_f64.ensures (c.loop-cell.invariant ∙ levelled)

@@ -1,4 +1,4 @@
-use mathlib.Core.Path.{◌∙◌}
+use mathlib.Core.Path.{refl, ◌∙◌}
 use Rattle.answer.specs.declared.Answer.TheVariants as answer
 use Rattle.common.proofs.RefusalLaws.{passed, stopped}
 use Rattle.common.specs.Refusal.{refused_number}
@@ -11,4 +11,4 @@ returns-in-Ok c = c.sound.ensures ∙ passed _ c.in-Ok.ensures _ _
 
 pub returns-in-Err : goal.returns-in-Err
 unfolding formant_osc_tick_of refused_number
-returns-in-Err c = stopped c.in-Err.refused _ _ c.in-Err.ensures c.number.ensures _ (λ k. record { answer = answer.Refused k; state = c.args.self })
+returns-in-Err c = c.refused.ensures ∙ stopped c.in-Err.refused _ _ c.in-Err.ensures refl _ (λ k. record { answer = answer.Refused k; state = c.args.self })

@@ -1,4 +1,4 @@
-use mathlib.Core.Path.{ap, ◌∙◌}
+use mathlib.Core.Path.{refl, ap, ◌∙◌}
 use Rattle.answer.specs.declared.Answer.TheVariants as answer
 use Rattle.common.proofs.RefusalLaws.{passed, stopped}
 use Rattle.common.specs.Refusal.{refused_number}
@@ -15,4 +15,5 @@ returns-in-Ok c = let a = c.args in
 pub returns-in-Err : goal.returns-in-Err
 unfolding wavetable_tick_of refused_number
 returns-in-Err c =
-    stopped c.in-Err.refused _ _ c.in-Err.ensures.number c.number.ensures _ (λ k. record { answer = answer.Refused k; state = c.args.self })
+    c.refused.ensures
+    ∙ stopped c.in-Err.refused _ _ c.in-Err.ensures.number refl _ (λ k. record { answer = answer.Refused k; state = c.args.self })
