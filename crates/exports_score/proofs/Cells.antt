@@ -7,9 +7,6 @@ use native.Mathlib.Omega.{arith}
 use lib.Dec.{ltb, eqb, lit≤}
 use Rattle.std.specs.Prelude.{◌&&◌, Option, Some, None, Result, Ok, Err}
 use Rattle.std.specs.List.{list_all}
-use Rattle.std.specs.Ordering.{int_eq}
-use Rattle.std.proofs.lemmas.Bool.Decides.{Decides-int_eq}
-use Rattle.line.proofs.Laws.{no}
 use lib.IntN.{ℤ, pos, negsuc}
 use lib.ListN.{length, get_or, take, drop, length-drop}
 use lib.Seq.{take_all}
@@ -110,24 +107,14 @@ unfolding control_at
 unmarked (pos n) f h = refl
 unmarked (negsuc k) f h = simp (ne_eqb k 2147483647 (λ e. h (omega arith)))
 
--- all of them are 0, as the code asks
-pub zeros_all : (l : List ℤ) → list_all (λ n. int_eq n (pos 0)) l ≡ zeros l
+-- each of them is 0, as the code asks
+pub zeros_all : (l : List ℤ) → list_all is_zero l ≡ zeros l
 zeros_all [] = refl
-zeros_all (n ∷ ns) = step (int_eq n (pos 0)) (is_zero n) (zero_test n) (zeros_all ns)
+zeros_all (n ∷ ns) = step (is_zero n) (zeros_all ns)
   where
-    zero_test : (n : ℤ) → int_eq n (pos 0) ≡ is_zero n
-    zero_test (pos n) = go (int_eq (pos n) (pos 0)) refl
-      where
-        go : (b : Bool) → int_eq (pos n) (pos 0) ≡ b → b ≡ eqb n 0
-        go true e = sym (eq-eqb n 0 (let p : pos n ≡ pos 0 = (Decides-int_eq (pos n) (pos 0)).0 e in cc))
-        go false e = sym (ne_eqb n 0 (λ z. no (sym e ∙ (Decides-int_eq (pos n) (pos 0)).1 (ap pos z))))
-    zero_test (negsuc n) = refl
-
-    step : (a b : Bool) → a ≡ b → list_all (λ n. int_eq n (pos 0)) ns ≡ zeros ns → (a && list_all (λ n. int_eq n (pos 0)) ns) ≡ cond b (zeros ns) false
-    step true true e h = h
-    step false false e h = refl
-    step true false e h = absurd (let z : ◌≡◌ {A = ℕ} 0 1 = cc in omega arith)
-    step false true e h = absurd (let z : ◌≡◌ {A = ℕ} 0 1 = cc in omega arith)
+    step : (b : Bool) → list_all is_zero ns ≡ zeros ns → (b && list_all is_zero ns) ≡ cond b (zeros ns) false
+    step true h = h
+    step false h = refl
 
 -- and as it makes inputs of them
 abbrev pub inputs_read : Osc → List Control → Inputs
@@ -149,11 +136,11 @@ same_inputs o m h = by_places (λ (l : List ℤ). inputs_read o (map control_at 
 
 -- k cells are inputs, and b is whether those past them are 0
 module _ (o : Osc) (m : List ℤ) {k : ℕ} {b : Bool} (five : length m ≡ 5) (used : k ≡ length (input_keys o))
-    (asked : b ≡ list_all (λ n. int_eq n (pos 0)) (take (5 - k) (drop k m))) where
+    (asked : b ≡ zeros (take (5 - k) (drop k m))) where
   spare : zeros (drop (length (input_keys o)) m) ≡ b
   spare =
       let rest : take (5 - k) (drop k m) ≡ drop k m = take_all (5 - k) (drop k m) (omega (arith, length-drop {A = ℤ} k m)) in
-      sym (asked ∙ ap (list_all (λ n. int_eq n (pos 0))) rest ∙ zeros_all (drop k m) ∙ ap (λ (i : ℕ). zeros (drop i m)) used)
+      sym (asked ∙ ap zeros rest ∙ ap (λ (i : ℕ). zeros (drop i m)) used)
 
   pub inputs_refused : b ≡ false → Err OutOfRange ≡ inputs_in o m
   unfolding inputs_in

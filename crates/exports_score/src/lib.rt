@@ -6,14 +6,12 @@
 // has no room. A refused call writes nothing.
 #![tactic(auto)]
 
-ghost use Rattle.std.specs.Prelude.{◌≡◌, map, pos, length};
-ghost use Rattle.std.specs.List.{list_all};
-ghost use Rattle.std.specs.Ordering.{int_eq};
+ghost use Rattle.std.specs.Prelude.{◌≡◌, map, length};
 ghost use Rattle.boundary.specs.Flat.{kept};
 ghost use Rattle.score.specs.Keys.{input_keys};
 ghost use Rattle.score.specs.Score.{score_of};
 ghost use Rattle.exports_score.specs.Cells.{osc_number, ports_of, gate_number, floats_of, wholes_of, cell_of, microvolts_of};
-ghost use Rattle.exports_score.specs.Cells.{control_at, inputs_in, osc_at, gate_at};
+ghost use Rattle.exports_score.specs.Cells.{control_at, is_zero, zeros, inputs_in, osc_at, gate_at};
 ghost use Rattle.exports_score.specs.Shortcuts.{u32_of, held_at};
 ghost use Rattle.exports_score.specs.Calls.{code_of, kept_of, score_read_at, told, told_of, score_values_at, saved, saved_of, score_write_at};
 
@@ -30,10 +28,16 @@ const MICROVOLTS: usize = 5;
 
 const WRITTEN: usize = 1;
 
+// What refuses microvolts and written of another length; the numbers of floats and wholes are `common::Refusal`'s.
+const WRONG_MICROVOLTS: u32 = 54;
+
+const WRONG_WRITTEN: u32 = 55;
+
 // The mark of nan, which is no score's microvolts.
 const NAN: i32 = -2147483648;
 
 // 0 where it is done.
+// Kept: C reads a number, and score's refusals have numbers of their own, 20 to 24, which `common::Refusal` doesn't have.
 fn code_of(done: Result<(), Refusal>) -> u32
     ensures { result ≡ code_of done }
 {
@@ -45,7 +49,9 @@ fn code_of(done: Result<(), Refusal>) -> u32
 
 // ---- the cells of a score
 
-// Kept: four kinds, all known here, so a match and no `dyn`; `ports_of` and `inputs_of` too.
+// Kept: `osc_number`, `gate_number`, `cell_of`, `osc_at`, `control_at`, `inputs_at` and `gate_at` are functions and no `From` or `TryFrom`: they are between
+// score's types and the cells of the C interface, which are numbers, so neither side of such an impl is of this crate.
+// Kept: four kinds, all known here, so a match and no `dyn`; `ports_of`, `inputs_of` and `inputs_at` too.
 fn osc_number(osc: Osc) -> u64
     ensures { result ≡ osc_number osc }
 {
@@ -78,10 +84,7 @@ fn ports_of(inputs: Inputs) -> [Control; 5]
 fn gate_number(gate: Option<u32>) -> u64
     ensures { result ≡ gate_number gate }
 {
-    match gate {
-        None => 0,
-        Some(issue) => u64::from(issue),
-    }
+    gate.map_or(0, u64::from)
 }
 
 #[tactic(auto, unfolding(crate::specs::Cells::wholes_of))]
@@ -105,6 +108,8 @@ fn floats_of(s: Score) -> [f64; 5]
     ports_of(s.inputs).map(score::volts)
 }
 
+// Kept: this and `read_microvolts` are two. Each is two copies, of other types by another function, and their contracts end in records of their own, Kept and
+// Told; one generic function would take the type, the function and the record, which is no plainer.
 fn read_volts(text: &[u8], floats: &mut [f64], wholes: &mut [u64]) -> Result<(), Refusal>
     requires { (length floats.old ≡ 5) × (length wholes.old ≡ 4) }
     ensures { kept (code_of result) floats.new wholes.new ≡ kept_of (score_of text.now) floats.old wholes.old }
@@ -155,7 +160,7 @@ fn read_microvolts(text: &[u8], microvolts: &mut [i32], wholes: &mut [u64]) -> R
     Ok(())
 }
 
-// Kept: the numbers of lengths, here and in `gruttisol_score_write`, since the C interface answers by them.
+// Kept: here and in `gruttisol_score_write` a wrong length is answered by its number, which C reads: score's Refusal, which the rest answers by, has none for it.
 #[unsafe(no_mangle)]
 pub extern "C" fn gruttisol_score_values(
     text: &[u8],
@@ -166,10 +171,10 @@ pub extern "C" fn gruttisol_score_values(
         ≡ score_values_at text.now microvolts.old wholes.old }
 {
     if microvolts.len() != MICROVOLTS {
-        return 54;
+        return WRONG_MICROVOLTS;
     }
     if wholes.len() != WHOLES {
-        return 51;
+        return common::Refusal::Wholes.number();
     }
     code_of(read_microvolts(text, microvolts, wholes))
 }
@@ -211,10 +216,16 @@ fn inputs_of(osc: Osc) -> usize
     }
 }
 
-fn are_zeros(cells: &[i32]) -> bool
-    ensures { result ≡ list_all (λ n. int_eq n (pos 0)) cells.now }
+fn is_zero(cell: i32) -> bool
+    ensures { result ≡ is_zero cell }
 {
-    cells.iter().all(|cell| *cell == 0)
+    cell == 0
+}
+
+fn are_zeros(cells: &[i32]) -> bool
+    ensures { result ≡ zeros cells.now }
+{
+    cells.iter().all(|cell| is_zero(*cell))
 }
 
 fn controls_at(microvolts: &[i32; 5]) -> [Control; 5]
@@ -316,13 +327,13 @@ pub extern "C" fn gruttisol_score_write(
         ≡ score_write_at microvolts.now wholes.now text.old written.old }
 {
     let Some(microvolts) = microvolts.as_array() else {
-        return 54;
+        return WRONG_MICROVOLTS;
     };
     let Some(wholes) = wholes.as_array() else {
-        return 51;
+        return common::Refusal::Wholes.number();
     };
     if written.len() != WRITTEN {
-        return 55;
+        return WRONG_WRITTEN;
     }
     code_of(save(microvolts, wholes, text, written))
 }

@@ -24,7 +24,7 @@ pub enum Controls {
 }
 
 // One oscillator of each kind, of which only the one that the controls are for moves.
-// Kept: a player has all four, since GateHeld speaks of its Vco and of its Lfo, whichever is played.
+// Kept: a player has all four, since the theorems GateHeld and `Settled.new` (by `player_of`) speak of its Vco and of its Lfo, whichever is played.
 #[derive(Clone, Copy)]
 pub struct Player {
     pub controls: Controls,
@@ -159,6 +159,8 @@ impl Player {
         ensures { block_said self tally result samples.new marks.new
             ≡ played_of self tally samples.old marks.old }
     {
+        // Kept: four kinds, all known here, so a match and no `dyn`; what an arm gives back is another field of the Player, and the edits block_still and
+        // wrong_mask stand on the arm of the Lfo.
         match self.controls {
             Controls::Vco(c) => {
                 let played = self.vco.block(c, VCO_ALL, tally, samples, marks)?;
