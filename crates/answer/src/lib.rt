@@ -50,6 +50,7 @@ impl Volts {
 
 // The marks' numbers. A number keeps its meaning: the first four are those of the scope's rules, and steered, whose rule comes before
 // clean's, came later.
+// Kept: numbers, and 0 of a refused tick, for they are public, and ToldNumbers and the tally's definitions speak of them.
 pub const CLEARED: u32 = 1;
 
 pub const NOTFINITE: u32 = 2;
@@ -104,7 +105,8 @@ impl<S: Copy> Ticked<S> {
     }
 }
 
-// What making an oscillator leaves. A refused one leaves a state too: every call refuses it, as making it was refused.
+// What making an oscillator leaves.
+// Kept: no Result, for a refused `new` leaves a state too, which every call refuses, as making it was refused.
 #[derive(Clone, Copy)]
 pub struct Made<S> {
     pub outcome: Result<(), Refusal>,
@@ -180,7 +182,7 @@ pub fn samples(a: Answer) -> Volts
 }
 
 // And back: the answer that a host was told by this number, with its volts. A number that is no mark's refuses.
-// Kept: no TryFrom, for each number has its answer.
+// Kept: no From, for it is public, and Settled speaks of it; no TryFrom, for each number has its answer.
 pub fn answer_of(number: u32, v: Volts) -> Answer
     ensures { result ≡ answer_of number v }
 {
@@ -215,12 +217,7 @@ fn all_finite(v: Volts) -> bool
 pub fn numbers<const N: usize>(controls: [f64; N]) -> bool
     ensures { result ≡ all_numbers controls.entry }
 {
-    for x in &controls {
-        if *x != *x {
-            return false;
-        }
-    }
-    true
+    controls.iter().all(|x| !x.is_nan())
 }
 
 // A tick's answer, by the first rule that applies: each mark is made here. `zeroed`: the string zeroed its line. `finite`: the
@@ -423,31 +420,9 @@ pub fn block_refusal(
 fn put_volts(v: Volts, part: &mut [f64])
     ensures { part.new ≡ sets part.old 0 (ports_of (length part.old) v) }
 {
-    let n = part.len();
-    if n < 1 {
-        return;
-    }
-    part[0] = v.p10;
-    if n < 2 {
-        return;
-    }
-    part[1] = v.p11;
-    if n < 3 {
-        return;
-    }
-    part[2] = v.p12;
-    if n < 4 {
-        return;
-    }
-    part[3] = v.p13;
-    if n < 5 {
-        return;
-    }
-    part[4] = v.p14;
-    if n < 6 {
-        return;
-    }
-    part[5] = v.p15;
+    let ports = [v.p10, v.p11, v.p12, v.p13, v.p14, v.p15];
+    let n = part.len().min(ports.len());
+    part[..n].copy_from_slice(&ports[..n]);
 }
 
 // The outputs of tick i among the samples of n ticks with so many outputs each. Samples that aren't those are left: a block has asked that

@@ -10,7 +10,7 @@ use lib.ListN.{length}
 use borrow.Author.Tests.{eqb-true, eq-eqb}
 use Rattle.laws.proofs.Tests.{eqb_yes}
 use Rattle.common.proofs.RefusalLaws.{reason, reason_back, nonzero, passed, stopped}
-use Rattle.boundary.specs.Flat.{after_state, fitting, sizes_of, tick_sizes_of, tally_from, tally_sized, n_counts}
+use Rattle.boundary.specs.Flat.{after_state, state_heard, fitting, sizes_of, tick_sizes_of, tally_from, tally_sized, n_counts}
 use Rattle.boundary.specs.Flat.{Kept, kept, kept_sized, Heard, heard, heard_sized, Left, left, left_from, left_sized}
 use Rattle.std.specs.Prelude.{Result, Ok, Err}
 use Rattle.common.specs.Refusal.{number_of, refused_number}
@@ -82,6 +82,24 @@ unfit nf nw f w e h x = go (eqb (length f) nf) (eqb (length w) nw) h
     go true true k = absurd (nonzero e k)
     go true false k = ap Err (sym (reason_back e) ∙ ap reason k)
     go false b k = ap Err (sym (reason_back e) ∙ ap reason k)
+
+-- and of a tick's samples too
+module _ {S : Type 0} (nf nw ns : ℕ) (state_of : List Float → List ℕ → S) (f : List Float) (w : List ℕ) (o : List Float) where
+  pub fit_tick : 0 ≡ tick_sizes_of nf nw ns (length f) (length w) (length o) → (s : S) → s ≡ state_of f w → Ok s ≡ state_heard nf nw ns state_of f w o
+  unfolding state_heard after_state fitting
+  fit_tick z s h = let l = tick_sized nf nw ns (length f) (length w) (length o) 0 z refl in
+      simp (eq-eqb _ _ l.0, eq-eqb _ _ l.1, eq-eqb _ _ l.2, h)
+
+  pub unfit_tick : (e : Refusal) → number_of e ≡ tick_sizes_of nf nw ns (length f) (length w) (length o) → Err e ≡ state_heard nf nw ns state_of f w o
+  unfolding state_heard after_state tick_sizes_of sizes_of fitting reason
+  unfit_tick e h = go (eqb (length f) nf) (eqb (length w) nw) (eqb (length o) ns) h
+    where
+      go : (a b d : Bool) → number_of e ≡ (let n : ℕ = cond a (cond b 0 51) 50 in cond (eqb n 0) (cond d 0 52) n)
+          → Err e ≡ after_state (cond a (cond b (Ok (state_of f w)) (Err refusal.Wholes)) (Err refusal.Floats)) (λ s. cond d (Ok s) (Err refusal.Samples))
+      go true true true k = absurd (nonzero e k)
+      go true true false k = ap Err (sym (reason_back e) ∙ ap reason k)
+      go true false d k = ap Err (sym (reason_back e) ∙ ap reason k)
+      go false b d k = ap Err (sym (reason_back e) ∙ ap reason k)
 
 -- a bool that is read back from a whole number
 pub flag : (b : Bool) → not (eqb (cond b 1 0) 0) ≡ b

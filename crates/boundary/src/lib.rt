@@ -17,8 +17,8 @@ use common::{EdgeDetector, Refusal};
 
 // ---- lengths
 
-// Kept: here and in `keep`, `hear`, `store`, `block_state`, `keep_block`, `tick_state`, `state`, `sizes`, `tick_sizes` and `block_tally` floats, wholes,
-// samples and counts stand beside one another: the C interface lends them so.
+// Kept: here and in `keep`, `hear`, `store`, `block_state`, `keep_block`, `tick_state`, `state`, `sizes`, `tick_sizes` and `block_tally` nf and nw, and floats,
+// wholes, samples and counts, stand beside one another: the C interface lends them so.
 
 // What a host lends for a state of nf floats and nw whole numbers: refused where floats or wholes have another length.
 pub fn sizes(nf: usize, nw: usize, floats: &[f64], wholes: &[u64]) -> Result<(), Refusal>
@@ -59,6 +59,7 @@ pub fn tick_sizes(
 const COUNTS: usize = 6;
 
 // The tally that so many counts stand for, in the order of its fields; another number is refused.
+// Kept: no TryFrom here, and no From in store_counts: they are counts of the C interface, and Settled speaks of tally_of.
 pub fn tally_of(counts: &[u32]) -> Result<Tally, Refusal>
     ensures { result ≡ tally_from counts.now }
 {
@@ -123,10 +124,11 @@ pub const EDGE_FLOATS: usize = 2;
 fn float_at(part: &[f64], i: usize) -> f64
     ensures { result ≡ get_or part.now i nan }
 {
-    if i < part.len() { part[i] } else { 0.0 / 0.0 }
+    part.get(i).copied().unwrap_or(f64::NAN)
 }
 
 // And back. What has no place in the part is left out.
+// Kept: by `get_mut` it was tried, and no proof closes: the library's says nothing of what the slice ends as.
 fn put_float(x: f64, i: usize, part: &mut [f64])
     ensures { part.new ≡ set part.old i x }
 {
@@ -201,6 +203,7 @@ pub fn state<L: Layout>(floats: &[f64], wholes: &[u64]) -> Result<L::State, Refu
 }
 
 // The state that a call leaves, or the number of what refused it: then nothing is written.
+// Kept: the u32 here, of `hear` and of `keep_block` is what the C interface answers.
 pub fn keep<L: Layout>(r: Result<L::State, Refusal>, floats: &mut [f64], wholes: &mut [u64]) -> u32
     ensures { kept result floats.new wholes.new
         ≡ kept_sized L.FLOATS L.WHOLES (kept_result L.floats_of L.wholes_of r floats.old wholes.old) floats.old wholes.old }
@@ -225,12 +228,8 @@ pub fn tick_state<L: Layout>(
 ) -> Result<L::State, Refusal>
     ensures { result ≡ state_heard L.FLOATS L.WHOLES L.SAMPLES L.state_of floats.now wholes.now samples.now }
 {
-    let s = state::<L>(floats, wholes)?;
-    if samples.len() == L::SAMPLES {
-        Ok(s)
-    } else {
-        Err(Refusal::Samples)
-    }
+    tick_sizes(L::FLOATS, L::WHOLES, L::SAMPLES, floats, wholes, samples)?;
+    Ok(L::state(floats, wholes))
 }
 
 // The number that a host is told of a tick, with the samples and the state after it where it is accepted. The number is asked for last: asked for before,

@@ -153,7 +153,7 @@ pub fn wrap_phase(x: Turns) -> Wrapped
 
 // The same for an oscillator that wraps in several places.
 // Kept: a twin of wrap_phase, which the compiler leaves a call there. Of this one only the ways that few phases take become a call: two places call
-// wrap_near here, so the compiler doesn't make it part of it.
+// wrap_near here, so the compiler doesn't make it part of it (docs/BENCH.md: the Supersaw's tick took 49 ns by it, 61 by the other).
 #[tactic(auto, using(crate::proofs::PhaseLaws::wrap_unit, crate::proofs::PhaseLaws::turned_unit))]
 pub fn wrap_of_several(x: Turns) -> Wrapped
     ensures { result ≡ wrap_phase_of x }
@@ -222,7 +222,8 @@ pub fn restart(phase: Turns, rising: bool) -> Turns
 
 // The Rust's Memo: it remembers what was computed for the last key. The Rust keys it by the bits of N f64s; here the key is one number or a tuple of them,
 // as `numeric::bits` gives them, so 0.0 and -0.0 differ.
-// Kept: `valid` stands beside the key and the value and no Option holds them, since a host's flat state has a field for each of the three.
+// Kept: `valid` stands beside the key and the value and no Option holds them, since a host's flat state has a field for each of the three, which ReadBack of
+// the exports reads back, and among its whole numbers `valid` is one.
 #[derive(Clone, Copy)]
 pub struct Memo<K, V> {
     pub key: K,

@@ -108,33 +108,3 @@ quiet_bits b h = subst (λ (z : Bool). T (not z)) (sym (nan_bits_above binary64 
 pub nan_bits_lem : (b : ℕ) → 9218868437227405312 < b % 9223372036854775808 → nan ≡ of_bits binary64 b
 nan_bits_lem b h =
     sym (is_nan_lem (of_bits binary64 b) (sym (nan_bits_is binary64 b) ∙ nan_bits_above binary64 b ∙ lt-ltb 9218868437227405312 (b % 9223372036854775808) h))
-
--- ---- to_u64
--- at -1 and below, and a NaN
-pub low_is : (x : Float) → lt (fin true 1 (pos 0)) x ≡ false → 0 ≡ to_unsigned 64 x
-unfolding lt to_unsigned
-low_is nan h = refl
-low_is (inf true) h = refl
-low_is (inf false) h = absurd (true≢false h)
-low_is (fin true m e) h = refl
-low_is (fin false m e) h = absurd (bad (down e) (m * up e) (down_pos e) (ltb-false 0 (1 * down e + m * up e * 1) h))
-  where
-    bad : (d n : ℕ) → 0 < d → 1 * d + n * 1 ≤ 0 → ⊥
-    bad d n D h = omega arith
-
--- from 2 ^ 64 on
-pub high_is : (x : Float) → lt (fin true 1 (pos 0)) x ≡ true → lt x (fin false 1 (pos 64)) ≡ false → 18446744073709551615 ≡ to_unsigned 64 x
-unfolding lt to_unsigned
-high_is nan l h = absurd (false≢true l)
-high_is (inf true) l h = absurd (false≢true l)
-high_is (inf false) l h = refl
-high_is (fin true m e) l h = absurd (bad (down e) (m * up e) (down_pos e) (ltb-false 0 (m * up e * 1 + 18446744073709551616 * down e) h))
-  where
-    bad : (d n : ℕ) → 0 < d → n * 1 + 18446744073709551616 * d ≤ 0 → ⊥
-    bad d n D h = omega arith
-high_is (fin false m e) l h = top (m * up e / down e)
-    ((le-div_iff_mul-le (down_pos e)).1
-    (subst (λ (z : ℕ). 18446744073709551616 * down e ≤ z) (mul-one (m * up e)) (ltb-false (m * up e * 1) (18446744073709551616 * down e) h)))
-  where
-    top : (q : ℕ) → 18446744073709551616 ≤ q → 18446744073709551615 ≡ min q 18446744073709551615
-    top q h = omega arith

@@ -20,6 +20,7 @@ pub const TAU: f64 = 6.283185307179586;
 // ---- small functions
 
 // Neither an infinity nor a NaN: only those are not 0 less themselves.
+// Kept: a public function, of which Settled speaks; the library's body is the same test.
 pub fn is_finite(x: f64) -> bool
     ensures { result ≡ is_fin x }
 {
@@ -27,6 +28,7 @@ pub fn is_finite(x: f64) -> bool
 }
 
 // The sign cleared. 0.0 - x is -x, and +0.0 for both zeros.
+// Kept: a public function, of which Settled speaks; the library's `abs` asks twice where this asks once.
 pub fn fabs(x: f64) -> f64
     ensures { result ≡ fabs_of x }
 {
@@ -34,6 +36,7 @@ pub fn fabs(x: f64) -> f64
 }
 
 // A NaN passes, and -0.0 is kept.
+// Kept: the library's `clamp` asks of its caller that lo isn't above hi, and this one's contract nothing.
 pub fn clamp(x: f64, lo: f64, hi: f64) -> f64
     ensures { result ≡ clamp_of x lo hi }
 {
@@ -47,6 +50,7 @@ pub fn clamp(x: f64, lo: f64, hi: f64) -> f64
 }
 
 // The smaller; with one NaN the other number.
+// Kept: here and in `max` min_of and max_of say which of 0.0 and -0.0 it is, and the library's contract leaves that open.
 pub fn min(a: f64, b: f64) -> f64
     ensures { result ≡ min_of a b }
 {
@@ -84,22 +88,14 @@ pub fn least(a: usize, b: usize) -> usize
 pub fn to_u64(x: f64) -> u64
     ensures { result ≡ whole_of x }
 {
-    if x > -1.0 {
-        if x < 18446744073709551616.0 {
-            std::num::truncating_f64_to_u64(x)
-        } else {
-            18446744073709551615
-        }
-    } else {
-        0
-    }
+    std::num::saturating_f64_to_u64(x)
 }
 
 // Rust's `as usize`, of 64 bits.
 pub fn to_usize(x: f64) -> usize
     ensures { result ≡ whole_of x }
 {
-    to_u64(x) as usize
+    std::num::saturating_f64_to_usize(x)
 }
 
 // Rust's `as f64`.
@@ -147,6 +143,7 @@ fn pick(x: f64, r: f64) -> f64
 }
 
 // The largest whole number that isn't above x. A sum with 2^52 has no room for a fraction; from 2^52 on x has none.
+// Kept: a public function, of which Settled speaks; the library's `floor` makes two roundings of the size and chooses by the sign, this one rounds once.
 pub fn floor(x: f64) -> f64
     ensures { result ≡ floor_of x }
 {

@@ -1,28 +1,19 @@
-use mathlib.Core.Bool.{Bool, true, false, true≢false}
-use mathlib.Core.Path.{◌≡◌, refl, sym, ◌∙◌}
-use Prim.Native.Nat.{ℕ, ◌<◌}
-use native.Mathlib.Omega.{arith}
-use lib.Ieee.{Float, nan, is_nan}
-use lib.ListN.{length, get_or}
-use Rattle.std.proofs.Common.{List, below_more}
-use Rattle.laws.proofs.Order.{nan_test}
-use Rattle.answer.proofs.Laws.{each_number, number_each}
+use borrow.Author.Rules.{rules}
+use mathlib.Core.Bool.{not, ◌&&◌}
+use mathlib.Core.List.{List, [], ◌∷◌}
+use mathlib.Core.Path.{◌≡◌, refl, ap, ◌∙◌}
+use lib.Ieee.{Float, is_nan}
+use Rattle.std.specs.List.{list_all}
+use Rattle.std.proofs.lemmas.Iterator.{YieldsList-from_slice}
+use Rattle.std.proofs.lemmas.Iterator.Search.{all_from_yields_List}
 use Rattle.answer.specs.Mark.{all_numbers}
 use Rattle.answer.proofs.numbers.Goals as goal
 
--- one control that is NaN is enough
-some_nan : (xs : List Float) (i : ℕ) → i < length xs → is_nan (get_or xs i nan) ≡ true → false ≡ all_numbers xs
-some_nan xs i l h = go (all_numbers xs) refl
-  where
-    go : (b : Bool) → all_numbers xs ≡ b → false ≡ b
-    go false e = refl
-    go true e = absurd (true≢false (sym h ∙ each_number xs e i l))
-
-pub loop-x-preserved : goal.loop-x-preserved
-loop-x-preserved g c = below_more _ _ c.loop-x.invariant (sym (nan_test _) ∙ c.if-x.false)
-
-pub returns-then-x : goal.returns-then-x
-returns-then-x g c = some_nan _ _ (omega (arith, c.loop-x-test.true)) (sym (nan_test _) ∙ c.if-x.true)
+each : (xs : List Float) → list_all (λ (x : Float). not (is_nan x)) xs ≡ all_numbers xs
+unfolding all_numbers
+each [] = refl
+each (x ∷ xs) = ap (λ b. not (is_nan x) && b) (each xs)
 
 pub returns : goal.returns
-returns g c = sym (number_each c.args.controls (λ i l. c.loop-x.invariant i (omega arith)))
+returns g c = all_from_yields_List (λ (x : Float). not (is_nan x)) _ _ _ c.all.ensures.ran (YieldsList-from_slice c.args.controls cc) (λ x b q k. search rules)
+    ∙ each c.args.controls

@@ -1,21 +1,22 @@
-use mathlib.Core.Path.{sym, ◌∙◌}
-use borrow.Author.Tests.{eq-eqb, ne_eqb}
+use mathlib.Core.Path.{refl}
 use Rattle.std.proofs.lemmas.Result.{err_from_is_err_and}
-use Rattle.boundary.proofs.Flat.{then_ok, then_err}
-use Rattle.boundary.specs.Flat.{state_heard}
+use Rattle.common.specs.Refusal.{refused_number}
+use Rattle.boundary.proofs.Flat.{tick_sized, fit_tick, unfit_tick}
 use Rattle.boundary.proofs.tick_state.Goals as goal
 
-pub returns-in_err-s : goal.returns-in_err-s
-unfolding state_heard
-returns-in_err-s g c =
+pub returns-in_err-tick_sizes : goal.returns-in_err-tick_sizes
+unfolding refused_number
+returns-in_err-tick_sizes g c =
     let p = err_from_is_err_and c.from_residual.result c.from_residual.ensures.1 in
-    rw (p.1, p.2) (then_err _ _ _ (sym c.in_err-s.ensures))
+    rw (p.1, p.2)
+    (unfit_tick _ _ _ _ _ _ _ c.in_err-tick_sizes.field-0.0 (simp (c.FLOATS.ensures, c.WHOLES.ensures, c.SAMPLES.ensures) at c.in_err-tick_sizes.ensures))
 
-pub returns-then-samples-SAMPLES : goal.returns-then-samples-SAMPLES
-unfolding state_heard
-returns-then-samples-SAMPLES g c = then_ok _ _ _ _ (sym c.in_ok-s.ensures) (simp (eq-eqb _ _ (c.if-samples-SAMPLES.true ∙ c.SAMPLES.ensures)))
+pub state-requires : goal.state-requires
+unfolding refused_number
+state-requires g c =
+    let s = tick_sized _ _ _ _ _ _ 0 (simp (c.FLOATS.ensures, c.WHOLES.ensures, c.SAMPLES.ensures) at c.in_ok-tick_sizes.ensures) refl in (s.0, s.1)
 
-pub returns-else-samples-SAMPLES : goal.returns-else-samples-SAMPLES
-unfolding state_heard
-returns-else-samples-SAMPLES g c =
-    then_ok _ _ _ _ (sym c.in_ok-s.ensures) (simp (ne_eqb _ _ (λ h. c.if-samples-SAMPLES.false (h ∙ sym c.SAMPLES.ensures))))
+pub returns : goal.returns
+unfolding refused_number
+returns g c =
+    fit_tick _ _ _ _ _ _ _ (simp (c.FLOATS.ensures, c.WHOLES.ensures, c.SAMPLES.ensures) at c.in_ok-tick_sizes.ensures) _ c.state.ensures
