@@ -96,6 +96,7 @@ fn read_on(from: &mut impl Read, input: &mut [u8], n: usize) -> ControlFlow<Opti
     after_read(n, got, &input[n..])
 }
 
+// Kept: its like is `read_full` of the program replay, which hands an error on; here a failed read is None, since FailedRead has it so.
 // Room for more than a score may have: of a longer text so much is read that it is refused, and no more.
 fn read_text(from: &mut impl Read, input: &mut [u8]) -> Option<usize>
     requires { (1024 < length input.old) × (length input.old < 4096) }
