@@ -160,7 +160,7 @@ fn read_microvolts(text: &[u8], microvolts: &mut [i32], wholes: &mut [u64]) -> R
     Ok(())
 }
 
-// Kept: here and in `gruttisol_score_write` a wrong length is answered by its number, which C reads: score's Refusal, which the rest answers by, has none for it.
+// Kept: here and in `gruttisol_score_write` a wrong length is answered by its number, which C reads: score's Refusal, by which the rest goes, has none for it.
 #[unsafe(no_mangle)]
 pub extern "C" fn gruttisol_score_values(
     text: &[u8],

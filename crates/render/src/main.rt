@@ -20,8 +20,11 @@ const AT_ONCE: u32 = 400;
 
 // ---- all that is written; no contract can speak of the output, so the `requires` says what is handed to it, of which input, and
 // that nothing follows a write that failed. `taken` is what standard input gave: a text of so many bytes, or a failure.
-// Kept: `write_piece`, `write_end`, `write_refused`, `reading`, `play` and `print` take the input, how much of it was taken and the score that it reads as,
-// since the promise of what is written is stated of the three; in a ghost field that equation would only be the truth that there is a proof of it.
+// Kept: the input, what was taken of it and the score that it reads as stand beside one another: that what is written is of that score is a `requires` on the
+// three. A struct of them would serve `write_piece`, `write_end` and `play` alone, since a refusal has no score, and would take the equation out of
+// the `requires`, where a reader looks for what is written.
+// Kept: the writes answer a bool, and so do `play` and `print`: the `requires` say by `wrote` that nothing follows a write that failed, and the edit
+// on_after_failed_write is about it; a `?` hands no later write a value of which that could be said.
 
 fn write_piece(
     rt: &impl Print,
@@ -65,6 +68,8 @@ fn write_refused(
 // ---- what is read
 
 // After a read behind n bytes: there are so many now, or no more come, and what was taken is settled.
+// Kept: here and in `reading` a match, since the edits failed_read_ends, failed_read_gives_none and failed_read_judged are about its arms; and what was taken
+// is an Option, here and in `read_text`, since `step_of` and FailedRead say that of a failure no error is left.
 fn after_read(n: usize, got: io::Result<usize>, room: &[u8]) -> ControlFlow<Option<usize>, usize>
     requires { n + length room.now < 4096 }
     ensures { result ≡ step_of n got (length room.now) }
@@ -91,6 +96,7 @@ fn read_on(from: &mut impl Read, input: &mut [u8], n: usize) -> ControlFlow<Opti
     after_read(n, got, &input[n..])
 }
 
+// Kept: its like is `read_full` of the program replay, which hands an error on; here a failed read is None, since FailedRead has it so.
 // Room for more than a score may have: of a longer text so much is read that it is refused, and no more.
 fn read_text(from: &mut impl Read, input: &mut [u8]) -> Option<usize>
     requires { (1024 < length input.old) × (length input.old < 4096) }
@@ -121,8 +127,8 @@ fn reading(input: &[u8], taken: Option<usize>) -> Result<Score, Refusal>
 
 // The score that was read of the input, piece by piece, until nothing is left or a write fails. It answers whether all was written.
 #[tactic(auto, unfolding(text::specs::Page::with_text, text::specs::Page::page_at, text::specs::Put::place_of))]
-fn play(rt: &impl Print, out: &mut [u8], input: &[u8], taken: Option<usize>, score: Score) -> bool
-    requires { (length out.old ≡ 65536) × (taken_of taken input.now ≡ Ok score) }
+fn play(rt: &impl Print, out: &mut [u8; 65536], input: &[u8], taken: Option<usize>, score: Score) -> bool
+    requires { taken_of taken input.now ≡ Ok score }
 {
     // six samples a frame at most
     let mut samples = [0.0; 2400];
@@ -162,8 +168,8 @@ fn play(rt: &impl Print, out: &mut [u8], input: &[u8], taken: Option<usize>, sco
 
 // It answers whether all was written.
 #[tactic(auto, unfolding(text::specs::Page::with_text, text::specs::Page::page_at, text::specs::Put::place_of))]
-fn print(rt: &impl Print, out: &mut [u8], input: &[u8], taken: Option<usize>) -> bool
-    requires { (length out.old ≡ 65536) × Within taken input.now }
+fn print(rt: &impl Print, out: &mut [u8; 65536], input: &[u8], taken: Option<usize>) -> bool
+    requires { Within taken input.now }
 {
     match reading(input, taken) {
         Ok(score) => play(rt, out, input, taken, score),

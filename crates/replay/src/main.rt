@@ -160,6 +160,7 @@ impl<'a> Words<'a> {
     }
 
     // It as a mask of outputs.
+    // Kept: the low half, whatever stands above it; a `try_from` would refuse lines that the program takes.
     fn mask(self, k: usize) -> u32 {
         (self.value(k) % 4294967296) as u32
     }
@@ -168,6 +169,7 @@ impl<'a> Words<'a> {
     fn values<const N: usize>(self, from: usize) -> [u64; N]
         requires { from + N ≤ 1000 }
     {
+        // Kept: by index, since the edit word_past_the_room writes a word where no room is.
         let mut out = [0; N];
         for i in 0..N {
             out[i] = self.value(from + i);
@@ -210,12 +212,7 @@ impl Told<'_> {
 impl Words<'_> {
     // Those from one on are what comes out.
     fn say(self, from: usize, told: Told) -> bool {
-        for k in from..self.each.len() {
-            if self.value(k) != told.word(k - from) {
-                return false;
-            }
-        }
-        true
+        (from..self.each.len()).all(|k| self.value(k) == told.word(k - from))
     }
 
     // Those from one on are what comes out of a tick of the state that the first are: so many floats and whole numbers. It has so many samples.
@@ -319,6 +316,7 @@ fn same_wavetable(words: Words, bank: &[f64]) -> bool {
 }
 
 // A line and draws of 62, which is what a string at 1,000 Hz needs.
+// Kept: no `say_tick`, which lends no line; with one that it lends and tells, the six other kinds would each hand over an empty one.
 fn same_karplus_strong(words: Words) -> bool {
     let mut floats = words.reals::<7>(0);
     let mut wholes = words.values::<4>(7);
@@ -415,12 +413,10 @@ fn find(text: &[u8], from: usize, end: usize, byte: u8) -> usize
     ensures before { (k : ℕ) → from ≤ k → k < result → slice_index text.now k ≢ byte }
     ensures found { result < end → slice_index text.now result ≡ byte }
 {
-    for at in from..end {
-        if text[at] == byte {
-            return at;
-        }
-    }
-    end
+    text[from..end]
+        .iter()
+        .position(|b| *b == byte)
+        .map_or(end, |n| from + n)
 }
 
 // Whether a line that is a case of this kind comes out as it says; no other line is said of.
@@ -493,6 +489,7 @@ fn room() -> [u8; 2097152]
 }
 
 // Reads until the room is full or the input ends, and says how many bytes came.
+// Kept: its like is `read_text` of the program render, which tells a failed read as None, since FailedRead has it so; this one hands the error on.
 fn read_full(from: &mut impl Read, room: &mut [u8]) -> io::Result<usize>
     ensures { IfOk result (λ n. IsPrefixLen n room.new) }
 {

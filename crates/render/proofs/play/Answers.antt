@@ -10,11 +10,11 @@ use Rattle.render.proofs.play.Goals as goal
 pub loop-first-init : goal.loop-first-init
 loop-first-init g c =
     record {
-      read = was_read _ _ _ c.requires.1;
+      read = was_read _ _ _ c.requires;
       frames_are = refl;
       owner = c.owner_of-osc.ensures;
       ports_are = c.ports_of-ports.ensures;
-      out_size = c.requires.0;
+      out_size = c.told-out;
       samples_size = refl;
       marks_size = refl;
       stands = stands_first _ _ _ c.new-player.ensures c.new-tally.ensures;
@@ -50,7 +50,7 @@ unfolding with_text page_at
 write_piece-wrote-requires g c =
     let i = c.loop-first.invariant in
     let some = c.loop-first-test.true in (
-      c.requires.1,
+      c.requires,
       piece_written i some _ c.min-n.ensures (done _ _ _ _ _ _ _ c.unwrap-played.ensures c.play.ensures) c.play.auto.samples c.play.auto.marks
           (rw (c.place-to.ensures, c.put_frames.ensures, c.new-page.ensures) (refl, grind arith)),
       begins i some _ c.min-n.ensures,
@@ -70,7 +70,7 @@ pub write_end-requires : goal.write_end-requires
 unfolding with_text page_at
 write_end-requires g c =
     let i = c.loop-first.invariant in (
-      c.requires.1,
+      c.requires,
       end_written i c.loop-first-test.false _ _ (rw (c.place-to-2.ensures, c.put_end.ensures, c.new-page-2.ensures) (refl, grind arith)),
       i.so_far,
     )

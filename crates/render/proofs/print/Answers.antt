@@ -9,5 +9,5 @@ pub write_refused-requires : goal.write_refused-requires
 unfolding with_text page_at
 write_refused-requires g c = (
   sym c.reading.ensures ∙ c.in-Err.is,
-  refused_written _ _ _ _ (omega arith) c.requires.0 (rw (c.place-to.ensures, c.put_refused.ensures, c.new-page.ensures, c.number.ensures) (refl, grind arith)),
+  refused_written _ _ _ _ (omega arith) c.told-out (rw (c.place-to.ensures, c.put_refused.ensures, c.new-page.ensures, c.number.ensures) (refl, grind arith)),
 )
