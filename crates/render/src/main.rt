@@ -22,7 +22,7 @@ const AT_ONCE: u32 = 400;
 // that nothing follows a write that failed. `taken` is what standard input gave: a text of so many bytes, or a failure.
 // Kept: the input, what was taken of it and the score that it reads as stand beside one another: that what is written is of that score is a `requires` on the
 // three. A struct of them would serve `write_piece`, `write_end` and `play` alone, since a refusal has no score, and would take the equation out of
-// the `requires`, where a reader looks for what is written.
+// the `requires`, where a reader looks for what is written; `write_refused` says so of the two that it has.
 // Kept: the writes answer a bool, and so do `play` and `print`: the `requires` say by `wrote` that nothing follows a write that failed, and the edit
 // on_after_failed_write is about it; a `?` hands no later write a value of which that could be said.
 
@@ -127,7 +127,13 @@ fn reading(input: &[u8], taken: Option<usize>) -> Result<Score, Refusal>
 
 // The score that was read of the input, piece by piece, until nothing is left or a write fails. It answers whether all was written.
 #[tactic(auto, unfolding(text::specs::Page::with_text, text::specs::Page::page_at, text::specs::Put::place_of))]
-fn play(rt: &impl Print, out: &mut [u8; 65536], input: &[u8], taken: Option<usize>, score: Score) -> bool
+fn play(
+    rt: &impl Print,
+    out: &mut [u8; 65536],
+    input: &[u8],
+    taken: Option<usize>,
+    score: Score,
+) -> bool
     requires { taken_of taken input.now ≡ Ok score }
 {
     // six samples a frame at most

@@ -8,4 +8,6 @@ use Rattle.exports_score.proofs.Cells.{zeros_all}
 use Rattle.exports_score.proofs.are_zeros.Goals as goal
 
 pub returns : goal.returns
-returns c = all_from_yields_List is_zero _ _ _ c.all.ensures.ran (YieldsList-from_slice c.args.cells.now cc) (λ x b q k. search rules) ∙ zeros_all c.args.cells.now
+returns c =
+    all_from_yields_List is_zero _ _ _ c.all.ensures.ran (YieldsList-from_slice c.args.cells.now cc) (λ x b q k. search rules)
+    ∙ zeros_all c.args.cells.now
