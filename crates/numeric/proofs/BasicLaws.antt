@@ -1,8 +1,8 @@
 -- What the bodies of is_finite, fabs, of_bits and to_u64 work out.
-use Rattle.std.proofs.Common.{◌≡◌, ℕ, ◌+◌, ◌*◌, ◌/◌, ◌%◌, ◌<◌, ◌≤◌, min, Bool, true, false, not, T, pos, sym, refl, ap, ◌∙◌, subst, true≢false, zero-lt-suc}
-use Rattle.std.proofs.Common.{one-mul, le-div_iff_mul-le, zero-add, zero-mul, mul-one, arith, ltb-false, le-ltb, lt-ltb}
+use Rattle.std.proofs.Common.{◌≡◌, ℕ, ◌*◌, ◌%◌, ◌<◌, ◌≤◌, Bool, true, false, not, T, pos, sym, refl, ap, ◌∙◌, subst, true≢false, zero-lt-suc}
+use Rattle.std.proofs.Common.{one-mul, zero-add, zero-mul, mul-one, arith, ltb-false, le-ltb, lt-ltb}
 use mathlib.Core.Bool.{false≢true}
-use lib.Ieee.{Float, add, binary64, down, eq, fin, fits, inf, lt, nan, nan_bits, neg, of_bits, round, sub, sum, to_unsigned, up}
+use lib.Ieee.{Float, add, binary64, down, eq, fin, fits, inf, lt, nan, nan_bits, neg, of_bits, round, sub, sum, up}
 use lib.Ieee.Back.{whole_unique}
 use lib.Ieee.Bits.{nan_bits_above, nan_bits_is}
 use lib.Ieee.Fits.{down_pos, neg-fits}
