@@ -127,7 +127,13 @@ fn reading(input: &[u8], taken: Option<usize>) -> Result<Score, Refusal>
 
 // The score that was read of the input, piece by piece, until nothing is left or a write fails. It answers whether all was written.
 #[tactic(auto, unfolding(text::specs::Page::with_text, text::specs::Page::page_at, text::specs::Put::place_of))]
-fn play(rt: &impl Print, out: &mut [u8; 65536], input: &[u8], taken: Option<usize>, score: Score) -> bool
+fn play(
+    rt: &impl Print,
+    out: &mut [u8; 65536],
+    input: &[u8],
+    taken: Option<usize>,
+    score: Score,
+) -> bool
     requires { taken_of taken input.now ≡ Ok score }
 {
     // six samples a frame at most
