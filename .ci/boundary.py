@@ -83,7 +83,7 @@ SAID = [
     ("GATE_ISSUE_1", "common", r"\bconst GATE_THRESHOLD_V: f64 = ([\d.]+);"),
     ("GATE_ISSUE_2", "common", r"\bconst LOW_GATE_THRESHOLD_V: f64 = ([\d.]+);"),
     ("SCORE_TEXT", "score", r"\bif (\d+) < text\.len\(\)"),
-    *((f"OSC_{osc.upper()}", "exports_score", rf"\bfn {osc}_ports\b(?s:.*?)\bosc: (\d+)") for osc in ("vco", "lfo", "supersaw", "formant")),
+    *((f"OSC_{osc.upper()}", "exports_score", rf"\bfn osc_number\b(?s:.*?)\bOsc::{osc} => (\d+)") for osc in ("Vco", "Lfo", "Supersaw", "Formant")),
 ]
 # Numbers that no one place of the crates says: refusals, and what is enough for a string at every rate and for every tick of noise
 NOWHERE = r"BAD_\w+|SHORT_LINE|SHORT_TEXT|FEW_DRAWS|LONG_SCORE|OUT_OF_RANGE|KARPLUS_STRONG_(?:LINE|DRAWS)|NOISE_GENERATOR_DRAWS"

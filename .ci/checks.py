@@ -360,7 +360,7 @@ def controls_asked(files):
     named = lambda text: re.findall(r"\bc\.«?(\w+)", text)
     for source in [path for path in files if re.fullmatch(r"crates/\w+/src/lib.rt", path)]:
         controls = re.search(r"^pub struct \w+Controls \{\n(.*?)^\}", files[source], re.M | re.S)
-        fields = re.findall(r"^    pub (\w+): (\w+),$", controls[1], re.M) if controls else []
+        fields = re.findall(r"^    pub (\w+): ([\w<>]+),$", controls[1], re.M) if controls else []
         of_crate = [path for path in files if path.startswith(source.replace("src/lib.rt", "specs/"))]
         for path, text in ((path, files[path]) for path in of_crate if fields):
             for listed in re.findall(r"^controls_of c = (.*)$", text, re.M):

@@ -417,12 +417,36 @@ pub fn block_refusal(
 }
 
 // A tick's outputs into its part of a block's samples, as many as the part has cells.
+// Kept: cell by cell, which the compiler cuts to the cells that there are: by copy_from_slice a block of the Lfo took 9.9 ns a tick instead of 5.1, one of the
+// Vco 9.9 instead of 6.9.
 fn put_volts(v: Volts, part: &mut [f64])
     ensures { part.new ≡ sets part.old 0 (ports_of (length part.old) v) }
 {
-    let ports = [v.p10, v.p11, v.p12, v.p13, v.p14, v.p15];
-    let n = part.len().min(ports.len());
-    part[..n].copy_from_slice(&ports[..n]);
+    let n = part.len();
+    if n < 1 {
+        return;
+    }
+    part[0] = v.p10;
+    if n < 2 {
+        return;
+    }
+    part[1] = v.p11;
+    if n < 3 {
+        return;
+    }
+    part[2] = v.p12;
+    if n < 4 {
+        return;
+    }
+    part[3] = v.p13;
+    if n < 5 {
+        return;
+    }
+    part[4] = v.p14;
+    if n < 6 {
+        return;
+    }
+    part[5] = v.p15;
 }
 
 // The outputs of tick i among the samples of n ticks with so many outputs each. Samples that aren't those are left: a block has asked that
