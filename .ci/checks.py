@@ -151,7 +151,7 @@ def only_promises(files):
 # ---- contracts
 
 def settled(files):
-    """Every public function has an `ensures` and no `requires`, but that a closure may be called; what a trait's functions ask only a crate's own types have."""
+    """Every public function has an `ensures` and no `requires`; what a trait's functions ask only a crate's own types have."""
     for path, _, function in contracts.public(files):
         words = [word for word, _ in function.clauses]
         if "ensures" not in words:
@@ -375,7 +375,7 @@ def controls_asked(files):
 
 
 # of these crates more edits are tried: those of their later public functions came beside the sixteen
-MOST_EDITS = {"answer": 19, "common": 17, "score": 18}
+MOST_EDITS = {"answer": 20, "common": 17, "score": 19}
 
 # no edit of these changes definition and code together
 WITHOUT_BOTH = {
@@ -544,6 +544,7 @@ CHECKS = {
         {"crates/x/src/lib.rt": "pub const unsafe fn f<'a>(x: u8) -> u8\n{\n    x\n}\n"},
         {"crates/x/src/lib.rt": "pub fn f<F: FnOnce() -> u8>(g: F) -> u8\n{\n    g()\n}\n"},
         {"crates/x/src/lib.rt": "pub fn f<F: FnOnce() -> u8>(g: F, x: u8) -> u8\n    requires { F.pre x }\n    ensures { x }\n{ x }\n"},
+        {"crates/x/src/lib.rt": "pub fn f<F: FnOnce() -> u8>(g: F) -> u8\n    requires { F.pre g }\n    ensures { x }\n{ x }\n"},
         {"crates/x/src/lib.rt": "pub fn f<F: Copy>(g: F) -> u8\n    requires { F.pre g }\n    ensures { x }\n{ 0 }\n"},
     ],
     instances: [

@@ -10,9 +10,6 @@ A left side may also be a definition of what the call leaves, each part of it an
 or what a change says of itself. Then the field has the same left side, of the type of what the call leaves, and its proof says that the definition
 tells that. Or a statement says so of the definition, whatever it is equal to (`telling`), and the field has what it is equal to.
 
-A function that is given a closure asks that it may be called, and nothing else; and where its contract begins with `(v : V) → Gives (F.post compute) v →`,
-which says that every answer of the closure is v, v is one more input.
-
 A field's variables are of types that are made of names: its own type variables too, and functions of such. One that stands for an input has the
 type of that input, so a field of a function for any type is for any type; one that stands for what a trait has (`L.state_of`) has the type that the trait
 gives it. One that its equations don't use would make the field say nothing if its type had no members: it has the type of one of the
@@ -191,14 +188,10 @@ def functions(text, traits=()):
             inputs[0] = ["self", (lent[1] or "") + own]
         inputs = [[given[0].removeprefix("mut "), given[-1]] for given in inputs]
         answer = re.compile(r"\s*->\s*([^{]*?)\s*(?=\b(?:ensures|requires)\b|\{)").match(text, end)
-        closures = {name for name, bound in parameters.items() if re.match(r"Fn(?:Once|Mut)?\(", bound)}
-        callable = {f"{kind}.pre {name}" for name, kind in inputs if kind in closures}
         at, clauses = answer.end() if answer else end, []
         while clause := re.compile(r"\s*(ensures|requires)(\*?)(?:\s+\w+)?\s*(?=\{)").match(text, at):
             at = past(text, clause.end())
-            said = clause[2] + text[clause.end() + 1 : at - 1]
-            if clause[1] == "ensures" or said.strip() not in callable:
-                clauses.append((clause[1], said))
+            clauses.append((clause[1], clause[2] + text[clause.end() + 1 : at - 1]))
         yield Function(m.start(), m[2], inputs, answer[1] if answer else None, clauses, own, parameters)
 
 
@@ -314,29 +307,16 @@ def members(files, defined):
 
 # ---- contracts
 
-def given_by_closure(defined, term, function):
-    """What a contract says of the value that a closure gives, of which it has said so first, with that value and its type; or the contract as it is."""
-    found = parted(term, "→")
-    if len(found) == 3 and isinstance(found[0], list) and len(found[0]) == 3 and found[0][1] == ":":
-        value, _, kind = found[0]
-        gives = [[["r", ":", "_"], [[[known, ".post"], name], "r"], ["r", "≡", value]] for name, known in function.inputs]
-        if parted(opened(defined, found[1]), "→") in gives:
-            return found[2], {value: kind}
-    return term, {}
-
-
-def contract(function, defined, modules=()):
-    """The contract's equations, or None, and what closures give, as {name: type}."""
-    found, values = [], {}
+def contract(function, modules=()):
+    """The contract's equations, or None."""
+    found = []
     for word, said in function.clauses:
         if word == "ensures":
-            term, given = given_by_closure(defined, tree(said, modules, function.parameters), function)
-            sides = equations(term)
+            sides = equations(tree(said, modules, function.parameters))
             if sides is None:
-                return None, {}
+                return None
             found += [tuple(map(called, pair)) for pair in sides]
-            values.update(given)
-    return found or None, values
+    return found or None
 
 
 def definitions(files):
@@ -499,8 +479,8 @@ class Contracts:
         self.files, self.defined = files, definitions(files)
         self.members, self.telling = members(files, self.defined), list(telling(files, self.defined))
 
-    def known(self, function, values):
-        """The types of what a contract may name: inputs, numbers and what traits have among the parameters, what closures give."""
+    def known(self, function):
+        """The types of what a contract may name: inputs, numbers and what traits have among the parameters."""
         found = {name: kind_of(kind, function) for name, kind in function.inputs}
         for name, bound in function.parameters.items():
             if bound == "const":
@@ -509,14 +489,14 @@ class Contracts:
                 for member, kind in self.members.get(bare(trait), {}).items():
                     own = {word: name if word == "Self" else word.replace("Self::", f"{name}::") for word in leaves(kind)}
                     found[str([name, f".{member}"])] = replaced(kind, own)
-        return {**found, **{name: plain(kind, self.defined) for name, kind in values.items()}}
+        return found
 
-    def repeats(self, said, function, sides, values):
+    def repeats(self, said, function, sides):
         """Whether a field of Settled says what a contract does."""
         if not said or len(said.sides) != len(sides):
             return False
         answers, written = left_by(function)
-        known, given = {name: plain(kind, self.defined) for name, kind in self.known(function, values).items()}, {}
+        known, given = {name: plain(kind, self.defined) for name, kind in self.known(function).items()}, {}
         kinds = {ANSWER: plain(kind_of(function.answer, function), self.defined), **{name: known[name[:-1]] for name in written}}
         parts_there = []
         for (pattern, right_there), (left, right) in zip(said.sides, sides):
@@ -585,9 +565,9 @@ def differences(files):
         sources = "".join(other for there, other in files.items() if there.startswith(f"crates/{crate}/src/"))
         structs = {m[1]: re.findall(r"pub (\w+):", m[2]) for m in re.finditer(r"struct (\w+)[^{;(]*\{([^}]*)\}", sources)}
         place = f"{path}:{line(files[path], function.at)}: {function.name}"
-        sides, values = contract(function, contracts.defined, named_modules(files[path]))
+        sides = contract(function, named_modules(files[path]))
         wrong = contracts.wrong(function, structs, sides)
         if wrong:
             yield f"{place}: {wrong}"
-        elif not any(named_after(field, function.name) and contracts.repeats(said, function, sides, values) for field, said in settled.get(crate, [])):
+        elif not any(named_after(field, function.name) and contracts.repeats(said, function, sides) for field, said in settled.get(crate, [])):
             yield f"{place}: no field of Settled has its contract's text under Settles"

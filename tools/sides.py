@@ -23,7 +23,8 @@ def declarations(root, part):
         for block in re.split(r"\n(?=(?:unfoldable |abbrev )*(?:pub )?(?:record |data )?[^\s:(){}]+ ?(?:[:({]))", "\n" + text):
             head = re.match(r"\n?(?:unfoldable |abbrev )*(?:pub )?(?:record |data )?([^\s:(){}]+)", block)
             if head and head[1] not in ("module", "unfolding", "where"):
-                found[crate, head[1]] = path.name, block.strip("\n")
+                before = found[crate, head[1]][1] + "\n" if (crate, head[1]) in found else ""  # a type, or a clause of the same name
+                found[crate, head[1]] = path.name, before + block.strip("\n")
     return found
 
 

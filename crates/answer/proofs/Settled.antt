@@ -22,6 +22,7 @@ settled =
       samples = λ a. laws.settled _;
       tally_has_room = λ t n. laws.settled _;
       tally_take_marks = λ t marks. laws.settled _;
-      block_refusal = λ ports samples first t n. refusal_settled _;
+      block_refusal = λ ports samples number t n. laws.settled _;
+      block_outcome = λ ports samples first t n. refusal_settled _;
       put = λ a ports i samples marks. laws.both _ _;
     }

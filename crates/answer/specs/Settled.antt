@@ -31,7 +31,8 @@ pub record Settled : Type 1 where
   pub samples : (a : Answer) → Settles (λ (r : Volts). r ≡ answers.volts_of a)
   pub tally_has_room : (t : Tally) (n : ℕ) → Settles (λ (r : Bool). r ≡ room_for t n)
   pub tally_take_marks : (t : Tally) (marks : List ℕ) → Settles (λ (r : Result Tally Refusal). r ≡ marks_taken t marks)
-  pub block_refusal : (ports samples : ℕ) (first : Result (Unit {0}) Refusal) (t : Tally) (n : ℕ)
+  pub block_refusal : (ports samples number : ℕ) (t : Tally) (n : ℕ) → Settles (λ (r : ℕ). r ≡ block_refusal_of (eqb samples (ports * n)) number t n)
+  pub block_outcome : (ports samples : ℕ) (first : Result (Unit {0}) Refusal) (t : Tally) (n : ℕ)
       → Settles (λ (r : Result (Unit {0}) Refusal). refused_number r ≡ block_refusal_of (eqb samples (ports * n)) (refused_number first) t n)
   -- the samples and the marks that it leaves
   pub put : (a : Answer) (ports i : ℕ) (samples : List Float) (marks : List ℕ)

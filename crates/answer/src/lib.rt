@@ -384,6 +384,7 @@ impl Tally {
 }
 
 // Whether so many samples are those of n ticks with so many outputs each. A product could be too large.
+// Kept: outputs, samples and ticks are told apart, here and below, as the contract of the public `block_refusal` does.
 fn fits(ports: usize, samples: usize, n: usize) -> bool
     ensures { result ≡ eqb samples (ports * n) }
 {
@@ -394,9 +395,27 @@ fn fits(ports: usize, samples: usize, n: usize) -> bool
     }
 }
 
-// What refuses a block of n ticks with so many outputs each: it isn't lent so many samples, then what refuses its first tick, then the tally that has no
-// room for n answers.
-pub fn block_refusal(
+// 0, or what refuses a block of n ticks with so many outputs each: 52 where it isn't lent so many samples, then what refuses its first
+// tick, then 7 where the tally has no room for n answers.
+// Kept: public, and of any number, also one of no Refusal: `block_refusal_of` and Settled speak of each.
+pub fn block_refusal(ports: usize, samples: usize, number: u32, tally: Tally, n: usize) -> u32
+    ensures { result ≡ block_refusal_of (eqb samples (ports * n)) number tally n }
+{
+    if number == 0 {
+        match block_outcome(ports, samples, Ok(()), tally, n) {
+            Ok(()) => 0,
+            Err(refused) => refused.number(),
+        }
+    } else if fits(ports, samples, n) {
+        number
+    } else {
+        Refusal::Samples.number()
+    }
+}
+
+// The same where a Result tells what refuses its first tick.
+// Kept: outputs, samples and ticks are told apart, as above.
+pub fn block_outcome(
     ports: usize,
     samples: usize,
     first: Result<(), Refusal>,

@@ -17,7 +17,6 @@ settled =
       memo_new = λ k v. laws.settled _;
       memo_hits = λ same m k. laws.settled _;
       memo_filled = λ k v. laws.settled _;
-      memo_get_or_compute = λ same v m k. laws.settled _;
       memo_voct_to_hz = λ m v. laws.settled _;
       edge_new = λ t. laws.settled _;
       edge_rising = λ e v. laws.settled _;

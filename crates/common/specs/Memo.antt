@@ -17,10 +17,6 @@ hits same m k = m.valid && same m.key k
 unfoldable pub filled : {K V : Type 0} → K → V → Memo K V
 filled k v = record { key = k; val = v; valid = true }
 
--- a closure gives v: every answer that it may have is v
-abbrev pub Gives : {A : Type 0} → (A → Type 0) → A → Type 0
-Gives answers v = (r : _) → answers r → r ≡ v
-
 -- get_or_compute(k, || v): the memo after it, whose val is its answer
 unfoldable pub recall : {K V : Type 0} → (K → K → Bool) → V → Memo K V → K → Memo K V
 recall same v m k = cond (hits same m k) m (filled k v)

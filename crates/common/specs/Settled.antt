@@ -3,7 +3,7 @@ use Rattle.std.specs.Prelude.{◌≡◌, Bool, List, ℕ, Result, Float}
 use Rattle.laws.specs.Machine.{Settles}
 use Rattle.common.specs.Pitch.{voct_to_hz}
 use Rattle.common.specs.Phase.{wrap_phase_of, polyblep_of, polyblamp_of, increment_of, restart_of}
-use Rattle.common.specs.Memo.{Key3, key3, new_memo, hits, filled, recall, Memo1, recall1, voct_to_hz_at}
+use Rattle.common.specs.Memo.{Key3, key3, new_memo, hits, filled, Memo1, recall1, voct_to_hz_at}
 use Rattle.common.specs.Edge.{new_edge, rising_above_of, rising_of, crossed_above_of, crossed_of, reset_of}
 use Rattle.common.specs.Ports.{out_of}
 use Rattle.common.specs.Refusal.{number_of, refused_number}
@@ -30,7 +30,6 @@ pub record Settled : Type 1 where
   pub memo_new : {K V : Type 0} (k : K) (v : V) → Settles (λ (r : Memo K V). r ≡ new_memo k v)
   pub memo_hits : {K V : Type 0} (same : K → K → Bool) (m : Memo K V) (k : K) → Settles (λ (r : Bool). r ≡ hits same m k)
   pub memo_filled : {K V : Type 0} (k : K) (v : V) → Settles (λ (r : Memo K V). r ≡ filled k v)
-  pub memo_get_or_compute : {K V : Type 0} (same : K → K → Bool) (v : V) (m : Memo K V) (k : K) → Settles (λ (r : Memo K V). r ≡ recall same v m k)
   pub memo_voct_to_hz : (m : Memo1) (v : VoltsPerOctave) → Settles (λ (r : Memo1). r ≡ recall1 voct_to_hz_at m v.0)
   pub edge_new : (t : Float) → Settles (λ (r : EdgeDetector). r ≡ new_edge t)
   pub edge_rising : (e : EdgeDetector) (v : Float) → Settles (λ (r : Risen). r ≡ rising_of e v)

@@ -7,7 +7,7 @@ ghost use Rattle.std.specs.Float.Ieee.{le};
 ghost use Rattle.laws.specs.Float.{zer, one};
 ghost use Rattle.common.specs.Pitch.{voct_to_hz};
 ghost use Rattle.common.specs.Phase.{turns, wrap_of, turned_of, wrap_phase_of, polyblep_of, polyblamp_of, increment_of, restart_of};
-ghost use Rattle.common.specs.Memo.{key3, new_memo, hits, filled, Gives, recall, recall1, voct_to_hz_at};
+ghost use Rattle.common.specs.Memo.{key3, new_memo, hits, filled, recall1, voct_to_hz_at};
 ghost use Rattle.common.specs.Edge.{new_edge, seen_of, rising_above_of, rising_of, crossed_above_of, crossed_of, reset_of};
 ghost use Rattle.common.specs.Ports.{out_of};
 ghost use Rattle.common.specs.Refusal.{number_of, refused_number};
@@ -238,6 +238,8 @@ pub fn key3(x: f64, y: f64, z: f64) -> (u64, u64, u64)
     (numeric::bits(x), numeric::bits(y), numeric::bits(z))
 }
 
+// Kept: what the Rust's get_or_compute asks and fills is `hits` and `filled` at each of its four places, and no function takes its closure: that one would
+// ask of its caller that the closure may be called, and no public function asks anything (README, "Total").
 impl<K: Copy + PartialEq, V: Copy> Memo<K, V> {
     // An empty one. What key and val are can't be told.
     pub fn new(key: K, val: V) -> Self
@@ -269,27 +271,20 @@ impl<K: Copy + PartialEq, V: Copy> Memo<K, V> {
             valid: true,
         }
     }
-
-    // The memo that holds the value for this key, which is computed where it isn't at hand. The Rust's answer is this memo's val.
-    #[tactic(auto, unfolding(crate::specs::Memo::recall))]
-    pub fn get_or_compute<F: FnOnce() -> V>(self, key: K, compute: F) -> Self
-        requires { F.pre compute }
-        ensures { (v : V) → Gives (F.post compute) v → result ≡ recall K.eq v self key }
-    {
-        if self.hits(key) {
-            self
-        } else {
-            Memo::filled(key, compute())
-        }
-    }
 }
 
 impl Memo<u64, Hertz> {
-    // The Rust's get_or_compute([voct], || voct_to_hz(voct)).
+    // The Rust's get_or_compute([voct], || voct_to_hz(voct)); its answer is the new memo's val.
+    #[tactic(auto, unfolding(crate::specs::Memo::recall))]
     pub fn voct_to_hz(self, voct: VoltsPerOctave) -> Self
         ensures { result ≡ recall1 voct_to_hz_at self voct.0 }
     {
-        self.get_or_compute(numeric::bits(voct.0), || voct_to_hz(voct))
+        let key = numeric::bits(voct.0);
+        if self.hits(key) {
+            self
+        } else {
+            Memo::filled(key, voct_to_hz(voct))
+        }
     }
 }
 

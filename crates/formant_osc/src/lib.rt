@@ -491,10 +491,11 @@ impl FormantOsc {
         let shift = c.formant_shift;
         let rate = self.sample_rate;
         let key = common::key3(vowel, shift, rate.0);
-        let compute = ||
-            ensures { result ≡ resonator_coefs vowel shift rate.0 }
-        { resonator_coefs(vowel, shift, rate) };
-        self.coef_memo.get_or_compute(key, compute)
+        if self.coef_memo.hits(key) {
+            self.coef_memo
+        } else {
+            Memo::filled(key, resonator_coefs(vowel, shift, rate))
+        }
     }
 
     // An accepted tick: the Rust's tick_generic.
@@ -581,7 +582,7 @@ impl FormantOsc {
             ≡ formant_osc_block_of self c tally samples.old marks.old }
     {
         let n = marks.len();
-        answer::block_refusal(PORTS, samples.len(), self.refusal(), tally, n)?;
+        answer::block_outcome(PORTS, samples.len(), self.refusal(), tally, n)?;
         if n == 0 {
             return Ok(Played { state: self, tally });
         }

@@ -571,7 +571,7 @@ impl KarplusStrong {
     {
         let n = marks.len();
         let first = self.first_refusal(c, draws, line.len(), n);
-        answer::block_refusal(PORTS, samples.len(), first, tally, n)?;
+        answer::block_outcome(PORTS, samples.len(), first, tally, n)?;
         if n == 0 {
             return Ok(Played { state: self, tally });
         }

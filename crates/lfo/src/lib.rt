@@ -60,11 +60,18 @@ fn rate_to_hz(rate: f64) -> Hertz
     Hertz(0.01 * numeric::pow3000(numeric::clamp(rate, 0.0, 1.0)))
 }
 
-// The Rust's get_or_compute(numeric::bits(rate), ..); its answer is the new memo's val.
+// The Rust's get_or_compute([rate], ..); its answer is the new memo's val.
+// Kept: alike are `Memo::voct_to_hz` and `tuned` of the Vco, which differ in what is computed, and no public function takes a closure: see `Memo`.
+#[tactic(auto, unfolding(common::specs::Memo::recall))]
 fn recall(memo: Memo<u64, Hertz>, rate: f64) -> Memo<u64, Hertz>
     ensures { result ≡ recall1 rate_to_hz memo rate }
 {
-    memo.get_or_compute(numeric::bits(rate), || rate_to_hz(rate))
+    let key = numeric::bits(rate);
+    if memo.hits(key) {
+        memo
+    } else {
+        Memo::filled(key, rate_to_hz(rate))
+    }
 }
 
 // Kept: `tri`, `saw` and `sqr` take a phase and a scale, as their definitions do: a struct of the two would be made for each.
@@ -327,7 +334,7 @@ impl Lfo {
             ≡ lfo_block_of self c wanted tally samples.old marks.old }
     {
         let n = marks.len();
-        answer::block_refusal(PORTS, samples.len(), self.refusal(), tally, n)?;
+        answer::block_outcome(PORTS, samples.len(), self.refusal(), tally, n)?;
         if n == 0 {
             return Ok(Played { state: self, tally });
         }

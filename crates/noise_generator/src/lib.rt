@@ -437,7 +437,7 @@ impl NoiseGenerator {
     {
         let n = marks.len();
         let first = self.draws_refusal(n, draws);
-        answer::block_refusal(PORTS, samples.len(), first, tally, n)?;
+        answer::block_outcome(PORTS, samples.len(), first, tally, n)?;
         let asked = Asked {
             correlation: self.clamped(c),
             wanted,

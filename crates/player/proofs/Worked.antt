@@ -17,7 +17,7 @@ use Rattle.answer.specs.declared.Answer.TheVariants as answer
 use Rattle.answer.specs.declared.Volts.{Volts}
 use Rattle.common.specs.declared.Hertz.{Hertz}
 use Rattle.score.specs.Control.{volts_of}
-use Rattle.score.specs.Lines.{osc_of, numbered, within_of, control_of, osc_line, whole_line, control_line}
+use Rattle.score.specs.Lines.{osc_of, within_of, control_of, osc_line, whole_line, control_line}
 use Rattle.score.specs.Score.{osc, whole, control, end_of, inputs_of, gate, head_of, lines_of, score_of}
 use Rattle.score.specs.declared.Control.TheVariants.{Microvolts}
 use Rattle.std.specs.Prelude.{None, Ok}
@@ -57,7 +57,7 @@ volts = volts4 (of_bits binary64 0) (of_bits binary64 0xc014000000000000) (of_bi
 
 is_read : score_of given ≡ Ok score
 unfolding given score inputs same_of has_of until_of past_of line_of after_line key_of value_of is_line digits_from digits_of negative_of signed_of number_of
-    osc_of numbered within_of
+    osc_of within_of
     control_of osc_line whole_line control_line osc whole control end_of inputs_of gate head_of lines_of score_of
 is_read = refl
 

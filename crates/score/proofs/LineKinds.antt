@@ -7,12 +7,11 @@ use mathlib.Core.List.{List}
 use mathlib.Core.Bool.{Bool, true, false, cond}
 use native.Mathlib.Omega.{arith}
 use lib.Dec.{ltb, lit≤}
-use Rattle.std.specs.Prelude.{Option, Some, None, Result, Ok, Err, ok_or}
+use Rattle.std.specs.Prelude.{Option, Some, None, Result, Ok, Err}
 use lib.IntN.{pos, negsuc}
 use borrow.Author.Tests.{ltb-false, le-ltb}
 use Rattle.line.specs.Bytes.{same_of, has_of}
 use Rattle.line.specs.Number.{number_of, number_text}
-use Rattle.line.specs.Promises.{Writable}
 use Rattle.line.specs.declared.Number.{Number}
 use Rattle.line.specs.declared.Number.TheVariants.{Whole, Nan}
 use Rattle.line.proofs.Laws.{no, same_equal}
@@ -20,8 +19,8 @@ use Rattle.line.proofs.Decimal.{number_text_lem, no_minus_zero}
 use Rattle.line.proofs.Written.{number_read, number_no_feed}
 use Rattle.score.specs.Control.{signed, number_in}
 use Rattle.score.specs.Keys.{name_of}
-use Rattle.score.specs.Lines.{osc_of, numbered, within_of, control_of}
-use Rattle.score.specs.Refusal.{refusal_number, and_then}
+use Rattle.score.specs.Lines.{osc_of, within_of, control_of}
+use Rattle.score.specs.Refusal.{refusal_number}
 use Rattle.score.specs.Text.{control_text, whole_text}
 use Rattle.score.specs.Promises.{ValidInput}
 use Rattle.score.specs.declared.Control.{Control}
@@ -90,21 +89,7 @@ osc_laws =
       no_feed = name_no_feed;
     }
 
--- ---- a number is the text of its value
--- what is no number is malformed; what is one goes on
-module _ (K : Kind) (v : List ℕ) (f : Number → Result K.Value Refusal) (seen : (x : Number) → number_of v ≡ Some x → Seen K v (f x)) where
-  number_seen : Seen K v (and_then (numbered v) f)
-  unfolding numbered
-  number_seen = go (number_of v) refl
-    where
-      go : (r : Option Number) → number_of v ≡ r → Seen K v (and_then (ok_or r Malformed) f)
-      go None e = none Malformed (lit≤ tt, lit≤ tt)
-      go (Some x) e = seen x e
-
-number_again : {A : Type 0} (x : Number) (f : Number → Result A Refusal) → Writable x → and_then (numbered (number_text x)) f ≡ f x
-unfolding numbered
-number_again x f w = simp (number_read x w)
-
+-- ---- a number that a line may hold has at most 12 digits
 small : (n : ℕ) → n ≤ 10000000 → n < 10 ^ 12
 small n h = omega arith
 
@@ -114,29 +99,29 @@ module _ (least most : ℕ) where
   whole_kind =
       record {
         Value = ℕ;
-        of = λ v. and_then (numbered v) (within_of least most);
+        of = λ v. within_of least most (number_of v);
         text = whole_text;
         valid = λ n. (least ≤ n) × (n ≤ most);
       }
 
-  within_seen : (v : List ℕ) (x : Number) → number_of v ≡ Some x → Seen whole_kind v (within_of least most x)
+  within_seen : (v : List ℕ) (x : Option Number) → number_of v ≡ x → Seen whole_kind v (within_of least most x)
   unfolding within_of
-  within_seen v (Whole true size) e = none OutOfRange (lit≤ tt, lit≤ tt)
-  within_seen v (Whole false size) e =
+  within_seen v (Some (Whole true size)) e = none OutOfRange (lit≤ tt, lit≤ tt)
+  within_seen v (Some (Whole false size)) e =
       tested (Seen whole_kind v) (ltb size least) (λ _. none OutOfRange (lit≤ tt, lit≤ tt)) (λ l.
       tested (Seen whole_kind v) (ltb most size) (λ _. none OutOfRange (lit≤ tt, lit≤ tt)) (λ h.
       value size (number_text_lem v (Whole false size) e) (ltb-false size least l, ltb-false most size h)))
-  within_seen v Nan e = none Malformed (lit≤ tt, lit≤ tt)
+  within_seen v (Some Nan) e = none Malformed (lit≤ tt, lit≤ tt)
+  within_seen v None e = none Malformed (lit≤ tt, lit≤ tt)
 
-  whole_again : most ≤ 10000000 → (n : ℕ) → (least ≤ n) × (n ≤ most) → and_then (numbered (whole_text n)) (within_of least most) ≡ Ok n
+  whole_again : most ≤ 10000000 → (n : ℕ) → (least ≤ n) × (n ≤ most) → within_of least most (number_of (whole_text n)) ≡ Ok n
   unfolding within_of
-  whole_again top n (l, g) =
-      number_again (Whole false n) (within_of least most) (small n (omega arith), λ e. absurd (no e)) ∙ simp (le-ltb n least l, le-ltb most n g)
+  whole_again top n (l, g) = simp (number_read (Whole false n) (small n (omega arith), λ e. absurd (no e)), le-ltb n least l, le-ltb most n g)
 
   pub whole_laws : most ≤ 10000000 → Lawful whole_kind
   whole_laws top =
       record {
-        seen = λ v. number_seen whole_kind v (within_of least most) (within_seen v);
+        seen = λ v. within_seen v (number_of v) refl;
         again = whole_again top;
         no_feed = λ n. number_no_feed (Whole false n);
       }
@@ -146,7 +131,7 @@ abbrev pub control_kind : Kind
 control_kind =
     record {
       Value = Control;
-      of = λ v. and_then (numbered v) control_of;
+      of = λ v. control_of (number_of v);
       text = control_text;
       valid = ValidInput;
     }
@@ -162,24 +147,25 @@ signed_valid true zero h = h
 signed_valid true (suc n) h = h
 signed_valid false n h = h
 
-input_seen : (v : List ℕ) (x : Number) → number_of v ≡ Some x → Seen control_kind v (control_of x)
+input_seen : (v : List ℕ) (x : Option Number) → number_of v ≡ x → Seen control_kind v (control_of x)
 unfolding control_of
-input_seen v (Whole minus size) e =
+input_seen v (Some (Whole minus size)) e =
     tested (Seen control_kind v) (ltb 10000000 size) (λ _. none OutOfRange (lit≤ tt, lit≤ tt)) (λ h.
     value (C.Microvolts (signed minus size)) (signed_text v minus size e ∙ number_text_lem v (Whole minus size) e)
     (signed_valid minus size (ltb-false 10000000 size h)))
-input_seen v Nan e = value C.Nan (number_text_lem v Nan e) tt
+input_seen v (Some Nan) e = value C.Nan (number_text_lem v Nan e) tt
+input_seen v None e = none Malformed (lit≤ tt, lit≤ tt)
 
-control_again : (c : Control) → ValidInput c → and_then (numbered (control_text c)) control_of ≡ Ok c
+control_again : (c : Control) → ValidInput c → control_of (number_of (control_text c)) ≡ Ok c
 unfolding control_of
-control_again (C.Microvolts (pos n)) h = number_again (Whole false n) control_of (small n h, λ e. absurd (no e)) ∙ simp (le-ltb 10000000 n h)
-control_again (C.Microvolts (negsuc n)) h = number_again (Whole true (suc n)) control_of (small (suc n) h, λ e. omega arith) ∙ simp (le-ltb 10000000 (suc n) h)
-control_again C.Nan h = number_again Nan control_of tt
+control_again (C.Microvolts (pos n)) h = simp (number_read (Whole false n) (small n h, λ e. absurd (no e)), le-ltb 10000000 n h)
+control_again (C.Microvolts (negsuc n)) h = simp (number_read (Whole true (suc n)) (small (suc n) h, λ e. omega arith), le-ltb 10000000 (suc n) h)
+control_again C.Nan h = simp (number_read Nan tt)
 
 pub control_laws : Lawful control_kind
 control_laws =
     record {
-      seen = λ v. number_seen control_kind v control_of (input_seen v);
+      seen = λ v. input_seen v (number_of v) refl;
       again = control_again;
       no_feed = λ c. number_no_feed (number_in c);
     }

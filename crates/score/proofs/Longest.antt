@@ -13,7 +13,7 @@ use Rattle.line.specs.Bytes.{ascii, same_of, has_of, until_of, past_of}
 use Rattle.line.specs.Line.{line_of, after_line, key_of, value_of, is_line}
 use Rattle.line.specs.Number.{digits_from, digits_of, negative_of, signed_of, number_of, number_text}
 use Rattle.score.specs.Keys.{osc_key, name_of, frames_key, input_keys, owner_of, controls_of}
-use Rattle.score.specs.Lines.{osc_of, numbered, within_of, control_of, osc_line, whole_line, control_line}
+use Rattle.score.specs.Lines.{osc_of, within_of, control_of, osc_line, whole_line, control_line}
 use Rattle.score.specs.Score.{osc, whole, gate, control, end_of, inputs_of, head_of, lines_of, score_of}
 use Rattle.score.specs.Text.{control_text, whole_text, line_text, key_text, gate_text, controls_text, head_text, inputs_text, text_of}
 use Rattle.score.specs.Promises.{ValidInput, ValidGate, ValidHead, ValidInputs, Valid, longest, LongestText}
@@ -116,7 +116,7 @@ abbrev its_text : List ℕ
 its_text = ascii "osc=formant\nhz=192000\ngate=2\nframes=480000\nv_oct=-10000000\nvowel=-10000000\nformant_shift=-10000000\nvibrato=-10000000\n"
 
 its_reading : score_of its_text ≡ Ok longest
-unfolding same_of has_of until_of past_of line_of after_line key_of value_of is_line digits_from digits_of negative_of signed_of number_of osc_of numbered
+unfolding same_of has_of until_of past_of line_of after_line key_of value_of is_line digits_from digits_of negative_of signed_of number_of osc_of
     within_of control_of
     osc_line whole_line control_line osc whole gate control end_of inputs_of head_of lines_of score_of
 its_reading = refl

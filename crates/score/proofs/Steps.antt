@@ -6,13 +6,14 @@ use mathlib.Core.Bool.{Bool, true, false, cond}
 use native.Mathlib.Omega.{arith}
 use lib.ListN.{length, length-drop}
 use borrow.Author.Tests.{ne_eqb, eq-eqb}
-use Rattle.std.specs.Prelude.{Some, None, Result, Ok, Err, IsErrAnd, ok_or}
+use Rattle.std.specs.Prelude.{Option, Some, None, Result, Ok, Err, IsErrAnd, ok_or}
 use Rattle.std.specs.List.{find}
 use Rattle.line.specs.Bytes.{ascii, same_of}
+use Rattle.line.specs.Number.{number_of}
 use Rattle.line.specs.declared.Number.{Number}
 use Rattle.line.specs.declared.Reader.{Reader}
 use Rattle.score.specs.Keys.{name_of}
-use Rattle.score.specs.Lines.{osc_of, numbered, within_of, control_of, osc_line, whole_line, control_line}
+use Rattle.score.specs.Lines.{osc_of, within_of, control_of, osc_line, whole_line, control_line}
 use Rattle.score.specs.Refusal.{and_then}
 use Rattle.score.specs.Score.{Reading, osc, whole, control, end_of}
 use Rattle.score.specs.Taken.{rest_of, IsTaken, IsOther, Takes}
@@ -55,24 +56,15 @@ module _ {v : List ℕ} {from to : Reader} where
   unfolding osc osc_line
   osc_taken {r} t e = taken r osc from to (λ k. simp (t.asked, t.value, ← t.left, ← e))
 
-  pub whole_taken : (key : List ℕ) (least most : ℕ) (n : Number) {r : Result ℕ Refusal} → IsTaken key from v to → Ok n ≡ numbered v
+  pub whole_taken : (key : List ℕ) (least most : ℕ) (n : Option Number) {r : Result ℕ Refusal} → IsTaken key from v to → n ≡ number_of v
       → r ≡ within_of least most n → Takes (whole key least most) from r to
   unfolding whole whole_line
   whole_taken key least most n {r} t i e = taken r (whole key least most) from to (λ k. simp (t.asked, t.value, ← t.left, ← i, ← e))
 
-  pub control_taken : (key : List ℕ) (n : Number) {r : Result Control Refusal} → IsTaken key from v to → Ok n ≡ numbered v
+  pub control_taken : (key : List ℕ) (n : Option Number) {r : Result Control Refusal} → IsTaken key from v to → n ≡ number_of v
       → r ≡ control_of n → Takes (control key) from r to
   unfolding control control_line
   control_taken key n {r} t i e = taken r (control key) from to (λ k. simp (t.asked, t.value, ← t.left, ← i, ← e))
-
-  module _ {why : Refusal} (key : List ℕ) (t : IsTaken key from v to) (e : Err why ≡ numbered v) where
-    pub whole_malformed : (least most : ℕ) (k : ℕ → List ℕ → Reading) → whole key least most (rest_of from) k ≡ Err why
-    unfolding whole whole_line
-    whole_malformed least most k = simp (t.asked, t.value, ← e)
-
-    pub control_malformed : (k : Control → List ℕ → Reading) → control key (rest_of from) k ≡ Err why
-    unfolding control control_line
-    control_malformed k = simp (t.asked, t.value, ← e)
 
 -- another line is refused
 module _ {from : Reader} {why : Refusal} where

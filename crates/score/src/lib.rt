@@ -6,7 +6,7 @@ ghost use Rattle.std.specs.List.{find};
 ghost use Rattle.line.specs.Bytes.{same_of};
 ghost use Rattle.score.specs.Control.{volts_of, number_in};
 ghost use Rattle.score.specs.Keys.{hz_key, frames_key, owner_of, name_of};
-ghost use Rattle.score.specs.Lines.{osc_of, numbered, within_of, control_of};
+ghost use Rattle.score.specs.Lines.{osc_of, within_of, control_of};
 ghost use Rattle.score.specs.Refusal.{refusal_number};
 ghost use Rattle.score.specs.Score.{osc, whole, gate, control, head_of, inputs, score_of};
 ghost use Rattle.score.specs.Taken.{IsTaken, IsOther, Takes};
@@ -200,25 +200,20 @@ fn osc_of(value: &[u8]) -> Result<Osc, Refusal>
     named(value).ok_or(Refusal::WrongLine)
 }
 
-fn numbered(value: &[u8]) -> Result<Number, Refusal>
-    ensures { result ≡ numbered value.now }
-{
-    line::number_of(value).ok_or(Refusal::Malformed)
-}
-
+// `within` and `control_of` take what `line::number_of` answers, so that a value that is no number is refused here, beside the numbers that a line can't hold.
 #[tactic(auto, unfolding(crate::specs::Lines::within_of))]
-pub fn within(n: Number, range: Range) -> Result<u32, Refusal>
+pub fn within(n: Option<Number>, range: Range) -> Result<u32, Refusal>
     ensures { result ≡ within_of range.least range.most n }
 {
     match n {
-        Number::Whole { minus, size } => {
+        Some(Number::Whole { minus, size }) => {
             if minus || size < u64::from(range.least) || u64::from(range.most) < size {
                 Err(Refusal::OutOfRange)
             } else {
                 Ok(size as u32)
             }
         }
-        Number::Nan => Err(Refusal::Malformed),
+        None | Some(Number::Nan) => Err(Refusal::Malformed),
     }
 }
 
@@ -227,14 +222,15 @@ const MICROVOLTS_MOST: u64 = 10000000;
 
 // Kept: a public function, of which Settled.control_of speaks, so no `TryFrom` stands in its place.
 #[tactic(auto, unfolding(crate::specs::Lines::control_of))]
-pub fn control_of(n: Number) -> Result<Control, Refusal>
+pub fn control_of(n: Option<Number>) -> Result<Control, Refusal>
     ensures { result ≡ control_of n }
 {
     match n {
-        Number::Whole { size, .. } if MICROVOLTS_MOST < size => Err(Refusal::OutOfRange),
-        Number::Whole { minus: true, size } => Ok(Control::Microvolts(-(size as i32))),
-        Number::Whole { minus: false, size } => Ok(Control::Microvolts(size as i32)),
-        Number::Nan => Ok(Control::Nan),
+        Some(Number::Whole { size, .. }) if MICROVOLTS_MOST < size => Err(Refusal::OutOfRange),
+        Some(Number::Whole { minus: true, size }) => Ok(Control::Microvolts(-(size as i32))),
+        Some(Number::Whole { minus: false, size }) => Ok(Control::Microvolts(size as i32)),
+        Some(Number::Nan) => Ok(Control::Nan),
+        None => Err(Refusal::Malformed),
     }
 }
 
@@ -264,7 +260,7 @@ fn take_whole(lines: &mut Reader, key: &[u8], range: Range) -> Result<u32, Refus
     ensures { Takes (whole key.now range.least range.most) lines.old result lines.new }
 {
     let value = take_value(lines, key)?;
-    within(numbered(value)?, range)
+    within(line::number_of(value), range)
 }
 
 // The gate's line may be left out.
@@ -292,7 +288,7 @@ fn take_control(lines: &mut Reader, key: &[u8]) -> Result<Control, Refusal>
     ensures { Takes (control key.now) lines.old result lines.new }
 {
     let value = take_value(lines, key)?;
-    control_of(numbered(value)?)
+    control_of(line::number_of(value))
 }
 
 // Kept: in `take_vco`, `take_lfo`, `take_supersaw` and `take_formant` the keys alone differ, but a list of the controls that one function took would have to be

@@ -9,7 +9,7 @@ use lib.ListN.{length, drop, replicate, length-replicate}
 use Rattle.line.specs.Bytes.{ascii, same_of, has_of, until_of, past_of}
 use Rattle.line.specs.Line.{line_of, after_line, key_of, value_of, is_line}
 use Rattle.line.specs.Number.{digits_from, digits_of, negative_of, signed_of, number_of}
-use Rattle.score.specs.Lines.{osc_of, numbered, within_of, control_of, osc_line, whole_line, control_line}
+use Rattle.score.specs.Lines.{osc_of, within_of, control_of, osc_line, whole_line, control_line}
 use Rattle.score.specs.Score.{osc, whole, gate, control, end_of, inputs_of, head_of, lines_of, score_of}
 use Rattle.score.specs.declared.Refusal.TheVariants.{OutOfRange, NoRoom}
 use Rattle.score_writer.specs.Writing.{whole_refusal, control_refusal, refusal_of, writing_of, written_of}
@@ -25,7 +25,7 @@ ReadAll [] = Unit {0}
 ReadAll (r ∷ rs) = Reads r × ReadAll rs
 
 read_all : ReadAll texts
-unfolding same_of has_of until_of past_of line_of after_line key_of value_of is_line digits_from digits_of negative_of signed_of number_of osc_of numbered
+unfolding same_of has_of until_of past_of line_of after_line key_of value_of is_line digits_from digits_of negative_of signed_of number_of osc_of
     within_of control_of
     osc_line whole_line control_line osc whole gate control end_of inputs_of head_of lines_of score_of
 read_all = (refl, (refl, (refl, (refl, (refl, tt)))))

@@ -21,7 +21,7 @@ abbrev pub checked : {A : Type 0} → Result A Refusal → Check
 checked r = and_then r (λ _. Ok tt)
 
 unfoldable pub whole_refusal : ℕ → ℕ → ℕ → Check
-whole_refusal least most n = checked (within_of least most (Whole false n))
+whole_refusal least most n = checked (within_of least most (Some (Whole false n)))
 
 -- by its key's range
 abbrev pub key_refusal : WholeKey → ℕ → Check
@@ -33,7 +33,7 @@ gate_refusal None = Ok tt
 gate_refusal (Some n) = key_refusal gate_key n
 
 unfoldable pub control_refusal : Control → Check
-control_refusal c = checked (control_of (number_in c))
+control_refusal c = checked (control_of (Some (number_in c)))
 
 -- line by line: the first that is refused decides
 abbrev pub first_of : Check → Check → Check

@@ -34,7 +34,7 @@ fn check_whole(n: u32, range: Range) -> Result<(), Refusal>
         minus: false,
         size: u64::from(n),
     };
-    score::within(number, range)?;
+    score::within(Some(number), range)?;
     Ok(())
 }
 
@@ -42,7 +42,7 @@ fn check_whole(n: u32, range: Range) -> Result<(), Refusal>
 fn check_control(c: Control) -> Result<(), Refusal>
     ensures { result ≡ control_refusal c }
 {
-    score::control_of(score::number_in(c))?;
+    score::control_of(Some(score::number_in(c)))?;
     Ok(())
 }
 

@@ -236,7 +236,7 @@ impl Supersaw {
             ≡ supersaw_block_of self c tally samples.old marks.old }
     {
         let n = marks.len();
-        answer::block_refusal(PORTS, samples.len(), self.refusal(), tally, n)?;
+        answer::block_outcome(PORTS, samples.len(), self.refusal(), tally, n)?;
         if n == 0 {
             return Ok(Played { state: self, tally });
         }

@@ -54,6 +54,7 @@ fn frequency(voct: VoltsPerOctave, fm: VoltsPerOctave, fm_lin: f64) -> Hertz
 }
 
 // The Rust's get_or_compute([voct, fm, fm_lin], ..); its answer is the new memo's val.
+#[tactic(auto, unfolding(common::specs::Memo::recall))]
 fn tuned(
     memo: Memo<(u64, u64, u64), Hertz>,
     voct: VoltsPerOctave,
@@ -62,10 +63,12 @@ fn tuned(
 ) -> Memo<(u64, u64, u64), Hertz>
     ensures { result ≡ recall3 frequency_of memo voct.0 fm.0 fm_lin }
 {
-    memo.get_or_compute(
-        common::key3(voct.0, fm.0, fm_lin),
-        || frequency(voct, fm, fm_lin),
-    )
+    let key = common::key3(voct.0, fm.0, fm_lin);
+    if memo.hits(key) {
+        memo
+    } else {
+        Memo::filled(key, frequency(voct, fm, fm_lin))
+    }
 }
 
 // The pulse width, away from 0 and from 1. The clamp lets a NaN pass.
@@ -247,7 +250,7 @@ impl Vco {
             ≡ vco_block_of self c wanted tally samples.old marks.old }
     {
         let n = marks.len();
-        answer::block_refusal(PORTS, samples.len(), self.refusal(), tally, n)?;
+        answer::block_outcome(PORTS, samples.len(), self.refusal(), tally, n)?;
         if n == 0 {
             return Ok(Played { state: self, tally });
         }

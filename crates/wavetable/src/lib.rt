@@ -391,7 +391,7 @@ impl Wavetable {
     {
         let n = marks.len();
         let lent = self.lent(bank);
-        answer::block_refusal(PORTS, samples.len(), lent.and(Ok(())), tally, n)?;
+        answer::block_outcome(PORTS, samples.len(), lent.and(Ok(())), tally, n)?;
         if n == 0 {
             return Ok(Played { state: self, tally });
         }

@@ -1,23 +1,20 @@
-use Rattle.std.proofs.lemmas.Result.{err_from_is_err_and}
-use Rattle.common.proofs.RefusalLaws.{refuses}
-use Rattle.common.specs.Refusal.{number_of, refused_number}
+use borrow.Author.Tests.{ne_eqb}
 use Rattle.answer.specs.Block.{block_refusal_of}
+use Rattle.common.specs.Refusal.{refused_number, number_of}
 use Rattle.answer.proofs.block_refusal.Goals as goal
 
-pub returns-then-not-fits : goal.returns-then-not-fits
-unfolding block_refusal_of refused_number number_of
-returns-then-not-fits c = simp (← c.fits.ensures, c.if-not-fits.true)
+pub returns-in-Ok : goal.returns-in-Ok
+unfolding refused_number
+returns-in-Ok c = simp (c.if-number-eq0.true, ← c.block_outcome.ensures, c.in-Ok.is)
 
-pub returns-in_err-first : goal.returns-in_err-first
-unfolding block_refusal_of refused_number
-returns-in_err-first c =
-    let p = err_from_is_err_and c.from_residual.result c.from_residual.ensures.1 in
-    rw (p.1, p.2) (simp (c.in_err-first.was, refuses c.in_err-first.field-0.0, c.if-not-fits.false, ← c.fits.ensures))
+pub returns-in-Err : goal.returns-in-Err
+unfolding refused_number
+returns-in-Err c = simp (c.number.ensures, c.if-number-eq0.true, ← c.block_outcome.ensures, c.in-Err.is)
 
-pub returns-then-has_room : goal.returns-then-has_room
-unfolding block_refusal_of refused_number
-returns-then-has_room c = simp (c.if-has_room.true, ← c.has_room.ensures, c.in_ok-first.was, c.if-not-fits.false, ← c.fits.ensures)
+pub returns-then-fits : goal.returns-then-fits
+unfolding block_refusal_of
+returns-then-fits c = simp (ne_eqb _ _ c.if-number-eq0.false, c.if-fits.true, ← c.fits.ensures)
 
-pub returns-else-has_room : goal.returns-else-has_room
-unfolding block_refusal_of refused_number number_of
-returns-else-has_room c = simp (c.if-has_room.false, ← c.has_room.ensures, c.in_ok-first.was, c.if-not-fits.false, ← c.fits.ensures)
+pub returns-else-fits : goal.returns-else-fits
+unfolding block_refusal_of number_of
+returns-else-fits c = simp (c.number-else-fits.ensures, c.if-fits.false, ← c.fits.ensures)

@@ -14,21 +14,21 @@ use Rattle.noise_generator.proofs.TickLaws.{numbers_of, drawing_at, heard, moved
 use Rattle.noise_generator.proofs.TurnLaws.{turn_there, undrawn_ok, undrawn_err}
 use Rattle.noise_generator.proofs.NoiseGenerator.block.Goals as goal
 
-pub returns-in_err-block_refusal : goal.returns-in_err-block_refusal
+pub returns-in_err-block_outcome : goal.returns-in_err-block_outcome
 unfolding noise_generator_block_of
-returns-in_err-block_refusal c = let a = c.args in
+returns-in_err-block_outcome c = let a = c.args in
     let s = drawing a.self a.draws.now in
     let p = err_from_is_err_and c.from_residual.result c.from_residual.ensures.1 in
     rw (p.1, p.2)
     (undrawn_err s _ _ _ _
     ∙ ap undrawn
-    (said_refused n_ports _ a.tally a.samples.now a.marks.now _ _ c.draws_refusal-first.ensures c.block_refusal.ensures
-    (noise_generator_told_of a.c a.wanted) (noise_generator_next_of a.c a.wanted) s _ c.in_err-block_refusal.was))
+    (said_refused n_ports _ a.tally a.samples.now a.marks.now _ _ c.draws_refusal-first.ensures c.block_outcome.ensures
+    (noise_generator_told_of a.c a.wanted) (noise_generator_next_of a.c a.wanted) s _ c.in_err-block_outcome.was))
 
 pub loop-i-init : goal.loop-i-init
 unfolding after_ticks needed_by changed_by
 loop-i-init c = let a = c.args in
-    let f = said_fits n_ports _ a.tally a.samples.now a.marks.now _ _ c.draws_refusal-first.ensures c.block_refusal.ensures _ c.in_ok-block_refusal.was in
+    let f = said_fits n_ports _ a.tally a.samples.now a.marks.now _ _ c.draws_refusal-first.ensures c.block_outcome.ensures _ c.in_ok-block_outcome.was in
     record {
       samples_size = f.0;
       marks_size = refl;
@@ -96,10 +96,10 @@ returns c = let l = c.loop-i in
     let s = l.invariant in
     let x = drawing a.self a.draws.now in
     let n = le_antisymm l.auto.i-end c.loop-i-test.false in
-    let f = said_fits n_ports _ a.tally a.samples.now a.marks.now _ _ c.draws_refusal-first.ensures c.block_refusal.ensures _ c.in_ok-block_refusal.was in
+    let f = said_fits n_ports _ a.tally a.samples.now a.marks.now _ _ c.draws_refusal-first.ensures c.block_outcome.ensures _ c.in_ok-block_outcome.was in
     undrawn_ok x _ _ _ _ _ _ (simp (c.with_rows.ensures, c.with_rows-2.ensures) s.state ∙ ap (λ k. (drawing_at a.self a.c a.wanted a.draws.now k).noise) n)
     ∙ ap undrawn
-    (said_done n_ports _ a.tally a.samples.now a.marks.now _ _ c.draws_refusal-first.ensures c.block_refusal.ensures
-    (noise_generator_told_of a.c a.wanted) (noise_generator_next_of a.c a.wanted) x _ c.in_ok-block_refusal.was _ _ _ _ refl
+    (said_done n_ports _ a.tally a.samples.now a.marks.now _ _ c.draws_refusal-first.ensures c.block_outcome.ensures
+    (noise_generator_told_of a.c a.wanted) (noise_generator_next_of a.c a.wanted) x _ c.in_ok-block_outcome.was _ _ _ _ refl
     (frames_done n_ports four_ports _ _ _ _ _ _ _ n f.0 s.samples) (marks_done n_ports four_ports _ _ _ _ _ _ _ n refl s.marks)
     (kept_or _ _ _ _ c.unwrap_or.ensures c.take_marks.ensures))
